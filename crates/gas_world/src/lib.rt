@@ -1,0 +1,2 @@
+//! A world of endpoints, and every message that they ever sent.
+#![tactic(auto)]

@@ -1,0 +1,4 @@
+//! Runs GASNet active messages over lossy datagrams.
+#![tactic(auto)]
+
+fn main() {}
