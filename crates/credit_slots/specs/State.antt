@@ -123,13 +123,17 @@ with_slot t to k s = record t { peers = update t.peers to (λ p. record p { slot
 abbrev pub with_given_in : PeerState → ℕ → ℕ → SlotState → PeerState
 with_given_in p k number s = record { given = number; slots = update p.slots k (λ _. s) }
 
+-- the peer's numbers are given as far as this one, and its slot has a new state
+abbrev pub with_given : SlotsState → ℕ → ℕ → ℕ → SlotState → SlotsState
+with_given t to slot number s = record t { peers = update t.peers to (λ p. with_given_in p slot number s) }
+
 -- the peer's next number is given, and its slot is opened with these bytes in its buffer
 abbrev pub with_opened : SlotsState → ℕ → ℕ → ℕ → ℕ → List ℕ → SlotsState
-with_opened t to slot number now buffer = record t { peers = update t.peers to (λ p. record { given = number; slots = update p.slots slot (λ _. Opened number now buffer) }) }
+with_opened t to slot number now buffer = with_given t to slot number (Opened number now buffer)
 
 -- the peer's next number is given, and its slot has the message
 abbrev pub with_request : SlotsState → ℕ → ℕ → ℕ → ℕ → List ℕ → SlotsState
-with_request t to slot number now message = record t { peers = update t.peers to (λ p. record { given = number; slots = update p.slots slot (λ _. Sealed number now message) }) }
+with_request t to slot number now message = with_given t to slot number (Sealed number now message)
 
 -- why a peer's request is refused: its numbers stand at the last one; else no slot is vacant
 abbrev pub Refuses : PeerState → ℕ → NoClaim → Type 0
