@@ -1,0 +1,5 @@
+pub mod Words
+pub mod Places
+pub mod Table
+pub mod Laws
+pub mod Placed

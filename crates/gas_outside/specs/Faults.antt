@@ -1,0 +1,10 @@
+-- Counts that stop at their type's last value.
+use Rattle.std.specs.Prelude.{ℕ, ◌+◌, ◌-◌, ◌^◌, ◌≤◌, min}
+
+-- the count after one more; it stays at its last value
+abbrev pub one_more : ℕ → ℕ
+one_more count = min (count + 1) (2 ^ 64 - 1)
+
+-- the count of faults rose, or stands at its last value
+abbrev pub Rose : ℕ → ℕ → Type 0
+Rose before now = one_more before ≤ now
