@@ -1,5 +1,5 @@
 -- What the table of slots is, as a value, and what each call makes of it.
-use Rattle.std.specs.Prelude.{ℕ, ◌≡◌, ◌≤◌, ◌<◌, ◌+◌, Bool, true, false, not, List, [], length, take, drop, ◌++◌, Option, Some, None, nat_le, slice_get, position, IfSome, option_and_then, count_by, sum_by, if◌then◌else◌, ◌==◌}
+use Rattle.std.specs.Prelude.{ℕ, ◌≡◌, ◌≤◌, ◌<◌, ◌+◌, Bool, true, false, not, List, [], length, take, drop, ◌++◌, Option, Some, None, nat_le, slice_get, position, IfSome, IsSomeAnd, option_and_then, count_by, sum_by, if◌then◌else◌, ◌==◌}
 use Rattle.std.proofs.Math.ListN.{replicate}
 use Rattle.list_places.specs.Update.{update}
 use Rattle.credit_slots.specs.declared.NoClaim.{NoClaim}
@@ -77,11 +77,11 @@ slot_count t to = elim (slice_get t.peers to) [ Some p ↦ length p.slots | None
 
 -- the slot of this peer is opened
 abbrev pub IsOpenedIn : PeerState → ℕ → Type 0
-IsOpenedIn p k = IfSome (slice_get p.slots k) IsOpened × (k < length p.slots)
+IsOpenedIn p k = IsSomeAnd (slice_get p.slots k) IsOpened
 
 -- the slot of this node is opened
 abbrev pub IsOpenedAt : SlotsState → ℕ → ℕ → Type 0
-IsOpenedAt t to k = IfSome (slice_get t.peers to) (λ p. IsOpenedIn p k) × (to < length t.peers)
+IsOpenedAt t to k = IsSomeAnd (slot_at t to k) IsOpened
 
 -- what stands in the buffer of an opened slot of this peer
 abbrev pub opened_bytes_in : PeerState → ℕ → List ℕ
@@ -89,7 +89,7 @@ opened_bytes_in p k = elim (slice_get p.slots k) [ Some s ↦ opened_bytes s | N
 
 -- what stands in the buffer of an opened slot of this node
 abbrev pub opened_bytes_at : SlotsState → ℕ → ℕ → List ℕ
-opened_bytes_at t to k = elim (slice_get t.peers to) [ Some p ↦ opened_bytes_in p k | None ↦ [] ]
+opened_bytes_at t to k = elim (slot_at t to k) [ Some s ↦ opened_bytes s | None ↦ [] ]
 
 -- the message of a slot of this peer, if it is sealed
 abbrev pub message_in : PeerState → ℕ → Option (List ℕ)
@@ -97,15 +97,15 @@ message_in p k = option_and_then message_of (slice_get p.slots k)
 
 -- the message of a slot of this node, if it is sealed
 abbrev pub message_at : SlotsState → ℕ → ℕ → Option (List ℕ)
-message_at t to k = option_and_then (λ p. message_in p k) (slice_get t.peers to)
+message_at t to k = option_and_then message_of (slot_at t to k)
 
 -- the slot of this peer is taken by the request with this number
 abbrev pub IsTakenIn : PeerState → ℕ → ℕ → Type 0
-IsTakenIn p k number = IfSome (slice_get p.slots k) (IsTakenWith number)
+IsTakenIn p k number = IsSomeAnd (slice_get p.slots k) (IsTakenWith number)
 
 -- the slot of this node is taken by the request with this number
 abbrev pub IsTakenAt : SlotsState → ℕ → ℕ → ℕ → Type 0
-IsTakenAt t to k number = IfSome (slice_get t.peers to) (λ p. IsTakenIn p k number)
+IsTakenAt t to k number = IsSomeAnd (slot_at t to k) (IsTakenWith number)
 
 -- one slot of the peer has a new state
 abbrev pub with_slot_in : PeerState → ℕ → (SlotState → SlotState) → PeerState

@@ -1,5 +1,5 @@
 -- What the kept replies are, as a value, and what each call makes of it.
-use Rattle.std.specs.Prelude.{ℕ, ◌≡◌, ◌≤◌, ◌<◌, Bool, not, ◌==◌, List, [], length, take, drop, ◌++◌, Option, Some, None, slice_get, IfSome, option_and_then, count_by, sum_by, if◌then◌else◌}
+use Rattle.std.specs.Prelude.{ℕ, ◌≡◌, ◌≤◌, ◌<◌, Bool, not, ◌==◌, List, [], length, take, drop, ◌++◌, Option, Some, None, slice_get, IfSome, IsSomeAnd, option_and_then, count_by, sum_by, if◌then◌else◌}
 use Rattle.std.proofs.Math.ListN.{replicate}
 use Rattle.list_places.specs.Update.{update}
 use Rattle.reply_slots.specs.declared.Judged.{Judged}
@@ -75,11 +75,11 @@ slot_count t from = elim (slice_get t.peers from) [ Some p ↦ length p | None �
 
 -- the slot of this peer is opened
 abbrev pub IsOpenedIn : List ReplyState → ℕ → Type 0
-IsOpenedIn p k = IfSome (slice_get p k) IsOpened × (k < length p)
+IsOpenedIn p k = IsSomeAnd (slice_get p k) IsOpened
 
 -- the slot of this node is opened
 abbrev pub IsOpenedAt : RepliesState → ℕ → ℕ → Type 0
-IsOpenedAt t from k = IfSome (slice_get t.peers from) (λ p. IsOpenedIn p k) × (from < length t.peers)
+IsOpenedAt t from k = IsSomeAnd (slot_at t from k) IsOpened
 
 -- what stands in the buffer of an opened slot of this peer
 abbrev pub opened_bytes_in : List ReplyState → ℕ → List ℕ
@@ -87,7 +87,7 @@ opened_bytes_in p k = elim (slice_get p k) [ Some s ↦ opened_bytes s | None �
 
 -- what stands in the buffer of an opened slot of this node
 abbrev pub opened_bytes_at : RepliesState → ℕ → ℕ → List ℕ
-opened_bytes_at t from k = elim (slice_get t.peers from) [ Some p ↦ opened_bytes_in p k | None ↦ [] ]
+opened_bytes_at t from k = elim (slot_at t from k) [ Some s ↦ opened_bytes s | None ↦ [] ]
 
 -- the reply that a slot of this peer keeps
 abbrev pub message_in : List ReplyState → ℕ → Option (List ℕ)
@@ -95,7 +95,7 @@ message_in p k = option_and_then message_of (slice_get p k)
 
 -- the reply that a slot of this node keeps
 abbrev pub message_at : RepliesState → ℕ → ℕ → Option (List ℕ)
-message_at t from k = option_and_then (λ p. message_in p k) (slice_get t.peers from)
+message_at t from k = option_and_then message_of (slot_at t from k)
 
 -- how a request's number stands to the last number of a slot of this peer
 abbrev pub JudgesIn : List ReplyState → ℕ → ℕ → Judged → Type 0
@@ -103,7 +103,7 @@ JudgesIn p k number judged = IfSome (slice_get p k) (λ s. Judges s number judge
 
 -- how a request's number stands to the last number of a slot of this node
 abbrev pub JudgesAt : RepliesState → ℕ → ℕ → ℕ → Judged → Type 0
-JudgesAt t from k number judged = IfSome (slice_get t.peers from) (λ p. JudgesIn p k number judged)
+JudgesAt t from k number judged = IfSome (slot_at t from k) (λ s. Judges s number judged)
 
 -- one slot of one node is changed
 abbrev pub with_slot_changed : RepliesState → ℕ → ℕ → (ReplyState → ReplyState) → RepliesState

@@ -184,3 +184,6 @@ impl<'a> Place<'a> {
         self.table.seal(from, slot, len);
     }
 }
+
+#[cfg(test)]
+mod tests;
