@@ -85,8 +85,10 @@ impl Settings {
         self.job
     }
 
+    /// How many nodes the job has. All its numbers are within their limits.
     pub fn nodes(&self) -> u16
-        ensures { result ≡ self.now.nodes }
+        ensures nodes { result ≡ self.now.nodes }
+        ensures range { AreInRange self.now }
     {
         self.nodes
     }

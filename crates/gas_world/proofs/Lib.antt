@@ -5,3 +5,11 @@ pub mod Keeping
 pub mod Runs
 pub mod Claiming
 pub mod Spelling
+pub mod Holding
+pub mod Nodes
+pub mod Archiving
+pub mod Standing
+pub mod Events
+pub mod Deliveries
+pub mod Scenes
+pub mod Opening

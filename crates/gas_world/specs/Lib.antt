@@ -15,3 +15,4 @@ pub mod Stands
 pub mod Events
 pub mod Sizes
 pub mod Steps
+pub mod Scenes

@@ -1,6 +1,6 @@
 -- What an endpoint and a world keep, of the records.
 use Rattle.std.specs.Prelude.{ℕ, ◌≡◌, ◌≢◌, ◌+◌, ◌*◌, ◌<◌, ◌≤◌, List, length, Option, None, Some, slice_get}
-use Rattle.datagram_grammar.specs.Parameters.{Parameters}
+use Rattle.datagram_grammar.specs.Parameters.{Parameters, AreInRange}
 use Rattle.datagram_grammar.specs.Message.{Message, Spells, spelling, addressed}
 use Rattle.credit_slots.specs.State.{SlotState, Vacant, Sealed, PeerState}
 use Rattle.reply_slots.specs.State.{ReplyState, Unused, Kept}
@@ -80,6 +80,7 @@ pub record StandsForPair (s : Parameters) (from to : ℕ) (bytes : List ℕ) (li
 
 -- the world stands for these records, after events in which each node held at most so much
 pub record Stands (v : WorldState) (w : Records) (most : ℕ → ℕ) : Type 0 where
+  pub range : AreInRange v.settings
   pub invariant_ : WorldInvariant v.settings shorts w
   pub endpoints : (i : ℕ) → i < v.settings.nodes → (e : EndpointState) × (slice_get v.endpoints i ≡ Some e) × StandsForNode v.settings i e (w i)
   pub exchanges : (i j : ℕ) → i < v.settings.nodes → j < v.settings.nodes → (list : List Exchange) × (room : ℕ) × (slice_get v.exchanges (i * v.settings.nodes + j) ≡ Some (record { list = list; room = room })) × StandsForPair v.settings i j v.archive.bytes list ((w i).asked j) ((w j).ran i)

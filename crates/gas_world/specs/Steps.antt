@@ -85,7 +85,19 @@ DeliversMessage e m delivered.Returned new = IsOurReply e m × IsTakenAt e.reque
 DeliversMessage e m delivered.Late new = IsOurReply e m × (IsTakenAt e.requests m.from m.slot m.number → ⊥) × (new ≡ e)
 DeliversMessage e m delivered.Refused new = (IsOurRequest e m → ⊥) × (IsOurReply e m → ⊥) × (new ≡ e)
 
+-- the slot of a request that ran is there
+abbrev pub IsSlotOf : EndpointState → Delivered → Type 0
+IsSlotOf e (delivered.Ran slot) = slot < e.settings.credits
+IsSlotOf e delivered.Again = Unit {0}
+IsSlotOf e delivered.Stale = Unit {0}
+IsSlotOf e delivered.Returned = Unit {0}
+IsSlotOf e delivered.Late = Unit {0}
+IsSlotOf e delivered.Refused = Unit {0}
+
 -- what bytes that are delivered are answered, and what they leave: those that spell no message are refused
 pub record Delivers (e : EndpointState) (bytes : List ℕ) (a : Delivered) (new : EndpointState) : Type 0 where
   pub spelled : (m : Message) → Spells m bytes → DeliversMessage e m a new
   pub other : ((m : Message) → Spells m bytes → ⊥) → (a ≡ delivered.Refused) × (new ≡ e)
+  pub settings : new.settings ≡ e.settings
+  pub me_is : new.me ≡ e.me
+  pub slot_in : IsSlotOf e a

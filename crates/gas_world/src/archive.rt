@@ -51,11 +51,10 @@ impl Archive {
         self.bytes.reserve(LONGEST)
     }
 
-    /// Adds a message, for which there is room.
+    /// Adds a message behind the others, where there is room for it.
     pub fn add(&mut self, message: &[u8]) -> Part
-        requires { length message.now ≤ self.old.room }
         ensures part { result ≡ record { start = length self.old.bytes; len = length message.now } }
-        ensures bytes { self.new.bytes ≡ self.old.bytes ++ message.now }
+        ensures bytes { length message.now ≤ self.old.room → self.new.bytes ≡ self.old.bytes ++ message.now }
     {
         let start = self.bytes.len();
         let _ = self.bytes.extend_from_slice(message);

@@ -10,6 +10,7 @@ mod endpoint;
 mod event;
 mod exchanges;
 mod sealing;
+mod step;
 mod world;
 
 pub use event::{Call, WorldAnswer, WorldEvent};
