@@ -1,10 +1,10 @@
 -- Sinks that gather bytes before another sink: one call after the other, and what the sink behind took in the end.
-use Rattle.std.proofs.Common.{◌≡◌, ℕ, ◌+◌, ◌≤◌, List, [], ◌++◌, length, take, drop, Option, Some, None, sym, ap, ◌∙◌, subst, arith, append_assoc, append-nil, length-take, length-drop, drop-drop}
+use Rattle.std.proofs.Common.{refl, ◌≡◌, ℕ, ◌+◌, ◌≤◌, List, [], ◌++◌, length, take, drop, Option, Some, None, sym, ap, ◌∙◌, subst, arith, append_assoc, append-nil, length-take, length-drop, drop-drop}
 use Rattle.std.proofs.lemmas.List.{take-append-drop, drop-append-le}
 use Rattle.std.proofs.Math.Seq.{take-add}
 use Rattle.std.specs.Io.KnownBytes.{Appends, append_known}
 use Rattle.std.proofs.KnownBytes.{Appends-nil, Appends-trans}
-use Rattle.gas_outside.specs.Buffered.{Outbox, Gathers, GathersUpTo, Flushes}
+use Rattle.gas_outside.specs.Buffered.{Outbox, Gathers, GathersUpTo, GathersAll, Flushes}
 use Rattle.gas_outside.specs.Whole.{TakesUpTo, WritesAll}
 use Rattle.gas_outside.specs.declared.writing.Wrote.{Wrote}
 use Rattle.gas_outside.specs.declared.writing.Wrote.TheVariants as wrote
@@ -50,6 +50,40 @@ gives_front a b n e h = record {
 -- bytes were put behind those that waited
 pub waits_more : (a b : Outbox) (bytes : List ℕ) → b.given ≡ a.given → b.pending ≡ a.pending ++ bytes → Gathers a b bytes
 waits_more a b bytes same e = record { gone = []; whole = sym e; given = subst (λ (x : Option (List ℕ)). Appends a.given x []) (sym same) (Appends-nil a.given) }
+
+-- ---- one piece after another, where the rest of a text begins with the piece that goes in next
+
+-- nothing of the text went in yet
+pub nothing_yet : (a : Outbox) (all : List ℕ) → GathersUpTo a a all all
+nothing_yet a all = record { front = []; whole = refl; gathered = gathers_none a }
+
+-- the next piece went in
+pub past_done : (a b c : Outbox) (all piece next rest : List ℕ) → rest ≡ piece ++ next → GathersUpTo a b all rest → Gathers b c piece → GathersUpTo a c all next
+past_done a b c all piece next rest e h k = record {
+  front = h.front ++ piece;
+  whole = h.whole ∙ ap (λ (x : List ℕ). h.front ++ x) e ∙ sym (append_assoc h.front piece next);
+  gathered = gathers_more a b c h.front piece h.gathered k;
+}
+
+-- a front of the next piece went in
+pub past_fault : (a b c : Outbox) (all piece next rest : List ℕ) → rest ≡ piece ++ next → GathersUpTo a b all rest → GathersAll b c piece wrote.Fault → GathersAll a c all wrote.Fault
+past_fault a b c all piece next rest e h k = (
+  k.0 ++ next,
+  record {
+    front = h.front ++ k.1.front;
+    whole = h.whole ∙ ap (λ (x : List ℕ). h.front ++ x) (e ∙ ap (λ (x : List ℕ). x ++ next) k.1.whole ∙ append_assoc k.1.front k.0 next) ∙ sym (append_assoc h.front k.1.front (k.0 ++ next));
+    gathered = gathers_more a b c h.front k.1.front h.gathered k.1.gathered;
+  },
+)
+
+-- the whole text went in where its rest is empty
+pub all_gathered : (a b : Outbox) (all rest : List ℕ) → rest ≡ [] → GathersUpTo a b all rest → Gathers a b all
+all_gathered a b all rest e h = subst (Gathers a b) (sym (h.whole ∙ ap (λ (x : List ℕ). h.front ++ x) e ∙ append-nil h.front)) h.gathered
+
+-- the rest is the last piece
+pub past_last : (a b c : Outbox) (all rest : List ℕ) (result : Wrote) → GathersUpTo a b all rest → GathersAll b c rest result → GathersAll a c all result
+past_last a b c all rest wrote.Done h k = all_gathered a c all [] refl (past_done a b c all rest [] rest (sym (append-nil rest)) h k)
+past_last a b c all rest wrote.Fault h k = past_fault a b c all rest [] rest (sym (append-nil rest)) h k
 
 -- ---- what the sink behind took in the end
 
