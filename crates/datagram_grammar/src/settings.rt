@@ -1,9 +1,21 @@
+//! The settings of a job.
+
 ghost use Rattle.std.specs.Prelude.{◌≡◌, MatchOption};
 ghost use Rattle.datagram_grammar.specs.Parameters.{Parameters, AreInRange};
 
 use std::marker::Model;
 
-/// The numbers of a job, within its limits.
+/// The numbers that every node of a job knows, each within its limits (profile).
+///
+/// | Number | Limits |
+/// |---|---|
+/// | job | any |
+/// | nodes | 1 to 64 |
+/// | credits of each ordered pair of nodes | 1 to 32, and at most 65,536 over all pairs |
+/// | threads of each node | 1 to 16 |
+/// | bytes of each node's segment | a multiple of 4,096, from 4,096 to 67,108,864, and at most 268,435,456 over all nodes |
+/// | last number of a request | at least 1 |
+/// | milliseconds after which a request is sent again | 1 to 1,000,000 |
 #[derive(Clone, Copy, Debug, PartialEq, Eq)]
 pub struct Settings {
     job: u64,
@@ -28,7 +40,7 @@ impl Model for Settings {
 }
 
 impl Settings {
-    /// None exactly where a limit is broken.
+    /// The settings with these numbers; None exactly where a limit is broken.
     pub fn new(
         job: u64,
         nodes: u16,
@@ -79,42 +91,49 @@ impl Settings {
         })
     }
 
+    /// The job's number.
     pub fn job(&self) -> u64
         ensures { result ≡ self.now.job }
     {
         self.job
     }
 
+    /// How many nodes there are; they are numbered from 0.
     pub fn nodes(&self) -> u16
         ensures { result ≡ self.now.nodes }
     {
         self.nodes
     }
 
+    /// How many credits each ordered pair of nodes has, which is how many requests may be under way from one to the other.
     pub fn credits(&self) -> u16
         ensures { result ≡ self.now.credits }
     {
         self.credits
     }
 
+    /// How many client threads each node has.
     pub fn threads(&self) -> u16
         ensures { result ≡ self.now.threads }
     {
         self.threads
     }
 
+    /// How many bytes each node's segment has.
     pub fn segment(&self) -> u64
         ensures { result ≡ self.now.segment }
     {
         self.segment
     }
 
+    /// The last number that a request may have.
     pub fn last(&self) -> u64
         ensures { result ≡ self.now.last }
     {
         self.last
     }
 
+    /// After how many milliseconds without a reply a request is sent again.
     pub fn resend(&self) -> u64
         ensures { result ≡ self.now.resend }
     {
