@@ -59,25 +59,25 @@ impl Settings {
         if credits < 1 || credits > 32 {
             return None;
         }
-        if u32::from(nodes) * u32::from(nodes - 1) * u32::from(credits) > 65536 {
+        if u32::from(nodes) * u32::from(nodes - 1) * u32::from(credits) > 65_536 {
             return None;
         }
         if threads < 1 || threads > 16 {
             return None;
         }
-        if segment < 4096 || segment > 67108864 {
+        if segment < 4096 || segment > 67_108_864 {
             return None;
         }
         if segment % 4096 != 0 {
             return None;
         }
-        if u64::from(nodes) * segment > 268435456 {
+        if u64::from(nodes) * segment > 268_435_456 {
             return None;
         }
         if last < 1 {
             return None;
         }
-        if resend < 1 || resend > 1000000 {
+        if resend < 1 || resend > 1_000_000 {
             return None;
         }
         Some(Settings {
