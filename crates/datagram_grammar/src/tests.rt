@@ -85,7 +85,7 @@ fn writes_the_vectors(rt: HostRuntime) {
     if parts.well_formed() {
         assert_eq!(rt; write_into(&parts, &mut buf), Some(40));
         assert_eq!(rt; buf.get(..40), Some(ACK.as_slice()));
-        assert_eq!(rt; buf.get(40..), Some([0, 0, 0, 5].as_slice()));
+        assert_eq!(rt; buf.get(43), Some(&5));
     } else {
         assert!(rt; false, "the Ack is well formed");
     }
@@ -126,15 +126,15 @@ fn refuses_in_order(rt: HostRuntime) {
 }
 
 #[test]
-fn keeps_the_limits_of_the_settings(rt: HostRuntime) {
-    let least = Settings::new(0, 1, 1, 1, 4096, 1, 1);
+fn keeps_the_limits_of_the_settings(rt: HostRuntime) -> Result<(), Fail> {
+    let least = Settings::new(0, 1, 1, 1, 4096, 1, 1).ok_or("the least settings")?;
     assert_eq!(rt;
-        least.map(|s| (s.job(), s.nodes(), s.credits(), s.threads())),
-        Some((0, 1, 1, 1))
+        (least.job(), least.nodes(), least.credits(), least.threads()),
+        (0, 1, 1, 1)
     );
     assert_eq!(rt;
-        least.map(|s| (s.segment(), s.last(), s.resend())),
-        Some((4096, 1, 1))
+        (least.segment(), least.last(), least.resend()),
+        (4096, 1, 1)
     );
     for (nodes, credits, threads, segment, last, resend, want) in [
         (64, 16, 16, 4_194_304, u64::MAX, 1_000_000, true),
@@ -161,4 +161,5 @@ fn keeps_the_limits_of_the_settings(rt: HostRuntime) {
             "{nodes} {credits} {threads} {segment} {last} {resend}"
         );
     }
+    Ok(())
 }
