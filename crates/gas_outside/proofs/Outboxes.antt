@@ -85,6 +85,14 @@ pub past_last : (a b c : Outbox) (all rest : List ℕ) (result : Wrote) → Gath
 past_last a b c all rest wrote.Done h k = all_gathered a c all [] refl (past_done a b c all rest [] rest (sym (append-nil rest)) h k)
 past_last a b c all rest wrote.Fault h k = past_fault a b c all rest [] rest (sym (append-nil rest)) h k
 
+-- a front of the first of two pieces went in
+pub gathers_first : (a b : Outbox) (first second : List ℕ) → GathersAll a b first wrote.Fault → GathersAll a b (first ++ second) wrote.Fault
+gathers_first a b first second h = past_fault a a b (first ++ second) first second (first ++ second) refl (nothing_yet a (first ++ second)) h
+
+-- the first of two pieces went in, and then the second or a front of it
+pub gathers_then : (a b c : Outbox) (first second : List ℕ) (result : Wrote) → Gathers a b first → GathersAll b c second result → GathersAll a c (first ++ second) result
+gathers_then a b c first second result h k = past_last a b c (first ++ second) second result (record { front = first; whole = refl; gathered = h }) k
+
 -- ---- what the sink behind took in the end
 
 -- all went in where nothing waited, and nothing waits now: the sink behind took exactly that
@@ -102,6 +110,10 @@ front_given old new bytes rest none h =
       whole = h.whole ∙ ap (λ (x : List ℕ). x ++ rest) front ∙ append_assoc h.gathered.gone new.pending rest;
       taken = h.gathered.given;
     }
+
+-- the same of what a call says at a fault
+pub fault_given : (old new : Outbox) (bytes : List ℕ) → old.pending ≡ [] → GathersAll old new bytes wrote.Fault → WritesAll old.given new.given bytes wrote.Fault
+fault_given old new bytes none h = (new.pending ++ h.0, front_given old new bytes h.0 none h.1)
 
 -- all of the bytes went in where nothing waited, and were flushed: they were written to the sink behind, or a front of them
 pub flushed : (old mid new : Outbox) (bytes : List ℕ) (result : Wrote) → old.pending ≡ [] → Gathers old mid bytes → Flushes mid new result → WritesAll old.given new.given bytes result
