@@ -1,6 +1,6 @@
 -- Sinks that gather bytes before another sink: one call after the other, and what the sink behind took in the end.
-use Rattle.std.proofs.Common.{refl, ◌≡◌, ℕ, ◌+◌, ◌≤◌, List, [], ◌++◌, length, take, drop, Option, Some, None, sym, ap, ◌∙◌, subst, arith, append_assoc, append-nil, length-take, length-drop, drop-drop}
-use Rattle.std.proofs.lemmas.List.{take-append-drop, drop-append-le}
+use Rattle.std.proofs.Common.{refl, ◌≡◌, ℕ, ◌+◌, List, [], ◌++◌, take, drop, Option, Some, None, sym, ap, ◌∙◌, subst, append_assoc, append-nil, drop-drop}
+use Rattle.std.proofs.lemmas.List.{take-append-drop}
 use Rattle.std.proofs.Math.Seq.{take-add}
 use Rattle.std.specs.Io.KnownBytes.{Appends, append_known}
 use Rattle.std.proofs.KnownBytes.{Appends-nil, Appends-trans}
@@ -46,10 +46,6 @@ gives_front a b n e h = record {
   whole = append-nil a.pending ∙ sym (take-append-drop n a.pending) ∙ ap (λ (x : List ℕ). take n a.pending ++ x) (sym e);
   given = h;
 }
-
--- bytes were put behind those that waited
-pub waits_more : (a b : Outbox) (bytes : List ℕ) → b.given ≡ a.given → b.pending ≡ a.pending ++ bytes → Gathers a b bytes
-waits_more a b bytes same e = record { gone = []; whole = sym e; given = subst (λ (x : Option (List ℕ)). Appends a.given x []) (sym same) (Appends-nil a.given) }
 
 -- ---- one piece after another, where the rest of a text begins with the piece that goes in next
 
@@ -145,12 +141,3 @@ told_more old new bytes h = told_cases old.given new.given old.pending new.pendi
 -- a front of what waits is gone
 pub pending_after : (buffer gathered pending : List ℕ) (start end n : ℕ) → gathered ≡ take end buffer → pending ≡ drop start gathered → drop (start + n) (take end buffer) ≡ drop n pending
 pending_after buffer gathered pending start end n g p = sym (drop-drop n start (take end buffer)) ∙ ap (λ (x : List ℕ). drop n (drop start x)) (sym g) ∙ ap (drop n) (sym p)
-
--- bytes were put behind what waits
-pub pending_more : (old new bytes : List ℕ) (start end n : ℕ) → start ≤ end → end ≤ length old → take (end + n) new ≡ take end old ++ take n bytes → drop start (take (end + n) new) ≡ drop start (take end old) ++ take n bytes
-pending_more old new bytes start end n first fits e =
-    ap (drop start) e ∙ drop-append-le start (take end old) (take n bytes) (omega (arith, length-take end old))
-
--- where nothing waits, the buffer is empty from its start
-pub pending_none : (buffer : List ℕ) (start end : ℕ) → start ≤ end → end ≤ length buffer → drop start (take end buffer) ≡ [] → start ≡ end
-pending_none buffer start end first fits e = let none = simp (length-drop, length-take) at (ap length e) in omega arith
