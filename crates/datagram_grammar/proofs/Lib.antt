@@ -3,3 +3,4 @@ pub mod Places
 pub mod Table
 pub mod Laws
 pub mod Placed
+pub mod Spelling

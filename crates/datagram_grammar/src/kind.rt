@@ -1,20 +1,31 @@
+//! The kinds of messages, and the bytes that stand for them.
+
 ghost use Rattle.std.specs.Prelude.{◌≡◌, ◌<◌, ◌≤◌};
 ghost use Rattle.datagram_grammar.specs.Message.{code, is_built, is_kind, is_ack, is_long, is_bare};
 ghost use Rattle.datagram_grammar.specs.Reading.{kind_of};
 
-/// The category of a message, and its way.
+/// The category of a message and its way (GASNet 1.8.1, core API, active messages: Short, Medium and Long requests and
+/// replies), or the library's own answer to a request whose handler sent no reply.
 #[derive(Clone, Copy, Debug, PartialEq, Eq)]
 pub enum Kind {
+    /// A request with arguments alone.
     ShortRequest,
+    /// A request with a payload, which its handler sees in a buffer of the library.
     MediumRequest,
+    /// A request with a payload that goes to a place of the receiver's segment.
     LongRequest,
+    /// A reply with arguments alone.
     ShortReply,
+    /// A reply with a payload, which its handler sees in a buffer of the library.
     MediumReply,
+    /// A reply with a payload that goes to a place of the receiver's segment.
     LongReply,
+    /// The empty reply of the library itself (profile), which gives a request's credit back.
     Ack,
 }
 
 impl Kind {
+    /// The byte that stands for the kind.
     pub(crate) fn code(self) -> u8
         ensures { result ≡ code self }
     {
@@ -29,6 +40,7 @@ impl Kind {
         }
     }
 
+    /// The kind that a byte stands for.
     pub(crate) fn of_code(code: u8) -> Kind
         ensures { result ≡ kind_of code }
     {
@@ -44,34 +56,38 @@ impl Kind {
     }
 }
 
+/// Whether the kind is read and written so far.
 #[tactic(auto, unfolding(crate::specs::Message::is_built))]
-fn is_built(code: u8) -> bool
-    ensures { result ≡ is_built code }
+fn is_built(kind: u8) -> bool
+    ensures { result ≡ is_built kind }
 {
-    code == 0 || code == 6
+    kind == 0 || kind == 6
 }
 
-pub(crate) fn is_kind(code: u8) -> bool
-    ensures { result ≡ is_kind code }
+/// Whether the byte stands for a kind that is read and written.
+pub(crate) fn is_kind(kind: u8) -> bool
+    ensures { result ≡ is_kind kind }
 {
-    code < 7 && is_built(code)
+    kind < 7 && is_built(kind)
 }
 
-pub(crate) fn is_ack(code: u8) -> bool
-    ensures { result ≡ is_ack code }
+/// Whether the byte stands for an Ack.
+pub(crate) fn is_ack(kind: u8) -> bool
+    ensures { result ≡ is_ack kind }
 {
-    code == 6
+    kind == 6
 }
 
-pub(crate) fn is_long(code: u8) -> bool
-    ensures { result ≡ is_long code }
+/// Whether the byte stands for a Long request or reply.
+pub(crate) fn is_long(kind: u8) -> bool
+    ensures { result ≡ is_long kind }
 {
-    code == 2 || code == 5
+    kind == 2 || kind == 5
 }
 
-/// A Short kind or an Ack.
-pub(crate) fn is_bare(code: u8) -> bool
-    ensures { result ≡ is_bare code }
+/// Whether the byte stands for a kind without a payload: a Short request or reply, or an Ack.
+pub(crate) fn is_bare(kind: u8) -> bool
+    ensures { result ≡ is_bare kind }
 {
-    code == 0 || code == 3 || code == 6
+    kind == 0 || kind == 3 || kind == 6
 }

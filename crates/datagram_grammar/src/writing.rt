@@ -1,3 +1,5 @@
+//! Writing messages.
+
 ghost use Rattle.std.specs.Prelude.{◌≡◌, ◌+◌, ◌*◌, ◌≤◌, ◌++◌, length, take, drop};
 ghost use Rattle.std.specs.List.{flat_map};
 ghost use Rattle.datagram_grammar.specs.Message.{IsMessage, header, spelling, word};
@@ -6,7 +8,7 @@ ghost use Rattle.datagram_grammar.specs.Writing.{Writes};
 
 use crate::outgoing::Outgoing;
 
-/// Writes at a place.
+/// Writes bytes at a place.
 fn write_at(buf: &mut [u8], at: usize, bytes: &[u8])
     requires { at + length bytes.now ≤ length buf.old }
     ensures { buf.new ≡ take at buf.old ++ bytes.now ++ drop (at + length bytes.now) buf.old }
@@ -32,7 +34,7 @@ fn write_arguments(buf: &mut [u8], at: usize, args: &[i32])
     }
 }
 
-/// The bytes before the arguments.
+/// The 40 bytes before the arguments.
 #[tactic(auto, unfolding(crate::specs::Message::header))]
 fn header_of(parts: &Outgoing<'_>) -> [u8; 40]
     requires args { length parts.now.args.now ≤ 16 }
@@ -90,7 +92,10 @@ fn header_of(parts: &Outgoing<'_>) -> [u8; 40]
     ]
 }
 
-/// Writes the one spelling.
+/// Writes the message's one spelling into the front of the buffer, and answers its length, at most 8,296 bytes.
+///
+/// None exactly where the buffer is too small, and then it is unchanged. Else the rest of it is unchanged. The parts must be
+/// well formed, as `Outgoing::well_formed` tells.
 pub fn write_into(parts: &Outgoing<'_>, buf: &mut [u8]) -> Option<usize>
     requires { IsMessage (outgoing_message parts.now) }
     ensures { Writes (spelling (outgoing_message parts.now)) buf.old result buf.new }

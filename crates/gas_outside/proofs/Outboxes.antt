@@ -1,10 +1,10 @@
 -- Sinks that gather bytes before another sink: one call after the other, and what the sink behind took in the end.
-use Rattle.std.proofs.Common.{◌≡◌, ℕ, ◌+◌, ◌≤◌, List, [], ◌++◌, length, take, drop, Option, Some, None, sym, ap, ◌∙◌, subst, arith, append_assoc, append-nil, length-take, length-drop, drop-drop}
-use Rattle.std.proofs.lemmas.List.{take-append-drop, drop-append-le}
+use Rattle.std.proofs.Common.{refl, ◌≡◌, ℕ, ◌+◌, List, [], ◌++◌, take, drop, Option, Some, None, sym, ap, ◌∙◌, subst, append_assoc, append-nil, drop-drop}
+use Rattle.std.proofs.lemmas.List.{take-append-drop}
 use Rattle.std.proofs.Math.Seq.{take-add}
 use Rattle.std.specs.Io.KnownBytes.{Appends, append_known}
 use Rattle.std.proofs.KnownBytes.{Appends-nil, Appends-trans}
-use Rattle.gas_outside.specs.Buffered.{Outbox, Gathers, GathersUpTo, Flushes}
+use Rattle.gas_outside.specs.Buffered.{Outbox, Gathers, GathersUpTo, GathersAll, Flushes}
 use Rattle.gas_outside.specs.Whole.{TakesUpTo, WritesAll}
 use Rattle.gas_outside.specs.declared.writing.Wrote.{Wrote}
 use Rattle.gas_outside.specs.declared.writing.Wrote.TheVariants as wrote
@@ -47,9 +47,47 @@ gives_front a b n e h = record {
   given = h;
 }
 
--- bytes were put behind those that waited
-pub waits_more : (a b : Outbox) (bytes : List ℕ) → b.given ≡ a.given → b.pending ≡ a.pending ++ bytes → Gathers a b bytes
-waits_more a b bytes same e = record { gone = []; whole = sym e; given = subst (λ (x : Option (List ℕ)). Appends a.given x []) (sym same) (Appends-nil a.given) }
+-- ---- one piece after another, where the rest of a text begins with the piece that goes in next
+
+-- nothing of the text went in yet
+pub nothing_yet : (a : Outbox) (all : List ℕ) → GathersUpTo a a all all
+nothing_yet a all = record { front = []; whole = refl; gathered = gathers_none a }
+
+-- the next piece went in
+pub past_done : (a b c : Outbox) (all piece next rest : List ℕ) → rest ≡ piece ++ next → GathersUpTo a b all rest → Gathers b c piece → GathersUpTo a c all next
+past_done a b c all piece next rest e h k = record {
+  front = h.front ++ piece;
+  whole = h.whole ∙ ap (λ (x : List ℕ). h.front ++ x) e ∙ sym (append_assoc h.front piece next);
+  gathered = gathers_more a b c h.front piece h.gathered k;
+}
+
+-- a front of the next piece went in
+pub past_fault : (a b c : Outbox) (all piece next rest : List ℕ) → rest ≡ piece ++ next → GathersUpTo a b all rest → GathersAll b c piece wrote.Fault → GathersAll a c all wrote.Fault
+past_fault a b c all piece next rest e h k = (
+  k.0 ++ next,
+  record {
+    front = h.front ++ k.1.front;
+    whole = h.whole ∙ ap (λ (x : List ℕ). h.front ++ x) (e ∙ ap (λ (x : List ℕ). x ++ next) k.1.whole ∙ append_assoc k.1.front k.0 next) ∙ sym (append_assoc h.front k.1.front (k.0 ++ next));
+    gathered = gathers_more a b c h.front k.1.front h.gathered k.1.gathered;
+  },
+)
+
+-- the whole text went in where its rest is empty
+pub all_gathered : (a b : Outbox) (all rest : List ℕ) → rest ≡ [] → GathersUpTo a b all rest → Gathers a b all
+all_gathered a b all rest e h = subst (Gathers a b) (sym (h.whole ∙ ap (λ (x : List ℕ). h.front ++ x) e ∙ append-nil h.front)) h.gathered
+
+-- the rest is the last piece
+pub past_last : (a b c : Outbox) (all rest : List ℕ) (result : Wrote) → GathersUpTo a b all rest → GathersAll b c rest result → GathersAll a c all result
+past_last a b c all rest wrote.Done h k = all_gathered a c all [] refl (past_done a b c all rest [] rest (sym (append-nil rest)) h k)
+past_last a b c all rest wrote.Fault h k = past_fault a b c all rest [] rest (sym (append-nil rest)) h k
+
+-- a front of the first of two pieces went in
+pub gathers_first : (a b : Outbox) (first second : List ℕ) → GathersAll a b first wrote.Fault → GathersAll a b (first ++ second) wrote.Fault
+gathers_first a b first second h = past_fault a a b (first ++ second) first second (first ++ second) refl (nothing_yet a (first ++ second)) h
+
+-- the first of two pieces went in, and then the second or a front of it
+pub gathers_then : (a b c : Outbox) (first second : List ℕ) (result : Wrote) → Gathers a b first → GathersAll b c second result → GathersAll a c (first ++ second) result
+gathers_then a b c first second result h k = past_last a b c (first ++ second) second result (record { front = first; whole = refl; gathered = h }) k
 
 -- ---- what the sink behind took in the end
 
@@ -68,6 +106,10 @@ front_given old new bytes rest none h =
       whole = h.whole ∙ ap (λ (x : List ℕ). x ++ rest) front ∙ append_assoc h.gathered.gone new.pending rest;
       taken = h.gathered.given;
     }
+
+-- the same of what a call says at a fault
+pub fault_given : (old new : Outbox) (bytes : List ℕ) → old.pending ≡ [] → GathersAll old new bytes wrote.Fault → WritesAll old.given new.given bytes wrote.Fault
+fault_given old new bytes none h = (new.pending ++ h.0, front_given old new bytes h.0 none h.1)
 
 -- all of the bytes went in where nothing waited, and were flushed: they were written to the sink behind, or a front of them
 pub flushed : (old mid new : Outbox) (bytes : List ℕ) (result : Wrote) → old.pending ≡ [] → Gathers old mid bytes → Flushes mid new result → WritesAll old.given new.given bytes result
@@ -99,12 +141,3 @@ told_more old new bytes h = told_cases old.given new.given old.pending new.pendi
 -- a front of what waits is gone
 pub pending_after : (buffer gathered pending : List ℕ) (start end n : ℕ) → gathered ≡ take end buffer → pending ≡ drop start gathered → drop (start + n) (take end buffer) ≡ drop n pending
 pending_after buffer gathered pending start end n g p = sym (drop-drop n start (take end buffer)) ∙ ap (λ (x : List ℕ). drop n (drop start x)) (sym g) ∙ ap (drop n) (sym p)
-
--- bytes were put behind what waits
-pub pending_more : (old new bytes : List ℕ) (start end n : ℕ) → start ≤ end → end ≤ length old → take (end + n) new ≡ take end old ++ take n bytes → drop start (take (end + n) new) ≡ drop start (take end old) ++ take n bytes
-pending_more old new bytes start end n first fits e =
-    ap (drop start) e ∙ drop-append-le start (take end old) (take n bytes) (omega (arith, length-take end old))
-
--- where nothing waits, the buffer is empty from its start
-pub pending_none : (buffer : List ℕ) (start end : ℕ) → start ≤ end → end ≤ length buffer → drop start (take end buffer) ≡ [] → start ≡ end
-pending_none buffer start end first fits e = let none = simp (length-drop, length-take) at (ap length e) in omega arith

@@ -1,22 +1,10 @@
 -- One more call, after those before.
-use Rattle.std.proofs.Common.{subst, ◌≡◌, ℕ, ◌+◌, ◌-◌, ◌<◌, ◌≤◌, List, [], ◌++◌, length, take, drop, Option, refl, sym, ap, ◌∙◌, arith, append_assoc, length-append, length-take, drop-drop}
+use Rattle.std.proofs.Common.{subst, ◌≡◌, ℕ, ◌+◌, ◌-◌, ◌<◌, ◌≤◌, List, ◌++◌, length, take, drop, Option, sym, ap, ◌∙◌, arith, length-append, length-take, drop-drop}
 use Rattle.std.proofs.lemmas.List.{take-append-drop, take_at}
 use Rattle.std.proofs.Math.Seq.{take-add}
 use Rattle.std.specs.Io.KnownBytes.{Appends, Consumes}
-use Rattle.std.proofs.KnownBytes.{Appends-nil, Appends-trans, Consumes-trans}
+use Rattle.std.proofs.KnownBytes.{Appends-trans, Consumes-trans}
 use Rattle.gas_outside.specs.Whole.{TakesUpTo}
-
--- nothing is taken yet
-pub takes_up_to_none : (a : Option (List ℕ)) (bytes : List ℕ) → TakesUpTo a a bytes bytes
-takes_up_to_none a bytes = record { front = []; whole = refl; taken = Appends-nil a }
-
--- the first n bytes of the rest were taken
-pub takes_up_to_more : (a b c : Option (List ℕ)) (bytes rest : List ℕ) (n : ℕ) → TakesUpTo a b bytes rest → Appends b c (take n rest) → TakesUpTo a c bytes (drop n rest)
-takes_up_to_more a b c bytes rest n h more = record {
-  front = h.front ++ take n rest;
-  whole = h.whole ∙ ap (λ x. h.front ++ x) (sym (take-append-drop n rest)) ∙ sym (append_assoc h.front (take n rest) (drop n rest));
-  taken = Appends-trans a b c h.front (take n rest) h.taken more;
-}
 
 -- the bytes so far and a front of the piece are past the limit
 pub read_past : (a b c : Option (List ℕ)) (bytes piece : List ℕ) (limit n : ℕ) → Consumes a b bytes → Consumes b c (take n piece) → n ≤ length piece → length bytes ≤ limit → limit - length bytes < n → (x : List ℕ) × (limit < length x) × Consumes a c x

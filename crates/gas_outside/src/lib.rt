@@ -18,3 +18,6 @@ pub use reading::{ReadAll, read_all};
 pub use sink::{Put, Sink};
 pub use source::{Got, Source};
 pub use writing::{Wrote, write_all};
+
+#[cfg(test)]
+mod tests;
