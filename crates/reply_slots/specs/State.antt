@@ -143,6 +143,10 @@ run_count p = count_by has_run p
 abbrev pub held_count : RepliesState → ℕ
 held_count t = sum_by run_count t.peers
 
+-- how many slots there are in the whole table
+abbrev pub room : RepliesState → ℕ
+room t = sum_by (λ p. length p) t.peers
+
 -- nothing ran in any slot: as many slots as there are credits for each other node, and none for the node itself
 pub record IsNew (count credits me : ℕ) (t : RepliesState) : Type 0 where
   pub nodes : length t.peers ≡ count
