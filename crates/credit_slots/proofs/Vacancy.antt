@@ -1,13 +1,14 @@
 -- What a claim and a refusal say of single slots.
-use Rattle.std.proofs.Common.{ℕ, ◌≡◌, ◌≤◌, ◌<◌, Option, Some, None, Bool, true, false, List, length, get_or, refl, sym, ap, ◌∙◌, inl, inr, arith}
+use Rattle.std.proofs.Common.{ℕ, ◌≡◌, ◌≤◌, ◌<◌, ◌+◌, Option, Some, None, Bool, true, false, List, length, get_or, refl, sym, ap, subst, ◌∙◌, inl, inr, arith}
 use Rattle.std.specs.Prelude.{slice_get, position, IfSome, option_and_then}
+use Rattle.std.specs.Option.{option_map}
 use Rattle.std.proofs.lemmas.Option.{slice_get_cases}
 use Rattle.std.proofs.lemmas.List.Quantifiers.{position-Some}
 use Rattle.std.proofs.lemmas.Grind.{common_steps}
 use Rattle.std.specs.List.{position_or_len}
 use Rattle.std.proofs.lemmas.List.Sums.{fails_before_first}
 use Rattle.credit_slots.specs.declared.NoClaim.TheVariants.{NotYet}
-use Rattle.credit_slots.specs.State.{PeerState, SlotState, SlotsState, Vacant, Opened, Sealed, is_vacant, slot_at, CanClaim, Refuses}
+use Rattle.credit_slots.specs.State.{PeerState, SlotState, SlotsState, Vacant, Opened, Sealed, is_vacant, slot_at, CanClaim, Refuses, Claims, given_at}
 
 -- a slot that tests as vacant
 vacant : (s : SlotState) → is_vacant s ≡ true → s ≡ Vacant
@@ -35,3 +36,20 @@ none_vacant p last k s h at = elim ((slice_get_cases p.slots k).1) [
       ap is_vacant (sym same) ∙ (sym (ap is_vacant w.3) ∙ fails_before_first is_vacant p.slots k w.0 (omega (arith, w.1)))
   | inr w ↦ absurd cc
 ]
+
+-- what a claim says of the node that was claimed from
+claimed-in : (old new : SlotsState) (to now slot number : ℕ) → to < length old.peers → Claims old to now slot number new → (p : PeerState) × (slice_get old.peers to ≡ Some p) × CanClaim p old.last slot × (number ≡ p.given + 1)
+claimed-in old new to now slot number inside h = elim ((slice_get_cases old.peers to).1) [
+  | inl w ↦ let at : CanClaim w.0 old.last slot × (number ≡ w.0.given + 1) = subst (λ (o : Option PeerState). IfSome o (λ p. CanClaim p old.last slot × (number ≡ p.given + 1))) w.2 h.lowest in (w.0, w.2, at.0, at.1)
+  | inr w ↦ absurd (omega (arith, w.0, inside))
+]
+
+-- the slot that was claimed
+pub claimed-vacant : (old new : SlotsState) (to now slot number : ℕ) → to < length old.peers → Claims old to now slot number new → slot_at old to slot ≡ Some Vacant
+claimed-vacant old new to now slot number inside h = let c = claimed-in old new to now slot number inside h in vacant-at old to slot c.0 c.1 c.2
+
+-- the number that was claimed: the next one, and no greater than the last
+pub claimed-number : (old new : SlotsState) (to now slot number : ℕ) → to < length old.peers → Claims old to now slot number new → (given : ℕ) × (given_at old to ≡ Some given) × (number ≡ given + 1) × (number ≤ old.last)
+claimed-number old new to now slot number inside h =
+    let c = claimed-in old new to now slot number inside h in
+    (c.0.given, ap (option_map (λ (p : PeerState). p.given)) c.1, c.3, omega (arith, c.3, c.2.left))
