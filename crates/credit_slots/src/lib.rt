@@ -216,8 +216,8 @@ impl<'a> Claimed<'a> {
         ensures len { length result.now ≡ 8296 }
     {
         let to = self.to;
-        let at = self.at;
-        self.table.buffer_mut(to, at)
+        let slot = self.at;
+        self.table.buffer_mut(to, slot)
     }
 
     /// Ends the claim: the slot's message is the first `len` bytes of its buffer.
