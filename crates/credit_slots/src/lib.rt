@@ -22,7 +22,7 @@ use std::marker::Model;
 pub const BUFFER_BYTES: usize = 8296;
 
 /// Why a peer has no slot for a request.
-#[derive(Debug, Clone, Copy, Drop)]
+#[derive(Debug, Clone, Copy, PartialEq, Eq, Drop)]
 pub enum NoClaim {
     /// The pair's numbers are used up: no request to this peer is ever possible again.
     WornOut,
@@ -216,8 +216,8 @@ impl<'a> Claimed<'a> {
         ensures len { length result.now ≡ 8296 }
     {
         let to = self.to;
-        let at = self.at;
-        self.table.buffer_mut(to, at)
+        let slot = self.at;
+        self.table.buffer_mut(to, slot)
     }
 
     /// Ends the claim: the slot's message is the first `len` bytes of its buffer.
