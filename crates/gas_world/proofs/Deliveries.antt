@@ -37,7 +37,7 @@ use Rattle.gas_world.specs.declared.event.WorldAnswer.{WorldAnswer}
 use Rattle.gas_world.specs.declared.event.WorldAnswer.TheVariants as answers
 use Rattle.gas_world.proofs.Lists.{numbered_in, run_of_there}
 use Rattle.gas_world.proofs.Worlds.{put_same, put_other, step_keeps}
-use Rattle.gas_world.proofs.Spelling.{spelling_fits}
+use Rattle.datagram_grammar.proofs.Spelling.{spelling_fits}
 use Rattle.gas_world.proofs.Holding.{held_fits}
 use Rattle.gas_world.proofs.Nodes.{reply_found, node_judged, node_runs, node_taken, node_not_taken, node_returns, with_back}
 use Rattle.gas_world.proofs.Archiving.{pair_ran, pair_returned, not_run_yet}
@@ -161,7 +161,7 @@ ran_steps v z now i j k slot x old new w most S F i_in j_in apart at some same J
         rw same (kept_ack s j i x.slot k old.endpoint new.endpoint (w j) message node i_in apart below (ap (λ (e : EndpointState). e.replies) K.kept ∙ rw (node.settings, node.me_is) refl)) in
     let archive = ap (λ (r : ArchiveState). r.bytes) F.archive_was in
     let bytes : new.archive.bytes ≡ v.archive.bytes ++ message =
-        A.0.bytes (rw kept (spelling_fits (reply_message s i j run) fits)) ∙ ap₂ (λ (b m : List ℕ). b ++ m) (sym archive) kept in
+        A.0.bytes (rw kept (spelling_fits (reply_message s i j run) fits).buffer) ∙ ap₂ (λ (b m : List ℕ). b ++ m) (sym archive) kept in
     let was = scene_pair v z w most j i j old new S F i_in j_in in
     let pair = pair_ran s i j v.archive.bytes old.exchanges.list ((w i).asked j) ((w j).ran i) run some (not_run_yet s shorts ((w i).asked j) ((w j).ran i) k x P at above) was fits in
     let is : world_answer s shorts w (RequestComes i j k) ≡ Ran = request_is s w i j k x at i_in below good ∙ judged_new k (greatest x.slot ((w j).ran i)) above in

@@ -29,7 +29,7 @@ use Rattle.gas_world.specs.declared.exchanges.Exchange.{Exchange}
 use Rattle.gas_world.specs.declared.event.WorldAnswer.{WorldAnswer}
 use Rattle.gas_world.specs.declared.event.WorldAnswer.TheVariants as answers
 use Rattle.gas_world.proofs.Worlds.{put_same, put_other, step_keeps}
-use Rattle.gas_world.proofs.Spelling.{spelling_fits}
+use Rattle.datagram_grammar.proofs.Spelling.{spelling_fits}
 use Rattle.gas_world.proofs.Holding.{held_fits}
 use Rattle.gas_world.proofs.Nodes.{request_found, node_worn, node_not_yet, node_accepts}
 use Rattle.gas_world.proofs.Archiving.{pair_accepted}
@@ -90,7 +90,7 @@ accepted_steps v z now i t j slot number c old new w most S F A i_in j_in apart 
     let kept : bytes_or_none (message_at new.endpoint.requests j slot) ≡ message =
         kept_message s i j slot number now old.endpoint new.endpoint (w i) message node j_in other T.below (ap (λ (e : EndpointState). e.requests) A.accepts.kept ∙ rw (node.settings, node.me_is) refl) in
     let bytes : new.archive.bytes ≡ v.archive.bytes ++ message =
-        A.adds.bytes (rw kept (spelling_fits (addressed s.job i j slot number c) fits)) ∙ ap₂ (λ (b m : List ℕ). b ++ m) (ap (λ (r : ArchiveState). r.bytes) (sym F.archive_was)) kept in
+        A.adds.bytes (rw kept (spelling_fits (addressed s.job i j slot number c) fits).buffer) ∙ ap₂ (λ (b m : List ℕ). b ++ m) (ap (λ (r : ArchiveState). r.bytes) (sym F.archive_was)) kept in
     let was = scene_pair v z w most i i j old new S F i_in j_in in
     let pair = pair_accepted s shorts i j v.archive.bytes old.exchanges.list ((w i).asked j) ((w j).ran i) asked (S.invariant_.pair i j) was (subst (λ k. IsMessage (addressed s.job i j slot k c)) next fits) in
     let spelled = ap (λ k. spelling (addressed s.job i j slot k c)) (sym next) in

@@ -4,7 +4,7 @@ pub mod Worlds
 pub mod Keeping
 pub mod Runs
 pub mod Claiming
-pub mod Spelling
+pub mod Messages
 pub mod Holding
 pub mod Nodes
 pub mod Archiving
@@ -13,3 +13,4 @@ pub mod Events
 pub mod Deliveries
 pub mod Scenes
 pub mod Opening
+pub mod Laws

@@ -2,7 +2,7 @@ use Rattle.std.proofs.Common.{arith, take_all, subst, List, ℤ}
 use Rattle.std.specs.List.{AllByRecursion}
 use Rattle.std.specs.Int.{w32}
 use Rattle.std.specs.Int.RustNames.{FitsSigned}
-use Rattle.gas_world.proofs.Spelling.{short_is}
+use Rattle.gas_world.proofs.Messages.{short_is}
 use Rattle.gas_world.proofs.sealing.short_request.Goals as goal
 
 pub returns-clause-message : goal.returns-clause-message

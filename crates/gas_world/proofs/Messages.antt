@@ -1,4 +1,4 @@
--- Which messages there are, and how long their spelling is.
+-- The messages of Short requests and Acks.
 use Rattle.std.proofs.Common.{◌≡◌, ◌≢◌, ℕ, ℤ, ◌+◌, ◌*◌, ◌^◌, ◌<◌, ◌≤◌, true, false, List, [], length, refl, sym, arith, ne_eqb, get_or}
 use Rattle.std.specs.List.{AllByRecursion}
 use Rattle.std.specs.Int.{w32}
@@ -6,12 +6,6 @@ use Rattle.std.specs.Int.RustNames.{FitsSigned}
 use Rattle.datagram_grammar.specs.Message.{Message, IsMessage, spelling, addressed, is_built}
 use Rattle.datagram_grammar.proofs.Laws.{length-spelling}
 use Rattle.gas_world.specs.Shorts.{short, ack}
-
-pub spelling_some : (m : Message) → 1 ≤ length (spelling m)
-spelling_some m = let e = length-spelling m in omega arith
-
-pub spelling_fits : (m : Message) → IsMessage m → length (spelling m) ≤ 8296
-spelling_fits m h = let e = length-spelling m in let a = h.count in let b = h.payload_length in omega arith
 
 -- where a message goes
 pub record IsAddress (job from to slot number : ℕ) : Type 0 where
