@@ -1,0 +1,110 @@
+-- Sinks that gather bytes before another sink: one call after the other, and what the sink behind took in the end.
+use Rattle.std.proofs.Common.{◌≡◌, ℕ, ◌+◌, ◌≤◌, List, [], ◌++◌, length, take, drop, Option, Some, None, sym, ap, ◌∙◌, subst, arith, append_assoc, append-nil, length-take, length-drop, drop-drop}
+use Rattle.std.proofs.lemmas.List.{take-append-drop, drop-append-le}
+use Rattle.std.proofs.Math.Seq.{take-add}
+use Rattle.std.specs.Io.KnownBytes.{Appends, append_known}
+use Rattle.std.proofs.KnownBytes.{Appends-nil, Appends-trans}
+use Rattle.gas_outside.specs.Buffered.{Outbox, Gathers, GathersUpTo, Flushes}
+use Rattle.gas_outside.specs.Whole.{TakesUpTo, WritesAll}
+use Rattle.gas_outside.specs.declared.writing.Wrote.{Wrote}
+use Rattle.gas_outside.specs.declared.writing.Wrote.TheVariants as wrote
+
+-- nothing went in, and nothing went on
+pub gathers_none : (a : Outbox) → Gathers a a []
+gathers_none a = record { gone = []; whole = append-nil a.pending; given = Appends-nil a.given }
+
+-- bytes went in, and then more
+pub gathers_more : (a b c : Outbox) (first second : List ℕ) → Gathers a b first → Gathers b c second → Gathers a c (first ++ second)
+gathers_more a b c first second h k = record {
+  gone = h.gone ++ k.gone;
+  whole = sym (append_assoc a.pending first second) ∙ ap (λ (x : List ℕ). x ++ second) h.whole ∙ append_assoc h.gone b.pending second ∙ ap (λ (x : List ℕ). h.gone ++ x) k.whole
+      ∙ sym (append_assoc h.gone k.gone c.pending);
+  given = Appends-trans a.given b.given c.given h.gone k.gone h.given k.given;
+}
+
+-- the first n bytes went in, and then the next m
+pub gathers_front : (a b c : Outbox) (bytes rest : List ℕ) (n m : ℕ) → rest ≡ drop n bytes → Gathers a b (take n bytes) → Gathers b c (take m rest) → Gathers a c (take (n + m) bytes)
+gathers_front a b c bytes rest n m e h k =
+    let whole : take (n + m) bytes ≡ take n bytes ++ take m rest = take-add n m bytes ∙ ap (λ x. take n bytes ++ take m x) (sym e) in
+    subst (Gathers a c) (sym whole) (gathers_more a b c (take n bytes) (take m rest) h k)
+
+-- the first n bytes went in, and then a call failed
+pub gathers_failed : (a b c : Outbox) (bytes : List ℕ) (n : ℕ) → Gathers a b (take n bytes) → Gathers b c [] → (rest : List ℕ) × GathersUpTo a c bytes rest
+gathers_failed a b c bytes n h k = (
+  drop n bytes,
+  record {
+    front = take n bytes;
+    whole = sym (take-append-drop n bytes);
+    gathered = subst (Gathers a c) (append-nil (take n bytes)) (gathers_more a b c (take n bytes) [] h k);
+  },
+)
+
+-- a front of what waited went on
+pub gives_front : (a b : Outbox) (n : ℕ) → b.pending ≡ drop n a.pending → Appends a.given b.given (take n a.pending) → Gathers a b []
+gives_front a b n e h = record {
+  gone = take n a.pending;
+  whole = append-nil a.pending ∙ sym (take-append-drop n a.pending) ∙ ap (λ (x : List ℕ). take n a.pending ++ x) (sym e);
+  given = h;
+}
+
+-- bytes were put behind those that waited
+pub waits_more : (a b : Outbox) (bytes : List ℕ) → b.given ≡ a.given → b.pending ≡ a.pending ++ bytes → Gathers a b bytes
+waits_more a b bytes same e = record { gone = []; whole = sym e; given = subst (λ (x : Option (List ℕ)). Appends a.given x []) (sym same) (Appends-nil a.given) }
+
+-- ---- what the sink behind took in the end
+
+-- all went in where nothing waited, and nothing waits now: the sink behind took exactly that
+pub all_given : (old new : Outbox) (bytes : List ℕ) → old.pending ≡ [] → new.pending ≡ [] → Gathers old new bytes → Appends old.given new.given bytes
+all_given old new bytes none now h =
+    let gone : bytes ≡ h.gone = ap (λ (x : List ℕ). x ++ bytes) (sym none) ∙ h.whole ∙ ap (λ (x : List ℕ). h.gone ++ x) now ∙ append-nil h.gone in
+    subst (Appends old.given new.given) (sym gone) h.given
+
+-- a front of the bytes went in where nothing waited: the sink behind took a front of them, up to what waits and the rest
+pub front_given : (old new : Outbox) (bytes rest : List ℕ) → old.pending ≡ [] → GathersUpTo old new bytes rest → TakesUpTo old.given new.given bytes (new.pending ++ rest)
+front_given old new bytes rest none h =
+    let front : h.front ≡ h.gathered.gone ++ new.pending = ap (λ (x : List ℕ). x ++ h.front) (sym none) ∙ h.gathered.whole in
+    record {
+      front = h.gathered.gone;
+      whole = h.whole ∙ ap (λ (x : List ℕ). x ++ rest) front ∙ append_assoc h.gathered.gone new.pending rest;
+      taken = h.gathered.given;
+    }
+
+-- all of the bytes went in where nothing waited, and were flushed: they were written to the sink behind, or a front of them
+pub flushed : (old mid new : Outbox) (bytes : List ℕ) (result : Wrote) → old.pending ≡ [] → Gathers old mid bytes → Flushes mid new result → WritesAll old.given new.given bytes result
+flushed old mid new bytes wrote.Done none h f =
+    let g : Gathers old new bytes = subst (Gathers old new) (append-nil bytes) (gathers_more old mid new bytes [] h f.0) in
+    all_given old new bytes none f.1 g
+flushed old mid new bytes wrote.Fault none h f =
+    let g : Gathers old new bytes = subst (Gathers old new) (append-nil bytes) (gathers_more old mid new bytes [] h f) in
+    (new.pending ++ [], front_given old new bytes [] none (record { front = bytes; whole = sym (append-nil bytes); gathered = g }))
+
+-- a front of the bytes went in where nothing waited, and more was flushed or not: the sink behind took a front of them
+pub flushed_front : (old mid new : Outbox) (bytes rest : List ℕ) → old.pending ≡ [] → GathersUpTo old mid bytes rest → Gathers mid new [] → TakesUpTo old.given new.given bytes (new.pending ++ rest)
+flushed_front old mid new bytes rest none h f =
+    let g : Gathers old new h.front = subst (Gathers old new) (append-nil h.front) (gathers_more old mid new h.front [] h.gathered f) in
+    front_given old new bytes rest none (record { front = h.front; whole = h.whole; gathered = g })
+
+told_cases : (a b : Option (List ℕ)) (waiting pending bytes gone : List ℕ) → waiting ++ bytes ≡ gone ++ pending → Appends a b gone → Appends (append_known a waiting) (append_known b pending) bytes
+told_cases None b waiting pending bytes gone e h = tt
+told_cases (Some x) None waiting pending bytes gone e h = absurd h
+told_cases (Some x) (Some y) waiting pending bytes gone e h =
+    ap (λ (z : List ℕ). z ++ pending) h ∙ append_assoc x gone pending ∙ ap (λ (z : List ℕ). x ++ z) (sym e) ∙ sym (append_assoc x waiting bytes)
+
+-- what a gathering sink tells as taken grew by the bytes that went in
+pub told_more : (old new : Outbox) (bytes : List ℕ) → Gathers old new bytes → Appends (append_known old.given old.pending) (append_known new.given new.pending) bytes
+told_more old new bytes h = told_cases old.given new.given old.pending new.pending bytes h.gone h.whole h.given
+
+-- ---- the bytes that wait, as a part of the buffer
+
+-- a front of what waits is gone
+pub pending_after : (buffer gathered pending : List ℕ) (start end n : ℕ) → gathered ≡ take end buffer → pending ≡ drop start gathered → drop (start + n) (take end buffer) ≡ drop n pending
+pending_after buffer gathered pending start end n g p = sym (drop-drop n start (take end buffer)) ∙ ap (λ (x : List ℕ). drop n (drop start x)) (sym g) ∙ ap (drop n) (sym p)
+
+-- bytes were put behind what waits
+pub pending_more : (old new bytes : List ℕ) (start end n : ℕ) → start ≤ end → end ≤ length old → take (end + n) new ≡ take end old ++ take n bytes → drop start (take (end + n) new) ≡ drop start (take end old) ++ take n bytes
+pending_more old new bytes start end n first fits e =
+    ap (drop start) e ∙ drop-append-le start (take end old) (take n bytes) (omega (arith, length-take end old))
+
+-- where nothing waits, the buffer is empty from its start
+pub pending_none : (buffer : List ℕ) (start end : ℕ) → start ≤ end → end ≤ length buffer → drop start (take end buffer) ≡ [] → start ≡ end
+pending_none buffer start end first fits e = let none = simp (length-drop, length-take) at (ap length e) in omega arith

@@ -1,0 +1,148 @@
+//! A sink that gathers small pieces before another sink.
+
+ghost use Rattle.std.specs.Prelude.{◌≡◌, ◌≤◌, ◌+◌, ◌-◌, ◌++◌, [], length, min, take};
+ghost use Rattle.std.specs.Io.KnownBytes.{append_known};
+ghost use Rattle.gas_outside.specs.Buffered.{Flushes, GathersAll, GathersPut, outbox};
+ghost use Rattle.gas_outside.specs.Faults.{Rose};
+ghost use Rattle.gas_outside.specs.Sink.{Takes, TakesSome, IsFailed};
+ghost use Rattle.gas_outside.specs.Whole.{IsWriteFault};
+
+use crate::sink::{Put, Sink};
+use crate::writing::{Wrote, write_front};
+use std::marker::Model;
+
+/// How many bytes a buffered sink holds back at most.
+const CAPACITY: usize = 8192;
+
+/// A sink that holds bytes back, at most 8,192 of them, and gives them on to the sink behind it in large pieces.
+///
+/// What it tells as taken are the bytes that the sink behind it took, and then those that it still holds back. Its faults are
+/// those of the sink behind it. It takes no memory beyond its own size. What it holds back is given on by `flush` alone, and
+/// is lost where it is dropped or taken apart before.
+#[derive(Drop)]
+pub struct BufferedSink<K: Sink> {
+    inner: K,
+    buffer: [u8; CAPACITY],
+    start: usize,
+    end: usize,
+}
+
+impl<K: Sink> Model for BufferedSink<K> {
+    ghost use Rattle.std.specs.Prelude.{◌≤◌, take, drop};
+    ghost use Rattle.gas_outside.specs.Buffered.{Gathering, IsInBuffer};
+
+    ghost Value = { Gathering K };
+
+    ghost view = { λ s. record { inner = s.inner; pending = drop s.start (take s.end s.buffer) } };
+
+    ghost invariant = { λ s. IsInBuffer s.start s.end };
+}
+
+impl<K: Sink> BufferedSink<K> {
+    /// A sink before this one that holds nothing back yet.
+    pub fn new(inner: K) -> BufferedSink<K>
+        ensures inner { result.inner ≡ inner }
+        ensures pending { result.pending ≡ [] }
+    {
+        BufferedSink {
+            inner,
+            buffer: [0; CAPACITY],
+            start: 0,
+            end: 0,
+        }
+    }
+
+    /// Gives on what is held back.
+    ///
+    /// After `Done` nothing is held back. `Fault` comes only where the count of faults of the sink behind rose (or stands at
+    /// its last value); a front of what was held back was given on then, and the rest is still held back.
+    pub fn flush(&mut self) -> Wrote
+        ensures bytes { Flushes (outbox K.taken self.old) (outbox K.taken self.new) result }
+        ensures later { K.faults self.old.inner ≤ K.faults self.new.inner }
+        ensures fault { IsWriteFault result → Rose (K.faults self.old.inner) (K.faults self.new.inner) }
+    {
+        let (gathered, _) = self.buffer.split_at(self.end);
+        let (_, pending) = gathered.split_at(self.start);
+        let taken = write_front(&mut self.inner, pending);
+        self.start += taken;
+        if self.start < self.end {
+            return Wrote::Fault;
+        }
+        self.start = 0;
+        self.end = 0;
+        Wrote::Done
+    }
+
+    /// Writes all of the bytes, in order, as `write_all` does; in the words of what was given on and what is held back.
+    ///
+    /// `Done` means that all of them went in. `Fault` comes only where the count of faults of the sink behind rose (or stands
+    /// at its last value); a front of them went in then.
+    pub fn write_all(&mut self, bytes: &[u8]) -> Wrote
+        ensures bytes { GathersAll (outbox K.taken self.old) (outbox K.taken self.new) bytes.now result }
+        ensures later { K.faults self.old.inner ≤ K.faults self.new.inner }
+        ensures fault { IsWriteFault result → Rose (K.faults self.old.inner) (K.faults self.new.inner) }
+    {
+        let mut taken = 0;
+        while taken < bytes.len() {
+            let (_, rest) = bytes.split_at(taken);
+            match self.write(rest) {
+                Put::Failed => return Wrote::Fault,
+                Put::Put(n) => taken += n,
+            }
+        }
+        Wrote::Done
+    }
+
+    /// The sink behind; what is still held back is lost.
+    pub fn into_inner(self) -> K
+        ensures { result ≡ self.inner }
+    {
+        let BufferedSink {
+            inner,
+            buffer: _,
+            start: _,
+            end: _,
+        } = self;
+        inner
+    }
+}
+
+/// Copies as many of the bytes as there is room for behind those up to `end`, moves `end` on, and answers how many they are.
+fn gather(buffer: &mut [u8], end: &mut usize, bytes: &[u8]) -> usize
+    requires { end.old ≤ length buffer.old }
+    ensures count { result ≡ min (length bytes.now) (length buffer.old - end.old) }
+    ensures end { end.new ≡ end.old + result }
+    ensures copied { take end.new buffer.new ≡ take end.old buffer.old ++ take result bytes.now }
+{
+    let (_, room) = buffer.split_at_mut(*end);
+    let n = bytes.len().min(room.len());
+    room[..n].copy_from_slice(&bytes[..n]);
+    *end += n;
+    n
+}
+
+impl<K: Sink> Sink for BufferedSink<K> {
+    ghost use Rattle.std.specs.Io.KnownBytes.{append_known};
+
+    ghost taken = { λ s. append_known (K.taken s.inner) s.pending };
+
+    ghost faults = { λ s. K.faults s.inner };
+
+    /// Holds the bytes back, or as many as there is room for; where they don't fit behind those that are held back, these are
+    /// given on first. `Failed` where that failed: nothing of `bytes` was taken then.
+    fn write(&mut self, bytes: &[u8]) -> Put
+        ensures bound { TakesSome result (length bytes.now) }
+        ensures bytes { Takes (append_known (K.taken self.old.inner) self.old.pending) (append_known (K.taken self.new.inner) self.new.pending) result bytes.now }
+        ensures later { K.faults self.old.inner ≤ K.faults self.new.inner }
+        ensures cause { IsFailed result → Rose (K.faults self.old.inner) (K.faults self.new.inner) }
+        ensures gathers { GathersPut (outbox K.taken self.old) (outbox K.taken self.new) result bytes.now }
+    {
+        if bytes.len() <= CAPACITY - self.end {
+            return Put::Put(gather(&mut self.buffer, &mut self.end, bytes));
+        }
+        match self.flush() {
+            Wrote::Fault => Put::Failed,
+            Wrote::Done => Put::Put(gather(&mut self.buffer, &mut self.end, bytes)),
+        }
+    }
+}
