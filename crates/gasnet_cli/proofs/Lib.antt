@@ -5,3 +5,4 @@ pub mod LineLaws
 pub mod Integers
 pub mod FieldLaws
 pub mod JobLaws
+pub mod Writing

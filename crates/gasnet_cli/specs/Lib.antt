@@ -2,3 +2,6 @@ pub mod Lines
 pub mod Number
 pub mod JobText
 pub mod Reading
+pub mod Says
+pub mod Output
+pub mod Runs

@@ -5,7 +5,10 @@ mod event_reader;
 mod job;
 mod job_reader;
 mod line_reader;
+mod line_writer;
 mod number;
+mod output;
 mod read_error;
+mod said;
 
 fn main() {}
