@@ -232,3 +232,6 @@ impl<'a> Claimed<'a> {
         self.table.seal(to, at, len);
     }
 }
+
+#[cfg(test)]
+mod tests;

@@ -1,0 +1,17 @@
+pub mod Record
+pub mod Step
+pub mod World
+pub mod Held
+pub mod Invariant
+pub mod Kept
+pub mod Shorts
+pub mod Laws
+pub mod Archived
+pub mod Exchanged
+pub mod State
+pub mod Endpoints
+pub mod Worlds
+pub mod Stands
+pub mod Events
+pub mod Sizes
+pub mod Steps

@@ -1,0 +1,70 @@
+-- Which messages there are, and how long their spelling is.
+use Rattle.std.proofs.Common.{◌≡◌, ◌≢◌, ℕ, ℤ, ◌+◌, ◌*◌, ◌^◌, ◌<◌, ◌≤◌, true, false, List, [], length, refl, sym, arith, ne_eqb, get_or}
+use Rattle.std.specs.List.{AllByRecursion}
+use Rattle.std.specs.Int.{w32}
+use Rattle.std.specs.Int.RustNames.{FitsSigned}
+use Rattle.datagram_grammar.specs.Message.{Message, IsMessage, spelling, addressed, is_built}
+use Rattle.datagram_grammar.proofs.Laws.{length-spelling}
+use Rattle.gas_world.specs.Shorts.{short, ack}
+
+pub spelling_some : (m : Message) → 1 ≤ length (spelling m)
+spelling_some m = let e = length-spelling m in omega arith
+
+pub spelling_fits : (m : Message) → IsMessage m → length (spelling m) ≤ 8296
+spelling_fits m h = let e = length-spelling m in let a = h.count in let b = h.payload_length in omega arith
+
+-- where a message goes
+pub record IsAddress (job from to slot number : ℕ) : Type 0 where
+  pub job_in : job < 2 ^ 64
+  pub from_in : from < 2 ^ 16
+  pub to_in : to < 2 ^ 16
+  pub apart : from ≢ to
+  pub slot_in : slot < 2 ^ 16
+  pub number_in : number < 2 ^ 64
+  pub some : 1 ≤ number
+
+pub short_is : (job from to slot number handler : ℕ) (args : List ℤ) → IsAddress job from to slot number → 1 ≤ handler → handler < 2 ^ 8 → AllByRecursion (FitsSigned w32) args → length args ≤ 16 → IsMessage (addressed job from to slot number (short handler args))
+unfolding is_built
+short_is job from to slot number handler args a some byte fit few = record {
+  kind = refl;
+  job = a.job_in;
+  from = a.from_in;
+  to = a.to_in;
+  apart = a.apart;
+  slot = a.slot_in;
+  number = a.number_in;
+  numbered = a.some;
+  handler = byte;
+  ack_handler = sym (ne_eqb handler 0 (λ e. omega (arith, e, some)));
+  args = fit;
+  count = few;
+  ack_args = λ e. absurd (cc);
+  offset = omega arith;
+  long_offset = λ e. refl;
+  payload = λ i. omega arith;
+  payload_length = omega arith;
+  bare_payload = λ e. refl;
+}
+
+pub ack_is : (job from to slot number : ℕ) → IsAddress job from to slot number → IsMessage (addressed job from to slot number ack)
+unfolding is_built
+ack_is job from to slot number a = record {
+  kind = refl;
+  job = a.job_in;
+  from = a.from_in;
+  to = a.to_in;
+  apart = a.apart;
+  slot = a.slot_in;
+  number = a.number_in;
+  numbered = a.some;
+  handler = omega arith;
+  ack_handler = refl;
+  args = tt;
+  count = omega arith;
+  ack_args = λ e. refl;
+  offset = omega arith;
+  long_offset = λ e. refl;
+  payload = λ i. omega arith;
+  payload_length = omega arith;
+  bare_payload = λ e. refl;
+}

@@ -1,0 +1,83 @@
+//! The requests of a pair of nodes, with their replies.
+
+ghost use Rattle.std.specs.Prelude.{◌≡◌, ◌≤◌, ◌<◌, ◌++◌, ◌∷◌, OnOk, length, [], IfSome, slice_get};
+ghost use Rattle.gas_world.specs.Record.{numbered};
+ghost use Rattle.gas_world.specs.State.{with_reply_part};
+
+use crate::archive::Part;
+use std::alloc::{AllocError, Global};
+use std::marker::Model;
+
+/// A request that was sent, and its reply where one was.
+#[derive(Clone, Copy, Debug, PartialEq, Eq)]
+pub struct Exchange {
+    /// Where the request stands.
+    pub request: Part,
+    /// Where its reply stands.
+    pub reply: Option<Part>,
+}
+
+/// The exchanges of an ordered pair of nodes: that of request 1 first.
+#[derive(Debug, Drop)]
+pub struct Exchanges {
+    list: Vec<Exchange>,
+}
+
+impl Model for Exchanges {
+    ghost use Rattle.std.specs.Prelude.{◌-◌, vec_len, vec_capacity};
+    ghost use Rattle.gas_world.specs.Exchanged.{ExchangesState};
+
+    ghost Value = { ExchangesState };
+
+    ghost view = { λ e. record { list = e.list.items; room = vec_capacity e.list - vec_len e.list } };
+}
+
+impl Exchanges {
+    /// No request.
+    pub fn new(alloc: Global) -> Exchanges
+        ensures { result.list ≡ [] }
+    {
+        Exchanges {
+            list: Vec::new(alloc),
+        }
+    }
+
+    /// Makes room for one more.
+    pub fn make_room(&mut self) -> Result<(), AllocError>
+        ensures list { self.new.list ≡ self.old.list }
+        ensures room { OnOk result (1 ≤ self.new.room) }
+    {
+        self.list.reserve(1)
+    }
+
+    /// Adds the next request, for which there is room.
+    pub fn add(&mut self, request: Part)
+        requires { 1 ≤ self.old.room }
+        ensures { self.new.list ≡ self.old.list ++ (record { request = request; reply = None }) ∷ [] }
+    {
+        let _ = self.list.push(Exchange {
+            request,
+            reply: None,
+        });
+    }
+
+    /// The exchange of the request with that number, counted from 1.
+    pub fn get(&self, number: u64) -> Option<Exchange>
+        ensures { result ≡ numbered self.now.list number }
+    {
+        let place = number.checked_sub(1)?;
+        if place >= self.list.len() as u64 {
+            return None;
+        }
+        Some(self.list[place as usize])
+    }
+
+    /// Keeps the reply to the request with that number, which is there.
+    pub fn set_reply(&mut self, number: u64, reply: Part)
+        requires first { 1 ≤ number }
+        requires last { number ≤ length self.old.list }
+        ensures { self.new.list ≡ with_reply_part self.old.list number reply }
+    {
+        self.list[(number - 1) as usize].reply = Some(reply);
+    }
+}
