@@ -193,9 +193,10 @@ short_takes p node thread action to handler values e some threads is_short is_12
     let zs = integers_take values c.0 c.1 in
     let many : length c.0 ≤ 16 = simp length-map at (subst (λ (ws : List Word). length ws ≤ 16) zs.0 few) in
     let made : Event = Call a.0.0 b.0 a.0.1 c.0 in
-    subst (λ (x : Event). IsCallOf p (node ∷ thread ∷ action ∷ to ∷ handler ∷ values) x) (ok_is made e c.2)
-    (ap (λ (ws : Line). codes "call" ∷ ws) (five node thread action to handler values _ _ _ _ _ _ ends.0 t.0 is_short ends.1 is_128 zs.0),
-     record { pair = ends.2; thread_in = let m = t.1.most in omega arith; count = many; fit = zs.1 })
+    subst (λ (x : Event). IsCallOf p (node ∷ thread ∷ action ∷ to ∷ handler ∷ values) x) (ok_is made e c.2) (
+      ap (λ (ws : Line). codes "call" ∷ ws) (five node thread action to handler values _ _ _ _ _ _ ends.0 t.0 is_short ends.1 is_128 zs.0),
+      record { pair = ends.2; thread_in = let m = t.1.most in omega arith; count = many; fit = zs.1 },
+    )
 
 call_takes : (p : Parameters) (words : Line) (e : Event) → 1 ≤ p.nodes → 1 ≤ p.threads → call_of p words ≡ Ok e → IsCallOf p words e
 unfolding call_of

@@ -316,15 +316,30 @@ parameters_take bytes x e =
     let e2 = tn.0 ∙ ap (λ (z : List ℕ). number_line (codes "nodes") n.0.0 ++ z) e3 in
     let e1 = tj.0 ∙ ap (λ (z : List ℕ). number_line (codes "job") j.0.0 ++ z) e2 in
     let e0 = tv.0 ∙ ap (λ (w : Word). line_text (codes "gasnet" ∷ w ∷ []) ++ v.0.1) (version_one v.0.0 tv.1) ∙ ap (λ (z : List ℕ). line_text (codes "gasnet" ∷ codes "1" ∷ []) ++ z) e1 in
-    subst (λ (y : Parameters × List ℕ). (bytes ≡ parameters_text y.0 y.1) × AreRead y.0) (ok_is made x r.2) (e0, record {
-      in_range = record {
-        some_node = one_node n.0.0 tn.1.least; nodes = tn.1.most; some_credit = tc.range.least; credits = tc.range.most; pairs = tc.pairs;
-        some_thread = th.1.least; threads = th.1.most; pages = ts.pages; some_page = ts.range.least; segment = ts.range.most; segments = ts.segments;
-        last = tl.1.least; some_time = tr.1.least; resend = tr.1.most };
-      two_nodes = tn.1.least;
-      job_fits = tj.1.fits;
-      last_fits = tl.1.fits;
-    })
+    subst (λ (y : Parameters × List ℕ). (bytes ≡ parameters_text y.0 y.1) × AreRead y.0) (ok_is made x r.2) (
+      e0,
+      record {
+        in_range = record {
+          some_node = one_node n.0.0 tn.1.least;
+          nodes = tn.1.most;
+          some_credit = tc.range.least;
+          credits = tc.range.most;
+          pairs = tc.pairs;
+          some_thread = th.1.least;
+          threads = th.1.most;
+          pages = ts.pages;
+          some_page = ts.range.least;
+          segment = ts.range.most;
+          segments = ts.segments;
+          last = tl.1.least;
+          some_time = tr.1.least;
+          resend = tr.1.most;
+        };
+        two_nodes = tn.1.least;
+        job_fits = tj.1.fits;
+        last_fits = tl.1.fits;
+      },
+    )
 
 in_limits : (low high n : ℕ) → low ≤ n → n ≤ high → high ≤ 67108864 → IsIn low high n
 in_limits low high n a b c = record { least = a; most = b; fits = omega arith }
@@ -347,7 +362,7 @@ parameters_again p rest h =
     let r2 = number_line (codes "nodes") p.nodes ++ r3 in
     let r1 = number_line (codes "job") p.job ++ r2 in
     let a0 : setting_at (codes "gasnet") 1 1 (line_text (codes "gasnet" ∷ codes "1" ∷ []) ++ r1) ≡ Ok (1, r1) =
-        ap (λ (w : Word). setting_at (codes "gasnet") 1 1 (line_text (codes "gasnet" ∷ w ∷ []) ++ r1)) (sym (version_one 1 one_is)) ∙ setting_at_again (codes "gasnet") 1 1 1 r1 gasnet_word one_is in
+    ap (λ (w : Word). setting_at (codes "gasnet") 1 1 (line_text (codes "gasnet" ∷ w ∷ []) ++ r1)) (sym (version_one 1 one_is)) ∙ setting_at_again (codes "gasnet") 1 1 1 r1 gasnet_word one_is in
     let a1 = setting_at_again (codes "job") 0 (2 ^ 64 - 1) p.job r2 job_word (in_words 0 p.job (omega arith) h.job_fits) in
     let a2 = setting_at_again (codes "nodes") 2 64 p.nodes r3 nodes_word (in_limits 2 64 p.nodes h.two_nodes k.nodes (omega arith)) in
     let a3 = credits_again p.nodes p.credits r4 (in_limits 1 32 p.credits k.some_credit k.credits (omega arith)) k.pairs in

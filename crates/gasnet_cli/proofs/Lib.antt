@@ -6,3 +6,5 @@ pub mod Integers
 pub mod FieldLaws
 pub mod JobLaws
 pub mod Writing
+pub mod Runs
+pub mod Endings

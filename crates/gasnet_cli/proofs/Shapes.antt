@@ -50,14 +50,14 @@ none_is false x h = refl
 pub line_at_none : (bytes : List ℕ) → 0 < length bytes → position (λ b. b == 10) bytes ≡ None → line_at bytes ≡ Err Text
 unfolding line_at
 line_at_none bytes h e =
-  cond_no _ _ _ (ne_eqb (length bytes) 0 (λ z. omega arith)) ∙ cond_no _ _ _ (none_is _ _ e)
+    cond_no _ _ _ (ne_eqb (length bytes) 0 (λ z. omega arith)) ∙ cond_no _ _ _ (none_is _ _ e)
 
 pub line_at_some : (bytes : List ℕ) (n : ℕ) → position (λ b. b == 10) bytes ≡ Some n → line_at bytes ≡ Ok (slice_split (λ b. b == 32) (take n bytes), drop (n + 1) bytes)
 unfolding line_at
 line_at_some bytes n e =
-  let p = cond_some _ _ _ e in
-  let within = ltb-true _ _ p.0 in
-  cond_no _ _ _ (ne_eqb (length bytes) 0 (λ z. omega arith)) ∙ cond_yes _ _ _ p.0 ∙ ap (λ k. Ok (slice_split (λ b. b == 32) (take k bytes), drop (k + 1) bytes)) p.1
+    let p = cond_some _ _ _ e in
+    let within = ltb-true _ _ p.0 in
+    cond_no _ _ _ (ne_eqb (length bytes) 0 (λ z. omega arith)) ∙ cond_yes _ _ _ p.0 ∙ ap (λ k. Ok (slice_split (λ b. b == 32) (take k bytes), drop (k + 1) bytes)) p.1
 
 pub timed_of_short : (p : Parameters) (words : List (Bor (List ℕ))) → length words < 2 → timed_of p (map (λ w. w.now) words) ≡ Err Form
 unfolding timed_of
@@ -138,4 +138,3 @@ is_handler_three (a ∷ []) i h = absurd (omega arith)
 is_handler_three (a ∷ b ∷ []) i h = absurd (omega arith)
 is_handler_three (a ∷ b ∷ c ∷ []) i h = refl
 is_handler_three (a ∷ b ∷ c ∷ d ∷ ws) i h = absurd (omega arith)
-

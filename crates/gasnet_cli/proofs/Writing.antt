@@ -1,6 +1,8 @@
 -- One write after another.
-use Rattle.std.proofs.Common.{◌≡◌, ℕ, List, [], ◌++◌, Option, refl, sym, ap, subst, ◌∙◌, append_assoc, append-nil}
+use Rattle.std.proofs.Common.{◌≡◌, ℕ, List, [], ◌∷◌, ◌++◌, refl, sym, ap, subst, ◌∙◌, append_assoc, append-nil}
 use Rattle.gas_outside.specs.Buffered.{Outbox, Gathers, GathersUpTo, GathersAll}
+use Rattle.std.proofs.lemmas.List.Concat.{flat_map-append}
+use Rattle.gasnet_cli.specs.Lines.{Line, spell, line_text}
 use Rattle.gas_outside.proofs.Outboxes.{gathers_none, gathers_more}
 use Rattle.gas_outside.specs.declared.writing.Wrote.{Wrote}
 use Rattle.gas_outside.specs.declared.writing.Wrote.TheVariants.{Done, Fault}
@@ -57,3 +59,7 @@ all_taken a b all rest e h = subst (λ z. Gathers a b z) (sym (h.whole ∙ ap (�
 
 pub both_parts : (a b c : Outbox) (all x y : List ℕ) (r : Wrote) → all ≡ x ++ y → Gathers a b x → GathersAll b c y r → GathersAll a c all r
 both_parts a b c all x y r e h k = subst (λ z. GathersAll a c z r) (sym e) (writes_then a b c x y r h k)
+
+-- lines, and one line more
+pub one_more : (lines : List Line) (line : Line) → spell (lines ++ line ∷ []) ≡ spell lines ++ line_text line
+one_more lines line = flat_map-append line_text lines (line ∷ []) ∙ ap (λ z. spell lines ++ z) (append-nil (line_text line))

@@ -5,3 +5,5 @@ pub mod Reading
 pub mod Says
 pub mod Output
 pub mod Runs
+pub mod TopCall
+pub mod TopParts

@@ -12,14 +12,14 @@ use Rattle.gasnet_cli.specs.declared.job.TimedEvent.{TimedEvent}
 use Rattle.gasnet_cli.specs.declared.job.Job.{Job}
 
 -- an event of a schedule, as an event of the world
-abbrev pub event_of : Event → world.Event
-event_of (Call node thread to args) = world.Calls node thread to (short 128 args)
-event_of (Request from to number) = world.RequestComes from to number
-event_of (Reply from to number) = world.ReplyComes from to number
+abbrev pub scheduled : Event → world.Event
+scheduled (Call node thread to args) = world.Calls node thread to (short 128 args)
+scheduled (Request from to number) = world.RequestComes from to number
+scheduled (Reply from to number) = world.ReplyComes from to number
 
 -- the events of a schedule with their times
 abbrev pub events_of : List TimedEvent → List (ℕ × world.Event)
-events_of es = map (λ e. (e.time, event_of e.event)) es
+events_of es = map (λ e. (e.time, scheduled e.event)) es
 
 -- the words of an answer
 abbrev pub answer_words : Answer → Line

@@ -59,12 +59,7 @@ fn pair_of(nodes: u16, from: &[u8], to: &[u8]) -> Result<(u16, u16), Why>
 
 /// A pair and the number of a message of it.
 #[tactic(auto, unfolding(crate::specs::Reading::numbered_pair))]
-fn numbered_pair(
-    nodes: u16,
-    from: &[u8],
-    to: &[u8],
-    number: &[u8],
-) -> Result<(u16, u16, u64), Why>
+fn numbered_pair(nodes: u16, from: &[u8], to: &[u8], number: &[u8]) -> Result<(u16, u16, u64), Why>
     ensures { result ≡ numbered_pair nodes from.now to.now number.now }
 {
     let (from, to) = pair_of(nodes, from, to)?;

@@ -39,9 +39,17 @@ pub enum Event {
         args: Arguments,
     },
     /// The delivery of request `number` of the pair to node `to`.
-    Request { from: u16, to: u16, number: u64 },
+    Request {
+        from: u16,
+        to: u16,
+        number: u64,
+    },
     /// The delivery of the reply to request `number` of the pair to node `from`.
-    Reply { from: u16, to: u16, number: u64 },
+    Reply {
+        from: u16,
+        to: u16,
+        number: u64,
+    },
 }
 
 /// An event at its time.

@@ -53,11 +53,7 @@ fn write_accepted<K: Sink>(
 }
 
 /// Writes the line of an answer: the number of its schedule line, and its words. No line of a run is that of `NoMemory`.
-pub fn write_answer<K: Sink>(
-    sink: &mut BufferedSink<K>,
-    number: u64,
-    answer: WorldAnswer,
-) -> Wrote
+pub fn write_answer<K: Sink>(sink: &mut BufferedSink<K>, number: u64, answer: WorldAnswer) -> Wrote
     ensures bytes { IfSome (answer_of answer) (λ a. GathersAll (outbox K.taken sink.old) (outbox K.taken sink.new) (line_text (decimal number ∷ answer_words a)) result) }
     ensures later { K.faults sink.old.inner ≤ K.faults sink.new.inner }
     ensures fault { IsWriteFault result → Rose (K.faults sink.old.inner) (K.faults sink.new.inner) }

@@ -2,7 +2,7 @@ use Rattle.std.proofs.Common.{◌≡◌, ◌∙◌, arith}
 use Rattle.gasnet_cli.proofs.output.write_node_line.Goals as goal
 
 pub returns-clause-bytes : goal.returns-clause-bytes
-returns-clause-bytes g c = 
+returns-clause-bytes g c =
     let node = c.as_bytes.ensures.value ∙ c.format.ensures.text in
     let held = c.as_bytes-2.ensures.value ∙ c.format-2.ensures.text in
     let most = c.as_bytes-3.ensures.value ∙ c.format-3.ensures.text in
