@@ -55,8 +55,9 @@ pub enum Event {
 /// An event at its time.
 #[derive(Debug, Drop)]
 pub struct TimedEvent {
-    /// The time, in the ticks of the world's clock.
+    /// The time, in milliseconds; the times of a schedule may come in any order.
     pub time: u64,
+    /// What happens then.
     pub event: Event,
 }
 
@@ -84,20 +85,27 @@ impl Schedule {
     }
 }
 
-/// Which datagrams a link's sieve loses, repeats and swaps: every so-manyth, or none for 0.
+/// Which datagrams a link's sieve loses, repeats and swaps, each number 0 to 65,535 where the job was read. A schedule is run
+/// without a link.
 #[derive(Clone, Copy, Debug, PartialEq, Eq)]
 pub struct SieveRule {
+    /// Every so-manyth datagram is lost; none for 0.
     pub lose: u32,
+    /// Every so-manyth datagram is sent twice; none for 0.
     pub repeat: u32,
+    /// Every so-manyth datagram is held back until after the next one; none for 0.
     pub swap: u32,
 }
 
 /// A job: the settings of all nodes, and the schedule of their events.
 #[derive(Debug, Drop)]
 pub struct Job {
+    /// The settings of all nodes.
     pub settings: Settings,
-    /// After how many quiet turns a node stops waiting.
+    /// After how many quiet turns a node stops waiting, 1 to 1,000,000 where the job was read.
     pub patience: u32,
+    /// The rule of the sieve.
     pub sieve: SieveRule,
+    /// The events, at most 65,536 where the job was read.
     pub schedule: Schedule,
 }

@@ -48,3 +48,6 @@ fn main(rt: HostRuntime) -> ExitCode {
     let (status, _) = gasnet(rt.alloc(), &words, outside);
     ExitCode::from(status.code)
 }
+
+#[cfg(test)]
+mod tests;
