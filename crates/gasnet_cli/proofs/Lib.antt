@@ -1,0 +1,10 @@
+pub mod Numbers
+pub mod Shapes
+pub mod Fronts
+pub mod LineLaws
+pub mod Integers
+pub mod FieldLaws
+pub mod JobLaws
+pub mod Writing
+pub mod Runs
+pub mod Endings

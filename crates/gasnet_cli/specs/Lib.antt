@@ -1,0 +1,9 @@
+pub mod Lines
+pub mod Number
+pub mod JobText
+pub mod Reading
+pub mod Says
+pub mod Output
+pub mod Runs
+pub mod TopCall
+pub mod TopParts

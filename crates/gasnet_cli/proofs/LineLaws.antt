@@ -1,0 +1,115 @@
+-- Reading a line is the inverse of its text.
+use Rattle.std.proofs.Common.{◌≡◌, ◌≢◌, ℕ, zero, suc, ◌+◌, ◌<◌, ◌≤◌, List, [], ◌∷◌, ◌++◌, length, take, drop, get_or, map, Bool, true, false, not, cond, eqb, ltb, All, Result, Ok, Err, refl, sym, ap, subst, ◌∙◌, append_assoc, append-nil, arith, decimal, codes, length-append, add-one}
+use Rattle.std.specs.List.{flat_map, AllByRecursion, slice_split, join_with_byte, position_or_len, before_first, after_first}
+use Rattle.std.proofs.Math.Seq.{take-append_seam}
+use Rattle.std.proofs.lemmas.List.Elements.{All-from_recursion}
+use Rattle.std.proofs.lemmas.List.Splits.{slice_split_none, slice_split_at, join_with_byte-slice_split}
+use Rattle.std.proofs.lemmas.List.Sums.{split_at_first}
+use Rattle.std.proofs.lemmas.Bool.{ltb-true, lt-ltb, ne_eqb, eqb-true}
+use Rattle.gasnet_cli.specs.declared.read_error.Why.{Why}
+use Rattle.gasnet_cli.specs.declared.read_error.Why.TheVariants.{Early, Text, Form, Value, Count, After}
+use Rattle.gasnet_cli.specs.Lines.{Word, Line, spaced, joined, line_text, spell}
+use Rattle.gasnet_cli.specs.Reading.{◌>>=◌, line_at}
+use Rattle.gasnet_cli.proofs.Shapes.{cond_yes, cond_no}
+
+-- the bytes of a word stand behind the space
+abbrev pub IsWord : Word → Type 0
+IsWord word = AllByRecursion (λ b. 32 < b) word
+
+abbrev pub IsLine : Line → Type 0
+IsLine [] = ⊥
+IsLine (word ∷ words) = IsWord word × AllByRecursion IsWord words
+
+joined-join : (words : Line) → joined words ≡ join_with_byte 32 words
+joined-join [] = refl
+joined-join (word ∷ []) = append-nil word
+joined-join (word ∷ next ∷ words) = ap (λ z. word ++ (32 ∷ z)) (joined-join (next ∷ words))
+
+pub bind_ok : {A B : Type 0} (r : Result A Why) (f : A → Result B Why) (y : B) → (r >>= f) ≡ Ok y → (x : A) × (r ≡ Ok x) × (f x ≡ Ok y)
+bind_ok (Ok x) f y e = (x, refl, e)
+bind_ok (Err w) f y e = absurd (cc)
+
+pub ok_is : {A : Type 0} (x y : A) → ◌≡◌ {A = Result A Why} (Ok x) (Ok y) → x ≡ y
+ok_is x y e = cc
+
+pub guard_err : {A : Type 0} (b : Bool) (w : Why) (r : Result A Why) (y : A) → cond b (Err w) r ≡ Ok y → (b ≡ false) × (r ≡ Ok y)
+guard_err true w r y e = absurd (cc)
+guard_err false w r y e = (refl, e)
+
+pub guard_ok : {A : Type 0} (b : Bool) (w : Why) (r : Result A Why) (y : A) → cond b r (Err w) ≡ Ok y → (b ≡ true) × (r ≡ Ok y)
+guard_ok true w r y e = (refl, e)
+guard_ok false w r y e = absurd (cc)
+
+abbrev break_at : List ℕ → ℕ
+break_at xs = position_or_len (λ b. eqb b 10) xs
+
+at_cons : (t : Bool) (b : ℕ) (xs : List ℕ) → eqb b 10 ≡ t → (break_at xs < length xs → get_or xs (break_at xs) 0 ≡ 10) → cond (not t) (1 + break_at xs) 0 < suc (length xs) → get_or (b ∷ xs) (cond (not t) (1 + break_at xs) 0) 0 ≡ 10
+at_cons true b xs e more h = eqb-true b 10 e
+at_cons false b xs e more h =
+    let k : 1 + break_at xs ≡ suc (break_at xs) = omega arith in
+    rw k (more (omega arith))
+
+at_first : (xs : List ℕ) → break_at xs < length xs → get_or xs (break_at xs) 0 ≡ 10
+at_first [] h = absurd (omega arith)
+at_first (b ∷ xs) h = at_cons (eqb b 10) b xs refl (at_first xs) h
+
+pub line_takes : (bytes : List ℕ) (x : Line × List ℕ) → line_at bytes ≡ Ok x → bytes ≡ line_text x.0 ++ x.1
+unfolding line_at
+line_takes bytes x e =
+    let p = λ (b : ℕ). eqb b 10 in
+    let a = guard_err _ _ _ x e in
+    let b = guard_ok _ _ _ x a.1 in
+    let lt = ltb-true _ _ b.0 in
+    let whole = split_at_first (λ b. eqb b 10) bytes 0 lt in
+    let line = joined-join (slice_split (λ b. eqb b 32) (before_first (λ b. eqb b 10) bytes)) ∙ join_with_byte-slice_split 32 (before_first (λ b. eqb b 10) bytes) in
+    let made : bytes ≡ line_text (slice_split (λ b. eqb b 32) (before_first (λ b. eqb b 10) bytes)) ++ after_first (λ b. eqb b 10) bytes = whole ∙ ap (λ (n : ℕ). before_first (λ b. eqb b 10) bytes ++ n ∷ after_first (λ b. eqb b 10) bytes) (at_first bytes lt) ∙ sym (append_assoc (before_first (λ b. eqb b 10) bytes) (10 ∷ []) (after_first (λ b. eqb b 10) bytes)) ∙ ap (λ z. (z ++ 10 ∷ []) ++ after_first (λ b. eqb b 10) bytes) (sym line) in
+    subst (λ (y : Line × List ℕ). bytes ≡ line_text y.0 ++ y.1) (ok_is _ x b.1) made
+
+pos_front : (l r : List ℕ) → AllByRecursion (λ b. b ≢ 10) l → break_at (l ++ 10 ∷ r) ≡ length l
+pos_front [] r h = refl
+pos_front (b ∷ l) r h = rw (ne_eqb b 10 h.0) (omega (arith, pos_front l r h.1))
+
+both : (P : ℕ → Type 0) (xs ys : List ℕ) → AllByRecursion P xs → AllByRecursion P ys → AllByRecursion P (xs ++ ys)
+both P [] ys h k = k
+both P (x ∷ xs) ys h k = (h.0, both P xs ys h.1 k)
+
+weaker : (P Q : ℕ → Type 0) → ((x : ℕ) → P x → Q x) → (xs : List ℕ) → AllByRecursion P xs → AllByRecursion Q xs
+weaker P Q f [] h = tt
+weaker P Q f (x ∷ xs) h = (f x h.0, weaker P Q f xs h.1)
+
+word_breaks : (word : Word) → IsWord word → AllByRecursion (λ b. b ≢ 10) word
+word_breaks word h = weaker (λ b. 32 < b) (λ b. b ≢ 10) (λ b lt e. omega arith) word h
+
+spaced_breaks : (words : Line) → AllByRecursion IsWord words → AllByRecursion (λ b. b ≢ 10) (flat_map spaced words)
+spaced_breaks [] h = tt
+spaced_breaks (word ∷ words) h = (λ e. omega arith, both (λ b. b ≢ 10) word (flat_map spaced words) (word_breaks word h.0) (spaced_breaks words h.1))
+
+no_break : (words : Line) → IsLine words → AllByRecursion (λ b. b ≢ 10) (joined words)
+no_break [] h = tt
+no_break (word ∷ words) h = both (λ b. b ≢ 10) word (flat_map spaced words) (word_breaks word h.0) (spaced_breaks words h.1)
+
+word_spaces : (word : Word) → IsWord word → All (λ b. eqb b 32 ≡ false) word
+word_spaces word h = All-from_recursion (λ b. eqb b 32 ≡ false) word (weaker (λ b. 32 < b) (λ b. eqb b 32 ≡ false) (λ b lt. ne_eqb b 32 (λ e. omega arith)) word h)
+
+split_joined : (words : Line) → IsLine words → slice_split (λ b. eqb b 32) (joined words) ≡ words
+split_joined [] h = absurd h
+split_joined (word ∷ []) h = ap (slice_split (λ b. eqb b 32)) (append-nil word) ∙ slice_split_none (λ b. eqb b 32) word (word_spaces word h.0)
+split_joined (word ∷ next ∷ words) h =
+    slice_split_at (λ b. eqb b 32) word 32 (joined (next ∷ words)) (word_spaces word h.0) refl ∙ ap (λ (ws : Line). word ∷ ws) (split_joined (next ∷ words) h.1)
+
+drop_seam : (l r : List ℕ) (b : ℕ) → drop (suc (length l)) (l ++ b ∷ r) ≡ r
+drop_seam [] r b = refl
+drop_seam (x ∷ l) r b = drop_seam l r b
+
+cut_again : (l rest : List ℕ) → AllByRecursion (λ b. b ≢ 10) l → line_at (l ++ 10 ∷ rest) ≡ Ok (slice_split (λ b. eqb b 32) l, rest)
+unfolding line_at
+cut_again l rest h =
+    let at = pos_front l rest h in
+    let len : length (l ++ 10 ∷ rest) ≡ length l + suc (length rest) = length-append l (10 ∷ rest) in
+    cond_no _ _ _ (ne_eqb (length (l ++ 10 ∷ rest)) 0 (λ z. omega arith)) ∙
+    cond_yes _ _ _ (lt-ltb (break_at (l ++ 10 ∷ rest)) (length (l ++ 10 ∷ rest)) (omega arith)) ∙
+    rw (at, take-append_seam l (10 ∷ rest), add-one (length l), drop_seam l rest 10) refl
+
+pub line_again : (words : Line) (rest : List ℕ) → IsLine words → line_at (line_text words ++ rest) ≡ Ok (words, rest)
+line_again words rest h =
+    ap line_at (append_assoc (joined words) (10 ∷ []) rest) ∙ cut_again (joined words) rest (no_break words h) ∙ ap (λ (ws : Line). Ok (ws, rest)) (split_joined words h)

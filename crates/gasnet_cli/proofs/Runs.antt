@@ -1,0 +1,155 @@
+-- Lines one after the other, and runs event by event.
+use Rattle.std.proofs.Common.{◌≡◌, ℕ, ◌+◌, ◌<◌, List, [], ◌∷◌, ◌++◌, length, drop, get_or, refl, sym, ap, subst, ◌∙◌, append_assoc}
+use Rattle.std.specs.List.{AllByRecursion}
+use Rattle.std.specs.Prelude.{IfSome, Some, decimal}
+use Rattle.std.proofs.lemmas.List.{append-nil, drop_more}
+use Rattle.std.proofs.lemmas.List.Concat.{flat_map-append}
+use Rattle.datagram_grammar.specs.Parameters.{Parameters}
+use Rattle.gas_outside.specs.Buffered.{Outbox, Gathers, GathersUpTo, GathersAll}
+use Rattle.gas_outside.specs.Whole.{IsWriteFault}
+use Rattle.gas_outside.proofs.Outboxes.{gathers_none, gathers_more}
+use Rattle.gas_outside.specs.declared.writing.Wrote.{Wrote}
+use Rattle.gas_outside.specs.declared.writing.Wrote.TheVariants as wrote
+use Rattle.gas_world.specs.Step.{Answer, Accepted, WornOut, NotYet, Ran, Again, Stale, Returned, Late, Unsent}
+use Rattle.gas_world.specs.Events.{Steps, answer_of}
+use Rattle.gas_world.specs.World.{world_answer, world_after}
+use Rattle.gas_world.specs.Held.{most_then}
+use Rattle.gas_world.specs.Shorts.{Records, shorts}
+use Rattle.gas_world.specs.Stands.{Stands}
+use Rattle.gas_world.specs.Worlds.{WorldState}
+use Rattle.gas_world.specs.declared.event.WorldAnswer.{WorldAnswer}
+use Rattle.gas_world.specs.declared.event.WorldAnswer.TheVariants as answers
+use Rattle.gasnet_cli.specs.Lines.{Line, spell, line_text}
+use Rattle.gasnet_cli.specs.Output.{scheduled, answer_words, answer_lines, schedule_answers, records_after, most_held}
+use Rattle.gasnet_cli.specs.Runs.{Runs}
+use Rattle.gasnet_cli.specs.Says.{LinesUpTo, Says, OnDone, IsFault, said_of}
+use Rattle.gasnet_cli.specs.declared.said.Said.{Said}
+use Rattle.gasnet_cli.specs.declared.said.Said.TheVariants.{Done, Fault, NoMemory}
+use Rattle.gasnet_cli.specs.declared.job.TimedEvent.{TimedEvent}
+use Rattle.gasnet_cli.proofs.Writing.{up_to_first, up_to_then}
+
+pub no_lines_yet : (a : Outbox) (all : List Line) → LinesUpTo a a all all
+no_lines_yet a all = record { front = []; whole = refl; gathered = gathers_none a }
+
+pub lines_done : (a b c : Outbox) (all rest x y : List Line) → rest ≡ x ++ y → LinesUpTo a b all rest → Gathers b c (spell x) → LinesUpTo a c all y
+lines_done a b c all rest x y e h k = record {
+  front = h.front ++ x;
+  whole = h.whole ∙ ap (λ z. h.front ++ z) e ∙ sym (append_assoc h.front x y);
+  gathered = rw (flat_map-append line_text h.front x) (gathers_more a b c (spell h.front) (spell x) h.gathered k);
+}
+
+pub lines_all : (a b : Outbox) (all rest : List Line) → rest ≡ [] → LinesUpTo a b all rest → Gathers a b (spell all)
+lines_all a b all rest e h = subst (λ z. Gathers a b (spell z)) (sym (h.whole ∙ ap (λ z. h.front ++ z) e ∙ append-nil h.front)) h.gathered
+
+pub lines_said : (a b c : Outbox) (all rest x y : List Line) (said : Said) → (said ≡ Done → ⊥) → rest ≡ x ++ y → LinesUpTo a b all rest → Says b c x said → Says a c all said
+lines_said a b c all rest x y Done n e h k = absurd (n refl)
+lines_said a b c all rest x y Fault n e h k =
+    let whole : spell all ≡ spell h.front ++ (spell x ++ spell y) = ap spell (h.whole ∙ ap (λ z. h.front ++ z) e) ∙ flat_map-append line_text h.front (x ++ y) ∙ ap (λ z. spell h.front ++ z) (flat_map-append line_text x y) in
+    (k.0 ++ spell y, rw whole (up_to_then a b c (spell h.front) (spell x ++ spell y) (k.0 ++ spell y) h.gathered (up_to_first b c (spell x) (spell y) k.0 k.1)))
+lines_said a b c all rest x y NoMemory n e h k = (
+  k.0 ++ y,
+  record {
+    front = h.front ++ k.1.front;
+    whole = h.whole ∙ ap (λ z. h.front ++ z) (e ∙ ap (λ z. z ++ y) k.1.whole ∙ append_assoc k.1.front k.0 y) ∙ sym (append_assoc h.front k.1.front (k.0 ++ y));
+    gathered = rw (flat_map-append line_text h.front k.1.front) (gathers_more a b c (spell h.front) (spell k.1.front) h.gathered k.1.gathered);
+  },
+)
+
+pub not_done : (s : Said) (P : Type 0) → (s ≡ Done → ⊥) → OnDone s P
+not_done Done P h = absurd (h refl)
+not_done Fault P h = tt
+not_done NoMemory P h = tt
+
+-- lines went in, and then the lines after them
+pub both_said : (a b c : Outbox) (x y : List Line) (r : Wrote) → Gathers a b (spell x) → GathersAll b c (spell y) r → Says a c (x ++ y) (said_of r)
+both_said a b c x y wrote.Done h k = rw (flat_map-append line_text x y) (gathers_more a b c (spell x) (spell y) h k)
+both_said a b c x y wrote.Fault h k = (k.0, rw (flat_map-append line_text x y) (up_to_then a b c (spell x) (spell y) k.0 h k.1))
+
+pub said_fault : (r : Wrote) (P : Type 0) → (IsWriteFault r → P) → IsFault (said_of r) → P
+said_fault wrote.Done P f h = absurd h
+said_fault wrote.Fault P f h = f tt
+
+-- ---- one event
+
+one_line : (a b : Outbox) (line : Line) (r : Wrote) → GathersAll a b (line_text line) r → Says a b (line ∷ []) (said_of r)
+one_line a b line wrote.Done h = subst (Gathers a b) (sym (append-nil (line_text line))) h
+one_line a b line wrote.Fault h = (h.0, subst (λ z. GathersUpTo a b z h.0) (sym (append-nil (line_text line))) h.1)
+
+on_done : (r : Wrote) (P : Type 0) → P → OnDone (said_of r) P
+on_done wrote.Done P p = p
+on_done wrote.Fault P p = tt
+
+told : (old new : WorldState) (a b : Outbox) (number : ℕ) (e : TimedEvent) (answer : Answer) (r : Wrote) → Steps old e.time (scheduled e.event) (Some answer) new → GathersAll a b (line_text (decimal number ∷ answer_words answer)) r
+    → Runs old.settings old new a b number (e ∷ []) (said_of r)
+told old new a b number e answer r steps h = λ w most stands.
+    let s = steps w most stands in
+    (one_line a b (decimal number ∷ answer_words (world_answer old.settings shorts w (scheduled e.event))) r (subst (λ x. GathersAll a b (line_text (decimal number ∷ answer_words x)) r) s.0 h), on_done r (Stands new (world_after old.settings shorts w e.time (scheduled e.event)) (most_then old.settings (world_after old.settings shorts w e.time (scheduled e.event)) most)) s.1)
+
+-- an event was run and its line was written
+pub event_told : (old new : WorldState) (a b : Outbox) (number : ℕ) (e : TimedEvent) (answer : WorldAnswer) (r : Wrote) → (answer ≡ answers.NoMemory → ⊥) → Steps old e.time (scheduled e.event) (answer_of answer) new
+    → IfSome (answer_of answer) (λ x. GathersAll a b (line_text (decimal number ∷ answer_words x)) r) → Runs old.settings old new a b number (e ∷ []) (said_of r)
+event_told old new a b number e (answers.Accepted to slot k) r n steps h = told old new a b number e (Accepted to slot k) r steps h
+event_told old new a b number e answers.WornOut r n steps h = told old new a b number e WornOut r steps h
+event_told old new a b number e answers.NotYet r n steps h = told old new a b number e NotYet r steps h
+event_told old new a b number e answers.Ran r n steps h = told old new a b number e Ran r steps h
+event_told old new a b number e answers.Again r n steps h = told old new a b number e Again r steps h
+event_told old new a b number e answers.Stale r n steps h = told old new a b number e Stale r steps h
+event_told old new a b number e answers.Returned r n steps h = told old new a b number e Returned r steps h
+event_told old new a b number e answers.Late r n steps h = told old new a b number e Late r steps h
+event_told old new a b number e answers.Unsent r n steps h = told old new a b number e Unsent r steps h
+event_told old new a b number e answers.NoMemory r n steps h = absurd (n refl)
+
+-- memory ran out before a line was written
+pub nothing_told : (s : Parameters) (old new : WorldState) (a : Outbox) (number : ℕ) (es : List TimedEvent) → Runs s old new a a number es NoMemory
+nothing_told s old new a number es = λ w most stands. ((_, no_lines_yet a _), tt)
+
+-- ---- a list of events
+
+-- how far a schedule was run from these records: the lines so far went in, and the world stands for records from which the rest leads to the same end
+pub record HasRun (s : Parameters) (a b : Outbox) (first : Records) (first_most : ℕ → ℕ) (all rest : List TimedEvent) (number : ℕ) (v : WorldState) : Type 0 where
+  pub records : Records
+  pub most : ℕ → ℕ
+  pub stands : Stands v records most
+  pub said : LinesUpTo a b (answer_lines 1 (schedule_answers s all first)) (answer_lines number (schedule_answers s rest records))
+  pub ends : records_after s rest records ≡ records_after s all first
+  pub most_ends : most_held s rest records most ≡ most_held s all first first_most
+
+pub has_run_nothing : (s : Parameters) (a : Outbox) (w : Records) (most : ℕ → ℕ) (all : List TimedEvent) (v : WorldState) → Stands v w most → HasRun s a a w most all all 1 v
+has_run_nothing s a w most all v h = record { records = w; most = most; stands = h; said = no_lines_yet a _; ends = refl; most_ends = refl }
+
+-- one event more was run
+pub has_run_more : (s : Parameters) (a b c : Outbox) (w : Records) (most : ℕ → ℕ) (all rest more : List TimedEvent) (e : TimedEvent) (number : ℕ) (v v' : WorldState) → rest ≡ e ∷ more → HasRun s a b w most all rest number v → Runs s v v' b c number (e ∷ []) Done
+    → HasRun s a c w most all more (number + 1) v'
+has_run_more s a b c w most all rest more e number v v' is h run =
+    let k = subst (λ xs. HasRun s a b w most all xs number v) is h in
+    let r = run k.records k.most k.stands in
+    record {
+      records = records_after s (e ∷ []) k.records;
+      most = most_held s (e ∷ []) k.records k.most;
+      stands = r.1;
+      said = lines_done a b c (answer_lines 1 (schedule_answers s all w)) (answer_lines number (schedule_answers s (e ∷ more) k.records)) (answer_lines number (schedule_answers s (e ∷ []) k.records)) (answer_lines (number + 1) (schedule_answers s more (records_after s (e ∷ []) k.records))) refl k.said r.0;
+      ends = k.ends;
+      most_ends = k.most_ends;
+    }
+
+-- the next event ended the run
+pub has_run_up_to : (s : Parameters) (a b c : Outbox) (w : Records) (most : ℕ → ℕ) (all rest more : List TimedEvent) (e : TimedEvent) (number : ℕ) (v v' : WorldState) (said : Said) → (said ≡ Done → ⊥) → rest ≡ e ∷ more → HasRun s a b w most all rest number v → Runs s v v' b c number (e ∷ []) said
+    → Says a c (answer_lines 1 (schedule_answers s all w)) said
+has_run_up_to s a b c w most all rest more e number v v' said n is h run =
+    let k = subst (λ xs. HasRun s a b w most all xs number v) is h in
+    let r = run k.records k.most k.stands in
+    lines_said a b c (answer_lines 1 (schedule_answers s all w)) (answer_lines number (schedule_answers s (e ∷ more) k.records)) (answer_lines number (schedule_answers s (e ∷ []) k.records)) (answer_lines (number + 1) (schedule_answers s more (records_after s (e ∷ []) k.records))) said n refl k.said r.0
+
+-- all events were run
+pub has_run_all : (s : Parameters) (a b : Outbox) (w : Records) (most : ℕ → ℕ) (all rest : List TimedEvent) (number : ℕ) (v : WorldState) → rest ≡ [] → HasRun s a b w most all rest number v
+    → Gathers a b (spell (answer_lines 1 (schedule_answers s all w))) × Stands v (records_after s all w) (most_held s all w most)
+has_run_all s a b w most all rest number v none h =
+    let k = subst (λ xs. HasRun s a b w most all xs number v) none h in
+    (lines_all a b (answer_lines 1 (schedule_answers s all w)) [] refl k.said, subst (λ m. Stands v (records_after s all w) m) k.most_ends (subst (λ r. Stands v r k.most) k.ends k.stands))
+
+-- the events from a place on
+pub next_event : (es : List TimedEvent) (i : ℕ) (e : TimedEvent) → i < length es → e ≡ get_or es i e → drop i es ≡ e ∷ drop (i + 1) es
+next_event es i e lt at = drop_more es i e lt ∙ ap (λ (x : TimedEvent). x ∷ drop (i + 1) es) (sym at)
+
+pub next_within : (P : TimedEvent → Type 0) (es : List TimedEvent) (i : ℕ) (e : TimedEvent) → i < length es → e ≡ get_or es i e → AllByRecursion P (drop i es) → P e × AllByRecursion P (drop (i + 1) es)
+next_within P es i e lt at h = subst (AllByRecursion P) (next_event es i e lt at) h

@@ -1,0 +1,99 @@
+//! The commands of the program.
+
+ghost use Rattle.std.specs.Prelude.{◌≡◌, ◌≤◌, ◌∷◌, [], ◌↔◌, IsTrue, map, codes, string_bytes};
+ghost use Rattle.gas_outside.specs.Buffered.{outbox};
+ghost use Rattle.gas_outside.specs.Faults.{Rose};
+ghost use Rattle.gasnet_cli.specs.TopCall.{IsWorld};
+ghost use Rattle.gasnet_cli.specs.TopParts.{ReadsOrNot, IsReadFault, Tells};
+
+use crate::ending::End;
+use crate::job::Job;
+use crate::job_reader::read_job;
+use crate::read_error::ReadError;
+use crate::run::run_job;
+use crate::said::Said;
+use crate::status::say;
+use gas_outside::{BufferedSink, ReadAll, Sink, Source, read_all};
+use gas_world::World;
+use std::alloc::Global;
+
+/// The most bytes of a job's text.
+const LIMIT: usize = 4_194_304;
+
+/// What reading a job gave.
+#[derive(Debug, Drop)]
+pub enum JobRead {
+    /// The job whose text was read.
+    Job(Job),
+    /// The bytes are no job's text, or too many.
+    NoJob,
+    /// The source failed.
+    Fault,
+    /// Memory ran out.
+    NoMemory,
+}
+
+/// Reads all, and the job whose text it is.
+fn job_from<S: Source>(alloc: Global, source: &mut S) -> JobRead
+    ensures job { ReadsOrNot (S.left source.old) (S.left source.new) result }
+    ensures later { S.faults source.old ≤ S.faults source.new }
+    ensures fault { IsReadFault result → Rose (S.faults source.old) (S.faults source.new) }
+{
+    match read_all(alloc, source, LIMIT) {
+        ReadAll::Bytes(bytes) => match read_job(alloc, &bytes) {
+            Ok(job) => JobRead::Job(job),
+            Err(ReadError::Memory) => JobRead::NoMemory,
+            Err(ReadError::Fault(_)) => JobRead::NoJob,
+        },
+        ReadAll::TooLong => JobRead::NoJob,
+        ReadAll::Fault => JobRead::Fault,
+        ReadAll::NoMemory => JobRead::NoMemory,
+    }
+}
+
+/// The command `world`, whose words were read.
+fn world_command<S: Source, K: Sink>(
+    alloc: Global,
+    source: &mut S,
+    sink: &mut BufferedSink<K>,
+) -> (End, Option<World>)
+    ensures tells { Tells (codes "world" ∷ []) (S.left source.old) (S.left source.new) (outbox K.taken sink.old) (outbox K.taken sink.new)
+        (Rose (S.faults source.old) (S.faults source.new)) (Rose (K.faults sink.old.inner) (K.faults sink.new.inner)) result.1 result.0 }
+    ensures later { K.faults sink.old.inner ≤ K.faults sink.new.inner }
+{
+    match job_from(alloc, source) {
+        JobRead::NoMemory => (say(sink, End::NoMemory), None),
+        JobRead::Fault => (say(sink, End::ReadFault), None),
+        JobRead::NoJob => (say(sink, End::BadJob), None),
+        JobRead::Job(job) => match run_job(alloc, &job, sink) {
+            (Said::Done, world) => (End::Done, world),
+            (Said::Fault, _) => (End::WriteFault, None),
+            (Said::NoMemory, _) => (say(sink, End::NoMemory), None),
+        },
+    }
+}
+
+/// Whether the words are the one word `world`.
+fn is_world(words: &[String]) -> bool
+    ensures { IsTrue result ↔ IsWorld (map string_bytes words.now) }
+{
+    words.len() == 1 && words[0].as_str() == "world"
+}
+
+/// Does what the words say.
+pub fn command<S: Source, K: Sink>(
+    alloc: Global,
+    words: &[String],
+    source: &mut S,
+    sink: &mut BufferedSink<K>,
+) -> (End, Option<World>)
+    ensures tells { Tells (map string_bytes words.now) (S.left source.old) (S.left source.new) (outbox K.taken sink.old) (outbox K.taken sink.new)
+        (Rose (S.faults source.old) (S.faults source.new)) (Rose (K.faults sink.old.inner) (K.faults sink.new.inner)) result.1 result.0 }
+    ensures later { K.faults sink.old.inner ≤ K.faults sink.new.inner }
+{
+    if is_world(words) {
+        world_command(alloc, source, sink)
+    } else {
+        (say(sink, End::Usage), None)
+    }
+}

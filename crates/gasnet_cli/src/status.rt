@@ -1,0 +1,64 @@
+//! Writing status lines.
+
+ghost use Rattle.std.specs.Prelude.{◌≡◌, ◌≢◌, ◌≤◌, ◌∷◌, [], codes};
+ghost use Rattle.gas_outside.specs.Buffered.{GathersAll, outbox};
+ghost use Rattle.gas_outside.specs.Faults.{Rose};
+ghost use Rattle.gas_outside.specs.Whole.{IsWriteFault};
+ghost use Rattle.gasnet_cli.specs.Lines.{line_text};
+ghost use Rattle.gasnet_cli.specs.TopCall.{status_line};
+ghost use Rattle.gasnet_cli.specs.TopParts.{SaysAlone};
+ghost use Rattle.gasnet_cli.specs.declared.ending.End.{End};
+
+use crate::ending::End;
+use crate::line_writer::write_line;
+use gas_outside::{BufferedSink, Sink, Wrote};
+
+/// Writes a status line of a number and a name.
+fn write_named<K: Sink>(sink: &mut BufferedSink<K>, code: &[u8], name: &[u8]) -> Wrote
+    ensures bytes { GathersAll (outbox K.taken sink.old) (outbox K.taken sink.new) (line_text (codes "status" ∷ code.now ∷ name.now ∷ [])) result }
+    ensures later { K.faults sink.old.inner ≤ K.faults sink.new.inner }
+    ensures fault { IsWriteFault result → Rose (K.faults sink.old.inner) (K.faults sink.new.inner) }
+{
+    write_line(sink, b"status", &[code, name])
+}
+
+/// Writes the status line of a bad job: the line, and the reason.
+fn write_bad_job<K: Sink>(sink: &mut BufferedSink<K>, line: &[u8], why: &[u8]) -> Wrote
+    ensures bytes { GathersAll (outbox K.taken sink.old) (outbox K.taken sink.new) (line_text (codes "status" ∷ codes "3" ∷ codes "bad-job" ∷ line.now ∷ why.now ∷ [])) result }
+    ensures later { K.faults sink.old.inner ≤ K.faults sink.new.inner }
+    ensures fault { IsWriteFault result → Rose (K.faults sink.old.inner) (K.faults sink.new.inner) }
+{
+    write_line(
+        sink,
+        b"status",
+        &[b"3".as_slice(), b"bad-job".as_slice(), line, why],
+    )
+}
+
+/// Writes the status line of an end. There is none for `WriteFault`, of which no line is written.
+pub fn write_status<K: Sink>(sink: &mut BufferedSink<K>, end: End) -> Wrote
+    ensures bytes { GathersAll (outbox K.taken sink.old) (outbox K.taken sink.new) (line_text (status_line end)) result }
+    ensures later { K.faults sink.old.inner ≤ K.faults sink.new.inner }
+    ensures fault { IsWriteFault result → Rose (K.faults sink.old.inner) (K.faults sink.new.inner) }
+{
+    match end {
+        End::Done => write_named(sink, b"0", b"ok"),
+        End::Usage => write_named(sink, b"2", b"usage"),
+        End::BadJob => write_bad_job(sink, b"0", b"form"),
+        End::ReadFault => write_named(sink, b"4", b"read-fault"),
+        End::WriteFault => write_named(sink, b"5", b"write-fault"),
+        End::NoMemory => write_named(sink, b"8", b"no-memory"),
+    }
+}
+
+/// Writes the status line alone, and answers the end: this one, or a fault of the sink.
+pub fn say<K: Sink>(sink: &mut BufferedSink<K>, end: End) -> End
+    requires { end ≢ End.WriteFault }
+    ensures says { SaysAlone (outbox K.taken sink.old) (outbox K.taken sink.new) (Rose (K.faults sink.old.inner) (K.faults sink.new.inner)) end result }
+    ensures later { K.faults sink.old.inner ≤ K.faults sink.new.inner }
+{
+    match write_status(sink, end) {
+        Wrote::Done => end,
+        Wrote::Fault => End::WriteFault,
+    }
+}

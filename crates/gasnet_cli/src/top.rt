@@ -1,0 +1,89 @@
+//! The top call.
+
+ghost use Rattle.std.specs.Prelude.{◌≡◌, ◌≤◌, ◌⊎◌, ℕ, List, Some, map, length, string_bytes};
+ghost use Rattle.gas_outside.specs.Buffered.{outbox};
+ghost use Rattle.gas_outside.specs.Faults.{Rose};
+ghost use Rattle.gasnet_cli.specs.JobText.{JobText};
+ghost use Rattle.gasnet_cli.specs.TopCall.{code_of, limit, IsWorld, Means};
+ghost use Rattle.gasnet_cli.specs.TopParts.{Flushed};
+ghost use Rattle.gasnet_cli.specs.declared.ending.End.{End};
+ghost use Rattle.gasnet_cli.specs.declared.job.Job.{Job};
+
+use crate::command::command;
+use crate::ending::End;
+use gas_outside::{BufferedSink, Sink, Source, Wrote};
+use gas_world::World;
+use std::alloc::Global;
+
+/// The outside of a call: what it reads, and where it writes.
+#[derive(Debug, Drop)]
+pub struct Outside<S, K> {
+    /// What the call reads.
+    pub source: S,
+    /// Where it writes.
+    pub sink: K,
+}
+
+/// How a call ended.
+#[derive(Drop)]
+pub struct Status {
+    /// The exit status: 0, 2, 3, 4, 5 or 8.
+    pub code: u8,
+    /// The world after the run; there is one exactly where the code is 0.
+    pub world: Option<World>,
+}
+
+/// Gives on what the sink still holds back; a fault of that is how the call ends.
+fn flushed<K: Sink>(
+    sink: &mut BufferedSink<K>,
+    end: End,
+    world: Option<World>,
+) -> (End, Option<World>)
+    ensures flushed { Flushed (outbox K.taken sink.old) (outbox K.taken sink.new) (Rose (K.faults sink.old.inner) (K.faults sink.new.inner)) world end result.1 result.0 }
+    ensures later { K.faults sink.old.inner ≤ K.faults sink.new.inner }
+{
+    match sink.flush() {
+        Wrote::Done => (end, world),
+        Wrote::Fault => (End::WriteFault, None),
+    }
+}
+
+/// The top call: does what the words say (the program's own name is none of them), and gives the outside back.
+///
+/// The words `world` alone read a job and run it. The last line written is `status CODE NAME`, but with code 5:
+///
+/// - 0 `ok`: the job was run, and the lines of its run were written before;
+/// - 2 `usage`: the words are others;
+/// - 3 `bad-job 0 form`: the bytes read are no job's text, or more than 4,194,304;
+/// - 4 `read-fault`, only where the source's count of faults rose;
+/// - 5, only where the sink's count of faults rose: a front of the text was written;
+/// - 8 `no-memory`: memory ran out; whole lines of the run were written before.
+pub fn gasnet<S: Source, K: Sink>(
+    alloc: Global,
+    words: &[String],
+    outside: Outside<S, K>,
+) -> (Status, Outside<S, K>)
+    // How it ends, what is written, and the world after the run.
+    ensures means { (e : End) × (result.0.code ≡ code_of e) × Means (map string_bytes words.now) (S.left outside.source) (S.left result.1.source) (K.taken outside.sink) (K.taken result.1.sink)
+        (Rose (S.faults outside.source) (S.faults result.1.source)) (Rose (K.faults outside.sink) (K.faults result.1.sink)) result.0.world e }
+    // The words are right, the bytes are a job's text and no fault was counted: the job was run, or memory ran out.
+    ensures complete { (job : Job) (bytes : List ℕ) → IsWorld (map string_bytes words.now) → S.left outside.source ≡ Some bytes → length bytes ≤ limit → JobText job bytes
+        → (Rose (S.faults outside.source) (S.faults result.1.source) → ⊥) → (Rose (K.faults outside.sink) (K.faults result.1.sink) → ⊥)
+        → (result.0.code ≡ 0) ⊎ (result.0.code ≡ 8) }
+{
+    let Outside { source, sink } = outside;
+    let mut source = source;
+    let mut sink = BufferedSink::new(sink);
+    let (end, world) = command(alloc, words, &mut source, &mut sink);
+    let (end, world) = flushed(&mut sink, end, world);
+    (
+        Status {
+            code: end.code(),
+            world,
+        },
+        Outside {
+            source,
+            sink: sink.into_inner(),
+        },
+    )
+}
