@@ -1,5 +1,5 @@
 -- How many message buffers a node holds, where one peer's requests or runs change.
-use Rattle.std.proofs.Common.{◌≡◌, ◌≢◌, inl, inr, ℕ, zero, suc, ◌+◌, ◌-◌, ◌*◌, ◌<◌, ◌≤◌, List, [], ◌∷◌, Some, refl, sym, ap, ◌∙◌, arith}
+use Rattle.std.proofs.Common.{◌≡◌, ◌≢◌, inl, inr, ℕ, zero, suc, ◌+◌, ◌-◌, ◌*◌, ◌<◌, ◌≤◌, List, [], ◌∷◌, refl, sym, ap, ◌∙◌, arith}
 use Rattle.std.proofs.lemmas.Bool.{cases_Bool, cases_eq}
 use Rattle.datagram_grammar.specs.Parameters.{Parameters}
 use Rattle.gas_world.specs.Record.{Asked, Run, Node, numbered}
@@ -8,6 +8,7 @@ use Rattle.gas_world.specs.World.{World}
 use Rattle.gas_world.specs.Held.{has_run, slots_run, held_for, held}
 use Rattle.gas_world.specs.Invariant.{PairInvariant, WorldInvariant}
 use Rattle.gas_world.specs.Laws.{HoldsFew}
+use Rattle.gas_world.proofs.Lists.{numbered_nil}
 
 -- what a node holds for one peer
 abbrev pub held_with : {Kept : Type 0} → ℕ → Node Kept → ℕ → ℕ
@@ -53,11 +54,7 @@ one_less c h (suc m) i l e = let d : suc m - 1 ≡ m = omega arith in rw d (omeg
 
 none_ran : {Kept : Type 0} (s : Parameters) (u : Rules Kept) (xs : List Asked) (rs : List Run) → xs ≡ [] → PairInvariant s u xs rs → rs ≡ []
 none_ran s u xs [] e P = refl
-none_ran s u xs (r ∷ rs) e P = let it = P.named 0 r refl in absurd (nowhere r.number it.0 (ap (λ ys. numbered ys r.number) (sym e) ∙ it.1))
-  where
-    nowhere : (k : ℕ) (x : Asked) → numbered [] k ≡ Some x → ⊥
-    nowhere zero x f = cc
-    nowhere (suc p) x f = cc
+none_ran s u xs (r ∷ rs) e P = let it = P.named 0 r refl in absurd (numbered_nil r.number it.0 (ap (λ ys. numbered ys r.number) (sym e) ∙ it.1))
 
 -- no node holds more than 2C(n-1)
 pub holds_few : {Kept : Type 0} (s : Parameters) (u : Rules Kept) (w : World Kept) → WorldInvariant s u w → HoldsFew s w

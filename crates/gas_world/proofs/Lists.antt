@@ -29,6 +29,10 @@ slice_get_in [] p x e = absurd (cc)
 slice_get_in (z ∷ xs) zero x e = omega arith
 slice_get_in (z ∷ xs) (suc p) x e = omega (arith, slice_get_in xs p x e)
 
+pub numbered_nil : {X : Type 0} (k : ℕ) (x : X) → numbered [] k ≡ Some x → ⊥
+numbered_nil zero x e = cc
+numbered_nil (suc place) x e = cc
+
 pub numbered_push : {X : Type 0} (xs : List X) (y : X) (k : ℕ) (x : X) → numbered (xs ++ y ∷ []) k ≡ Some x → (numbered xs k ≡ Some x) ⊎ ((k ≡ suc (length xs)) × (y ≡ x))
 numbered_push xs y zero x e = inl e
 numbered_push xs y (suc p) x e = elim (slice_get_push xs y p x e) [ inl h ↦ inl h | inr h ↦ inr (ap suc h.0, h.1) ]

@@ -1,5 +1,5 @@
 -- What an endpoint keeps gives its record's answer, and stands for the record's next one.
-use Rattle.std.proofs.Common.{◌≡◌, ◌≢◌, inl, inr, ℕ, zero, suc, ◌+◌, ◌-◌, ◌<◌, ◌≤◌, true, false, List, [], ◌∷◌, ◌++◌, length, Option, None, Some, refl, sym, ap, ◌∙◌, subst, arith, eq-eqb, ne_eqb, length-append}
+use Rattle.std.proofs.Common.{◌≡◌, ◌≢◌, inl, inr, ℕ, zero, suc, ◌+◌, ◌-◌, ◌<◌, ◌≤◌, true, false, List, [], ◌∷◌, ◌++◌, length, Option, None, Some, refl, sym, ap, ◌∙◌, subst, arith, ne_eqb, length-append}
 use Rattle.std.specs.Prelude.{IfSome, IsSomeAnd, option_and_then, is_none}
 use Rattle.std.specs.List.{slice_get}
 use Rattle.std.specs.Option.{option_map}
@@ -27,18 +27,13 @@ use Rattle.gas_world.specs.Endpoints.{EndpointState}
 use Rattle.gas_world.specs.Stands.{StandsForNode, slot_state, reply_state}
 use Rattle.gas_world.specs.Steps.{IsOpening, Accepts, KeepsAck, ack_at, slot_of, more, more_if_none}
 use Rattle.gas_world.proofs.Lists.{taken_push}
+use Rattle.gas_world.proofs.Worlds.{put_same, put_other}
 use Rattle.gas_world.proofs.Keeping.{open_says, back_fewer}
 use Rattle.gas_world.proofs.Runs.{last_new, last_other, last_none, run_at_says, has_run_found, has_run_none, slots_run_new, slots_run_again}
 use Rattle.gas_world.proofs.Claiming.{Takes, worn_is, not_yet_is, accepted_is, stands_accepted, stands_back, taken_open, open_taken_with}
 use Rattle.gas_world.proofs.Holding.{no_slots, held_more, held_same}
 
 -- ---- one peer changed
-
-put_here : {X : Type 0} (f : ℕ → X) (place : ℕ) (x : X) → put f place x place ≡ x
-put_here f place x = rw (eq-eqb place place refl) refl
-
-put_there : {X : Type 0} (f : ℕ → X) (place : ℕ) (x : X) (k : ℕ) → k ≢ place → put f place x k ≡ f k
-put_there f place x k other = rw (ne_eqb k place other) refl
 
 updated : {X : Type 0} (xs : List X) (k : ℕ) (f : X → X) (x : X) → slice_get xs k ≡ Some x → slice_get (update xs k f) k ≡ Some (f x)
 updated xs k f x e = slice_get-update xs k f ∙ ap (option_map f) e
@@ -98,8 +93,8 @@ node_accepts s me to now slot number e r c new S O low other few A =
     let q = with_asked r now to slot c in
     let pushed : unreturned (r.asked to ++ asked ∷ []) ≡ suc (unreturned (r.asked to)) = ap length (taken_push (r.asked to) asked) ∙ (length-append (taken (r.asked to)) (slot ∷ []) ∙ omega arith) in
     let counted : held s q ≡ suc (held s r) = held_more s.credits r q to s.nodes low
-    (ap (λ (xs : List Asked). unreturned xs + slots_run (r.ran to) s.credits) (put_here r.asked to (r.asked to ++ asked ∷ [])) ∙ omega (arith, pushed))
-    (λ peer d. ap (λ (xs : List Asked). unreturned xs + slots_run (r.ran peer) s.credits) (put_there r.asked to (r.asked to ++ asked ∷ []) peer d)) in
+    (ap (λ (xs : List Asked). unreturned xs + slots_run (r.ran to) s.credits) (put_same r.asked to (r.asked to ++ asked ∷ [])) ∙ omega (arith, pushed))
+    (λ peer d. ap (λ (xs : List Asked). unreturned xs + slots_run (r.ran peer) s.credits) (put_other r.asked to (r.asked to ++ asked ∷ []) peer d)) in
     record {
       takes = (p.0, T);
       one_more = counted;
@@ -111,12 +106,12 @@ node_accepts s me to now slot number e r c new S O low other few A =
           | inl same ↦ (
             with_given_in p.0 slot number (Sealed number now (spelling (addressed e.settings.job e.me to slot number c))),
             rw same (updated e.requests.peers to (λ x. with_given_in x slot number (Sealed number now (spelling (addressed e.settings.job e.me to slot number c)))) p.0 p.1),
-            rw (same, put_here r.asked to (r.asked to ++ asked ∷ []), S.settings, S.me_is) (stands_accepted s me to p.0 (r.asked to) c slot number now p.2 T),
+            rw (same, put_same r.asked to (r.asked to ++ asked ∷ []), S.settings, S.me_is) (stands_accepted s me to p.0 (r.asked to) c slot number now p.2 T),
           )
           | inr d' ↦ (let o = S.requests peer l d in (
             o.0,
             slice_get-update_other e.requests.peers to (λ x. with_given_in x slot number (Sealed number now (spelling (addressed e.settings.job e.me to slot number c)))) peer d' ∙ o.1,
-            rw (put_there r.asked to (r.asked to ++ asked ∷ []) peer d') o.2,
+            rw (put_other r.asked to (r.asked to ++ asked ∷ []) peer d') o.2,
           ))
         ];
         replies = S.replies;
@@ -165,8 +160,8 @@ node_returns s me from slot number e r new S O low other below t is =
     let it = open_says (r.asked from) slot number O.apart t in
     let fewer : unreturned (r.asked from) ≡ suc (unreturned xs) = sym (back_fewer (r.asked from) number it.0 it.1 it.2) in
     let counted : held s r ≡ suc (held s q) = held_more s.credits q r from s.nodes low
-    (omega (arith, fewer) ∙ ap (λ (ys : List Asked). suc (unreturned ys + slots_run (r.ran from) s.credits)) (sym (put_here r.asked from xs)))
-    (λ peer d. ap (λ (ys : List Asked). unreturned ys + slots_run (r.ran peer) s.credits) (sym (put_there r.asked from xs peer d))) in
+    (omega (arith, fewer) ∙ ap (λ (ys : List Asked). suc (unreturned ys + slots_run (r.ran from) s.credits)) (sym (put_same r.asked from xs)))
+    (λ peer d. ap (λ (ys : List Asked). unreturned ys + slots_run (r.ran peer) s.credits) (sym (put_other r.asked from xs peer d))) in
     record {
       one_less = sym counted;
       stands = rw is (record {
@@ -177,12 +172,12 @@ node_returns s me from slot number e r new S O low other below t is =
           | inl same ↦ (
             record p.0 { slots = update p.0.slots slot (λ _. Vacant) },
             rw same (updated e.requests.peers from (λ x. record x { slots = update x.slots slot (λ _. Vacant) }) p.0 p.1),
-            rw (same, put_here r.asked from xs) (stands_back s me from p.0 (r.asked from) slot number p.2 O below t),
+            rw (same, put_same r.asked from xs) (stands_back s me from p.0 (r.asked from) slot number p.2 O below t),
           )
           | inr d' ↦ (let o = S.requests peer l d in (
             o.0,
             slice_get-update_other e.requests.peers from (λ x. record x { slots = update x.slots slot (λ _. Vacant) }) peer d' ∙ o.1,
-            rw (put_there r.asked from xs peer d') o.2,
+            rw (put_other r.asked from xs peer d') o.2,
           ))
         ];
         replies = S.replies;
@@ -231,16 +226,16 @@ count_run s me from slot number e r c S low below few None is at =
     let q = with_run r from slot number c (tt, ack) in
     let new : slots_run (r.ran from ++ run ∷ []) s.credits ≡ suc (slots_run (r.ran from) s.credits) = slots_run_new (r.ran from) run s.credits below (has_run_none slot (r.ran from) is) in
     let counted : held s q ≡ suc (held s r) = held_more s.credits r q from s.nodes low
-    (ap (λ (rs : List Run). unreturned (r.asked from) + slots_run rs s.credits) (put_here r.ran from (r.ran from ++ run ∷ [])) ∙ omega (arith, new))
-    (λ peer d. ap (λ (rs : List Run). unreturned (r.asked peer) + slots_run rs s.credits) (put_there r.ran from (r.ran from ++ run ∷ []) peer d)) in
+    (ap (λ (rs : List Run). unreturned (r.asked from) + slots_run rs s.credits) (put_same r.ran from (r.ran from ++ run ∷ [])) ∙ omega (arith, new))
+    (λ peer d. ap (λ (rs : List Run). unreturned (r.asked peer) + slots_run rs s.credits) (put_other r.ran from (r.ran from ++ run ∷ []) peer d)) in
     (omega (arith, counted), more_none s me from e.held (slot_of e from slot) (at ∙ ap (reply_state s me from) is) ∙ (ap more S.held_is ∙ (omega (arith, few) ∙ sym counted)))
 count_run s me from slot number e r c S low below few (Some t) is at =
     let run : Run = record { number = number; slot = slot; content = c; reply = ack } in
     let q = with_run r from slot number c (tt, ack) in
     let again : slots_run (r.ran from ++ run ∷ []) s.credits ≡ slots_run (r.ran from) s.credits = slots_run_again (r.ran from) run s.credits (has_run_found slot (r.ran from) t is) in
     let counted : held s q ≡ held s r = held_same s.credits r q s.nodes (λ peer l. elim (cases_eq peer from) [
-      | inl same ↦ rw same (ap (λ (rs : List Run). unreturned (r.asked from) + slots_run rs s.credits) (put_here r.ran from (r.ran from ++ run ∷ [])) ∙ omega (arith, again))
-      | inr d ↦ ap (λ (rs : List Run). unreturned (r.asked peer) + slots_run rs s.credits) (put_there r.ran from (r.ran from ++ run ∷ []) peer d)
+      | inl same ↦ rw same (ap (λ (rs : List Run). unreturned (r.asked from) + slots_run rs s.credits) (put_same r.ran from (r.ran from ++ run ∷ [])) ∙ omega (arith, again))
+      | inr d ↦ ap (λ (rs : List Run). unreturned (r.asked peer) + slots_run rs s.credits) (put_other r.ran from (r.ran from ++ run ∷ []) peer d)
     ]) in
     (omega (arith, counted), more_some s me from e.held (slot_of e from slot) t (at ∙ ap (reply_state s me from) is) ∙ (S.held_is ∙ sym counted))
 
@@ -266,7 +261,7 @@ node_runs s me from slot number e r c new S low other below few above K =
           | inl same ↦ (
             update p.0 slot (λ _. Kept number (spelling (ack_at e from slot number))),
             rw same (updated e.replies.peers from (λ x. update x slot (λ _. Kept number (spelling (ack_at e from slot number)))) p.0 p.1),
-            rw (same, put_here r.ran from (rs ++ run ∷ [])) (record {
+            rw (same, put_same r.ran from (rs ++ run ∷ [])) (record {
               count = length-update p.0 slot (λ _. Kept number (spelling (ack_at e from slot number))) ∙ p.2.count;
               slots = λ k l'. elim (cases_eq k slot) [
                 | inl here ↦ rw here (updated p.0 slot (λ _. Kept number (spelling (ack_at e from slot number))) _ state ∙ ap Some (kept_is ∙ ap (reply_state s me from) (sym (last_new rs run above))))
@@ -277,7 +272,7 @@ node_runs s me from slot number e r c new S low other below few above K =
           | inr d' ↦ (let o = S.replies peer l d in (
             o.0,
             slice_get-update_other e.replies.peers from (λ x. update x slot (λ _. Kept number (spelling (ack_at e from slot number)))) peer d' ∙ o.1,
-            rw (put_there r.ran from (rs ++ run ∷ []) peer d') o.2,
+            rw (put_other r.ran from (rs ++ run ∷ []) peer d') o.2,
           ))
         ];
         held_is = count.1;

@@ -3,7 +3,6 @@ use Rattle.std.proofs.Common.{◌≡◌, inl, inr, ℕ, zero, suc, ◌+◌, ◌*
 use Rattle.std.specs.List.{slice_get}
 use Rattle.std.proofs.lemmas.List.{length-replicate}
 use Rattle.datagram_grammar.specs.Parameters.{Parameters, AreInRange}
-use Rattle.gas_world.specs.Record.{Asked, numbered}
 use Rattle.gas_world.specs.Shorts.{shorts, at_the_opening}
 use Rattle.gas_world.specs.Archived.{ArchiveState}
 use Rattle.gas_world.specs.Exchanged.{ExchangesState}
@@ -12,7 +11,7 @@ use Rattle.gas_world.specs.Steps.{IsOpening}
 use Rattle.gas_world.specs.Sizes.{IsWorldSized, AreOpening, AreEmpty}
 use Rattle.gas_world.specs.Stands.{Stands, StandsForPair}
 use Rattle.gas_world.specs.declared.exchanges.Exchange.{Exchange}
-use Rattle.gas_world.proofs.Lists.{slice_get_push}
+use Rattle.gas_world.proofs.Lists.{slice_get_push, numbered_nil}
 use Rattle.gas_world.proofs.Worlds.{opening_keeps}
 use Rattle.gas_world.proofs.Nodes.{node_opens, held_nothing, slice_get-replicate}
 use Rattle.gas_world.proofs.Scenes.{pair_place}
@@ -29,14 +28,10 @@ item_in [] i l = absurd (omega arith)
 item_in (x ∷ xs) zero l = (x, refl)
 item_in (x ∷ xs) (suc i) l = item_in xs i (omega arith)
 
-none_there : (k : ℕ) (x : Asked) → numbered [] k ≡ Some x → ⊥
-none_there zero x e = cc
-none_there (suc k) x e = cc
-
 empty_pair : (s : Parameters) (i j : ℕ) (bytes : List ℕ) (list : List Exchange) → list ≡ [] → StandsForPair s i j bytes list [] []
 empty_pair s i j bytes list e = record {
   count = ap length e;
-  each = λ k x at. absurd (none_there k x at);
+  each = λ k x at. absurd (numbered_nil k x at);
 }
 
 -- the world of endpoints that are new, where no pair has exchanges

@@ -1,7 +1,8 @@
 -- The scene of an event in a world that is read and written there.
-use Rattle.std.proofs.Common.{◌≡◌, inl, inr, ℕ, ◌+◌, ◌*◌, ◌<◌, List, [], ◌∷◌, length, length-set, set, get_or, Some, refl, sym, ap, ap₂, ◌∙◌, subst, subst₂, arith, zero, suc}
+use Rattle.std.proofs.Common.{◌≡◌, inl, inr, ℕ, ◌+◌, ◌*◌, ◌<◌, List, [], ◌∷◌, length, length-set, set, get_or, refl, sym, ap, ap₂, ◌∙◌, subst, subst₂, arith, zero, suc}
 use Rattle.std.specs.List.{slice_get}
 use Rattle.std.proofs.lemmas.Option.{slice_get_read, slice_get_within, same_Some}
+use Rattle.std.proofs.lemmas.List.{set-get_or}
 use Rattle.std.proofs.lemmas.Bool.{cases_eq}
 use Rattle.datagram_grammar.specs.Parameters.{Parameters}
 use Rattle.gas_world.specs.Archived.{ArchiveState}
@@ -14,12 +15,6 @@ use Rattle.gas_world.proofs.Standing.{Falls, get_set_same, get_set_other}
 
 pub pair_place : (n i j : ℕ) → i < n → j < n → i * n + j < n * n
 pair_place n i j a b = grind (arith)
-
--- an item that is set to itself
-pub set_own : {X : Type 0} (xs : List X) (i : ℕ) (x : X) → slice_get xs i ≡ Some x → set xs i x ≡ xs
-set_own [] i x e = refl
-set_own (y ∷ xs) zero x e = ap (λ z. z ∷ xs) (sym (same_Some _ _ e))
-set_own (y ∷ xs) (suc i) x e = ap (λ zs. y ∷ zs) (set_own xs i x e)
 
 pub falls_at : (s : Parameters) (v z : WorldState) (es : List EndpointState) (xs : List ExchangesState) (most : List ℕ) (i j node at place : ℕ) (old new : Scene)
     → record { settings = s; endpoints = es; archive = old.archive; exchanges = xs; most = most } ≡ v → IsWorldSized s es xs most
@@ -76,11 +71,10 @@ pub falls_still : (s : Parameters) (v : WorldState) (es : List EndpointState) (x
     (record { endpoint = e; archive = archive; exchanges = x; most = m }) (record { endpoint = new; archive = archive; exchanges = x; most = m })
 falls_still s v es xs most archive i j at place e new x view sized i_in j_in at_is place_is e_is x_is =
     let nodes : s.nodes ≡ v.settings.nodes = ap (λ (w : WorldState). w.settings.nodes) view in
-    let m = item_at most at (omega (arith, at_is, i_in, nodes, sized.most_are)) in
-    let within : place < length xs = subst₂ (λ p l. p < l) (sym place_is) (sym sized.exchanges_are) (pair_place s.nodes i j (omega (arith, i_in, nodes)) (omega (arith, j_in, nodes))) in (
+    let m = item_at most at (omega (arith, at_is, i_in, nodes, sized.most_are)) in (
       m.0,
       falls_at s v _ es xs most i j i at place (record { endpoint = e; archive = archive; exchanges = x; most = m.0 }) (record { endpoint = new; archive = archive; exchanges = x; most = m.0 }) view sized i_in j_in i_in at_is place_is e_is x_is m.1
           (ap₂ (λ (ys : List ExchangesState) (ms : List ℕ). record { settings = s; endpoints = set es at new; archive = archive; exchanges = ys; most = ms })
-          (set_own xs place x (slice_get_read xs (length xs) place x refl within x_is))
-          (set_own most at m.0 (slice_get_read most (length most) at m.0 refl (omega (arith, at_is, i_in, nodes, sized.most_are)) m.1))),
+          (ap (set xs place) x_is ∙ set-get_or xs place x)
+          (ap (set most at) m.1 ∙ set-get_or most at m.0)),
     )

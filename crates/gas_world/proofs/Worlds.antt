@@ -8,7 +8,7 @@ use Rattle.gas_world.specs.Record.{Asked, Run, Node, numbered, change}
 use Rattle.gas_world.specs.Step.{Rules, IsSound, Answer, Accepted, Ran, Returned, NodeEvent, Call, Request, Reply, answer, after, call_answer, request_answer, reply_answer, put, unreturned, free_slot, greatest, run_of, as_back}
 use Rattle.gas_world.specs.World.{World, opening, Event, Calls, RequestComes, ReplyComes, request_event, reply_event, after_at, world_after, IsAmong}
 use Rattle.gas_world.specs.Invariant.{PairInvariant, WorldInvariant}
-use Rattle.gas_world.proofs.Lists.{numbered-change}
+use Rattle.gas_world.proofs.Lists.{numbered-change, numbered_nil}
 use Rattle.gas_world.proofs.Pairs.{pair_none, pair_accepts, pair_runs, pair_back}
 
 -- ---- one node is changed
@@ -130,9 +130,5 @@ pub opening_keeps : {Kept : Type 0} (s : Parameters) (u : Rules Kept) (start : �
 opening_keeps s u start = record {
   pair = λ i j. pair_none s u;
   own = λ i. refl;
-  nodes = λ i j k x e. absurd (none k x e);
+  nodes = λ i j k x e. absurd (numbered_nil k x e);
 }
-  where
-    none : (k : ℕ) (x : Asked) → numbered [] k ≡ Some x → ⊥
-    none zero x e = cc
-    none (suc p) x e = cc
