@@ -1,15 +1,14 @@
 -- The last line of a call, after its other lines, and what the sink behind took in the end.
 use Rattle.std.proofs.Common.{◌≡◌, ℕ, List, [], ◌∷◌, ◌++◌, length, Option, Some, None, refl, sym, ap, subst, ◌∙◌, append-nil, length-append, ◌⊎◌, inl, inr, ◌+◌, ◌≤◌, arith}
 use Rattle.std.specs.Io.KnownBytes.{Appends}
-use Rattle.gas_outside.specs.Buffered.{Outbox, Gathers, GathersUpTo, Flushes}
-use Rattle.gas_outside.specs.Whole.{TakesUpTo}
+use Rattle.gas_outside.specs.Buffered.{Outbox, Gathers, Flushes}
 use Rattle.gas_outside.specs.declared.writing.Wrote.TheVariants as wrote
 use Rattle.gas_outside.proofs.Outboxes.{gathers_more, gathers_then, flushed, flushed_front}
 use Rattle.gas_world.specs.Worlds.{WorldState}
 use Rattle.gasnet_cli.specs.Lines.{Word, Line, spell, line_text}
 use Rattle.gasnet_cli.specs.JobText.{JobText}
 use Rattle.gasnet_cli.specs.declared.job.Job.{Job}
-use Rattle.gasnet_cli.specs.TopCall.{Ends, Means, status_line, IsWorld, IsAfter, Anything, RunsJob, ReadsNoJob, code_of, limit}
+use Rattle.gasnet_cli.specs.TopCall.{Ends, Means, status_line, IsWorld, IsAfter, Anything, ReadsNoJob, code_of, limit}
 use Rattle.gasnet_cli.specs.TopParts.{SaysAlone, Tells, Flushed}
 use Rattle.gasnet_cli.specs.declared.ending.End.{End}
 use Rattle.gasnet_cli.specs.declared.ending.End.TheVariants as ends

@@ -1,15 +1,11 @@
 -- Runs, event by event.
-use Rattle.std.proofs.Common.{◌≡◌, ℕ, ◌+◌, ◌<◌, List, [], ◌∷◌, ◌++◌, length, drop, get_or, refl, sym, ap, subst, ◌∙◌, append_assoc}
+use Rattle.std.proofs.Common.{◌≡◌, ℕ, ◌+◌, ◌<◌, List, [], ◌∷◌, length, drop, get_or, refl, sym, ap, subst, ◌∙◌}
 use Rattle.std.specs.List.{AllByRecursion}
 use Rattle.std.specs.Prelude.{IfSome, Some, decimal}
-use Rattle.std.proofs.lemmas.List.{append-nil, drop_more}
-use Rattle.std.proofs.lemmas.List.Concat.{flat_map-append}
+use Rattle.std.proofs.lemmas.List.{drop_more}
 use Rattle.datagram_grammar.specs.Parameters.{Parameters}
-use Rattle.gas_outside.specs.Buffered.{Outbox, Gathers, GathersUpTo, GathersAll}
-use Rattle.gas_outside.specs.Whole.{IsWriteFault}
-use Rattle.gas_outside.proofs.Outboxes.{gathers_none, gathers_more}
+use Rattle.gas_outside.specs.Buffered.{Outbox, Gathers, GathersAll}
 use Rattle.gas_outside.specs.declared.writing.Wrote.{Wrote}
-use Rattle.gas_outside.specs.declared.writing.Wrote.TheVariants as wrote
 use Rattle.gas_world.specs.Step.{Answer, Accepted, WornOut, NotYet, Ran, Again, Stale, Returned, Late, Unsent}
 use Rattle.gas_world.specs.Events.{Steps, answer_of}
 use Rattle.gas_world.specs.World.{world_answer, world_after}
@@ -19,12 +15,12 @@ use Rattle.gas_world.specs.Stands.{Stands}
 use Rattle.gas_world.specs.Worlds.{WorldState}
 use Rattle.gas_world.specs.declared.event.WorldAnswer.{WorldAnswer}
 use Rattle.gas_world.specs.declared.event.WorldAnswer.TheVariants as answers
-use Rattle.gasnet_cli.specs.Lines.{Line, spell, line_text}
+use Rattle.gasnet_cli.specs.Lines.{spell, line_text}
 use Rattle.gasnet_cli.specs.Output.{scheduled, answer_words, answer_lines, schedule_answers, records_after, most_held}
 use Rattle.gasnet_cli.specs.Runs.{Runs}
-use Rattle.gasnet_cli.specs.Says.{LinesUpTo, Says, OnDone, IsFault, said_of}
+use Rattle.gasnet_cli.specs.Says.{LinesUpTo, Says, said_of}
 use Rattle.gasnet_cli.specs.declared.said.Said.{Said}
-use Rattle.gasnet_cli.specs.declared.said.Said.TheVariants.{Done, Fault, NoMemory}
+use Rattle.gasnet_cli.specs.declared.said.Said.TheVariants.{Done, NoMemory}
 use Rattle.gasnet_cli.specs.declared.job.TimedEvent.{TimedEvent}
 use Rattle.gasnet_cli.proofs.Saying.{no_lines_yet, lines_done, lines_all, lines_said, one_line, on_done}
 

@@ -1,4 +1,4 @@
-use Rattle.std.proofs.Common.{◌≡◌, ℕ, List, [], ◌∷◌, ◌++◌, map, refl, arith, append_assoc, Bor}
+use Rattle.std.proofs.Common.{◌≡◌, ℕ, List, [], ◌∷◌, ◌++◌, map, refl, append_assoc, Bor}
 use Rattle.std.specs.List.{flat_map}
 use Rattle.gasnet_cli.specs.Lines.{spaced, line_text}
 use Rattle.gas_outside.proofs.Outboxes.{nothing_yet, past_done, past_fault, past_last}

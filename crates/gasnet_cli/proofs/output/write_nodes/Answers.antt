@@ -1,4 +1,4 @@
-use Rattle.std.proofs.Common.{◌≡◌, ℕ, suc, ◌+◌, ◌-◌, ◌<◌, ◌≤◌, ◌++◌, refl, ap, arith}
+use Rattle.std.proofs.Common.{◌≡◌, ℕ, suc, ◌+◌, ◌-◌, ◌<◌, ◌++◌, refl, ap, arith}
 use Rattle.datagram_grammar.specs.Parameters.{Parameters}
 use Rattle.gas_world.specs.Held.{held}
 use Rattle.gas_world.specs.Shorts.{Records}

@@ -1,4 +1,4 @@
-use Rattle.std.proofs.Common.{◌≡◌, ℕ, refl, sym, subst, ◌∙◌, arith}
+use Rattle.std.proofs.Common.{refl, subst, ◌∙◌}
 use Rattle.gas_world.specs.Shorts.{at_the_opening}
 use Rattle.gas_outside.specs.Buffered.{GathersAll, outbox}
 use Rattle.gasnet_cli.specs.Lines.{spell}

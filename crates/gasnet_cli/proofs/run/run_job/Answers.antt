@@ -1,4 +1,3 @@
-use Rattle.std.proofs.Common.{◌≡◌, arith}
 use Rattle.gasnet_cli.proofs.Saying.{no_lines_yet}
 use Rattle.gasnet_cli.proofs.run.run_job.Goals as goal
 
