@@ -1,19 +1,18 @@
 -- The last line of a call, after its other lines, and what the sink behind took in the end.
 use Rattle.std.proofs.Common.{◌≡◌, ℕ, List, [], ◌∷◌, ◌++◌, length, Option, Some, None, refl, sym, ap, subst, ◌∙◌, append-nil, length-append, ◌⊎◌, inl, inr, ◌+◌, ◌≤◌, arith}
 use Rattle.std.specs.Io.KnownBytes.{Appends}
-use Rattle.gas_outside.specs.Buffered.{Outbox, Gathers, GathersUpTo, Flushes}
-use Rattle.gas_outside.specs.Whole.{TakesUpTo}
+use Rattle.gas_outside.specs.Buffered.{Outbox, Gathers, Flushes}
 use Rattle.gas_outside.specs.declared.writing.Wrote.TheVariants as wrote
-use Rattle.gas_outside.proofs.Outboxes.{gathers_more, flushed, flushed_front}
+use Rattle.gas_outside.proofs.Outboxes.{gathers_more, gathers_then, flushed, flushed_front}
 use Rattle.gas_world.specs.Worlds.{WorldState}
 use Rattle.gasnet_cli.specs.Lines.{Word, Line, spell, line_text}
 use Rattle.gasnet_cli.specs.JobText.{JobText}
 use Rattle.gasnet_cli.specs.declared.job.Job.{Job}
-use Rattle.gasnet_cli.specs.TopCall.{Ends, Means, status_line, IsWorld, IsAfter, Anything, RunsJob, ReadsNoJob, code_of, limit}
+use Rattle.gasnet_cli.specs.TopCall.{Ends, Means, status_line, IsWorld, IsAfter, Anything, ReadsNoJob, code_of, limit}
 use Rattle.gasnet_cli.specs.TopParts.{SaysAlone, Tells, Flushed}
 use Rattle.gasnet_cli.specs.declared.ending.End.{End}
 use Rattle.gasnet_cli.specs.declared.ending.End.TheVariants as ends
-use Rattle.gasnet_cli.proofs.Writing.{one_more, up_to_then}
+use Rattle.gasnet_cli.proofs.Saying.{one_more}
 
 gathered_all : (t m t' : Outbox) (front : List Line) (end : End) → Gathers t m (spell front) → Gathers m t' (line_text (status_line end)) → Gathers t t' (spell (front ++ status_line end ∷ []))
 gathered_all t m t' front end h k = rw (one_more front (status_line end)) (gathers_more t m t' (spell front) (line_text (status_line end)) h k)
@@ -27,7 +26,8 @@ told words l l' t m t' sr front end result e means h k =
 pub says_last : (words : List Word) (l l' : Option (List ℕ)) (t m t' : Outbox) (sr kr kr' : Type 0) (front : List Line) (end result : End) → (end ≡ ends.Done → ⊥) → (kr' → kr) → Ends words l l' sr Anything end (front ++ status_line end ∷ []) → Gathers t m (spell front) → SaysAlone m t' kr' end result → Tells words l l' t t' sr kr None result
 says_last words l l' t m t' sr kr kr' front end ends.WriteFault not_done rise means h k =
     let whole = one_more front (status_line end) in
-    (refl, rise k.0, end, front ++ status_line end ∷ [], k.1.0, means, rw whole (up_to_then t m t' (spell front) (line_text (status_line end)) k.1.0 h k.1.1))
+    let both = gathers_then t m t' (spell front) (line_text (status_line end)) wrote.Fault h k.1 in
+    (refl, rise k.0, end, front ++ status_line end ∷ [], both.0, means, rw whole both.1)
 says_last words l l' t m t' sr kr kr' front end ends.Done not_done rise means h k = absurd (not_done (sym k.0))
 says_last words l l' t m t' sr kr kr' front end ends.Usage not_done rise means h k = told words l l' t m t' sr front end ends.Usage k.0 means h k.1
 says_last words l l' t m t' sr kr kr' front end ends.BadJob not_done rise means h k = told words l l' t m t' sr front end ends.BadJob k.0 means h k.1

@@ -1,15 +1,14 @@
 -- Reading the words of a line is the inverse of writing them.
-use Rattle.std.proofs.Common.{FitsSigned, ℤ, pos, negsuc, ◌≡◌, ◌≢◌, ℕ, zero, suc, ◌+◌, ◌-◌, ◌^◌, ◌<◌, ◌≤◌, List, [], ◌∷◌, ◌++◌, length, map, Option, Some, None, Bool, true, false, ◌&&◌, cond, eqb, ltb, leb, Result, Ok, Err, refl, sym, ap, subst, ◌∙◌, arith, decimal, codes}
+use Rattle.std.proofs.Common.{FitsSigned, ℤ, pos, negsuc, ◌≡◌, ℕ, suc, ◌-◌, ◌^◌, ◌<◌, ◌≤◌, List, [], ◌∷◌, length, map, Option, Some, None, Bool, true, false, ◌&&◌, cond, eqb, ltb, leb, Ok, Err, refl, ap, subst, ◌∙◌, arith, decimal, codes}
 use Rattle.std.specs.List.{AllByRecursion}
 use Rattle.std.specs.Str.{bytes_eq}
-use Rattle.std.specs.Str.Parse.{AllDigits, digits_value}
-use Rattle.std.proofs.lemmas.Str.Parse.{IsNumeralModel, numerals_by_value, tells_digits, digit_from_value}
+use Rattle.std.specs.Str.Parse.{AllDigits}
+use Rattle.std.proofs.lemmas.Str.Parse.{numerals_by_value, tells_digits, digit_from_value}
 use Rattle.std.proofs.lemmas.Fmt.{digits_decimal}
 use Rattle.std.proofs.lemmas.Slice.Eq.{bytes_eq-Decides}
 use Rattle.std.proofs.lemmas.List.{length-map}
 use Rattle.std.proofs.lemmas.Bool.{and_parts, and_from, leb-true, le-leb, ltb-false, le-ltb, ne_eqb, eqb-false}
-use Rattle.gasnet_cli.specs.declared.read_error.Why.{Why}
-use Rattle.gasnet_cli.specs.declared.read_error.Why.TheVariants.{Early, Text, Form, Value, Count, After}
+use Rattle.gasnet_cli.specs.declared.read_error.Why.TheVariants.{Form, Value}
 use Rattle.gasnet_cli.specs.declared.job.Event.{Event}
 use Rattle.gasnet_cli.specs.declared.job.Event.TheVariants.{Call, Request, Reply}
 use Rattle.gasnet_cli.specs.declared.job.TimedEvent.{TimedEvent}

@@ -1,23 +1,23 @@
 -- Reading a job is the inverse of its text.
-use Rattle.std.proofs.Common.{◌≡◌, ℕ, zero, suc, ◌+◌, ◌-◌, ◌*◌, ◌%◌, ◌^◌, ◌<◌, ◌≤◌, List, [], ◌∷◌, ◌++◌, length, map, Option, Some, None, Bool, true, false, cond, eqb, leb, ◌&&◌, Result, Ok, Err, refl, sym, ap, subst, ◌∙◌, append_assoc, append-nil, arith, decimal, codes, lit<}
+use Rattle.std.proofs.Common.{◌≡◌, ℕ, zero, suc, ◌-◌, ◌*◌, ◌%◌, ◌^◌, ◌<◌, ◌≤◌, List, [], ◌∷◌, ◌++◌, length, map, Option, Some, None, Bool, true, false, cond, eqb, leb, ◌&&◌, Result, Ok, Err, refl, sym, ap, subst, ◌∙◌, append_assoc, append-nil, arith, decimal, codes, lit<}
 use Rattle.std.specs.Prelude.{is_none, option_to_list}
-use Rattle.std.specs.List.{AllByRecursion, flat_map}
+use Rattle.std.specs.List.{AllByRecursion}
 use Rattle.std.proofs.lemmas.List.{nil_from_length}
 use Rattle.std.proofs.lemmas.List.Concat.{flat_map-append}
 use Rattle.std.proofs.lemmas.Bool.{eqb-true, and_parts, and_from, leb-true, le-leb}
 use Rattle.std.proofs.lemmas.Fmt.{decimal_digit}
 use Rattle.gasnet_cli.specs.declared.read_error.Why.{Why}
-use Rattle.gasnet_cli.specs.declared.read_error.Why.TheVariants.{Early, Text, Form, Value, Count, After}
+use Rattle.gasnet_cli.specs.declared.read_error.Why.TheVariants.{Form, Value, Count, After}
 use Rattle.gasnet_cli.specs.declared.job.TimedEvent.{TimedEvent}
 use Rattle.gasnet_cli.specs.declared.job.SieveRule.{SieveRule}
 use Rattle.gasnet_cli.specs.declared.job.Job.{Job}
 use Rattle.datagram_grammar.specs.Parameters.{Parameters, AreInRange}
 use Rattle.std.specs.Str.{bytes_eq}
 use Rattle.gasnet_cli.specs.Lines.{Word, Line, line_text, spell}
-use Rattle.gasnet_cli.specs.JobText.{JobText, IsJob, IsTimed, IsSieve, timed_line, end_line, setting_line, sieve_line, handler_line, job_lines}
+use Rattle.gasnet_cli.specs.JobText.{JobText, IsTimed, IsSieve, timed_line, end_line, setting_line, sieve_line, handler_line, job_lines}
 use Rattle.gasnet_cli.specs.Reading.{◌>>=◌, line_at, setting_of, is_single, timed_of, next_at, with_front, schedule_at, setting_at, word_at, number_in, credits_at, segment_at, parameters_at, sieve_numbers, sieve_of, sieve_at, is_handler, handler_at, job_of}
-use Rattle.gasnet_cli.proofs.Shapes.{cond_yes, cond_no}
-use Rattle.gasnet_cli.proofs.LineLaws.{IsWord, IsLine, bind_ok, ok_is, guard_err, guard_ok, line_takes, line_again}
+use Rattle.gasnet_cli.proofs.Shapes.{cond_yes}
+use Rattle.gasnet_cli.proofs.LineLaws.{IsWord, bind_ok, ok_is, guard_ok, line_takes, line_again}
 use Rattle.gasnet_cli.proofs.FieldLaws.{IsIn, decimal_word, number_takes, number_again, same_word, equal_word, three, setting_takes, setting_again, single_takes, single_again, timed_takes, timed_again, timed_is_line, timed_not_end}
 
 setting_at_takes : (name : Word) (low high : ℕ) (bytes : List ℕ) (x : ℕ × List ℕ) → setting_at name low high bytes ≡ Ok x → (bytes ≡ line_text (name ∷ decimal x.0 ∷ []) ++ x.1) × IsIn low high x.0

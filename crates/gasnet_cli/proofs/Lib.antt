@@ -5,7 +5,7 @@ pub mod LineLaws
 pub mod Integers
 pub mod FieldLaws
 pub mod JobLaws
-pub mod Writing
+pub mod Saying
 pub mod Runs
 pub mod Endings
 pub mod RunLaws

@@ -1,5 +1,5 @@
 -- Reading a line is the inverse of its text.
-use Rattle.std.proofs.Common.{◌≡◌, ◌≢◌, ℕ, zero, suc, ◌+◌, ◌<◌, ◌≤◌, List, [], ◌∷◌, ◌++◌, length, take, drop, get_or, map, Bool, true, false, not, cond, eqb, ltb, All, Result, Ok, Err, refl, sym, ap, subst, ◌∙◌, append_assoc, append-nil, arith, decimal, codes, length-append, add-one}
+use Rattle.std.proofs.Common.{◌≡◌, ◌≢◌, ℕ, suc, ◌+◌, ◌<◌, List, [], ◌∷◌, ◌++◌, length, drop, get_or, Bool, true, false, not, cond, eqb, All, Result, Ok, Err, refl, sym, ap, subst, ◌∙◌, append_assoc, append-nil, arith, length-append, add-one}
 use Rattle.std.specs.List.{flat_map, AllByRecursion, slice_split, join_with_byte, position_or_len, before_first, after_first}
 use Rattle.std.proofs.Math.Seq.{take-append_seam}
 use Rattle.std.proofs.lemmas.List.Elements.{All-from_recursion}
@@ -7,8 +7,7 @@ use Rattle.std.proofs.lemmas.List.Splits.{slice_split_none, slice_split_at, join
 use Rattle.std.proofs.lemmas.List.Sums.{split_at_first}
 use Rattle.std.proofs.lemmas.Bool.{ltb-true, lt-ltb, ne_eqb, eqb-true}
 use Rattle.gasnet_cli.specs.declared.read_error.Why.{Why}
-use Rattle.gasnet_cli.specs.declared.read_error.Why.TheVariants.{Early, Text, Form, Value, Count, After}
-use Rattle.gasnet_cli.specs.Lines.{Word, Line, spaced, joined, line_text, spell}
+use Rattle.gasnet_cli.specs.Lines.{Word, Line, spaced, joined, line_text}
 use Rattle.gasnet_cli.specs.Reading.{◌>>=◌, line_at}
 use Rattle.gasnet_cli.proofs.Shapes.{cond_yes, cond_no}
 

@@ -1,5 +1,5 @@
 -- The laws hold of the run of each job.
-use Rattle.std.proofs.Common.{◌≡◌, ℕ, ◌≤◌, true, List, [], ◌∷◌, refl, arith}
+use Rattle.std.proofs.Common.{ℕ, List, [], ◌∷◌, arith}
 use Rattle.std.specs.List.{AllByRecursion}
 use Rattle.std.proofs.lemmas.Bool.Decides.{nat_tests}
 use Rattle.datagram_grammar.specs.Parameters.{Parameters}

@@ -1,15 +1,11 @@
--- Lines one after the other, and runs event by event.
-use Rattle.std.proofs.Common.{◌≡◌, ℕ, ◌+◌, ◌<◌, List, [], ◌∷◌, ◌++◌, length, drop, get_or, refl, sym, ap, subst, ◌∙◌, append_assoc}
+-- Runs, event by event.
+use Rattle.std.proofs.Common.{◌≡◌, ℕ, ◌+◌, ◌<◌, List, [], ◌∷◌, length, drop, get_or, refl, sym, ap, subst, ◌∙◌}
 use Rattle.std.specs.List.{AllByRecursion}
 use Rattle.std.specs.Prelude.{IfSome, Some, decimal}
-use Rattle.std.proofs.lemmas.List.{append-nil, drop_more}
-use Rattle.std.proofs.lemmas.List.Concat.{flat_map-append}
+use Rattle.std.proofs.lemmas.List.{drop_more}
 use Rattle.datagram_grammar.specs.Parameters.{Parameters}
-use Rattle.gas_outside.specs.Buffered.{Outbox, Gathers, GathersUpTo, GathersAll}
-use Rattle.gas_outside.specs.Whole.{IsWriteFault}
-use Rattle.gas_outside.proofs.Outboxes.{gathers_none, gathers_more}
+use Rattle.gas_outside.specs.Buffered.{Outbox, Gathers, GathersAll}
 use Rattle.gas_outside.specs.declared.writing.Wrote.{Wrote}
-use Rattle.gas_outside.specs.declared.writing.Wrote.TheVariants as wrote
 use Rattle.gas_world.specs.Step.{Answer, Accepted, WornOut, NotYet, Ran, Again, Stale, Returned, Late, Unsent}
 use Rattle.gas_world.specs.Events.{Steps, answer_of}
 use Rattle.gas_world.specs.World.{world_answer, world_after}
@@ -19,65 +15,16 @@ use Rattle.gas_world.specs.Stands.{Stands}
 use Rattle.gas_world.specs.Worlds.{WorldState}
 use Rattle.gas_world.specs.declared.event.WorldAnswer.{WorldAnswer}
 use Rattle.gas_world.specs.declared.event.WorldAnswer.TheVariants as answers
-use Rattle.gasnet_cli.specs.Lines.{Line, spell, line_text}
+use Rattle.gasnet_cli.specs.Lines.{spell, line_text}
 use Rattle.gasnet_cli.specs.Output.{scheduled, answer_words, answer_lines, schedule_answers, records_after, most_held}
 use Rattle.gasnet_cli.specs.Runs.{Runs}
-use Rattle.gasnet_cli.specs.Says.{LinesUpTo, Says, OnDone, IsFault, said_of}
+use Rattle.gasnet_cli.specs.Says.{LinesUpTo, Says, said_of}
 use Rattle.gasnet_cli.specs.declared.said.Said.{Said}
-use Rattle.gasnet_cli.specs.declared.said.Said.TheVariants.{Done, Fault, NoMemory}
+use Rattle.gasnet_cli.specs.declared.said.Said.TheVariants.{Done, NoMemory}
 use Rattle.gasnet_cli.specs.declared.job.TimedEvent.{TimedEvent}
-use Rattle.gasnet_cli.proofs.Writing.{up_to_first, up_to_then}
-
-pub no_lines_yet : (a : Outbox) (all : List Line) → LinesUpTo a a all all
-no_lines_yet a all = record { front = []; whole = refl; gathered = gathers_none a }
-
-pub lines_done : (a b c : Outbox) (all rest x y : List Line) → rest ≡ x ++ y → LinesUpTo a b all rest → Gathers b c (spell x) → LinesUpTo a c all y
-lines_done a b c all rest x y e h k = record {
-  front = h.front ++ x;
-  whole = h.whole ∙ ap (λ z. h.front ++ z) e ∙ sym (append_assoc h.front x y);
-  gathered = rw (flat_map-append line_text h.front x) (gathers_more a b c (spell h.front) (spell x) h.gathered k);
-}
-
-pub lines_all : (a b : Outbox) (all rest : List Line) → rest ≡ [] → LinesUpTo a b all rest → Gathers a b (spell all)
-lines_all a b all rest e h = subst (λ z. Gathers a b (spell z)) (sym (h.whole ∙ ap (λ z. h.front ++ z) e ∙ append-nil h.front)) h.gathered
-
-pub lines_said : (a b c : Outbox) (all rest x y : List Line) (said : Said) → (said ≡ Done → ⊥) → rest ≡ x ++ y → LinesUpTo a b all rest → Says b c x said → Says a c all said
-lines_said a b c all rest x y Done n e h k = absurd (n refl)
-lines_said a b c all rest x y Fault n e h k =
-    let whole : spell all ≡ spell h.front ++ (spell x ++ spell y) = ap spell (h.whole ∙ ap (λ z. h.front ++ z) e) ∙ flat_map-append line_text h.front (x ++ y) ∙ ap (λ z. spell h.front ++ z) (flat_map-append line_text x y) in
-    (k.0 ++ spell y, rw whole (up_to_then a b c (spell h.front) (spell x ++ spell y) (k.0 ++ spell y) h.gathered (up_to_first b c (spell x) (spell y) k.0 k.1)))
-lines_said a b c all rest x y NoMemory n e h k = (
-  k.0 ++ y,
-  record {
-    front = h.front ++ k.1.front;
-    whole = h.whole ∙ ap (λ z. h.front ++ z) (e ∙ ap (λ z. z ++ y) k.1.whole ∙ append_assoc k.1.front k.0 y) ∙ sym (append_assoc h.front k.1.front (k.0 ++ y));
-    gathered = rw (flat_map-append line_text h.front k.1.front) (gathers_more a b c (spell h.front) (spell k.1.front) h.gathered k.1.gathered);
-  },
-)
-
-pub not_done : (s : Said) (P : Type 0) → (s ≡ Done → ⊥) → OnDone s P
-not_done Done P h = absurd (h refl)
-not_done Fault P h = tt
-not_done NoMemory P h = tt
-
--- lines went in, and then the lines after them
-pub both_said : (a b c : Outbox) (x y : List Line) (r : Wrote) → Gathers a b (spell x) → GathersAll b c (spell y) r → Says a c (x ++ y) (said_of r)
-both_said a b c x y wrote.Done h k = rw (flat_map-append line_text x y) (gathers_more a b c (spell x) (spell y) h k)
-both_said a b c x y wrote.Fault h k = (k.0, rw (flat_map-append line_text x y) (up_to_then a b c (spell x) (spell y) k.0 h k.1))
-
-pub said_fault : (r : Wrote) (P : Type 0) → (IsWriteFault r → P) → IsFault (said_of r) → P
-said_fault wrote.Done P f h = absurd h
-said_fault wrote.Fault P f h = f tt
+use Rattle.gasnet_cli.proofs.Saying.{no_lines_yet, lines_done, lines_all, lines_said, one_line, on_done}
 
 -- ---- one event
-
-one_line : (a b : Outbox) (line : Line) (r : Wrote) → GathersAll a b (line_text line) r → Says a b (line ∷ []) (said_of r)
-one_line a b line wrote.Done h = subst (Gathers a b) (sym (append-nil (line_text line))) h
-one_line a b line wrote.Fault h = (h.0, subst (λ z. GathersUpTo a b z h.0) (sym (append-nil (line_text line))) h.1)
-
-on_done : (r : Wrote) (P : Type 0) → P → OnDone (said_of r) P
-on_done wrote.Done P p = p
-on_done wrote.Fault P p = tt
 
 told : (old new : WorldState) (a b : Outbox) (number : ℕ) (e : TimedEvent) (answer : Answer) (r : Wrote) → Steps old e.time (scheduled e.event) (Some answer) new → GathersAll a b (line_text (decimal number ∷ answer_words answer)) r
     → Runs old.settings old new a b number (e ∷ []) (said_of r)

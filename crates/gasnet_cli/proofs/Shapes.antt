@@ -1,10 +1,10 @@
 -- What reading a line says, by the number of its words.
-use Rattle.std.proofs.Common.{◌≡◌, ℕ, codes, ◌≤◌, ◌<◌, ◌+◌, ◌-◌, ◌^◌, ◌==◌, List, take, Option, Some, None, true, ltb, eqb, sym, ◌∙◌, ap, [], ◌∷◌, length, map, drop, get_or, Bool, false, cond, Err, Ok, refl, arith, Bor}
+use Rattle.std.proofs.Common.{◌≡◌, ℕ, codes, ◌≤◌, ◌<◌, ◌+◌, ◌==◌, List, take, Some, None, true, ltb, ◌∙◌, ap, [], ◌∷◌, length, map, drop, get_or, Bool, false, cond, Err, Ok, refl, arith, Bor}
 use Rattle.std.specs.Prelude.{◌&&◌}
 use Rattle.std.specs.Str.{bytes_eq}
 use Rattle.datagram_grammar.specs.Parameters.{Parameters}
-use Rattle.std.specs.List.{slice_split, position, position_or_len}
-use Rattle.std.proofs.lemmas.Option.{cond_some, none-some}
+use Rattle.std.specs.List.{slice_split, position}
+use Rattle.std.proofs.lemmas.Option.{cond_some}
 use Rattle.gasnet_cli.specs.declared.read_error.Why.TheVariants.{Form, Text}
 use Rattle.std.proofs.lemmas.Bool.{ne_eqb, ltb-true}
 use Rattle.gasnet_cli.specs.Reading.{line_at, is_single, setting_of, number_in, timed_of, event_at, call_of, short_of, delivery_of, numbered_pair, sieve_of, sieve_numbers, is_handler}

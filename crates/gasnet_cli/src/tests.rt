@@ -175,6 +175,63 @@ fn call(
     Ok((status.code, Vec::from_slice(alloc, after.sink.taken())?))
 }
 
+/// The answers of a job of two nodes with one credit and two numbers for each pair: each word that a line of a run has.
+const EACH_WORD: &str = "\
+gasnet 1
+job 7
+nodes 2
+credits 1
+threads 1
+segment 4096
+last 2
+resend 10
+patience 100
+sieve 0 0 0
+handler 128 request
+end
+schedule
+0 call 0 0 short 1 128 5
+0 call 0 0 short 1 128 5
+0 request 0 1 1
+0 request 0 1 1
+0 reply 0 1 1
+0 reply 0 1 1
+0 call 0 0 short 1 128 -5
+0 request 0 1 2
+0 request 0 1 1
+0 reply 0 1 2
+0 call 0 0 short 1 128
+0 request 0 1 3
+end
+done
+";
+
+#[test]
+fn each_answer_has_its_words(rt: HostRuntime) -> Result<(), Fail> {
+    let input = Vec::from_slice(rt.alloc(), EACH_WORD.as_bytes())?;
+    let (code, said) = call(rt.alloc(), &["world"], input, 0, 0)?;
+    assert_eq!(rt; code, 0);
+    let want = "\
+1 accepted 1 0 1
+2 not-yet
+3 ran
+4 again
+5 returned
+6 late
+7 accepted 1 0 2
+8 ran
+9 stale
+10 returned
+11 worn-out
+12 unsent
+node 0 held 0 most 1 violations 0
+node 1 held 1 most 1 violations 0
+status 0 ok
+";
+    assert_eq!(rt; said.as_slice(), want.as_bytes());
+    Ok(())
+}
+
 #[test]
 fn other_words_are_refused(rt: HostRuntime) -> Result<(), Fail> {
     let (code, said) = call(rt.alloc(), &["world", "3"], Vec::new(rt.alloc()), 0, 0)?;

@@ -1,5 +1,4 @@
-use Rattle.std.proofs.Common.{◌≡◌, ℕ, List, [], ◌∷◌, arith, refl, inl, inr, codes}
-use Rattle.gas_outside.specs.Faults.{Rose}
+use Rattle.std.proofs.Common.{[], arith, refl, inl, inr}
 use Rattle.gas_outside.proofs.Outboxes.{gathers_none}
 use Rattle.gasnet_cli.specs.declared.ending.End.TheVariants as ends
 use Rattle.gasnet_cli.specs.Output.{run_lines}

@@ -1,4 +1,4 @@
-use Rattle.std.proofs.Common.{◌≡◌, ℕ, List, [], length, drop, arith, rules, sym, ◌∙◌, ap}
+use Rattle.std.proofs.Common.{[], arith, sym, ◌∙◌}
 use Rattle.gasnet_cli.proofs.Shapes.{delivery_of_other, delivery_of_three}
 use Rattle.gasnet_cli.proofs.event_reader.delivery_of.Goals as goal
 

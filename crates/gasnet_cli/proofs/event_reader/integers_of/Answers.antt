@@ -1,8 +1,7 @@
-use Rattle.std.proofs.Common.{◌≡◌, ℕ, [], arith, rules, sym, ◌∙◌}
+use Rattle.std.proofs.Common.{sym}
 use Rattle.std.specs.Int.{w32}
 use Rattle.std.proofs.lemmas.Int.{to_z-of_z}
 use Rattle.std.proofs.lemmas.Result.{err_from_is_err_and}
-use Rattle.gasnet_cli.specs.Reading.{integers_of}
 use Rattle.gasnet_cli.proofs.Fronts.{argument_goes_on, argument_fails, arguments_done}
 use Rattle.gasnet_cli.proofs.event_reader.integers_of.Goals as goal
 

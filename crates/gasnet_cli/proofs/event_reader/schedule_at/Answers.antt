@@ -1,4 +1,4 @@
-use Rattle.std.proofs.Common.{◌≡◌, ℕ, [], arith, rules, sym, ap, ◌∙◌, Ok, length-append}
+use Rattle.std.proofs.Common.{arith, length-append}
 use Rattle.std.proofs.lemmas.Result.{err_from_is_err_and}
 use Rattle.gasnet_cli.specs.Reading.{schedule_at}
 use Rattle.gasnet_cli.proofs.Fronts.{event_goes_on, event_fails, schedule_ends, schedule_full}

@@ -1,4 +1,4 @@
-use Rattle.std.proofs.Common.{◌≡◌, ℕ, List, [], length, drop, arith, rules, sym, ◌∙◌, ap}
+use Rattle.std.proofs.Common.{[]}
 use Rattle.gasnet_cli.proofs.Shapes.{timed_of_short, timed_of_long}
 use Rattle.gasnet_cli.proofs.event_reader.timed_of.Goals as goal
 

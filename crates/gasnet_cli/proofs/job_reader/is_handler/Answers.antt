@@ -1,4 +1,4 @@
-use Rattle.std.proofs.Common.{◌≡◌, ℕ, List, [], length, drop, arith, rules, sym, ◌∙◌, ap}
+use Rattle.std.proofs.Common.{[], length, sym, ◌∙◌}
 use Rattle.std.proofs.lemmas.Bool.{ne_eqb}
 use Rattle.gasnet_cli.proofs.Shapes.{is_handler_other, is_handler_three}
 use Rattle.gasnet_cli.proofs.job_reader.is_handler.Goals as goal

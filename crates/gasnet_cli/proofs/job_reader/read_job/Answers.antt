@@ -1,4 +1,4 @@
-use Rattle.std.proofs.Common.{◌≡◌, ℕ, List, Result, Ok, Err, ◌⊎◌, inl, inr, sym, ◌∙◌}
+use Rattle.std.proofs.Common.{ℕ, List, Result, Ok, Err, ◌⊎◌, inl, inr, sym, ◌∙◌}
 use Rattle.std.specs.Prelude.{IfOk, IfErr}
 use Rattle.gasnet_cli.specs.declared.job.Job.{Job}
 use Rattle.gasnet_cli.specs.declared.read_error.ReadError.{ReadError}

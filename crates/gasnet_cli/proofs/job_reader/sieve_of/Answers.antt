@@ -1,4 +1,4 @@
-use Rattle.std.proofs.Common.{◌≡◌, ℕ, List, [], length, drop, arith, rules, sym, ◌∙◌, ap}
+use Rattle.std.proofs.Common.{[], arith, sym, ◌∙◌}
 use Rattle.gasnet_cli.proofs.Shapes.{sieve_of_other, sieve_of_four, cond_yes, cond_no}
 use Rattle.gasnet_cli.proofs.job_reader.sieve_of.Goals as goal
 

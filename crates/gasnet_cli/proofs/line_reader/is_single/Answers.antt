@@ -1,4 +1,4 @@
-use Rattle.std.proofs.Common.{◌≡◌, ℕ, arith, rules, sym, ◌∙◌, length}
+use Rattle.std.proofs.Common.{sym, ◌∙◌, length}
 use Rattle.std.proofs.lemmas.Bool.{ne_eqb}
 use Rattle.gasnet_cli.proofs.Shapes.{is_single_one, is_single_other}
 use Rattle.gasnet_cli.proofs.line_reader.is_single.Goals as goal

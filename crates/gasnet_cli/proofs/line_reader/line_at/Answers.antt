@@ -1,4 +1,4 @@
-use Rattle.std.proofs.Common.{◌≡◌, ℕ, ◌<◌, length, arith, sym}
+use Rattle.std.proofs.Common.{length, arith, sym}
 use Rattle.std.proofs.lemmas.Bool.{eqb-false}
 use Rattle.gasnet_cli.proofs.Shapes.{line_at_none, line_at_some}
 use Rattle.gasnet_cli.proofs.line_reader.line_at.Goals as goal

@@ -1,4 +1,4 @@
-use Rattle.std.proofs.Common.{◌≡◌, ℕ, [], arith, rules, sym, ◌∙◌}
+use Rattle.std.proofs.Common.{[], arith, sym, ◌∙◌}
 use Rattle.gasnet_cli.proofs.Shapes.{setting_of_two, setting_of_other, cond_yes, cond_no}
 use Rattle.gasnet_cli.proofs.line_reader.setting_of.Goals as goal
 

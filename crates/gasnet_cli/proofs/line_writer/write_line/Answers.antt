@@ -1,7 +1,7 @@
-use Rattle.std.proofs.Common.{◌≡◌, ℕ, List, [], ◌∷◌, ◌++◌, map, refl, arith, append_assoc, Bor}
+use Rattle.std.proofs.Common.{◌≡◌, ℕ, List, [], ◌∷◌, ◌++◌, map, refl, append_assoc, Bor}
 use Rattle.std.specs.List.{flat_map}
 use Rattle.gasnet_cli.specs.Lines.{spaced, line_text}
-use Rattle.gasnet_cli.proofs.Writing.{nothing_yet, past_done, past_fault, past_last}
+use Rattle.gas_outside.proofs.Outboxes.{nothing_yet, past_done, past_fault, past_last}
 use Rattle.gasnet_cli.proofs.line_writer.write_line.Goals as goal
 
 -- the first word, the others, and byte 10

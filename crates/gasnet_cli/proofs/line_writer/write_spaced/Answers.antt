@@ -1,8 +1,8 @@
-use Rattle.std.proofs.Common.{◌≡◌, ℕ, ◌+◌, ◌<◌, List, [], ◌∷◌, ◌++◌, length, map, drop, get_or, refl, ap, ◌∙◌, arith, Bor}
+use Rattle.std.proofs.Common.{◌≡◌, ℕ, ◌+◌, ◌<◌, List, [], ◌∷◌, ◌++◌, length, map, drop, get_or, refl, ap, arith, Bor}
 use Rattle.std.specs.List.{flat_map}
 use Rattle.std.proofs.lemmas.List.{drop_more}
 use Rattle.gasnet_cli.specs.Lines.{spaced}
-use Rattle.gasnet_cli.proofs.Writing.{nothing_yet, past_done, past_fault, past_last, all_taken}
+use Rattle.gas_outside.proofs.Outboxes.{past_done, past_fault}
 use Rattle.gasnet_cli.proofs.line_writer.write_spaced.Goals as goal
 
 -- what is left begins with a space and the next word

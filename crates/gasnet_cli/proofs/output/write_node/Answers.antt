@@ -1,4 +1,3 @@
-use Rattle.std.proofs.Common.{◌≡◌, arith}
 use Rattle.gasnet_cli.proofs.output.write_node.Goals as goal
 
 pub returns-clause-bytes : goal.returns-clause-bytes

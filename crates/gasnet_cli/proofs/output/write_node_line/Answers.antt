@@ -1,4 +1,4 @@
-use Rattle.std.proofs.Common.{◌≡◌, ◌∙◌, arith}
+use Rattle.std.proofs.Common.{◌∙◌}
 use Rattle.gasnet_cli.proofs.output.write_node_line.Goals as goal
 
 pub returns-clause-bytes : goal.returns-clause-bytes

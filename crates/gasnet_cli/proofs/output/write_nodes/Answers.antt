@@ -1,10 +1,10 @@
-use Rattle.std.proofs.Common.{◌≡◌, ℕ, suc, ◌+◌, ◌-◌, ◌<◌, ◌≤◌, ◌++◌, refl, ap, arith}
+use Rattle.std.proofs.Common.{◌≡◌, ℕ, suc, ◌+◌, ◌-◌, ◌<◌, ◌++◌, refl, ap, arith}
 use Rattle.datagram_grammar.specs.Parameters.{Parameters}
 use Rattle.gas_world.specs.Held.{held}
 use Rattle.gas_world.specs.Shorts.{Records}
 use Rattle.gasnet_cli.specs.Lines.{spell, line_text}
 use Rattle.gasnet_cli.specs.Output.{node_line, node_lines}
-use Rattle.gasnet_cli.proofs.Writing.{nothing_yet, past_done, past_fault, all_taken}
+use Rattle.gas_outside.proofs.Outboxes.{nothing_yet, past_done, past_fault, all_gathered}
 use Rattle.gasnet_cli.proofs.output.write_nodes.Goals as goal
 
 -- the next node's line, and the others
@@ -37,4 +37,4 @@ loop-node-preserved g c = record {
 pub returns-clause-bytes : goal.returns-clause-bytes
 returns-clause-bytes g c = λ w most h.
     let none : c.args.world.now.settings.nodes - c.loop-node.node ≡ 0 = omega arith in
-    all_taken _ _ _ _ (ap (λ k. spell (node_lines c.args.world.now.settings w most c.loop-node.node k)) none) (c.loop-node.invariant.said w most h)
+    all_gathered _ _ _ _ (ap (λ k. spell (node_lines c.args.world.now.settings w most c.loop-node.node k)) none) (c.loop-node.invariant.said w most h)

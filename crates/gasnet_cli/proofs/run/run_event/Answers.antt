@@ -1,7 +1,7 @@
-use Rattle.std.proofs.Common.{◌≡◌, ◌∙◌, sym, subst, arith, rules, [], ◌∷◌}
+use Rattle.std.proofs.Common.{[], ◌∷◌}
 use Rattle.gas_outside.specs.Buffered.{outbox}
-use Rattle.gasnet_cli.specs.Says.{said_of}
-use Rattle.gasnet_cli.proofs.Runs.{event_told, nothing_told, said_fault}
+use Rattle.gasnet_cli.proofs.Runs.{event_told, nothing_told}
+use Rattle.gasnet_cli.proofs.Saying.{said_fault}
 use Rattle.gasnet_cli.proofs.run.run_event.Goals as goal
 
 pub returns-in-NoMemory-clause-runs : goal.returns-in-NoMemory-clause-runs

@@ -1,9 +1,9 @@
-use Rattle.std.proofs.Common.{◌≡◌, ℕ, refl, sym, subst, ◌∙◌, arith}
+use Rattle.std.proofs.Common.{refl, subst, ◌∙◌}
 use Rattle.gas_world.specs.Shorts.{at_the_opening}
 use Rattle.gas_outside.specs.Buffered.{GathersAll, outbox}
 use Rattle.gasnet_cli.specs.Lines.{spell}
 use Rattle.gasnet_cli.specs.Output.{answer_lines, schedule_answers, end_lines, run_lines, run_records, run_most}
-use Rattle.gasnet_cli.proofs.Runs.{no_lines_yet, lines_said, both_said, not_done}
+use Rattle.gasnet_cli.proofs.Saying.{no_lines_yet, lines_said, both_said, not_done}
 use Rattle.gasnet_cli.proofs.run.run_in.Goals as goal
 
 pub returns-in_default : goal.returns-in_default

@@ -1,5 +1,4 @@
-use Rattle.std.proofs.Common.{◌≡◌, arith}
-use Rattle.gasnet_cli.proofs.Runs.{no_lines_yet}
+use Rattle.gasnet_cli.proofs.Saying.{no_lines_yet}
 use Rattle.gasnet_cli.proofs.run.run_job.Goals as goal
 
 pub returns-in_default-clause-lines : goal.returns-in_default-clause-lines

@@ -1,11 +1,10 @@
-use Rattle.std.proofs.Common.{◌≡◌, ℕ, ◌+◌, List, [], ◌∷◌, drop, refl, sym, ap, subst, ◌∙◌, arith, rules}
-use Rattle.std.specs.List.{AllByRecursion}
+use Rattle.std.proofs.Common.{◌+◌, [], ◌∷◌, drop, refl, sym, subst, ◌∙◌, arith}
 use Rattle.std.proofs.Math.ListN.{drop_of_length-le}
 use Rattle.gas_outside.specs.Buffered.{outbox}
 use Rattle.gasnet_cli.specs.JobText.{IsTimed}
 use Rattle.gasnet_cli.specs.Runs.{Runs}
-use Rattle.gasnet_cli.specs.declared.said.Said.TheVariants.{Done}
-use Rattle.gasnet_cli.proofs.Runs.{has_run_nothing, has_run_more, has_run_up_to, has_run_all, next_event, next_within, not_done}
+use Rattle.gasnet_cli.proofs.Runs.{has_run_nothing, has_run_more, has_run_up_to, has_run_all, next_event, next_within}
+use Rattle.gasnet_cli.proofs.Saying.{not_done}
 use Rattle.gasnet_cli.proofs.run.run_schedule.Goals as goal
 
 pub run_event-requires : goal.run_event-requires

@@ -1,8 +1,6 @@
-use Rattle.std.proofs.Common.{◌≡◌, ℕ, List, [], ◌∷◌, ◌++◌, ap, ◌∙◌, append-nil, arith}
-use Rattle.std.proofs.lemmas.List.Concat.{flat_map-append}
-use Rattle.gasnet_cli.specs.Lines.{Line, spell, line_text}
 use Rattle.gasnet_cli.specs.Output.{node_lines}
-use Rattle.gasnet_cli.proofs.Writing.{nothing_yet, past_done, past_fault, past_last, one_more}
+use Rattle.gas_outside.proofs.Outboxes.{nothing_yet, past_done, past_fault, past_last}
+use Rattle.gasnet_cli.proofs.Saying.{one_more}
 use Rattle.gasnet_cli.proofs.run.write_end.Goals as goal
 
 pub returns-in-Fault-clause-bytes : goal.returns-in-Fault-clause-bytes

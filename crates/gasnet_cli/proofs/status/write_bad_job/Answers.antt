@@ -1,4 +1,3 @@
-use Rattle.std.proofs.Common.{◌≡◌, arith}
 use Rattle.gasnet_cli.proofs.status.write_bad_job.Goals as goal
 
 pub returns-clause-bytes : goal.returns-clause-bytes

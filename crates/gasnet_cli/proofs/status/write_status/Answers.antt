@@ -1,4 +1,3 @@
-use Rattle.std.proofs.Common.{◌≡◌, arith}
 use Rattle.gasnet_cli.proofs.status.write_status.Goals as goal
 
 pub returns-in-Done-clause-bytes : goal.returns-in-Done-clause-bytes

@@ -1,7 +1,5 @@
-use Rattle.std.proofs.Common.{◌≡◌, map, string_bytes, sym, ap, ◌∙◌, arith, refl}
-use Rattle.gas_outside.specs.Buffered.{outbox}
+use Rattle.std.proofs.Common.{arith}
 use Rattle.gas_outside.specs.Faults.{Rose}
-use Rattle.gasnet_cli.specs.TopCall.{Means}
 use Rattle.gasnet_cli.proofs.Endings.{complete, means}
 use Rattle.gasnet_cli.proofs.top.gasnet.Goals as goal
 
