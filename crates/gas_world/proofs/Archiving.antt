@@ -1,15 +1,14 @@
 -- What stands in the archive stands there still when more is added.
-use Rattle.std.proofs.Common.{◌≡◌, ◌≢◌, inl, inr, ℕ, zero, suc, ◌+◌, ◌-◌, ◌<◌, ◌≤◌, List, [], ◌∷◌, ◌++◌, length, take, drop, Option, None, Some, refl, sym, ap, ◌∙◌, subst, subst₂, arith, eqb, eqb-true, eq-eqb, ne_eqb, cond, length-append, length-drop}
+use Rattle.std.proofs.Common.{◌≡◌, ◌≢◌, inl, inr, ℕ, zero, suc, ◌+◌, ◌-◌, ◌<◌, ◌≤◌, List, [], ◌∷◌, ◌++◌, length, Option, None, Some, refl, sym, ap, ◌∙◌, subst, subst₂, arith, eqb, eq-eqb, ne_eqb, length-append}
 use Rattle.std.specs.List.{slice_get}
 use Rattle.std.specs.Option.{option_map}
 use Rattle.std.proofs.lemmas.Bool.{cases_Bool, cases_eq}
 use Rattle.std.proofs.lemmas.Option.{same_Some}
 use Rattle.std.proofs.lemmas.Grind.{common_steps}
-use Rattle.std.proofs.lemmas.List.{take-append-le}
 use Rattle.list_places.specs.Update.{update}
 use Rattle.list_places.proofs.Update.{slice_get-update, slice_get-update_other, length-update}
 use Rattle.datagram_grammar.specs.Parameters.{Parameters}
-use Rattle.datagram_grammar.specs.Message.{Message, Content, IsMessage, Spells, spelling}
+use Rattle.datagram_grammar.specs.Message.{Message, IsMessage, Spells, spelling}
 use Rattle.gas_world.specs.Record.{Asked, Run, numbered, change}
 use Rattle.gas_world.specs.Step.{Rules, run_of, greatest, as_back}
 use Rattle.gas_world.specs.Invariant.{PairInvariant}
@@ -138,17 +137,20 @@ pair_ran s from to bytes list xs rs r some none S fits =
       each = λ number x e.
           let it = S.each number x e in
           let up = numbered_update list r.number number (answered part) it.0 some it.1 in
-          let old = exchange_grows s from to bytes message it.0 number x rs it.2 in
-          (up.0, up.1, elim (cases_eq number r.number) [
-            | inl same ↦ subst (λ (y : Exchange). StandsForExchange s from to (bytes ++ message) y number x (rs ++ r ∷ [])) (sym (up.2.0 same)) (record {
-              request = old.request;
-              reply = rw (same, run_of_new rs r none) (at_last bytes (reply_message s from to r) fits);
-            })
-            | inr other ↦ subst (λ (y : Exchange). StandsForExchange s from to (bytes ++ message) y number x (rs ++ r ∷ [])) (sym (up.2.1 other)) (record {
-              request = old.request;
-              reply = rw (run_of_other rs r number other) old.reply;
-            })
-          ]);
+          let old = exchange_grows s from to bytes message it.0 number x rs it.2 in (
+            up.0,
+            up.1,
+            elim (cases_eq number r.number) [
+              | inl same ↦ subst (λ (y : Exchange). StandsForExchange s from to (bytes ++ message) y number x (rs ++ r ∷ [])) (sym (up.2.0 same)) (record {
+                request = old.request;
+                reply = rw (same, run_of_new rs r none) (at_last bytes (reply_message s from to r) fits);
+              })
+              | inr other ↦ subst (λ (y : Exchange). StandsForExchange s from to (bytes ++ message) y number x (rs ++ r ∷ [])) (sym (up.2.1 other)) (record {
+                request = old.request;
+                reply = rw (run_of_other rs r number other) old.reply;
+              })
+            ],
+          );
     }
 
 -- ---- a request comes back
@@ -158,9 +160,12 @@ pair_returned s from to bytes list xs rs k S = record {
   count = S.count ∙ sym (length-change as_back xs k);
   each = λ number x e.
       let y = numbered-change as_back xs k number x e in
-      let it = S.each number y.0 y.1 in
-      (it.0, it.1, elim y.2 [
-        | inl same ↦ subst (λ (z : Asked). StandsForExchange s from to bytes it.0 number z rs) (sym same.1) it.2
-        | inr back ↦ subst (λ (z : Asked). StandsForExchange s from to bytes it.0 number z rs) (sym back.1) (record { request = it.2.request; reply = it.2.reply })
-      ]);
+      let it = S.each number y.0 y.1 in (
+        it.0,
+        it.1,
+        elim y.2 [
+          | inl same ↦ subst (λ (z : Asked). StandsForExchange s from to bytes it.0 number z rs) (sym same.1) it.2
+          | inr back ↦ subst (λ (z : Asked). StandsForExchange s from to bytes it.0 number z rs) (sym back.1) (record { request = it.2.request; reply = it.2.reply })
+        ],
+      );
 }

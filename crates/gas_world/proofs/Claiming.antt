@@ -1,10 +1,10 @@
 -- What is kept of the requests of a peer gives the record's answer, and stands for the record's next requests.
-use Rattle.std.proofs.Common.{◌≡◌, ◌≢◌, ◌⊎◌, inl, inr, ℕ, zero, suc, ◌+◌, ◌<◌, ◌≤◌, Bool, true, false, true≢false, not, List, [], ◌∷◌, ◌++◌, length, set, get_or, Option, None, Some, refl, sym, ap, ◌∙◌, subst, arith, eqb, ltb, cond, length-append, length-set, get_or-set_same}
+use Rattle.std.proofs.Common.{◌≡◌, inl, inr, ℕ, zero, suc, ◌+◌, ◌<◌, ◌≤◌, Bool, true, false, true≢false, not, List, [], ◌∷◌, ◌++◌, length, Option, None, Some, refl, sym, ap, ◌∙◌, subst, arith, eqb, length-append, length-set}
 use Rattle.std.specs.List.{list_any, slice_get, position, prefix_len, position_or_len}
 use Rattle.std.specs.Option.{is_some, option_map}
 use Rattle.std.proofs.lemmas.Bool.Decides.{nat_tests}
 use Rattle.std.proofs.lemmas.Bool.{cases_Bool, cases_eq, cases_lt, not-true, lt-ltb}
-use Rattle.std.proofs.lemmas.Option.{same_Some, get_or_from_slice_get, slice_get_within}
+use Rattle.std.proofs.lemmas.Option.{same_Some, get_or_from_slice_get}
 use Rattle.std.proofs.lemmas.List.Quantifiers.{position-Some}
 use Rattle.std.proofs.lemmas.Map.Steps.{le-length_from_below}
 use Rattle.datagram_grammar.specs.Parameters.{Parameters}
@@ -13,10 +13,10 @@ use Rattle.list_places.specs.Update.{update}
 use Rattle.list_places.proofs.Update.{slice_get-update, slice_get-update_other, update-Some}
 use Rattle.credit_slots.specs.State.{SlotState, Vacant, Sealed, PeerState, is_vacant, IsTakenWith, CanClaim}
 use Rattle.gas_world.specs.Record.{Asked, numbered, change}
-use Rattle.gas_world.specs.Step.{WornOut, NotYet, Accepted, call_answer, taken, unreturned, free_slot, is_open, as_back}
+use Rattle.gas_world.specs.Step.{WornOut, NotYet, Accepted, call_answer, taken, free_slot, is_open, as_back}
 use Rattle.gas_world.specs.Invariant.{IsOrderly}
 use Rattle.gas_world.specs.Kept.{open_in}
-use Rattle.gas_world.specs.Stands.{StandsForAsked, slot_state, request_message}
+use Rattle.gas_world.specs.Stands.{StandsForAsked, slot_state}
 use Rattle.gas_world.proofs.Lists.{length-change}
 use Rattle.gas_world.proofs.Keeping.{open_taken, none_is, open_new, open_other, least_free, fewer, open_if, open_says, open_back, open_free}
 
@@ -32,6 +32,7 @@ all_pass test (z ∷ xs) le (suc k) x e = elim (cases_Bool (test z)) [ inl t ↦
   where
     goes : test z ≡ true → length xs ≤ prefix_len test xs
     goes t = let long : prefix_len test (z ∷ xs) ≡ suc (prefix_len test xs) = rw t (omega arith) in omega (arith, long, le)
+
     stops : test z ≡ false → ⊥
     stops f = let short : prefix_len test (z ∷ xs) ≡ 0 = rw f refl in omega (arith, short, le)
 

@@ -1,13 +1,12 @@
 -- What the delivery of a message that was sent does to its scene is the records' step.
-use Rattle.std.proofs.Common.{◌≡◌, ◌≢◌, ◌⊎◌, inl, inr, ℕ, zero, suc, ◌+◌, ◌-◌, ◌*◌, ◌<◌, ◌≤◌, max, Bool, true, false, true≢false, not, ◌&&◌, List, [], ◌∷◌, ◌++◌, length, Option, None, Some, refl, sym, ap, ap₂, ◌∙◌, subst, subst₂, arith, eqb, ltb, cond, append-nil, lt-ltb}
+use Rattle.std.proofs.Common.{◌≡◌, ◌≢◌, inl, inr, ℕ, zero, suc, ◌+◌, ◌-◌, ◌*◌, ◌<◌, ◌≤◌, max, Bool, true, false, true≢false, not, ◌&&◌, List, [], ◌∷◌, ◌++◌, length, Option, None, Some, refl, sym, ap, ap₂, ◌∙◌, subst, subst₂, arith, eqb, ltb, cond, append-nil, lt-ltb}
 use Rattle.std.specs.Prelude.{option_and_then}
-use Rattle.std.specs.List.{slice_get}
 use Rattle.std.specs.Option.{option_map}
 use Rattle.std.proofs.lemmas.Bool.Decides.{nat_tests}
-use Rattle.std.proofs.lemmas.Bool.{cases_Bool, and_parts, eqb-true}
+use Rattle.std.proofs.lemmas.Bool.{and_parts, eqb-true}
 use Rattle.std.proofs.lemmas.Option.{same_Some, slice_get_within, slice_get-get_or}
 use Rattle.datagram_grammar.specs.Parameters.{Parameters}
-use Rattle.datagram_grammar.specs.Message.{Message, Content, IsMessage, Spells, spelling, addressed, code}
+use Rattle.datagram_grammar.specs.Message.{Content, IsMessage, Spells, spelling, code}
 use Rattle.datagram_grammar.specs.declared.kind.Kind.{Kind}
 use Rattle.datagram_grammar.specs.declared.kind.Kind.TheVariants.{ShortRequest, MediumRequest, LongRequest, ShortReply, MediumReply, LongReply, Ack}
 use Rattle.credit_slots.specs.State.{IsTakenAt, Vacant, with_slot}
@@ -15,18 +14,17 @@ use Rattle.reply_slots.specs.State.{ReplyState, Kept, message_of, message_at, sl
 use Rattle.reply_slots.specs.declared.Judged.TheVariants.{New as JudgedNew, Again as JudgedAgain, Stale as JudgedStale}
 use Rattle.reply_slots.proofs.Lookups.{slot_at-changed}
 use Rattle.gas_world.specs.Record.{Asked, Run, Node, numbered, change}
-use Rattle.gas_world.specs.Step.{Answer, Ran, Again, Stale, Returned, Late, Unsent, Refused, Request, Reply, request_answer, reply_answer, judged, is_open, greatest, run_of, as_back, after, put, with_run}
+use Rattle.gas_world.specs.Step.{Answer, Ran, Again, Stale, Returned, Late, Unsent, Request, Reply, judged, is_open, greatest, run_of, as_back, after, put, with_run}
 use Rattle.gas_world.specs.World.{Event, RequestComes, ReplyComes, request_event, reply_event, falls, answer_at, after_at, world_answer, world_after}
-use Rattle.gas_world.specs.Held.{held, most_then}
+use Rattle.gas_world.specs.Held.{most_then}
 use Rattle.gas_world.specs.Invariant.{PairInvariant, WorldInvariant}
 use Rattle.gas_world.specs.Shorts.{Nothing, Records, shorts, is_short, ack}
-use Rattle.gas_world.specs.Exchanged.{ExchangesState}
 use Rattle.gas_world.specs.Archived.{ArchiveState}
 use Rattle.gas_world.specs.Endpoints.{EndpointState}
 use Rattle.gas_world.specs.Worlds.{WorldState}
 use Rattle.gas_world.specs.State.{part_of, with_reply_part}
-use Rattle.gas_world.specs.Steps.{Delivers, DeliversMessage, IsForUs, IsOurRequest, IsOurReply, KeepsAck, ack_at}
-use Rattle.gas_world.specs.Scenes.{Scene, IsSame, IsKept, bytes_or_none, next_part, AddsReply, RequestComesTo, RequestDelivered, RequestUnsent, HasNoMemory, ReplyComesTo, ReplyDelivered, ReplyUnsent, request_answers, reply_answers}
+use Rattle.gas_world.specs.Steps.{DeliversMessage, IsOurRequest, KeepsAck}
+use Rattle.gas_world.specs.Scenes.{Scene, IsSame, IsKept, bytes_or_none, next_part, AddsReply, RequestComesTo, RequestDelivered, ReplyComesTo, request_answers, reply_answers}
 use Rattle.gas_world.specs.Stands.{StandsAt, ReplyStandsAt, StandsForExchange, StandsForNode, StandsForPair, Stands, request_message, reply_message}
 use Rattle.gas_world.specs.Events.{Steps, answer_of}
 use Rattle.gas_world.specs.declared.archive.Part.{Part}
@@ -158,10 +156,10 @@ ran_steps v z now i j k slot x old new w most S F i_in j_in apart at some same J
     let message = spelling (reply_message s i j run) in
     let fits : IsMessage (reply_message s i j run) = rw (← node.settings, ← node.me_is) K.message in
     let kept : bytes_or_none (message_at new.endpoint.replies i slot) ≡ message =
-        rw same (kept_ack s j i x.slot k old.endpoint new.endpoint (w j) message node i_in apart below (ap (λ (e : EndpointState). e.replies) K.kept ∙ rw (node.settings, node.me_is) refl)) in
+    rw same (kept_ack s j i x.slot k old.endpoint new.endpoint (w j) message node i_in apart below (ap (λ (e : EndpointState). e.replies) K.kept ∙ rw (node.settings, node.me_is) refl)) in
     let archive = ap (λ (r : ArchiveState). r.bytes) F.archive_was in
     let bytes : new.archive.bytes ≡ v.archive.bytes ++ message =
-        A.0.bytes (rw kept (spelling_fits (reply_message s i j run) fits).buffer) ∙ ap₂ (λ (b m : List ℕ). b ++ m) (sym archive) kept in
+    A.0.bytes (rw kept (spelling_fits (reply_message s i j run) fits).buffer) ∙ ap₂ (λ (b m : List ℕ). b ++ m) (sym archive) kept in
     let was = scene_pair v z w most j i j old new S F i_in j_in in
     let pair = pair_ran s i j v.archive.bytes old.exchanges.list ((w i).asked j) ((w j).ran i) run some (not_run_yet s shorts ((w i).asked j) ((w j).ran i) k x P at above) was fits in
     let is : world_answer s shorts w (RequestComes i j k) ≡ Ran = request_is s w i j k x at i_in below good ∙ judged_new k (greatest x.slot ((w j).ran i)) above in
@@ -172,7 +170,7 @@ ran_steps v z now i j k slot x old new w most S F i_in j_in apart at some same J
       extra = message;
       bytes = bytes;
       pair = rw (put_other w j y i apart, put_same w j y, put_same (w j).ran i ((w j).ran i ++ run ∷ []))
-        (subst₂ (λ (b : List ℕ) (l : List Exchange). StandsForPair s i j b l ((w i).asked j) ((w j).ran i ++ run ∷ []))
+          (subst₂ (λ (b : List ℕ) (l : List Exchange). StandsForPair s i j b l ((w i).asked j) ((w j).ran i ++ run ∷ []))
           (sym bytes)
           (ap₂ (λ (b m : List ℕ). with_reply_part old.exchanges.list k (next_part b m)) archive (sym kept) ∙ sym A.1)
           pair);
@@ -343,7 +341,7 @@ returned_steps v z now i j k r old new w most S F i_in j_in apart ran below good
       extra = [];
       bytes = sym archive ∙ sym (append-nil v.archive.bytes);
       pair = rw (put_same w i x, put_same (w i).asked j (change as_back ((w i).asked j) k), put_other w i x j other)
-        (subst (λ (b : List ℕ). StandsForPair s i j b old.exchanges.list (change as_back ((w i).asked j) k) ((w j).ran i)) archive
+          (subst (λ (b : List ℕ). StandsForPair s i j b old.exchanges.list (change as_back ((w i).asked j) k) ((w j).ran i)) archive
           (pair_returned s i j v.archive.bytes old.exchanges.list ((w i).asked j) ((w j).ran i) k (scene_pair v z w most i i j old scene S F i_in j_in)));
       only = only_asked w i x j (change as_back ((w i).asked j) k) refl refl;
       most_is = scene_most v z w most i (i * s.nodes + j) old scene S F i_in ∙ omega (arith, S.held_le i i_in, N.one_less);
@@ -412,6 +410,6 @@ reply_steps v z now i j k a old new F (inr D) i_in j_in apart =
     let it = some_reply a D.delivered_ D.answers_ in
     let scene = record old { endpoint = new } in
     subst (λ (o : Option Answer). Steps v now (ReplyComes i j k) o z) (sym it.1) (λ w most S.
-      let R = replied_is v.settings i j v.archive.bytes old.exchanges.list ((w i).asked j) ((w j).ran i) k D.exchange D.reply (S.invariant_.pair i j) (scene_pair v z w most i i j old scene S F i_in j_in) D.sent D.replied in
-      let spelled = subst (λ (b : ArchiveState). Spells (reply_message v.settings i j R.r) (part_of b.bytes D.reply)) F.archive_was R.stands.spelled in
-      replied_steps v z now i j k R.r D.delivered_ a old new w most S F i_in j_in apart R.ran R.number R.below R.good (D.delivers.spelled (reply_message v.settings i j R.r) spelled) D.answers_ it.0 it.1)
+    let R = replied_is v.settings i j v.archive.bytes old.exchanges.list ((w i).asked j) ((w j).ran i) k D.exchange D.reply (S.invariant_.pair i j) (scene_pair v z w most i i j old scene S F i_in j_in) D.sent D.replied in
+    let spelled = subst (λ (b : ArchiveState). Spells (reply_message v.settings i j R.r) (part_of b.bytes D.reply)) F.archive_was R.stands.spelled in
+    replied_steps v z now i j k R.r D.delivered_ a old new w most S F i_in j_in apart R.ran R.number R.below R.good (D.delivers.spelled (reply_message v.settings i j R.r) spelled) D.answers_ it.0 it.1)

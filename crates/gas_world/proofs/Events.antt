@@ -1,29 +1,24 @@
 -- What an event does to its scene is the records' step.
-use Rattle.std.proofs.Common.{◌≡◌, ◌≢◌, ◌⊎◌, inl, inr, ℕ, zero, suc, ◌+◌, ◌*◌, ◌<◌, ◌≤◌, max, true, false, true≢false, not, ◌&&◌, List, [], ◌∷◌, ◌++◌, length, Option, None, Some, refl, sym, ap, ap₂, ◌∙◌, subst, subst₂, arith, eqb, ltb, cond, append-nil, lt-ltb}
-use Rattle.std.specs.Prelude.{option_and_then, IfSome}
-use Rattle.std.specs.List.{slice_get}
+use Rattle.std.proofs.Common.{◌≡◌, ◌≢◌, ℕ, suc, ◌+◌, ◌*◌, ◌<◌, max, true, false, List, [], ◌∷◌, ◌++◌, length, Option, None, Some, refl, sym, ap, ap₂, ◌∙◌, subst, subst₂, arith}
+use Rattle.std.specs.Prelude.{option_and_then}
 use Rattle.std.specs.Option.{option_map}
-use Rattle.std.proofs.lemmas.Bool.Decides.{nat_tests}
-use Rattle.std.proofs.lemmas.Bool.{cases_Bool, cases_eq}
 use Rattle.std.proofs.lemmas.Option.{same_Some}
 use Rattle.datagram_grammar.specs.Parameters.{Parameters}
-use Rattle.datagram_grammar.specs.Message.{Message, Content, IsMessage, Spells, spelling, addressed, code}
-use Rattle.datagram_grammar.specs.declared.kind.Kind.{Kind}
-use Rattle.datagram_grammar.specs.declared.kind.Kind.TheVariants.{ShortRequest, MediumRequest, LongRequest, ShortReply, MediumReply, LongReply, Ack}
+use Rattle.datagram_grammar.specs.Message.{Content, IsMessage, spelling, addressed}
 use Rattle.credit_slots.specs.State.{SlotState, Sealed, message_of, message_at, slot_at, with_request}
 use Rattle.credit_slots.proofs.Lookups.{slot_at-given}
-use Rattle.gas_world.specs.Record.{Asked, Run, Node, numbered}
-use Rattle.gas_world.specs.Step.{IsSound, Answer, Accepted, WornOut, NotYet, Ran, Again, Stale, Returned, Late, Unsent, Call, Request, Reply, call_answer, request_answer, reply_answer, judged, is_open, greatest, run_of, after, put, with_asked, with_run}
-use Rattle.gas_world.specs.World.{Calls, RequestComes, ReplyComes, request_event, reply_event, answer_at, after_at, world_answer, world_after, IsAmong}
-use Rattle.gas_world.specs.Held.{held, most_then}
+use Rattle.gas_world.specs.Record.{Asked, Node}
+use Rattle.gas_world.specs.Step.{IsSound, Answer, Accepted, WornOut, NotYet, Call, call_answer, after, put, with_asked}
+use Rattle.gas_world.specs.World.{Calls, world_answer, world_after}
+use Rattle.gas_world.specs.Held.{most_then}
 use Rattle.gas_world.specs.Invariant.{WorldInvariant}
-use Rattle.gas_world.specs.Shorts.{Nothing, Records, shorts, is_short, short, ack}
+use Rattle.gas_world.specs.Shorts.{Nothing, Records, shorts, is_short}
 use Rattle.gas_world.specs.Exchanged.{ExchangesState}
 use Rattle.gas_world.specs.Archived.{ArchiveState}
 use Rattle.gas_world.specs.Endpoints.{EndpointState}
 use Rattle.gas_world.specs.Worlds.{WorldState}
 use Rattle.gas_world.specs.Scenes.{Scene, IsSame, bytes_or_none, next_part, Requests, RequestAccepted}
-use Rattle.gas_world.specs.Stands.{StandsForNode, StandsForPair, Stands, request_message, reply_message}
+use Rattle.gas_world.specs.Stands.{StandsForNode, StandsForPair, Stands}
 use Rattle.gas_world.specs.Events.{Steps, answer_of}
 use Rattle.gas_world.specs.declared.exchanges.Exchange.{Exchange}
 use Rattle.gas_world.specs.declared.event.WorldAnswer.{WorldAnswer}
@@ -33,7 +28,7 @@ use Rattle.datagram_grammar.proofs.Spelling.{spelling_fits}
 use Rattle.gas_world.proofs.Holding.{held_fits}
 use Rattle.gas_world.proofs.Nodes.{request_found, node_worn, node_not_yet, node_accepts}
 use Rattle.gas_world.proofs.Archiving.{pair_accepted}
-use Rattle.gas_world.proofs.Standing.{Falls, Moves, OnlyPair, only_asked, only_ran, moves_stand, same_stands, own_stands, still_stands}
+use Rattle.gas_world.proofs.Standing.{Falls, Moves, only_asked, moves_stand, same_stands, own_stands}
 
 -- ---- the rules are sound
 
@@ -88,9 +83,9 @@ accepted_steps v z now i t j slot number c old new w most S F A i_in j_in apart 
     let message = spelling (addressed s.job i j slot number c) in
     let fits : IsMessage (addressed s.job i j slot number c) = rw (← node.settings, ← node.me_is) A.accepts.message in
     let kept : bytes_or_none (message_at new.endpoint.requests j slot) ≡ message =
-        kept_message s i j slot number now old.endpoint new.endpoint (w i) message node j_in other T.below (ap (λ (e : EndpointState). e.requests) A.accepts.kept ∙ rw (node.settings, node.me_is) refl) in
+    kept_message s i j slot number now old.endpoint new.endpoint (w i) message node j_in other T.below (ap (λ (e : EndpointState). e.requests) A.accepts.kept ∙ rw (node.settings, node.me_is) refl) in
     let bytes : new.archive.bytes ≡ v.archive.bytes ++ message =
-        A.adds.bytes (rw kept (spelling_fits (addressed s.job i j slot number c) fits).buffer) ∙ ap₂ (λ (b m : List ℕ). b ++ m) (ap (λ (r : ArchiveState). r.bytes) (sym F.archive_was)) kept in
+    A.adds.bytes (rw kept (spelling_fits (addressed s.job i j slot number c) fits).buffer) ∙ ap₂ (λ (b m : List ℕ). b ++ m) (ap (λ (r : ArchiveState). r.bytes) (sym F.archive_was)) kept in
     let was = scene_pair v z w most i i j old new S F i_in j_in in
     let pair = pair_accepted s shorts i j v.archive.bytes old.exchanges.list ((w i).asked j) ((w j).ran i) asked (S.invariant_.pair i j) was (subst (λ k. IsMessage (addressed s.job i j slot k c)) next fits) in
     let spelled = ap (λ k. spelling (addressed s.job i j slot k c)) (sym next) in
@@ -101,7 +96,7 @@ accepted_steps v z now i t j slot number c old new w most S F A i_in j_in apart 
       extra = message;
       bytes = bytes;
       pair = rw (put_same w i x, put_same (w i).asked j ((w i).asked j ++ asked ∷ []), put_other w i x j other)
-        (subst₂ (λ (b : List ℕ) (l : List Exchange). StandsForPair s i j b l ((w i).asked j ++ asked ∷ []) ((w j).ran i))
+          (subst₂ (λ (b : List ℕ) (l : List Exchange). StandsForPair s i j b l ((w i).asked j ++ asked ∷ []) ((w j).ran i))
           (ap (λ m. v.archive.bytes ++ m) spelled ∙ sym bytes)
           (ap₂ (λ (b m : List ℕ). old.exchanges.list ++ record { request = next_part b m; reply = None } ∷ []) (ap (λ (r : ArchiveState). r.bytes) F.archive_was) (spelled ∙ sym kept) ∙ sym A.list)
           pair);

@@ -1,12 +1,12 @@
 -- The laws hold of every state of a run.
-use Rattle.std.proofs.Common.{◌≡◌, ◌≢◌, ◌⊎◌, false, leb, inl, inr, ℕ, zero, suc, ◌*◌, ◌<◌, ◌≤◌, max, ◌↔◌, List, [], ◌∷◌, length, take, refl, sym, ap, ◌∙◌, arith}
+use Rattle.std.proofs.Common.{◌≡◌, ◌≢◌, ◌⊎◌, false, leb, inl, inr, ℕ, zero, suc, ◌<◌, ◌≤◌, max, ◌↔◌, List, [], ◌∷◌, length, refl, sym, ◌∙◌, arith}
 use Rattle.std.specs.List.{AllByRecursion}
 use Rattle.std.proofs.lemmas.Bool.{cases_Bool}
 use Rattle.std.proofs.lemmas.Bool.Decides.{nat_tests}
 use Rattle.datagram_grammar.specs.Parameters.{Parameters}
 use Rattle.gas_world.specs.Record.{Asked}
-use Rattle.gas_world.specs.Step.{Rules, Answer, Accepted, NotYet, call_answer, unreturned, free_slot}
-use Rattle.gas_world.specs.World.{World, Event, IsAmong, run, world_after}
+use Rattle.gas_world.specs.Step.{Rules, Accepted, NotYet, call_answer, unreturned, free_slot}
+use Rattle.gas_world.specs.World.{World, Event, IsAmong, world_after}
 use Rattle.gas_world.specs.Held.{held, most_then, most_after}
 use Rattle.gas_world.specs.Invariant.{WorldInvariant}
 use Rattle.gas_world.specs.Shorts.{Records, shorts, at_the_opening}

@@ -1,10 +1,9 @@
 -- The messages of Short requests and Acks.
-use Rattle.std.proofs.Common.{◌≡◌, ◌≢◌, ℕ, ℤ, ◌+◌, ◌*◌, ◌^◌, ◌<◌, ◌≤◌, true, false, List, [], length, refl, sym, arith, ne_eqb, get_or}
+use Rattle.std.proofs.Common.{◌≢◌, ℕ, ℤ, ◌^◌, ◌<◌, ◌≤◌, List, length, refl, sym, arith, ne_eqb}
 use Rattle.std.specs.List.{AllByRecursion}
 use Rattle.std.specs.Int.{w32}
 use Rattle.std.specs.Int.RustNames.{FitsSigned}
-use Rattle.datagram_grammar.specs.Message.{Message, IsMessage, spelling, addressed, is_built}
-use Rattle.datagram_grammar.proofs.Laws.{length-spelling}
+use Rattle.datagram_grammar.specs.Message.{IsMessage, addressed, is_built}
 use Rattle.gas_world.specs.Shorts.{short, ack}
 
 -- where a message goes

@@ -1,36 +1,36 @@
 -- What an endpoint keeps gives its record's answer, and stands for the record's next one.
-use Rattle.std.proofs.Common.{◌≡◌, ◌≢◌, ◌⊎◌, inl, inr, ℕ, zero, suc, ◌+◌, ◌-◌, ◌^◌, ◌<◌, ◌≤◌, min, true, false, true≢false, List, [], ◌∷◌, ◌++◌, length, get_or, Option, None, Some, refl, sym, ap, ◌∙◌, subst, arith, eq-eqb, ne_eqb, cond, length-append}
+use Rattle.std.proofs.Common.{◌≡◌, ◌≢◌, inl, inr, ℕ, zero, suc, ◌+◌, ◌-◌, ◌<◌, ◌≤◌, true, false, List, [], ◌∷◌, ◌++◌, length, Option, None, Some, refl, sym, ap, ◌∙◌, subst, arith, eq-eqb, ne_eqb, length-append}
 use Rattle.std.specs.Prelude.{IfSome, IsSomeAnd, option_and_then, is_none}
 use Rattle.std.specs.List.{slice_get}
-use Rattle.std.specs.Option.{option_map, is_some}
+use Rattle.std.specs.Option.{option_map}
 use Rattle.std.proofs.lemmas.Bool.{cases_Bool, cases_eq}
-use Rattle.std.proofs.lemmas.Option.{same_Some, slice_get-get_or}
+use Rattle.std.proofs.lemmas.Option.{slice_get-get_or}
 use Rattle.std.proofs.lemmas.List.{get_or-replicate, length-replicate}
 use Rattle.std.proofs.Math.ListN.{replicate}
 use Rattle.datagram_grammar.specs.Parameters.{Parameters}
 use Rattle.datagram_grammar.specs.Message.{Content, spelling, addressed}
 use Rattle.list_places.specs.Update.{update}
 use Rattle.list_places.proofs.Update.{slice_get-update, slice_get-update_other, length-update}
-use Rattle.credit_slots.specs.State.{SlotState, Vacant, Sealed, PeerState, SlotsState, CanClaim, Refuses, IsTakenAt, IsTakenWith, new_peer, with_request, with_slot, with_given_in, slot_at}
+use Rattle.credit_slots.specs.State.{Vacant, Sealed, PeerState, CanClaim, Refuses, IsTakenAt, IsTakenWith, new_peer, with_slot, with_given_in, slot_at}
 use Rattle.credit_slots.specs.declared.NoClaim.TheVariants as claims
-use Rattle.reply_slots.specs.State.{ReplyState, Unused, Kept, RepliesState, last_number, message_of, JudgesAt, Judges, with_reply}
+use Rattle.reply_slots.specs.State.{ReplyState, Unused, Kept, last_number, message_of, JudgesAt, Judges}
 use Rattle.reply_slots.specs.State.{slot_at as reply_at}
 use Rattle.reply_slots.specs.declared.Judged.{Judged}
 use Rattle.reply_slots.specs.declared.Judged.TheVariants.{New, Again, Stale}
 use Rattle.gas_world.specs.Record.{Asked, Run, Node, numbered, change}
-use Rattle.gas_world.specs.Step.{WornOut, NotYet, Accepted, call_answer, taken, unreturned, greatest, is_open, as_back, put, with_asked, with_run}
-use Rattle.gas_world.specs.Held.{has_run, slots_run, held_for, held}
+use Rattle.gas_world.specs.Step.{WornOut, NotYet, call_answer, taken, unreturned, greatest, is_open, as_back, put, with_asked, with_run}
+use Rattle.gas_world.specs.Held.{slots_run, held_for, held}
 use Rattle.gas_world.specs.Invariant.{IsOrderly}
 use Rattle.gas_world.specs.Kept.{open_in, run_at}
 use Rattle.gas_world.specs.Shorts.{Nothing, ack}
 use Rattle.gas_world.specs.Endpoints.{EndpointState}
-use Rattle.gas_world.specs.Stands.{StandsForAsked, StandsForRan, StandsForNode, slot_state, reply_state, reply_message}
+use Rattle.gas_world.specs.Stands.{StandsForNode, slot_state, reply_state}
 use Rattle.gas_world.specs.Steps.{IsOpening, Accepts, KeepsAck, ack_at, slot_of, more, more_if_none}
 use Rattle.gas_world.proofs.Lists.{taken_push}
 use Rattle.gas_world.proofs.Keeping.{open_says, back_fewer}
 use Rattle.gas_world.proofs.Runs.{last_new, last_other, last_none, run_at_says, has_run_found, has_run_none, slots_run_new, slots_run_again}
 use Rattle.gas_world.proofs.Claiming.{Takes, worn_is, not_yet_is, accepted_is, stands_accepted, stands_back, taken_open, open_taken_with}
-use Rattle.gas_world.proofs.Holding.{no_slots, held_with, held_more, held_same}
+use Rattle.gas_world.proofs.Holding.{no_slots, held_more, held_same}
 
 -- ---- one peer changed
 
@@ -98,8 +98,8 @@ node_accepts s me to now slot number e r c new S O low other few A =
     let q = with_asked r now to slot c in
     let pushed : unreturned (r.asked to ++ asked ∷ []) ≡ suc (unreturned (r.asked to)) = ap length (taken_push (r.asked to) asked) ∙ (length-append (taken (r.asked to)) (slot ∷ []) ∙ omega arith) in
     let counted : held s q ≡ suc (held s r) = held_more s.credits r q to s.nodes low
-        (ap (λ (xs : List Asked). unreturned xs + slots_run (r.ran to) s.credits) (put_here r.asked to (r.asked to ++ asked ∷ [])) ∙ omega (arith, pushed))
-        (λ peer d. ap (λ (xs : List Asked). unreturned xs + slots_run (r.ran peer) s.credits) (put_there r.asked to (r.asked to ++ asked ∷ []) peer d)) in
+    (ap (λ (xs : List Asked). unreturned xs + slots_run (r.ran to) s.credits) (put_here r.asked to (r.asked to ++ asked ∷ [])) ∙ omega (arith, pushed))
+    (λ peer d. ap (λ (xs : List Asked). unreturned xs + slots_run (r.ran peer) s.credits) (put_there r.asked to (r.asked to ++ asked ∷ []) peer d)) in
     record {
       takes = (p.0, T);
       one_more = counted;
@@ -165,8 +165,8 @@ node_returns s me from slot number e r new S O low other below t is =
     let it = open_says (r.asked from) slot number O.apart t in
     let fewer : unreturned (r.asked from) ≡ suc (unreturned xs) = sym (back_fewer (r.asked from) number it.0 it.1 it.2) in
     let counted : held s r ≡ suc (held s q) = held_more s.credits q r from s.nodes low
-        (omega (arith, fewer) ∙ ap (λ (ys : List Asked). suc (unreturned ys + slots_run (r.ran from) s.credits)) (sym (put_here r.asked from xs)))
-        (λ peer d. ap (λ (ys : List Asked). unreturned ys + slots_run (r.ran peer) s.credits) (sym (put_there r.asked from xs peer d))) in
+    (omega (arith, fewer) ∙ ap (λ (ys : List Asked). suc (unreturned ys + slots_run (r.ran from) s.credits)) (sym (put_here r.asked from xs)))
+    (λ peer d. ap (λ (ys : List Asked). unreturned ys + slots_run (r.ran peer) s.credits) (sym (put_there r.asked from xs peer d))) in
     record {
       one_less = sym counted;
       stands = rw is (record {
@@ -231,8 +231,8 @@ count_run s me from slot number e r c S low below few None is at =
     let q = with_run r from slot number c (tt, ack) in
     let new : slots_run (r.ran from ++ run ∷ []) s.credits ≡ suc (slots_run (r.ran from) s.credits) = slots_run_new (r.ran from) run s.credits below (has_run_none slot (r.ran from) is) in
     let counted : held s q ≡ suc (held s r) = held_more s.credits r q from s.nodes low
-        (ap (λ (rs : List Run). unreturned (r.asked from) + slots_run rs s.credits) (put_here r.ran from (r.ran from ++ run ∷ [])) ∙ omega (arith, new))
-        (λ peer d. ap (λ (rs : List Run). unreturned (r.asked peer) + slots_run rs s.credits) (put_there r.ran from (r.ran from ++ run ∷ []) peer d)) in
+    (ap (λ (rs : List Run). unreturned (r.asked from) + slots_run rs s.credits) (put_here r.ran from (r.ran from ++ run ∷ [])) ∙ omega (arith, new))
+    (λ peer d. ap (λ (rs : List Run). unreturned (r.asked peer) + slots_run rs s.credits) (put_there r.ran from (r.ran from ++ run ∷ []) peer d)) in
     (omega (arith, counted), more_none s me from e.held (slot_of e from slot) (at ∙ ap (reply_state s me from) is) ∙ (ap more S.held_is ∙ (omega (arith, few) ∙ sym counted)))
 count_run s me from slot number e r c S low below few (Some t) is at =
     let run : Run = record { number = number; slot = slot; content = c; reply = ack } in

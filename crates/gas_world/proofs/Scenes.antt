@@ -1,5 +1,5 @@
 -- The scene of an event in a world that is read and written there.
-use Rattle.std.proofs.Common.{◌≡◌, ◌⊎◌, inl, inr, ℕ, ◌+◌, ◌*◌, ◌<◌, List, [], ◌∷◌, length, length-set, set, get_or, Some, refl, sym, ap, ap₂, ◌∙◌, subst, subst₂, arith, zero, suc}
+use Rattle.std.proofs.Common.{◌≡◌, inl, inr, ℕ, ◌+◌, ◌*◌, ◌<◌, List, [], ◌∷◌, length, length-set, set, get_or, Some, refl, sym, ap, ap₂, ◌∙◌, subst, subst₂, arith, zero, suc}
 use Rattle.std.specs.List.{slice_get}
 use Rattle.std.proofs.lemmas.Option.{slice_get_read, slice_get_within, same_Some}
 use Rattle.std.proofs.lemmas.Bool.{cases_eq}
@@ -53,10 +53,10 @@ sized_after s es xs most at place e new x m S e_is settings me_is = record {
   most_are = length-set most at m ∙ S.most_are;
   settings = λ i y f. elim (cases_eq i at) [
     | inl h ↦ (
-      let low : at < length es = omega (arith, length-set es at new, slice_get_within (set es at new) at y (ap (slice_get (set es at new)) (sym h) ∙ f)) in
-      let it = S.settings at e (slice_get_read es (length es) at e refl low e_is) in
-      let same : new ≡ y = same_Some _ _ (sym (get_set_same es at new low) ∙ (ap (slice_get (set es at new)) (sym h) ∙ f)) in
-      subst (λ (z : EndpointState). (z.settings ≡ s) × (z.me ≡ i)) same (settings ∙ it.0, me_is ∙ (it.1 ∙ sym h)))
+        let low : at < length es = omega (arith, length-set es at new, slice_get_within (set es at new) at y (ap (slice_get (set es at new)) (sym h) ∙ f)) in
+        let it = S.settings at e (slice_get_read es (length es) at e refl low e_is) in
+        let same : new ≡ y = same_Some _ _ (sym (get_set_same es at new low) ∙ (ap (slice_get (set es at new)) (sym h) ∙ f)) in
+        subst (λ (z : EndpointState). (z.settings ≡ s) × (z.me ≡ i)) same (settings ∙ it.0, me_is ∙ (it.1 ∙ sym h)))
     | inr h ↦ S.settings i y (sym (get_set_other es at i new h) ∙ f)
   ];
 }
@@ -73,12 +73,14 @@ pub falls_still : (s : Parameters) (v : WorldState) (es : List EndpointState) (x
     → i < v.settings.nodes → j < v.settings.nodes → at ≡ i → place ≡ i * s.nodes + j
     → e ≡ get_or es at e → x ≡ get_or xs place x
     → (m : ℕ) × Falls v (record { settings = s; endpoints = set es at new; archive = archive; exchanges = xs; most = most }) i (i * v.settings.nodes + j)
-        (record { endpoint = e; archive = archive; exchanges = x; most = m }) (record { endpoint = new; archive = archive; exchanges = x; most = m })
+    (record { endpoint = e; archive = archive; exchanges = x; most = m }) (record { endpoint = new; archive = archive; exchanges = x; most = m })
 falls_still s v es xs most archive i j at place e new x view sized i_in j_in at_is place_is e_is x_is =
     let nodes : s.nodes ≡ v.settings.nodes = ap (λ (w : WorldState). w.settings.nodes) view in
     let m = item_at most at (omega (arith, at_is, i_in, nodes, sized.most_are)) in
-    let within : place < length xs = subst₂ (λ p l. p < l) (sym place_is) (sym sized.exchanges_are) (pair_place s.nodes i j (omega (arith, i_in, nodes)) (omega (arith, j_in, nodes))) in
-    (m.0, falls_at s v _ es xs most i j i at place (record { endpoint = e; archive = archive; exchanges = x; most = m.0 }) (record { endpoint = new; archive = archive; exchanges = x; most = m.0 }) view sized i_in j_in i_in at_is place_is e_is x_is m.1
-      (ap₂ (λ (ys : List ExchangesState) (ms : List ℕ). record { settings = s; endpoints = set es at new; archive = archive; exchanges = ys; most = ms })
-        (set_own xs place x (slice_get_read xs (length xs) place x refl within x_is))
-        (set_own most at m.0 (slice_get_read most (length most) at m.0 refl (omega (arith, at_is, i_in, nodes, sized.most_are)) m.1))))
+    let within : place < length xs = subst₂ (λ p l. p < l) (sym place_is) (sym sized.exchanges_are) (pair_place s.nodes i j (omega (arith, i_in, nodes)) (omega (arith, j_in, nodes))) in (
+      m.0,
+      falls_at s v _ es xs most i j i at place (record { endpoint = e; archive = archive; exchanges = x; most = m.0 }) (record { endpoint = new; archive = archive; exchanges = x; most = m.0 }) view sized i_in j_in i_in at_is place_is e_is x_is m.1
+          (ap₂ (λ (ys : List ExchangesState) (ms : List ℕ). record { settings = s; endpoints = set es at new; archive = archive; exchanges = ys; most = ms })
+          (set_own xs place x (slice_get_read xs (length xs) place x refl within x_is))
+          (set_own most at m.0 (slice_get_read most (length most) at m.0 refl (omega (arith, at_is, i_in, nodes, sized.most_are)) m.1))),
+    )

@@ -1,23 +1,21 @@
 -- A world whose one scene changed stands for the records' next state.
-use Rattle.std.proofs.Common.{◌≡◌, ◌≢◌, ◌⊎◌, inl, inr, ℕ, zero, suc, ◌+◌, ◌*◌, ◌/◌, ◌%◌, ◌<◌, ◌≤◌, max, List, [], ◌∷◌, ◌++◌, length, set, Option, None, Some, refl, sym, ap, ap₂, ◌∙◌, subst, subst₂, arith, true, false, eqb, eqb-true, ne_eqb, append-nil}
+use Rattle.std.proofs.Common.{◌≡◌, ◌≢◌, inl, inr, ℕ, zero, suc, ◌+◌, ◌*◌, ◌/◌, ◌%◌, ◌<◌, ◌≤◌, max, List, [], ◌∷◌, ◌++◌, length, set, Some, refl, sym, ap, ap₂, ◌∙◌, subst, subst₂, arith, eqb, eqb-true}
 use Rattle.std.specs.List.{slice_get}
 use Rattle.std.proofs.Math.Path.{fun_ext}
 use Rattle.std.proofs.lemmas.Bool.{cases_Bool, cases_eq}
 use Rattle.std.proofs.lemmas.Option.{same_Some, slice_get_within}
 use Rattle.std.proofs.lemmas.Nat.{div-mul-add, mod-mul-add}
 use Rattle.datagram_grammar.specs.Parameters.{Parameters}
-use Rattle.gas_world.specs.Record.{Asked, Run, Node, numbered}
+use Rattle.gas_world.specs.Record.{Asked, Run, Node}
 use Rattle.gas_world.specs.Step.{put}
 use Rattle.gas_world.specs.Held.{held, most_then}
 use Rattle.gas_world.specs.Invariant.{WorldInvariant}
 use Rattle.gas_world.specs.Shorts.{Nothing, Records, shorts}
 use Rattle.gas_world.specs.Exchanged.{ExchangesState}
 use Rattle.gas_world.specs.Archived.{ArchiveState}
-use Rattle.gas_world.specs.Endpoints.{EndpointState}
 use Rattle.gas_world.specs.Worlds.{WorldState}
 use Rattle.gas_world.specs.Scenes.{Scene, IsSame}
 use Rattle.gas_world.specs.Stands.{StandsForNode, StandsForPair, Stands}
-use Rattle.gas_world.specs.declared.exchanges.Exchange.{Exchange}
 use Rattle.gas_world.proofs.Worlds.{put_same, put_other}
 use Rattle.gas_world.proofs.Archiving.{pair_grows}
 
@@ -149,12 +147,12 @@ moves_stand v z w most i a b x old new S b_in F M =
           it.1,
           set_there v.exchanges z.exchanges (a * s.nodes + b) (c * s.nodes + d) new.exchanges F.exchanges e ∙ it.2,
           subst₂ (λ A R. StandsForPair s c d z.archive.bytes it.0 A R) (sym same.0) (sym same.1)
-            (subst (λ (t : List ℕ). StandsForPair s c d t it.0 ((w c).asked d) ((w d).ran c)) (sym (ap (λ (r : ArchiveState). r.bytes) F.archive ∙ M.bytes)) (pair_grows s c d v.archive.bytes M.extra it.0 ((w c).asked d) ((w d).ran c) it.3)),
+              (subst (λ (t : List ℕ). StandsForPair s c d t it.0 ((w c).asked d) ((w d).ran c)) (sym (ap (λ (r : ArchiveState). r.bytes) F.archive ∙ M.bytes)) (pair_grows s c d v.archive.bytes M.extra it.0 ((w c).asked d) ((w d).ran c) it.3)),
         ))
       ];
       most_is = λ k low. elim (cases_eq k i) [
         | inl e ↦ (
-          ap (slice_get z.most) e ∙ (set_here v.most z.most i old.most new.most F.most_was F.most_is ∙ ap Some (M.most_is ∙ (ap (λ (r : Node Nothing). max (most i) (held s r)) (sym (put_same w i x)) ∙ ap (λ n. max (most n) (held s (put w i x n))) (sym e)))))
+            ap (slice_get z.most) e ∙ (set_here v.most z.most i old.most new.most F.most_was F.most_is ∙ ap Some (M.most_is ∙ (ap (λ (r : Node Nothing). max (most i) (held s r)) (sym (put_same w i x)) ∙ ap (λ n. max (most n) (held s (put w i x n))) (sym e)))))
         | inr e ↦ set_there v.most z.most i k new.most F.most_is e ∙ (S.most_is k low ∙ ap Some (max_same (most k) (held s (w k)) (S.held_le k low) ∙ ap (λ (r : Node Nothing). max (most k) (held s r)) (sym (put_other w i x k e))))
       ];
       held_le = λ k low. omega arith;

@@ -1,13 +1,12 @@
 -- What holds of each pair holds after each event.
-use Rattle.std.proofs.Common.{◌≡◌, ◌≢◌, ◌⊎◌, inl, inr, ℕ, zero, suc, ◌<◌, true, false, not, ◌&&◌, List, [], ◌∷◌, ◌++◌, length, Option, None, Some, refl, sym, ap, ◌∙◌, subst, subst₂, ap₂, arith, eq-eqb, ne_eqb}
-use Rattle.std.specs.List.{AllByRecursion}
+use Rattle.std.proofs.Common.{◌≡◌, ◌≢◌, ◌⊎◌, inl, inr, ℕ, zero, suc, ◌<◌, true, false, List, [], ◌∷◌, ◌++◌, length, Option, None, Some, refl, sym, ap, ◌∙◌, subst, subst₂, ap₂, arith, eq-eqb, ne_eqb}
 use Rattle.std.proofs.lemmas.Bool.Decides.{nat_tests}
 use Rattle.std.proofs.lemmas.Bool.{cases_Bool, cases_eq}
 use Rattle.datagram_grammar.specs.Parameters.{Parameters}
 use Rattle.datagram_grammar.specs.Message.{Content}
 use Rattle.gas_world.specs.Record.{Asked, Run, Node, numbered, change}
-use Rattle.gas_world.specs.Step.{Rules, IsSound, Answer, Accepted, Ran, Returned, NodeEvent, Call, Request, Reply, answer, after, call_answer, request_answer, reply_answer, judged, put, unreturned, free_slot, greatest, run_of, as_back}
-use Rattle.gas_world.specs.World.{World, opening, Event, Calls, RequestComes, ReplyComes, request_event, reply_event, falls, after_at, world_after, run, IsAmong}
+use Rattle.gas_world.specs.Step.{Rules, IsSound, Answer, Accepted, Ran, Returned, NodeEvent, Call, Request, Reply, answer, after, call_answer, request_answer, reply_answer, put, unreturned, free_slot, greatest, run_of, as_back}
+use Rattle.gas_world.specs.World.{World, opening, Event, Calls, RequestComes, ReplyComes, request_event, reply_event, after_at, world_after, IsAmong}
 use Rattle.gas_world.specs.Invariant.{PairInvariant, WorldInvariant}
 use Rattle.gas_world.proofs.Lists.{numbered-change}
 use Rattle.gas_world.proofs.Pairs.{pair_none, pair_accepts, pair_runs, pair_back}

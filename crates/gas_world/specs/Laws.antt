@@ -1,5 +1,5 @@
 -- What holds of every state of every run.
-use Rattle.std.specs.Prelude.{ℕ, ◌≡◌, ◌≢◌, ◌-◌, ◌*◌, ◌<◌, ◌≤◌, ◌↔◌, true, List, length, take, Some, slice_get}
+use Rattle.std.specs.Prelude.{ℕ, ◌≡◌, ◌-◌, ◌*◌, ◌<◌, ◌≤◌, ◌↔◌, true, List, length, take, Some, slice_get}
 use Rattle.datagram_grammar.specs.Parameters.{Parameters}
 use Rattle.datagram_grammar.specs.Message.{Content}
 use Rattle.gas_world.specs.Record.{Asked, Run, numbered}

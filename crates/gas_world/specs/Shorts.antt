@@ -2,7 +2,6 @@
 use Rattle.std.specs.Prelude.{ℕ, ◌==◌, ◌&&◌, nat_le, List, [], length, Bool, ℤ}
 use Rattle.datagram_grammar.specs.Message.{Content, code}
 use Rattle.datagram_grammar.specs.declared.kind.Kind.TheVariants.{ShortRequest, Ack}
-use Rattle.gas_world.specs.Record.{Node}
 use Rattle.gas_world.specs.Step.{Rules}
 use Rattle.gas_world.specs.World.{World}
 

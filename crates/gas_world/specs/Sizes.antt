@@ -1,5 +1,5 @@
 -- How many slots the tables of an endpoint have.
-use Rattle.std.specs.Prelude.{ℕ, ◌≡◌, ◌≢◌, ◌<◌, ◌*◌, List, [], length, Some, None, slice_get}
+use Rattle.std.specs.Prelude.{ℕ, ◌≡◌, ◌≢◌, ◌<◌, ◌*◌, List, [], length, Some, slice_get}
 use Rattle.datagram_grammar.specs.Parameters.{Parameters}
 use Rattle.credit_slots.specs.State.{SlotsState, slot_count}
 use Rattle.reply_slots.specs.State.{RepliesState}

@@ -1,9 +1,9 @@
 -- What each call of an endpoint does, as a value.
-use Rattle.std.specs.Prelude.{ℕ, ◌≡◌, ◌≢◌, ◌+◌, ◌-◌, ◌^◌, ◌<◌, ◌≤◌, min, ◌⊎◌, length, IfSome, Option, None, Some, slice_get, List, [], is_none, if◌then◌else◌}
+use Rattle.std.specs.Prelude.{ℕ, ◌≡◌, ◌+◌, ◌-◌, ◌^◌, ◌<◌, min, IfSome, None, Some, slice_get, List, is_none, if◌then◌else◌}
 use Rattle.datagram_grammar.specs.Parameters.{Parameters}
 use Rattle.datagram_grammar.specs.Message.{Message, Content, IsMessage, Spells, spelling, addressed}
 use Rattle.datagram_grammar.specs.declared.kind.Kind.TheVariants.{ShortRequest, Ack}
-use Rattle.credit_slots.specs.State.{PeerState, CanClaim, Refuses, IsNew, IsTakenAt, Vacant, with_request, with_slot}
+use Rattle.credit_slots.specs.State.{CanClaim, Refuses, IsNew, IsTakenAt, Vacant, with_request, with_slot}
 use Rattle.credit_slots.specs.declared.NoClaim.TheVariants as claims
 use Rattle.reply_slots.specs.State.{ReplyState, Unused, message_of, JudgesAt, with_reply}
 use Rattle.reply_slots.specs.declared.Judged.TheVariants.{New, Again, Stale}

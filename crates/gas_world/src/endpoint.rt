@@ -176,7 +176,10 @@ impl Endpoint {
         requires message { IsMessage (viewed_message message.now) }
         ensures { DeliversMessage self.old (viewed_message message.now) result self.new }
     {
-        match self.replies.judge(message.from, message.slot, message.number) {
+        match self
+            .replies
+            .judge(message.from, message.slot, message.number)
+        {
             Judged::Again => Delivered::Again,
             Judged::Stale => Delivered::Stale,
             Judged::New => {
@@ -207,7 +210,10 @@ impl Endpoint {
         requires message { IsMessage (viewed_message message.now) }
         ensures { DeliversMessage self.old (viewed_message message.now) result self.new }
     {
-        if self.requests.take_back(message.from, message.slot, message.number) {
+        if self
+            .requests
+            .take_back(message.from, message.slot, message.number)
+        {
             self.held = self.held.saturating_sub(1);
             Delivered::Returned
         } else {

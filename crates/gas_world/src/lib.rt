@@ -15,3 +15,6 @@ mod world;
 
 pub use event::{Call, WorldAnswer, WorldEvent};
 pub use world::World;
+
+#[cfg(test)]
+mod tests;

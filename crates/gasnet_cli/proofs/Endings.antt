@@ -51,7 +51,7 @@ given_before words l l' t m t' sr kr kr' v none rise h f = (refl, rise h.1, h.2,
 
 -- of a run that came to its end, whatever holds of the job
 any_after : (words : List Word) (l l' : Option (List ℕ)) (sr : Type 0) (after : Job → Type 0) (lines : List Line) → Ends words l l' sr after ends.Done lines → Ends words l l' sr Anything ends.Done lines
-any_after words l l' sr after lines h = (h.0, record { job = h.1.job; read = h.1.read; said = h.1.said; after_it = tt })
+any_after words l l' sr after lines h = (h.0, record { job = h.1.job; read = h.1.read; said = h.1.said; laws = h.1.laws; after_it = tt })
 
 -- what was told, where what waited is given on
 means_done : (words : List Word) (l l' : Option (List ℕ)) (t m t' : Outbox) (sr kr kr' : Type 0) (v : Option WorldState) (end : End) → t.pending ≡ [] → (kr → kr') → Tells words l l' t m sr kr v end → Flushes m t' wrote.Done

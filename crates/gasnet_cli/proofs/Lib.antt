@@ -8,3 +8,4 @@ pub mod JobLaws
 pub mod Writing
 pub mod Runs
 pub mod Endings
+pub mod RunLaws

@@ -7,6 +7,7 @@ use Rattle.gasnet_cli.specs.Lines.{Word, Line, spell}
 use Rattle.gasnet_cli.specs.JobText.{JobText}
 use Rattle.gasnet_cli.specs.Output.{ok_line, run_lines}
 use Rattle.gasnet_cli.specs.Runs.{StandsForRun}
+use Rattle.gasnet_cli.specs.Laws.{RunLaws}
 use Rattle.gasnet_cli.specs.declared.job.Job.{Job}
 use Rattle.gasnet_cli.specs.declared.ending.End.{End}
 use Rattle.gasnet_cli.specs.declared.ending.End.TheVariants as ends
@@ -51,16 +52,17 @@ pub record ReadsNoJob (old new : Option (List ℕ)) : Type 0 where
   pub read : Consumes old new bytes
   pub none : (limit < length bytes) ⊎ (IsAtEnd new × ((job : Job) → JobText job bytes → ⊥))
 
--- a job was read and run to its end: these are the lines of its run, and this holds of it
+-- a job was read and run to its end: these are the lines of its run, whose laws hold, and this holds of the job after it
 pub record RunsJob (old new : Option (List ℕ)) (after : Job → Type 0) (lines : List Line) : Type 0 where
   pub job : Job
   pub read : ReadsJob old new job
   pub said : lines ≡ run_lines job
+  pub laws : RunLaws job
   pub after_it : after job
 
--- lines that the command says before it runs out of memory: none, or whole lines of the run of the job that was read
-abbrev pub SaysFirst : List Word → Option (List ℕ) → Option (List ℕ) → List Line → Type 0
-SaysFirst words old new front = (front ≡ []) ⊎ (IsWorld words × (job : Job) × (rest : List Line) × ReadsJob old new job × (run_lines job ≡ front ++ rest))
+-- lines that the command says before it runs out of memory: none, or whole lines of the run, whose laws hold, of the job that was read
+abbrev pub SaysFirst : Option (List ℕ) → Option (List ℕ) → List Line → Type 0
+SaysFirst old new front = (front ≡ []) ⊎ ((job : Job) × (rest : List Line) × ReadsJob old new job × (run_lines job ≡ front ++ rest) × RunLaws job)
 
 -- how a command ends and what it says, where its sink takes all: by the words, what is left of the source before and after, whether the source's faults rose, and what holds of the job after its run
 abbrev pub Ends : List Word → Option (List ℕ) → Option (List ℕ) → Type 0 → (Job → Type 0) → End → List Line → Type 0
@@ -68,7 +70,7 @@ Ends words old new rose after ends.Done lines = IsWorld words × RunsJob old new
 Ends words old new rose after ends.Usage lines = (IsWorld words → ⊥) × (lines ≡ status_line ends.Usage ∷ [])
 Ends words old new rose after ends.BadJob lines = IsWorld words × ReadsNoJob old new × (lines ≡ status_line ends.BadJob ∷ [])
 Ends words old new rose after ends.ReadFault lines = IsWorld words × rose × (lines ≡ status_line ends.ReadFault ∷ [])
-Ends words old new rose after ends.NoMemory lines = (front : List Line) × SaysFirst words old new front × (lines ≡ front ++ status_line ends.NoMemory ∷ [])
+Ends words old new rose after ends.NoMemory lines = IsWorld words × (front : List Line) × SaysFirst old new front × (lines ≡ front ++ status_line ends.NoMemory ∷ [])
 Ends words old new rose after ends.WriteFault lines = ⊥
 
 -- there is a world, and it stands for the end of the job's run

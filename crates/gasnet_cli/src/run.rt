@@ -10,6 +10,7 @@ ghost use Rattle.gas_world.specs.Shorts.{at_the_opening};
 ghost use Rattle.gas_world.specs.Stands.{Stands};
 ghost use Rattle.gasnet_cli.specs.JobText.{IsJob, IsTimed};
 ghost use Rattle.gasnet_cli.specs.Output.{scheduled, run_lines};
+ghost use Rattle.gasnet_cli.specs.Laws.{RunLaws};
 ghost use Rattle.gasnet_cli.specs.Runs.{Runs, WritesEnd, StandsForRun};
 ghost use Rattle.gasnet_cli.specs.Says.{Says, IsFault, OnDone};
 ghost use Rattle.gasnet_cli.specs.TopParts.{WorldIs};
@@ -140,6 +141,7 @@ fn run_in<K: Sink>(world: &mut World, job: &Job, sink: &mut BufferedSink<K>) -> 
 }
 
 /// Runs a job in a new world, and writes its lines; the world after a run that came to its end.
+#[tactic(auto, using(crate::proofs::RunLaws::run_laws))]
 pub fn run_job<K: Sink>(
     alloc: Global,
     job: &Job,
@@ -148,6 +150,7 @@ pub fn run_job<K: Sink>(
     requires { IsJob job.now }
     ensures lines { Says (outbox K.taken sink.old) (outbox K.taken sink.new) (run_lines job.now) result.0 }
     ensures world { WorldIs job.now result.0 result.1 }
+    ensures laws { RunLaws job.now }
     ensures later { K.faults sink.old.inner ≤ K.faults sink.new.inner }
     ensures fault { IsFault result.0 → Rose (K.faults sink.old.inner) (K.faults sink.new.inner) }
 {

@@ -1,4 +1,4 @@
-use Rattle.std.proofs.Common.{arith, rules, ap, ◌∙◌, sym, subst}
+use Rattle.std.proofs.Common.{rules}
 use Rattle.reply_slots.proofs.Replies.{reply_sealed}
 use Rattle.datagram_grammar.proofs.Spelling.{spelling_fits}
 use Rattle.gas_world.proofs.sealing.answer.Goals as goal

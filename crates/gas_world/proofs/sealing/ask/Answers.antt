@@ -1,6 +1,5 @@
-use Rattle.std.proofs.Common.{arith, rules, ap, ◌∙◌, sym, subst}
+use Rattle.std.proofs.Common.{rules}
 use Rattle.credit_slots.proofs.Requests.{request_sealed}
-use Rattle.datagram_grammar.specs.Message.{Message, IsMessage, spelling}
 use Rattle.datagram_grammar.proofs.Spelling.{spelling_fits}
 use Rattle.gas_world.proofs.sealing.ask.Goals as goal
 

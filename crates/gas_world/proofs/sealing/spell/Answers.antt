@@ -1,4 +1,4 @@
-use Rattle.std.proofs.Common.{arith, length, ◌<◌, ap, ◌++◌, drop, ◌∙◌, ◌≡◌, ℕ, rules}
+use Rattle.std.proofs.Common.{arith, length, ◌<◌, ap, ◌++◌, drop, ◌∙◌}
 use Rattle.datagram_grammar.specs.Message.{spelling}
 use Rattle.datagram_grammar.specs.Reading.{outgoing_message}
 use Rattle.datagram_grammar.proofs.Spelling.{spelling_fits}

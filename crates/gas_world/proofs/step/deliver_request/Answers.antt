@@ -1,5 +1,4 @@
-use Rattle.std.proofs.Common.{◌≡◌, ℕ, List, arith, rules, inl, inr, sym, ap, ◌∙◌}
-use Rattle.std.proofs.lemmas.Grind.{common_steps}
+use Rattle.std.proofs.Common.{◌≡◌, rules, inr, sym, ap, ◌∙◌}
 use Rattle.reply_slots.specs.State.{message_at}
 use Rattle.gas_world.specs.State.{with_reply_part}
 use Rattle.gas_world.specs.Scenes.{bytes_or_none, next_part}

@@ -1,4 +1,4 @@
-use Rattle.std.proofs.Common.{◌≡◌, ◌*◌, length, replicate, rules, sym, ap, ap₂, ◌∙◌}
+use Rattle.std.proofs.Common.{◌≡◌, ◌*◌, length, replicate, rules, ◌∙◌}
 use Rattle.gas_world.proofs.Opening.{stands_opening, sized_opening}
 use Rattle.gas_world.proofs.world.World.new.Goals as goal
 
