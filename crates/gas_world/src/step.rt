@@ -80,9 +80,7 @@ pub fn deliver_request(
         Delivered::Again => WorldAnswer::Again,
         Delivered::Stale => WorldAnswer::Stale,
         // No request that was sent is answered so.
-        Delivered::Returned => WorldAnswer::Unsent,
-        Delivered::Late => WorldAnswer::Unsent,
-        Delivered::Refused => WorldAnswer::Unsent,
+        Delivered::Returned | Delivered::Late | Delivered::Refused => WorldAnswer::Unsent,
     }
 }
 
@@ -108,9 +106,8 @@ pub fn deliver_reply(
         Delivered::Returned => WorldAnswer::Returned,
         Delivered::Late => WorldAnswer::Late,
         // No reply that was sent is answered so.
-        Delivered::Ran { .. } => WorldAnswer::Unsent,
-        Delivered::Again => WorldAnswer::Unsent,
-        Delivered::Stale => WorldAnswer::Unsent,
-        Delivered::Refused => WorldAnswer::Unsent,
+        Delivered::Ran { .. } | Delivered::Again | Delivered::Stale | Delivered::Refused => {
+            WorldAnswer::Unsent
+        }
     }
 }
