@@ -3,7 +3,7 @@
 
     bench/make_job.py LINES > big.job
 
-LINES, a multiple of 6, is the number of lines of the schedule: two nodes send requests to each other, each request takes one
+LINES, a multiple of 6 that is at least 36, is the number of lines of the schedule: two nodes send requests to each other, each request takes one
 call, one delivery and one delivery of its reply. The text goes to standard output.
 """
 import sys
@@ -13,6 +13,7 @@ ARGUMENTS = 4
 HEADER = 40
 NODES = (0, 1)
 LINES_OF_AN_EXCHANGE = 3
+LEAST_REQUESTS = CREDITS + 2  # with fewer ones no node ever holds all of its message buffers
 
 SETTINGS = f"""\
 gasnet 1
@@ -34,8 +35,8 @@ schedule
 def requests_of_each_node(lines):
     """How many requests each node sends in a schedule of so many lines."""
     requests, rest = divmod(lines, LINES_OF_AN_EXCHANGE * len(NODES))
-    if rest or requests < CREDITS:
-        raise ValueError(f"{lines} is no multiple of {LINES_OF_AN_EXCHANGE * len(NODES)}, or below {6 * CREDITS}")
+    if rest or requests < LEAST_REQUESTS:
+        sys.exit(f"{lines} is no multiple of 6 that is at least {LINES_OF_AN_EXCHANGE * len(NODES) * LEAST_REQUESTS}")
     return requests
 
 
