@@ -1,0 +1,3 @@
+pub mod Rules
+pub mod Registered
+pub mod Logged
