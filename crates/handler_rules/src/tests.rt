@@ -1,9 +1,15 @@
 //! The table of handlers filled to its end, each line of the rule table, a log past what it keeps, and each call once.
 
+ghost use Rattle.std.specs.Prelude.{◌≡◌, ◌≤◌, length, None};
+ghost use Rattle.handler_rules.specs.Runs.{IsReady};
+ghost use Rattle.handler_rules.specs.Desks.{arrival_of};
+
 use crate::{
-    CallKind, Cells, Context, Entry, EntryFault, Fault, Forbidden, Log, Role, Table, Violation,
-    allowed,
+    CallKind, Cells, Context, Desk, Entry, EntryFault, Fault, Forbidden, Handlers, Incoming, Log,
+    Replied, Reply, Role, Table, Violation, Which, allowed,
 };
+use datagram_grammar::{Kind, Settings};
+use std::alloc::Global;
 use std::test::Fail;
 
 fn entry(index: u8, role: Role) -> Entry {
@@ -140,4 +146,196 @@ fn cells_are_256_numbers(rt: HostRuntime) {
     cells.set(255, -5);
     cells.set(0, 7);
     assert_eq!(rt; (cells.get(255), cells.get(0), cells.get(1)), (-5, 7, 0));
+}
+
+/// The Short reply of job 7 from node 1 to node 0, for handler 130, slot 2, number 3, argument 7.
+const REPLY: [u8; 44] =
+    *b"\x47\x41\x4d\x31\x03\x82\x01\x00\0\0\0\0\0\0\0\x07\0\x01\0\0\0\x02\0\0\0\0\0\0\0\0\0\x03\0\0\0\0\0\0\0\0\0\0\0\x07";
+
+// Handler 129 for requests, 130 for replies.
+fn registered(alloc: Global) -> Result<Table, Fail> {
+    let mut table = Table::new(alloc)?;
+    if table.register(entry(129, Role::Request)).is_ok()
+        && table.register(entry(130, Role::Reply)).is_ok()
+    {
+        return Ok(table);
+    }
+    Err(Fail::new("refused"))
+}
+
+fn settings() -> Result<Settings, &'static str> {
+    Settings::new(7, 2, 1, 1, 4096, 9, 1).ok_or("the settings")
+}
+
+// A message of node 1, of the request in slot 2 with number 3.
+fn message<'a>(role: Role, source: u16, args: &'a [i32]) -> Incoming<'a>
+    ensures role { result.role ≡ role }
+    ensures args { result.args.now ≡ args.now }
+    ensures number { result.number ≡ 3 }
+{
+    Incoming {
+        role,
+        me: 1,
+        source,
+        slot: 2,
+        number: 3,
+        args,
+        payload: &[],
+        place: None,
+    }
+}
+
+// A handler that replies twice: the two answers, and the reply that was sent.
+fn reply_twice(
+    settings: &Settings,
+    table: &Table,
+    log: &mut Log,
+    message: Incoming<'_>,
+    buffer: &mut [u8],
+) -> (Replied, Replied, Option<Reply>)
+    requires args { length message.args.now ≤ 16 }
+    requires number { message.number ≡ 3 }
+    requires room { length buffer.old ≡ 8296 }
+{
+    let mut desk = Desk::new(settings, table, log, message, buffer);
+    let first = desk.reply_short(130, &[7]);
+    let second = desk.reply_short(130, &[8]);
+    (first, second, desk.close())
+}
+
+fn noted(context: Context, forbidden: Forbidden) -> Option<Violation> {
+    Some(Violation {
+        context,
+        fault: Fault::Rule(forbidden),
+    })
+}
+
+#[test]
+fn a_request_has_one_reply(rt: HostRuntime) -> Result<(), Fail> {
+    let table = registered(rt.alloc())?;
+    let mut log = Log::new(rt.alloc())?;
+    let mut buffer = [9; 8296];
+    let asked = message(Role::Request, 0, &[5]);
+    let (first, second, sent) = reply_twice(&settings()?, &table, &mut log, asked, &mut buffer);
+    assert_eq!(rt; first, Replied::Sent);
+    assert_eq!(rt; second, Replied::Forbidden(Forbidden::SecondReply));
+    assert_eq!(rt; log.count(), 1);
+    assert_eq!(rt;
+        log.back(0),
+        noted(Context::RequestHandler, Forbidden::SecondReply)
+    );
+    let reply = sent.ok_or("no reply")?;
+    assert_eq!(rt;
+        (reply.kind, reply.handler, reply.count),
+        (Kind::ShortReply, 130, 1)
+    );
+    assert_eq!(rt; (reply.args[0], reply.args[15]), (7, 0));
+    assert_eq!(rt; (reply.offset, reply.len), (0, 44));
+    assert_eq!(rt; buffer.get(..44), Some(REPLY.as_slice()));
+    assert_eq!(rt; buffer[44], 9);
+    Ok(())
+}
+
+#[test]
+fn a_reply_has_none(rt: HostRuntime) -> Result<(), Fail> {
+    let table = registered(rt.alloc())?;
+    let mut log = Log::new(rt.alloc())?;
+    let mut buffer = [9; 8296];
+    let replied = message(Role::Reply, 0, &[5]);
+    let (first, second, sent) = reply_twice(&settings()?, &table, &mut log, replied, &mut buffer);
+    assert_eq!(rt; first, Replied::Forbidden(Forbidden::ReplyInReply));
+    assert_eq!(rt; second, Replied::Forbidden(Forbidden::ReplyInReply));
+    assert_eq!(rt; log.count(), 2);
+    assert!(rt; sent.is_none());
+    Ok(())
+}
+
+#[test]
+fn a_reply_to_the_own_node_has_no_datagram(rt: HostRuntime) -> Result<(), Fail> {
+    let table = registered(rt.alloc())?;
+    let mut log = Log::new(rt.alloc())?;
+    let mut buffer = [9; 8296];
+    let asked = message(Role::Request, 1, &[5]);
+    let (first, _, sent) = reply_twice(&settings()?, &table, &mut log, asked, &mut buffer);
+    assert_eq!(rt; first, Replied::Sent);
+    let reply = sent.ok_or("no reply")?;
+    assert_eq!(rt; (reply.handler, reply.count, reply.args[0]), (130, 1, 7));
+    assert_eq!(rt; (reply.len, buffer[0]), (0, 9));
+    Ok(())
+}
+
+// A handler that asks for replies with a wrong part: the answers.
+fn reply_wrongly(desk: &mut Desk<'_>) -> (Replied, Replied, Replied)
+    requires { IsReady (arrival_of desk.old.message) desk.old.buffer.now }
+{
+    let unknown = desk.reply_short(64, &[]);
+    let for_requests = desk.reply_short(129, &[]);
+    let many = desk.reply_short(130, &[0; 17]);
+    (unknown, for_requests, many)
+}
+
+#[test]
+fn a_desk_answers(rt: HostRuntime) -> Result<(), Fail> {
+    let table = registered(rt.alloc())?;
+    let mut log = Log::new(rt.alloc())?;
+    let mut buffer = [9; 8296];
+    let settings = settings()?;
+    let asked = message(Role::Request, 0, &[5]);
+    let mut desk = Desk::new(&settings, &table, &mut log, asked, &mut buffer);
+    let source = desk.source();
+    let count = desk.args().len();
+    let (unknown, for_requests, many) = reply_wrongly(&mut desk);
+    let polled = desk.attempt(CallKind::Poll);
+    let asked_for_source = desk.attempt(CallKind::Source);
+    let sent = desk.close();
+    assert_eq!(rt; (source, count), (0, 1));
+    assert_eq!(rt; unknown, Replied::BadArg(Which::Handler));
+    assert_eq!(rt; for_requests, Replied::BadArg(Which::Handler));
+    assert_eq!(rt; many, Replied::BadArg(Which::Count));
+    assert_eq!(rt; polled, Err(Forbidden::InHandler));
+    assert_eq!(rt; asked_for_source, Ok(()));
+    assert!(rt; sent.is_none());
+    assert_eq!(rt; log.count(), 1);
+    assert_eq!(rt;
+        log.back(0),
+        noted(Context::RequestHandler, Forbidden::InHandler)
+    );
+    Ok(())
+}
+
+// A handler that does nothing.
+struct Idle;
+
+impl Handlers for Idle {
+    ghost use Rattle.handler_rules.specs.Runs.{untouched};
+
+    ghost meaning = { λ it handler scene start. untouched start };
+
+    ghost is_lawful = { λ it handler scene start. tt };
+
+    fn run(&self, _handler: u8, _cells: &mut Cells, _desk: &mut Desk<'_>) {}
+}
+
+// What a handler leaves that runs for a request of node 0.
+fn run_idle(settings: &Settings, table: &Table, log: &mut Log, cells: &mut Cells) -> Option<Reply>
+    ensures reply { result ≡ None }
+    ensures cells { cells.new ≡ cells.old }
+{
+    let mut buffer = [9; 8296];
+    let asked = message(Role::Request, 0, &[]);
+    let mut desk = Desk::new(settings, table, log, asked, &mut buffer);
+    Idle.run(129, cells, &mut desk);
+    desk.close()
+}
+
+#[test]
+fn a_handler_that_does_nothing(rt: HostRuntime) -> Result<(), Fail> {
+    let table = registered(rt.alloc())?;
+    let mut log = Log::new(rt.alloc())?;
+    let mut cells = Cells::new();
+    cells.set(3, 4);
+    let sent = run_idle(&settings()?, &table, &mut log, &mut cells);
+    assert!(rt; sent.is_none());
+    assert_eq!(rt; (cells.get(3), log.count()), (4, 0));
+    Ok(())
 }
