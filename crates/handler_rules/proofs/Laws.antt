@@ -1,5 +1,5 @@
 -- How the calls of a desk add to the outcome of a run: for whoever proves that handlers have a meaning.
-use Rattle.std.proofs.Common.{◌≡◌, ◌≤◌, ℕ, ℤ, List, [], ◌∷◌, ◌++◌, Option, Some, None, Bool, true, false, Result, Ok, Err, refl, ap, sym, ◌∙◌, map, length, is_some, nat_lt}
+use Rattle.std.proofs.Common.{◌≡◌, ℤ, List, [], ◌∷◌, ◌++◌, Option, Some, None, Bool, true, false, Result, refl, ap, sym, ◌∙◌, map, length, is_some, nat_lt}
 use Rattle.std.proofs.lemmas.List.{map-append}
 use Rattle.std.proofs.lemmas.Bool.{ltb-false}
 use Rattle.datagram_grammar.specs.Message.{Content}
@@ -17,7 +17,7 @@ use Rattle.handler_rules.specs.declared.desk.Desk.{Desk}
 use Rattle.handler_rules.specs.Rules.{rule, context_of}
 use Rattle.handler_rules.specs.Registered.{entry_at}
 use Rattle.handler_rules.specs.Logged.{Logged, notes}
-use Rattle.handler_rules.specs.Runs.{Arrival, Scene, Start, Outcome, IsGood, IsLawful, after_answer, answer, answer_by, attempted, closed, first_fault, is_for_replies, judged, refusal, replying, untouched, violation}
+use Rattle.handler_rules.specs.Runs.{Arrival, Scene, Outcome, IsGood, IsLawful, after_answer, answer, answer_by, attempted, closed, first_fault, is_for_replies, judged, refusal, replying, untouched, violation}
 use Rattle.handler_rules.specs.Desks.{answer_at, answered, judged_at, leaving, noting, reply_after, scene_of, start_of}
 use Rattle.handler_rules.proofs.Logs.{notes-append}
 
