@@ -5,7 +5,7 @@ ghost use Rattle.std.specs.Result.{OnOk};
 ghost use Rattle.handler_rules.specs.declared.rules.Role.TheVariants as role;
 ghost use Rattle.handler_rules.specs.declared.rules.CallKind.TheVariants as call;
 ghost use Rattle.handler_rules.specs.Runs.{IsReady, refusal, short_reply, reply_bytes};
-ghost use Rattle.handler_rules.specs.Desks.{arrival_of, judged_at, noting, answer_at, answered, writing};
+ghost use Rattle.handler_rules.specs.Desks.{IsReadyDesk, arrival_of, arrival_at, judged_at, noting, answer_at, answered, writing};
 
 use crate::log::Log;
 use crate::message::{Incoming, Replied, Reply, Which};
@@ -81,14 +81,14 @@ impl<'a> Desk<'a> {
 
     /// The node that sent the message.
     pub fn source(&self) -> u16
-        ensures { result ≡ self.now.message.source }
+        ensures { result ≡ (arrival_at self.now).source }
     {
         self.message.source
     }
 
     /// The message's arguments.
     pub fn args(&self) -> &[i32]
-        ensures { result.now ≡ self.now.message.args.now }
+        ensures { result.now ≡ (arrival_at self.now).args }
     {
         self.message.args
     }
@@ -115,10 +115,10 @@ impl<'a> Desk<'a> {
     /// replies is registered for the index, or with `Count` where there are more than 16 arguments, the first in that order. Else
     /// the reply's bytes are written into the desk's buffer.
     pub fn reply_short(&mut self, handler: u8, args: &[i32]) -> Replied
-        requires { IsReady (arrival_of self.old.message) self.old.buffer.now }
+        requires { IsReadyDesk self.old }
         ensures answer { result ≡ answer_at self.old (short_reply handler args.now) }
         ensures answered { self.new ≡ answered self.old (short_reply handler args.now) result }
-        ensures ready { IsReady (arrival_of self.new.message) self.new.buffer.now }
+        ensures ready { IsReadyDesk self.new }
     {
         if let Err(forbidden) = self.attempt_reply() {
             return Replied::Forbidden(forbidden);
@@ -145,19 +145,19 @@ impl<'a> Desk<'a> {
     fn attempt_reply(&mut self) -> Result<(), Forbidden>
         ensures judged { result ≡ judged_at self.old call.Reply }
         ensures noted { self.new ≡ noting self.old (refusal result) }
-        ensures request { OnOk result (self.old.message.role ≡ role.Request) }
+        ensures request { OnOk result ((arrival_at self.old).role ≡ role.Request) }
     {
         self.attempt(CallKind::Reply)
     }
 
     /// Writes the bytes of a Short reply into the buffer, and tells how many there are.
     fn write_short(&mut self, handler: u8, args: &[i32]) -> usize
-        requires ready { IsReady (arrival_of self.old.message) self.old.buffer.now }
-        requires request { self.old.message.role ≡ role.Request }
+        requires ready { IsReadyDesk self.old }
+        requires request { (arrival_at self.old).role ≡ role.Request }
         requires handler { 1 ≤ handler }
         requires count { length args.now ≤ 16 }
-        ensures len { result ≡ length (reply_bytes self.old.settings (arrival_of self.old.message) (short_reply handler args.now)) }
-        ensures written { self.new ≡ writing self.old (reply_bytes self.old.settings (arrival_of self.old.message) (short_reply handler args.now)) }
+        ensures len { result ≡ length (reply_bytes self.old.settings (arrival_at self.old) (short_reply handler args.now)) }
+        ensures written { self.new ≡ writing self.old (reply_bytes self.old.settings (arrival_at self.old) (short_reply handler args.now)) }
         ensures room { length self.new.buffer.now ≡ 8296 }
     {
         let Incoming {
