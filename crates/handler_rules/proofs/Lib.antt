@@ -1,0 +1,3 @@
+mod Messages
+pub mod Logs
+pub mod Laws
