@@ -4,7 +4,6 @@ pub mod Worlds
 pub mod Keeping
 pub mod Runs
 pub mod Claiming
-pub mod Messages
 pub mod Holding
 pub mod Nodes
 pub mod Archiving

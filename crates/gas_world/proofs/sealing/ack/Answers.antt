@@ -1,5 +1,5 @@
 use Rattle.std.proofs.Common.{arith}
-use Rattle.gas_world.proofs.Messages.{ack_is}
+use Rattle.datagram_grammar.proofs.Addressing.{ack_is}
 use Rattle.gas_world.proofs.sealing.ack.Goals as goal
 
 pub returns-clause-message : goal.returns-clause-message
