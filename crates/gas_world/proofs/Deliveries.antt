@@ -2,6 +2,7 @@
 use Rattle.std.proofs.Common.{◌≡◌, ◌≢◌, inl, inr, ℕ, zero, suc, ◌+◌, ◌-◌, ◌*◌, ◌<◌, ◌≤◌, max, Bool, true, false, true≢false, not, ◌&&◌, List, [], ◌∷◌, ◌++◌, length, Option, None, Some, refl, sym, ap, ap₂, ◌∙◌, subst, subst₂, arith, eqb, ltb, cond, append-nil, lt-ltb}
 use Rattle.std.specs.Prelude.{option_and_then}
 use Rattle.std.specs.Option.{option_map}
+use Rattle.std.specs.List.{slice_get}
 use Rattle.std.proofs.lemmas.Bool.Decides.{nat_tests}
 use Rattle.std.proofs.lemmas.Bool.{and_parts, eqb-true}
 use Rattle.std.proofs.lemmas.Option.{same_Some, slice_get_within, slice_get-get_or}
@@ -36,7 +37,7 @@ use Rattle.gas_world.specs.declared.event.WorldAnswer.TheVariants as answers
 use Rattle.gas_world.proofs.Lists.{numbered_in, run_of_there}
 use Rattle.gas_world.proofs.Worlds.{put_same, put_other, step_keeps}
 use Rattle.datagram_grammar.proofs.Spelling.{spelling_fits}
-use Rattle.gas_world.proofs.Holding.{held_fits}
+use Rattle.gas_world.proofs.Holding.{held_fits, none_ran}
 use Rattle.gas_world.proofs.Nodes.{reply_found, node_judged, node_runs, node_taken, node_not_taken, node_returns, with_back}
 use Rattle.gas_world.proofs.Archiving.{pair_ran, pair_returned, not_run_yet}
 use Rattle.gas_world.proofs.Standing.{Falls, Moves, only_asked, only_ran, moves_stand, same_stands, own_stands, still_stands}
@@ -165,7 +166,7 @@ ran_steps v z now i j k slot x old new w most S F i_in j_in apart at some same J
     let is : world_answer s shorts w (RequestComes i j k) ≡ Ran = request_is s w i j k x at i_in below good ∙ judged_new k (greatest x.slot ((w j).ran i)) above in
     let after_is : world_after s shorts w now (RequestComes i j k) ≡ put w j y = request_leaves s w now i j k x Ran at is in
     let M : Moves v w most j i j y new = record {
-      invariant_ = subst (λ (u : Records). WorldInvariant s shorts u) after_is (step_keeps s shorts Any w now (RequestComes i j k) shorts_sound (λ l. tt) (i_in, j_in, apart) S.invariant_);
+      invariant_ = subst (λ (u : Records). WorldInvariant s shorts u) after_is (step_keeps s shorts Any w now (RequestComes i j k) shorts_sound (λ l. tt) (i_in, j_in) S.invariant_);
       node = N.stands;
       extra = message;
       bytes = bytes;
@@ -268,8 +269,8 @@ request_steps v z now i j k a old new F (inr (inr D)) i_in j_in apart =
 -- ---- a reply comes
 
 -- a request has no reply exactly where it wasn't run
-none_ran : (s : Parameters) (i j : ℕ) (bytes : List ℕ) (list : List Exchange) (xs : List Asked) (rs : List Run) (k : ℕ) → PairInvariant s shorts xs rs → StandsForPair s i j bytes list xs rs → ((e : Exchange) → numbered list k ≡ Some e → e.reply ≡ None) → run_of k rs ≡ None
-none_ran s i j bytes list xs rs k P S none = go (run_of k rs) refl
+not_ran : (s : Parameters) (i j : ℕ) (bytes : List ℕ) (list : List Exchange) (xs : List Asked) (rs : List Run) (k : ℕ) → PairInvariant s shorts xs rs → StandsForPair s i j bytes list xs rs → ((e : Exchange) → numbered list k ≡ Some e → e.reply ≡ None) → run_of k rs ≡ None
+not_ran s i j bytes list xs rs k P S none = go (run_of k rs) refl
   where
     no_reply : (r : Run) → ReplyStandsAt s i j bytes None (Some r) → ⊥
     no_reply r e = e
@@ -336,7 +337,7 @@ returned_steps v z now i j k r old new w most S F i_in j_in apart ran below good
     let after_is : world_after s shorts w now (ReplyComes i j k) ≡ put w i x = reply_leaves s w now i j k r Returned ran is in
     let archive = ap (λ (a : ArchiveState). a.bytes) F.archive_was in
     let M : Moves v w most i i j x scene = record {
-      invariant_ = subst (λ (u : Records). WorldInvariant s shorts u) after_is (step_keeps s shorts Any w now (ReplyComes i j k) shorts_sound (λ l. tt) (i_in, j_in, apart) S.invariant_);
+      invariant_ = subst (λ (u : Records). WorldInvariant s shorts u) after_is (step_keeps s shorts Any w now (ReplyComes i j k) shorts_sound (λ l. tt) (i_in, j_in) S.invariant_);
       node = N.stands;
       extra = [];
       bytes = sym archive ∙ sym (append-nil v.archive.bytes);
@@ -405,7 +406,7 @@ pub reply_steps : (v z : WorldState) (now i j k : ℕ) (a : WorldAnswer) (old : 
 reply_steps v z now i j k a old new F (inl U) i_in j_in apart = subst (λ (b : WorldAnswer). Steps v now (ReplyComes i j k) (answer_of b) z) (sym U.answer_is) (λ w most S.
     let scene = record old { endpoint = new } in
     unsent_steps v z now i (i * v.settings.nodes + j) (ReplyComes i j k) old scene w most S F U.same
-    (ap (reply_event i j k) (none_ran v.settings i j v.archive.bytes old.exchanges.list ((w i).asked j) ((w j).ran i) k (S.invariant_.pair i j) (scene_pair v z w most i i j old scene S F i_in j_in) U.none)))
+    (ap (reply_event i j k) (not_ran v.settings i j v.archive.bytes old.exchanges.list ((w i).asked j) ((w j).ran i) k (S.invariant_.pair i j) (scene_pair v z w most i i j old scene S F i_in j_in) U.none)))
 reply_steps v z now i j k a old new F (inr D) i_in j_in apart =
     let it = some_reply a D.delivered_ D.answers_ in
     let scene = record old { endpoint = new } in
@@ -413,3 +414,23 @@ reply_steps v z now i j k a old new F (inr D) i_in j_in apart =
     let R = replied_is v.settings i j v.archive.bytes old.exchanges.list ((w i).asked j) ((w j).ran i) k D.exchange D.reply (S.invariant_.pair i j) (scene_pair v z w most i i j old scene S F i_in j_in) D.sent D.replied in
     let spelled = subst (λ (b : ArchiveState). Spells (reply_message v.settings i j R.r) (part_of b.bytes D.reply)) F.archive_was R.stands.spelled in
     replied_steps v z now i j k R.r D.delivered_ a old new w most S F i_in j_in apart R.ran R.number R.below R.good (D.delivers.spelled (reply_message v.settings i j R.r) spelled) D.answers_ it.0 it.1)
+
+-- ---- a node sends nothing to itself
+
+numbered_none : {X : Type 0} (xs : List X) (k : ℕ) → xs ≡ [] → numbered xs k ≡ None
+numbered_none xs zero e = refl
+numbered_none xs (suc k) e = ap (λ ys. slice_get ys k) e
+
+own_steps : (v : WorldState) (now : ℕ) (e : Event) (w : Records) (most : ℕ → ℕ) → Stands v w most → falls w e ≡ None
+    → (Unsent ≡ world_answer v.settings shorts w e) × Stands v (world_after v.settings shorts w now e) (most_then v.settings (world_after v.settings shorts w now e) most)
+own_steps v now e w most S none =
+    let after_is : world_after v.settings shorts w now e ≡ w = ap (λ o. after_at v.settings shorts w now o) none in
+    (ap (λ o. answer_at v.settings shorts w o) (sym none), subst (λ (u : Records). Stands v u (most_then v.settings u most)) (sym after_is) (still_stands v v.settings w most refl S))
+
+pub own_request_steps : (v : WorldState) (now i j k : ℕ) → i ≡ j → Steps v now (RequestComes i j k) (Some Unsent) v
+own_request_steps v now i j k same = λ w most S. own_steps v now (RequestComes i j k) w most S
+    (ap (request_event i j k) (numbered_none ((w i).asked j) k (ap (λ n. (w i).asked n) (sym same) ∙ S.invariant_.own i)))
+
+pub own_reply_steps : (v : WorldState) (now i j k : ℕ) → i ≡ j → Steps v now (ReplyComes i j k) (Some Unsent) v
+own_reply_steps v now i j k same = λ w most S. own_steps v now (ReplyComes i j k) w most S
+    (ap (λ rs. reply_event i j k (run_of k rs)) (none_ran v.settings shorts ((w i).asked j) ((w j).ran i) (ap (λ n. (w i).asked n) (sym same) ∙ S.invariant_.own i) (S.invariant_.pair i j)))

@@ -52,7 +52,8 @@ one_less : (c h n i : ℕ) → i < n → h + 2 * c ≤ 2 * c * n → h ≤ 2 * c
 one_less c h zero i l e = absurd (omega arith)
 one_less c h (suc m) i l e = let d : suc m - 1 ≡ m = omega arith in rw d (omega (arith, e))
 
-none_ran : {Kept : Type 0} (s : Parameters) (u : Rules Kept) (xs : List Asked) (rs : List Run) → xs ≡ [] → PairInvariant s u xs rs → rs ≡ []
+-- a node that was asked nothing ran nothing
+pub none_ran : {Kept : Type 0} (s : Parameters) (u : Rules Kept) (xs : List Asked) (rs : List Run) → xs ≡ [] → PairInvariant s u xs rs → rs ≡ []
 none_ran s u xs [] e P = refl
 none_ran s u xs (r ∷ rs) e P = let it = P.named 0 r refl in absurd (numbered_nil r.number it.0 (ap (λ ys. numbered ys r.number) (sym e) ∙ it.1))
 

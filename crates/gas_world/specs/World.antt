@@ -59,8 +59,8 @@ abbrev pub answers : {Kept : Type 0} → Parameters → Rules Kept → List (ℕ
 answers s u [] w = []
 answers s u (e ∷ es) w = world_answer s u w e.1 ∷ answers s u es (world_after s u w e.0 e.1)
 
--- the event names two nodes that are there and differ, and a call has a content that a client may call with
+-- the event names two nodes that are there; those of a call differ, and its content is one that a client may call with
 abbrev pub IsAmong : {Kept : Type 0} → Parameters → Rules Kept → Event → Type 0
 IsAmong s u (Calls node thread to c) = (node < s.nodes) × (to < s.nodes) × (node ≢ to) × (u.calls_well c ≡ true)
-IsAmong s u (RequestComes from to number) = (from < s.nodes) × (to < s.nodes) × (from ≢ to)
-IsAmong s u (ReplyComes from to number) = (from < s.nodes) × (to < s.nodes) × (from ≢ to)
+IsAmong s u (RequestComes from to number) = (from < s.nodes) × (to < s.nodes)
+IsAmong s u (ReplyComes from to number) = (from < s.nodes) × (to < s.nodes)

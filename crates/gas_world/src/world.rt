@@ -60,6 +60,7 @@ impl World {
 
     /// One event at the time `now`.
     ///
+    /// The event names two nodes that are there. A call is one to another node, for handler 128, with at most 16 arguments.
     /// `Unsent` comes exactly where that message was never sent; after `NoMemory` the world is as before.
     pub fn step(&mut self, now: u64, event: &WorldEvent<'_>) -> WorldAnswer
         requires { IsAmong self.old.settings shorts (event_of event.now) }
@@ -72,6 +73,9 @@ impl World {
                 call: Call::Short { to, handler, args },
                 ..
             } => self.short(now, *node, *to, *handler, args),
+            // A node sends nothing to itself.
+            WorldEvent::Request { from, to, .. } if *from == *to => WorldAnswer::Unsent,
+            WorldEvent::Reply { from, to, .. } if *from == *to => WorldAnswer::Unsent,
             WorldEvent::Request { from, to, number } => self.deliver_request(*from, *to, *number),
             WorldEvent::Reply { from, to, number } => self.deliver_reply(*from, *to, *number),
         }
@@ -150,6 +154,7 @@ impl World {
     /// A request that was sent is delivered.
     fn deliver_request(&mut self, from: u16, to: u16, number: u64) -> WorldAnswer
         requires among { IsAmong self.old.settings shorts (RequestComes from to number) }
+        requires other { from ≢ to }
         ensures settings { self.new.settings ≡ self.old.settings }
         ensures steps { (now : ℕ) → Steps self.old now (RequestComes from to number) (answer_of result) self.new }
     {
@@ -168,6 +173,7 @@ impl World {
     /// A reply that was sent is delivered.
     fn deliver_reply(&mut self, from: u16, to: u16, number: u64) -> WorldAnswer
         requires among { IsAmong self.old.settings shorts (ReplyComes from to number) }
+        requires other { from ≢ to }
         ensures settings { self.new.settings ≡ self.old.settings }
         ensures steps { (now : ℕ) → Steps self.old now (ReplyComes from to number) (answer_of result) self.new }
     {

@@ -17,8 +17,8 @@ use Rattle.gasnet_cli.specs.declared.job.Job.{Job}
 -- an event whose words are in range is one of the world's
 among : (s : Parameters) (e : Event) → IsEvent s e → world.IsAmong s shorts (scheduled e)
 among s (Call node thread to args) h = (h.pair.from_in, h.pair.to_in, h.pair.differ, grind (arith, nat_tests, h.count))
-among s (Request from to number) h = (h.pair.from_in, h.pair.to_in, h.pair.differ)
-among s (Reply from to number) h = (h.pair.from_in, h.pair.to_in, h.pair.differ)
+among s (Request from to number) h = (h.pair.from_in, h.pair.to_in)
+among s (Reply from to number) h = (h.pair.from_in, h.pair.to_in)
 
 all_among : (s : Parameters) (es : List TimedEvent) → AllByRecursion (IsTimed s) es → AllByRecursion (λ (e : ℕ × world.Event). world.IsAmong s shorts e.1) (events_of es)
 all_among s [] h = tt

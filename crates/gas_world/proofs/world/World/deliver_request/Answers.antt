@@ -13,7 +13,7 @@ returns-clause-steps c = λ now.
     let falls = falls_at c.self.inside.settings v _ c.self.inside.endpoints.items c.self.inside.exchanges.items c.self.inside.most.items c.args.from c.args.to c.args.to c.from-node.result c.place_of-place.result old new
     c.self.view_is c.self.invariant among.0 among.1 among.1 c.from-node.ensures c.place_of-place.ensures
     c.index_mut.ensures.value c.index_mut-2.ensures.value c.index_mut-3.ensures.value refl in
-    request_steps v _ now c.args.from c.args.to c.args.number c.deliver_request.result old new falls c.deliver_request.ensures.steps among.0 among.1 among.2
+    request_steps v _ now c.args.from c.args.to c.args.number c.deliver_request.result old new falls c.deliver_request.ensures.steps among.0 among.1 c.requires.other
 
 pub invariant_of-self : goal.invariant_of-self
 invariant_of-self c =
