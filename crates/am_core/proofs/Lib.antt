@@ -1,0 +1,14 @@
+pub mod Lists
+pub mod Puts
+pub mod Orderly
+pub mod Keeping
+pub mod Runs
+pub mod Holding
+pub mod Claiming
+pub mod Nodes
+pub mod Desks
+pub mod Sized
+pub mod Dues
+pub mod Calls
+pub mod Ticking
+pub mod Readings

@@ -1,0 +1,161 @@
+-- What is read of a core is what its record gives: messages, credits that are left, and whether numbers are.
+use Rattle.std.proofs.Common.{◌≡◌, ◌≢◌, inl, inr, ℕ, zero, suc, ◌+◌, ◌-◌, ◌<◌, ◌≤◌, Bool, true, false, not, ◌&&◌, List, [], ◌∷◌, length, Option, None, Some, refl, sym, ap, ◌∙◌, subst, arith, eqb, eq-eqb, ne_eqb, lt-ltb}
+use Rattle.std.specs.Prelude.{nat_le, nat_lt, option_and_then, count_by, if◌then◌else◌}
+use Rattle.std.specs.List.{list_any, slice_get, AllByRecursion, IsDistinct}
+use Rattle.std.proofs.lemmas.Bool.{cases_Bool, cases_eq}
+use Rattle.std.proofs.lemmas.List.Recursion.{is_count_by}
+use Rattle.std.proofs.lemmas.Option.{same_Some}
+use Rattle.datagram_grammar.specs.Parameters.{Parameters}
+use Rattle.credit_slots.specs.State.{SlotState, PeerState, is_vacant, vacant_count, is_worn_out}
+use Rattle.credit_slots.specs.State.{message_at as request_bytes_at, message_of as request_of}
+use Rattle.reply_slots.specs.State.{message_at as reply_bytes_at, message_of as reply_of}
+use Rattle.am_core.specs.declared.answer.SlotRef.{SlotRef}
+use Rattle.am_core.specs.declared.answer.Side.{Side}
+use Rattle.am_core.specs.declared.answer.Side.TheVariants as side
+use Rattle.am_core.specs.Record.{Asked, Run, Node}
+use Rattle.am_core.specs.Requests.{taken, unreturned, open_in}
+use Rattle.am_core.specs.Executed.{last_run}
+use Rattle.am_core.specs.Locals.{Local}
+use Rattle.am_core.specs.Invariant.{IsOrderly}
+use Rattle.am_core.specs.Cores.{CoreState}
+use Rattle.am_core.specs.Stands.{Stands, StandsForAsked, slot_state, reply_state, sealed_message, message_at}
+use Rattle.am_core.proofs.Lists.{taken_from, slice_get_in}
+use Rattle.am_core.proofs.Keeping.{taken_apart}
+use Rattle.am_core.proofs.Claiming.{vacant_taken}
+use Rattle.am_core.proofs.Nodes.{request_found, reply_found}
+
+-- ---- messages
+
+-- the message of a request's slot, by what is open in it
+request_state : (e : CoreState) (peer : ℕ) (o : Option (ℕ × Asked)) (r : Node Local) (slot : ℕ) → open_in slot (r.asked peer) ≡ o → request_of (slot_state e.settings e.me peer o) ≡ sealed_message e.settings e.me r side.Request peer slot
+request_state e peer None r slot is = rw is refl
+request_state e peer (Some o) r slot is = rw is refl
+
+-- the message of a reply's slot, by its last run
+reply_state_of : (e : CoreState) (peer : ℕ) (o : Option Run) (r : Node Local) (slot : ℕ) → last_run slot (r.ran peer) ≡ o → reply_of (reply_state e.settings e.me peer o) ≡ sealed_message e.settings e.me r side.Reply peer slot
+reply_state_of e peer None r slot is = rw is refl
+reply_state_of e peer (Some o) r slot is = rw is refl
+
+-- the message of a request's slot
+pub request_bytes : (e : CoreState) (r : Node Local) (peer slot : ℕ) → Stands e r → peer < e.settings.nodes → peer ≢ e.me → slot < e.settings.credits → request_bytes_at e.requests peer slot ≡ sealed_message e.settings e.me r side.Request peer slot
+request_bytes e r peer slot S low other below = ap (option_and_then request_of) (request_found peer slot e r S low other below) ∙ request_state e peer (open_in slot (r.asked peer)) r slot refl
+
+-- the message of a reply's slot
+pub reply_bytes : (e : CoreState) (r : Node Local) (peer slot : ℕ) → Stands e r → peer < e.settings.nodes → peer ≢ e.me → slot < e.settings.credits → reply_bytes_at e.replies peer slot ≡ sealed_message e.settings e.me r side.Reply peer slot
+reply_bytes e r peer slot S low other below = ap (option_and_then reply_of) (reply_found peer slot e r S low other below) ∙ reply_state_of e peer (last_run slot (r.ran peer)) r slot refl
+
+-- the bytes at a slot, by their side
+abbrev pub side_bytes : CoreState → Side → (peer slot : ℕ) → Option (List ℕ)
+side_bytes e side.Request peer slot = request_bytes_at e.requests peer slot
+side_bytes e side.Reply peer slot = reply_bytes_at e.replies peer slot
+
+-- the bytes at a slot of another node are the record's message
+side_is : (e : CoreState) (r : Node Local) (which : Side) (peer slot : ℕ) → Stands e r → peer < e.settings.nodes → peer ≢ e.me → slot < e.settings.credits → side_bytes e which peer slot ≡ sealed_message e.settings e.me r which peer slot
+side_is e r side.Request peer slot S low other below = request_bytes e r peer slot S low other below
+side_is e r side.Reply peer slot S low other below = reply_bytes e r peer slot S low other below
+
+-- a slot of another node has the record's message
+pub message_is : (e : CoreState) (r : Node Local) (at : SlotRef) → Stands e r → at.peer < e.settings.nodes → at.peer ≢ e.me → at.slot < e.settings.credits → side_bytes e at.side at.peer at.slot ≡ message_at e.settings e.me r at
+message_is e r at S low other below = side_is e r at.side at.peer at.slot S low other below ∙ rw (lt-ltb at.peer e.settings.nodes low, ne_eqb at.peer e.me other, lt-ltb at.slot e.settings.credits below) refl
+
+-- any other slot has none
+pub no_message : (e : CoreState) (r : Node Local) (at : SlotRef) → (nat_lt at.peer e.settings.nodes && (not (eqb at.peer e.me) && nat_lt at.slot e.settings.credits)) ≡ false → None ≡ message_at e.settings e.me r at
+no_message e r at no_slot = rw no_slot refl
+
+-- ---- credits that are left
+
+-- how many of the numbers from this one on pass, of so many
+abbrev pub hits : (ℕ → Bool) → ℕ → ℕ → ℕ
+hits f from zero = 0
+hits f from (suc many) = if f from then suc (hits f (suc from) many) else hits f (suc from) many
+
+-- nothing is in an empty list
+hits_none : (from many : ℕ) → hits (λ k. list_any (eqb k) []) from many ≡ 0
+hits_none from zero = refl
+hits_none from (suc many) = hits_none (suc from) many
+
+-- a number that lies elsewhere changes nothing
+hits_past : (t : ℕ) (ts : List ℕ) (from many : ℕ) → t < from → hits (λ k. list_any (eqb k) (t ∷ ts)) from many ≡ hits (λ k. list_any (eqb k) ts) from many
+hits_past t ts from zero l = refl
+hits_past t ts from (suc many) l =
+    let ih = hits_past t ts (suc from) many (omega (arith, l)) in
+    rw (ih, ne_eqb from t (λ e. omega (arith, e, l))) refl
+
+-- one number more passes
+hits_more : (t : ℕ) (ts : List ℕ) (from many : ℕ) → from ≤ t → t < from + many → list_any (eqb t) ts ≡ false → hits (λ k. list_any (eqb k) (t ∷ ts)) from many ≡ suc (hits (λ k. list_any (eqb k) ts) from many)
+hits_more t ts from zero a b fresh = absurd (omega (arith, a, b))
+hits_more t ts from (suc many) a b fresh = elim (cases_eq from t) [
+  | inl e ↦ (let past = hits_past t ts (suc from) many (omega (arith, e)) in
+      let was : list_any (eqb from) ts ≡ false = ap (λ q. list_any (eqb q) ts) e ∙ fresh in
+      rw (past, eq-eqb from t e, was) refl)
+  | inr d ↦ (let ih = hits_more t ts (suc from) many (omega (arith, a, d)) (omega (arith, b)) fresh in
+      rw (ih, ne_eqb from t d) (elim (cases_Bool (list_any (eqb from) ts)) [ inl x ↦ rw x refl | inr x ↦ rw x refl ]))
+]
+
+-- what differs from each isn't among them
+none_of : (t : ℕ) (ts : List ℕ) → AllByRecursion (λ y. eqb t y ≡ false) ts → list_any (eqb t) ts ≡ false
+none_of t [] h = refl
+none_of t (y ∷ ts) h = rw h.0 (none_of t ts h.1)
+
+-- of numbers that are apart and below n as many pass as there are
+pub hits_all : (n : ℕ) (ts : List ℕ) → IsDistinct eqb ts → ((q : ℕ) → list_any (eqb q) ts ≡ true → q < n) → hits (λ k. list_any (eqb k) ts) 0 n ≡ length ts
+unfolding IsDistinct
+hits_all n [] D low = hits_none 0 n
+hits_all n (t ∷ ts) D low =
+    let ih = hits_all n ts D.1 (λ q h. low q (elim (cases_Bool (eqb q t)) [ inl x ↦ rw x refl | inr x ↦ rw x h ])) in
+    let inside : t < n = low t (rw (eq-eqb t t refl) refl) in
+    hits_more t ts 0 n (omega arith) (omega (arith, inside)) (none_of t ts D.0) ∙ ap suc ih
+
+-- how many pass, by recursion
+passing : {X : Type 0} (test : X → Bool) → List X → ℕ
+passing test [] = 0
+passing test (x ∷ xs) = if test x then 1 + passing test xs else passing test xs
+
+-- the count is the one by recursion
+passing_count : {X : Type 0} (test : X → Bool) (xs : List X) → passing test xs ≡ count_by test xs
+unfolding passing
+passing_count test xs = is_count_by (passing test) test refl (λ x ys. refl) xs
+
+-- items that pass where the number of their place doesn't, and the places whose number passes
+counted : {X : Type 0} (test : X → Bool) (f : ℕ → Bool) (xs : List X) (from : ℕ) → ((k : ℕ) (x : X) → slice_get xs k ≡ Some x → test x ≡ not (f (from + k))) → passing test xs + hits f from (length xs) ≡ length xs
+unfolding passing
+counted test f [] from h = omega arith
+counted test f (x ∷ xs) from h =
+    let ih = counted test f xs (suc from) (λ k y e. h (suc k) y e ∙ ap (λ n. not (f n)) (omega arith)) in
+    let here : test x ≡ not (f from) = h 0 x refl ∙ ap (λ n. not (f n)) (omega arith) in
+    elim (cases_Bool (f from)) [
+      | inl t ↦ (let fails : test x ≡ false = here ∙ ap not t in rw (fails, t) (omega (arith, ih)))
+      | inr t ↦ (let passes : test x ≡ true = here ∙ ap not t in rw (passes, t) (omega (arith, ih)))
+    ]
+
+-- as many slots of a peer are vacant as credits aren't out
+peer_vacant : (s : Parameters) (me peer : ℕ) (p : PeerState) (xs : List Asked) → StandsForAsked s me peer p xs → IsOrderly s xs → count_by is_vacant p.slots ≡ s.credits - unreturned xs
+peer_vacant s me peer p xs S O =
+    let inside : (k : ℕ) (x : SlotState) → slice_get p.slots k ≡ Some x → k < s.credits = λ k x e. subst (λ n. k < n) S.count (slice_get_in p.slots k x e) in
+    let all = counted is_vacant (λ k. list_any (eqb k) (taken xs)) p.slots 0 (λ k x e. let it = vacant_taken s me peer p xs k S (inside k x e) in ap is_vacant (same_Some x it.0 (sym e ∙ it.1)) ∙ (it.2 ∙ ap (λ n. not (list_any (eqb n) (taken xs))) (omega arith))) in
+    let some = hits_all s.credits (taken xs) (taken_apart xs O.apart) (λ q h. let it = taken_from xs q h in subst (λ n. n < s.credits) it.4 (O.low (suc it.0) it.1 it.2)) in
+    let passed = passing_count is_vacant p.slots in
+    let both : passing is_vacant p.slots + unreturned xs ≡ s.credits = ap (λ n. passing is_vacant p.slots + n) (sym some ∙ ap (hits (λ k. list_any (eqb k) (taken xs)) 0) (sym S.count)) ∙ (all ∙ S.count) in
+    omega (arith, both, passed)
+
+-- the credits that are left
+pub free_is : (e : CoreState) (r : Node Local) (to : ℕ) → Stands e r → to < e.settings.nodes → to ≢ e.me → vacant_count e.requests to ≡ e.settings.credits - unreturned (r.asked to)
+free_is e r to S low other =
+    let p = S.requests to low other in
+    ap (λ (o : Option PeerState). elim o as (λ _. ℕ) [ Some q ↦ count_by is_vacant q.slots | None ↦ 0 ]) p.1 ∙ peer_vacant e.settings e.me to p.0 (r.asked to) p.2 (S.invariant_.orderly to)
+
+-- whether the numbers are used up
+pub worn_out_is : (e : CoreState) (r : Node Local) (to : ℕ) → Stands e r → to < e.settings.nodes → to ≢ e.me → is_worn_out e.requests to ≡ nat_le e.settings.last (length (r.asked to))
+worn_out_is e r to S low other =
+    let p = S.requests to low other in
+    ap (λ (o : Option PeerState). elim o as (λ _. Bool) [ Some q ↦ nat_le e.requests.last q.given | None ↦ true ]) p.1 ∙ rw (S.last, p.2.given) refl
+
+-- ---- as the code reads them
+
+-- the bytes of a request's slot are the record's message
+pub request_read : (e : CoreState) (r : Node Local) (at : SlotRef) (found : Option (List ℕ)) → Stands e r → at.side ≡ side.Request → at.peer < e.settings.nodes → at.peer ≢ e.me → at.slot < e.settings.credits → found ≡ request_bytes_at e.requests at.peer at.slot → found ≡ message_at e.settings e.me r at
+request_read e r at found S is low other below read = read ∙ (ap (λ which. side_bytes e which at.peer at.slot) (sym is) ∙ message_is e r at S low other below)
+
+-- the bytes of a reply's slot are the record's message
+pub reply_read : (e : CoreState) (r : Node Local) (at : SlotRef) (found : Option (List ℕ)) → Stands e r → at.side ≡ side.Reply → at.peer < e.settings.nodes → at.peer ≢ e.me → at.slot < e.settings.credits → found ≡ reply_bytes_at e.replies at.peer at.slot → found ≡ message_at e.settings e.me r at
+reply_read e r at found S is low other below read = read ∙ (ap (λ which. side_bytes e which at.peer at.slot) (sym is) ∙ message_is e r at S low other below)

@@ -1,0 +1,14 @@
+pub mod Record
+pub mod Requests
+pub mod Executed
+pub mod Held
+pub mod Rules
+pub mod Step
+pub mod Locals
+pub mod Invariant
+pub mod Cores
+pub mod Stands
+pub mod Calls
+pub mod Deeds
+pub mod Sizes
+pub mod Lending
