@@ -1,5 +1,5 @@
 -- What stands in the archive stands there still when more is added.
-use Rattle.std.proofs.Common.{◌≡◌, ◌≢◌, inl, inr, ℕ, zero, suc, ◌+◌, ◌-◌, ◌<◌, ◌≤◌, List, [], ◌∷◌, ◌++◌, length, Option, None, Some, refl, sym, ap, ◌∙◌, subst, subst₂, arith, eqb, eq-eqb, ne_eqb, length-append}
+use Rattle.std.proofs.Common.{◌≡◌, ◌≢◌, inl, inr, ℕ, zero, suc, ◌+◌, ◌-◌, ◌<◌, ◌≤◌, false, List, [], ◌∷◌, ◌++◌, length, Option, None, Some, refl, sym, ap, ◌∙◌, subst, subst₂, arith, eqb, eq-eqb, ne_eqb, length-append}
 use Rattle.std.specs.List.{slice_get}
 use Rattle.std.specs.Option.{option_map}
 use Rattle.std.proofs.lemmas.Bool.{cases_Bool, cases_eq}
@@ -8,24 +8,30 @@ use Rattle.std.proofs.lemmas.Grind.{common_steps}
 use Rattle.list_places.specs.Update.{update}
 use Rattle.list_places.proofs.Update.{slice_get-update, slice_get-update_other, length-update}
 use Rattle.datagram_grammar.specs.Parameters.{Parameters}
-use Rattle.datagram_grammar.specs.Message.{Message, IsMessage, Spells, spelling}
-use Rattle.gas_world.specs.Record.{Asked, Run, numbered, change}
-use Rattle.gas_world.specs.Step.{Rules, run_of, greatest, as_back}
+use Rattle.datagram_grammar.specs.Message.{Message, Content, IsMessage, Spells, spelling}
+use Rattle.am_core.specs.declared.answer.Why.{Why}
+use Rattle.am_core.specs.Record.{Asked, Run, numbered, change}
+use Rattle.am_core.specs.Requests.{as_back, sent_at}
+use Rattle.am_core.specs.Executed.{greatest, run_of}
+use Rattle.am_core.specs.Invariant.{request_message, reply_message}
+use Rattle.am_core.proofs.Lists.{numbered_push, numbered_kept, numbered_in, slice_get_last, numbered-change, length-change, run_of_there, greatest_bounds}
 use Rattle.gas_world.specs.Invariant.{PairInvariant}
-use Rattle.gas_world.specs.State.{part_of, answered, with_reply_part}
-use Rattle.gas_world.specs.Stands.{StandsAt, ReplyStandsAt, StandsForExchange, StandsForPair, request_message, reply_message}
+use Rattle.gas_world.specs.State.{part_of, requested, answered, returned, with_reply_part, with_returned}
+use Rattle.gas_world.specs.Stands.{StandsAt, ReplyStandsAt, StandsForExchange, StandsForPair}
 use Rattle.gas_world.specs.declared.archive.Part.{Part}
 use Rattle.gas_world.specs.declared.exchanges.Exchange.{Exchange}
-use Rattle.gas_world.proofs.Lists.{numbered_push, numbered_kept, numbered_in, slice_get_last, numbered-change, length-change, run_of_there, greatest_bounds}
 
 -- ---- bytes
 
+-- a part has the bytes that it had
 part_grows : (bytes extra : List ℕ) (part : Part) → part.start + part.len ≤ length bytes → part_of (bytes ++ extra) part ≡ part_of bytes part
 part_grows bytes extra part inside = grind (arith, common_steps)
 
+-- the part behind the bytes is what was added
 last_part : (bytes message : List ℕ) → part_of (bytes ++ message) (record { start = length bytes; len = length message }) ≡ message
 last_part bytes message = grind (arith, common_steps)
 
+-- a message stands where it stood
 pub at_grows : (bytes extra : List ℕ) (part : Part) (m : Message) → StandsAt bytes part m → StandsAt (bytes ++ extra) part m
 at_grows bytes extra part m S = record {
   spelled = subst (λ b. Spells m b) (sym (part_grows bytes extra part S.inside)) S.spelled;
@@ -39,18 +45,22 @@ at_last bytes m fits = record {
   inside = rw (length-append bytes (spelling m)) (omega arith);
 }
 
+-- a reply stands where it stood
 reply_grows : (s : Parameters) (from to : ℕ) (bytes extra : List ℕ) (part : Option Part) (r : Option Run) → ReplyStandsAt s from to bytes part r → ReplyStandsAt s from to (bytes ++ extra) part r
 reply_grows s from to bytes extra None None S = tt
 reply_grows s from to bytes extra (Some part) (Some r) S = at_grows bytes extra part (reply_message s from to r) S
 reply_grows s from to bytes extra None (Some r) S = S
 reply_grows s from to bytes extra (Some part) None S = S
 
+-- an exchange stands where it stood
 exchange_grows : (s : Parameters) (from to : ℕ) (bytes extra : List ℕ) (e : Exchange) (number : ℕ) (x : Asked) (rs : List Run) → StandsForExchange s from to bytes e number x rs → StandsForExchange s from to (bytes ++ extra) e number x rs
 exchange_grows s from to bytes extra e number x rs S = record {
   request = at_grows bytes extra e.request (request_message s from to number x) S.request;
   reply = reply_grows s from to bytes extra e.reply (run_of number rs) S.reply;
+  back = S.back;
 }
 
+-- the exchanges of a pair stand where they stood
 pub pair_grows : (s : Parameters) (from to : ℕ) (bytes extra : List ℕ) (list : List Exchange) (xs : List Asked) (rs : List Run) → StandsForPair s from to bytes list xs rs → StandsForPair s from to (bytes ++ extra) list xs rs
 pair_grows s from to bytes extra list xs rs S = record {
   count = S.count;
@@ -60,18 +70,19 @@ pair_grows s from to bytes extra list xs rs S = record {
 -- ---- a request is accepted
 
 -- a number that wasn't accepted wasn't run
-not_run : {Kept : Type 0} (s : Parameters) (u : Rules Kept) (xs : List Asked) (rs : List Run) (number : ℕ) → PairInvariant s u xs rs → length xs < number → run_of number rs ≡ None
-not_run s u xs rs number P above = go (run_of number rs) refl
+not_run : (s : Parameters) (refuses : Content → Option Why) (xs : List Asked) (rs : List Run) (number : ℕ) → PairInvariant s refuses xs rs → length xs < number → run_of number rs ≡ None
+not_run s refuses xs rs number P above = go (run_of number rs) refl
   where
     go : (o : Option Run) → run_of number rs ≡ o → run_of number rs ≡ None
     go None e = e
     go (Some r) e = (let at = run_of_there number rs r e in let it = P.named at.1.0 r at.1.1 in absurd (omega (arith, at.0, above, numbered_in xs r.number it.0 it.1)))
 
-pub pair_accepted : {Kept : Type 0} (s : Parameters) (u : Rules Kept) (from to : ℕ) (bytes : List ℕ) (list : List Exchange) (xs : List Asked) (rs : List Run) (x : Asked) → PairInvariant s u xs rs → StandsForPair s from to bytes list xs rs → IsMessage (request_message s from to (suc (length xs)) x)
-    → StandsForPair s from to (bytes ++ spelling (request_message s from to (suc (length xs)) x)) (list ++ record { request = record { start = length bytes; len = length (spelling (request_message s from to (suc (length xs)) x)) }; reply = None } ∷ []) (xs ++ x ∷ []) rs
-pair_accepted s u from to bytes list xs rs x P S fits =
+-- a request is accepted: its message is added, and its exchange
+pub pair_accepted : (s : Parameters) (refuses : Content → Option Why) (from to : ℕ) (bytes : List ℕ) (list : List Exchange) (xs : List Asked) (rs : List Run) (x : Asked) → PairInvariant s refuses xs rs → StandsForPair s from to bytes list xs rs → x.back ≡ false → IsMessage (request_message s from to (suc (length xs)) x)
+    → StandsForPair s from to (bytes ++ spelling (request_message s from to (suc (length xs)) x)) (list ++ requested (record { start = length bytes; len = length (spelling (request_message s from to (suc (length xs)) x)) }) ∷ []) (xs ++ x ∷ []) rs
+pair_accepted s refuses from to bytes list xs rs x P S open_ fits =
     let message = spelling (request_message s from to (suc (length xs)) x) in
-    let new : Exchange = record { request = record { start = length bytes; len = length message }; reply = None } in
+    let new : Exchange = requested (record { start = length bytes; len = length message }) in
     record {
       count = length-append list (new ∷ []) ∙ (omega (arith, S.count) ∙ sym (length-append xs (x ∷ [])));
       each = λ number y e. elim (numbered_push xs x number y e) [
@@ -81,7 +92,8 @@ pair_accepted s u from to bytes list xs rs x P S fits =
           ap (numbered (list ++ new ∷ [])) (last.0 ∙ ap suc (sym S.count)) ∙ slice_get_last list new,
           record {
             request = subst₂ (λ k z. StandsAt (bytes ++ message) new.request (request_message s from to k z)) (sym last.0) last.1 (at_last bytes (request_message s from to (suc (length xs)) x) fits);
-            reply = rw (not_run s u xs rs number P (omega (arith, last.0))) tt;
+            reply = rw (not_run s refuses xs rs number P (omega (arith, last.0))) tt;
+            back = sym open_ ∙ ap (λ (z : Asked). z.back) last.1;
           },
         )
       ];
@@ -89,10 +101,12 @@ pair_accepted s u from to bytes list xs rs x P S fits =
 
 -- ---- a request runs
 
+-- one more run is none of another request
 run_of_other : (rs : List Run) (r : Run) (number : ℕ) → number ≢ r.number → run_of number (rs ++ r ∷ []) ≡ run_of number rs
 run_of_other [] r number other = rw (ne_eqb r.number number (λ e. other (sym e))) refl
 run_of_other (t ∷ rs) r number other = let ih = run_of_other rs r number other in elim (cases_Bool (eqb t.number number)) [ inl a ↦ rw a refl | inr a ↦ rw a ih ]
 
+-- the run of a request that hadn't run
 run_of_new : (rs : List Run) (r : Run) → run_of r.number rs ≡ None → run_of r.number (rs ++ r ∷ []) ≡ Some r
 run_of_new [] r none = rw (eq-eqb r.number r.number refl) refl
 run_of_new (t ∷ rs) r none = elim (cases_Bool (eqb t.number r.number)) [
@@ -104,8 +118,8 @@ run_of_new (t ∷ rs) r none = elim (cases_Bool (eqb t.number r.number)) [
     some_none e = cc
 
 -- a request whose number is above the greatest of its slot wasn't run
-pub not_run_yet : {Kept : Type 0} (s : Parameters) (u : Rules Kept) (xs : List Asked) (rs : List Run) (number : ℕ) (x : Asked) → PairInvariant s u xs rs → numbered xs number ≡ Some x → greatest x.slot rs < number → run_of number rs ≡ None
-not_run_yet s u xs rs number x P e above = go (run_of number rs) refl
+pub not_run_yet : (s : Parameters) (refuses : Content → Option Why) (xs : List Asked) (rs : List Run) (number : ℕ) (x : Asked) → PairInvariant s refuses xs rs → numbered xs number ≡ Some x → greatest x.slot rs < number → run_of number rs ≡ None
+not_run_yet s refuses xs rs number x P e above = go (run_of number rs) refl
   where
     go : (o : Option Run) → run_of number rs ≡ o → run_of number rs ≡ None
     go None f = f
@@ -116,6 +130,7 @@ not_run_yet s u xs rs number x P e above = go (run_of number rs) refl
         let slot : r.slot ≡ x.slot = sym it.2 ∙ ap (λ (z : Asked). z.slot) i in
         absurd (omega (arith, at.0, above, subst (λ q. r.number ≤ greatest q rs) slot (greatest_bounds rs at.1.0 r at.1.1)))
 
+-- an exchange by its number, after one was changed
 numbered_update : (list : List Exchange) (number k : ℕ) (f : Exchange → Exchange) (e : Exchange) → 1 ≤ number → numbered list k ≡ Some e → (y : Exchange) × (numbered (update list (number - 1) f) k ≡ Some y) × ((k ≡ number → y ≡ f e) × (k ≢ number → y ≡ e))
 numbered_update list number zero f e some at = absurd (cc)
 numbered_update list number (suc place) f e some at = elim (cases_eq place (number - 1)) [
@@ -127,6 +142,7 @@ numbered_update list number (suc place) f e some at = elim (cases_eq place (numb
   | inr other ↦ (e, slice_get-update_other list (number - 1) f place other ∙ at, ((λ same. absurd (other (omega (arith, same)))), λ _. refl))
 ]
 
+-- a request runs: its reply is added
 pub pair_ran : (s : Parameters) (from to : ℕ) (bytes : List ℕ) (list : List Exchange) (xs : List Asked) (rs : List Run) (r : Run) → 1 ≤ r.number → run_of r.number rs ≡ None → StandsForPair s from to bytes list xs rs → IsMessage (reply_message s from to r)
     → StandsForPair s from to (bytes ++ spelling (reply_message s from to r)) (with_reply_part list r.number (record { start = length bytes; len = length (spelling (reply_message s from to r)) })) xs (rs ++ r ∷ [])
 pair_ran s from to bytes list xs rs r some none S fits =
@@ -144,10 +160,12 @@ pair_ran s from to bytes list xs rs r some none S fits =
               | inl same ↦ subst (λ (y : Exchange). StandsForExchange s from to (bytes ++ message) y number x (rs ++ r ∷ [])) (sym (up.2.0 same)) (record {
                 request = old.request;
                 reply = rw (same, run_of_new rs r none) (at_last bytes (reply_message s from to r) fits);
+                back = old.back;
               })
               | inr other ↦ subst (λ (y : Exchange). StandsForExchange s from to (bytes ++ message) y number x (rs ++ r ∷ [])) (sym (up.2.1 other)) (record {
                 request = old.request;
                 reply = rw (run_of_other rs r number other) old.reply;
+                back = old.back;
               })
             ],
           );
@@ -155,17 +173,37 @@ pair_ran s from to bytes list xs rs r some none S fits =
 
 -- ---- a request comes back
 
-pub pair_returned : (s : Parameters) (from to : ℕ) (bytes : List ℕ) (list : List Exchange) (xs : List Asked) (rs : List Run) (k : ℕ) → StandsForPair s from to bytes list xs rs → StandsForPair s from to bytes list (change as_back xs k) rs
-pair_returned s from to bytes list xs rs k S = record {
-  count = S.count ∙ sym (length-change as_back xs k);
+-- a request comes back: its exchange says so
+pub pair_returned : (s : Parameters) (from to : ℕ) (bytes : List ℕ) (list : List Exchange) (xs : List Asked) (rs : List Run) (k : ℕ) → 1 ≤ k → StandsForPair s from to bytes list xs rs → StandsForPair s from to bytes (with_returned list k) (change as_back xs k) rs
+pair_returned s from to bytes list xs rs k some S = record {
+  count = length-update list (k - 1) returned ∙ (S.count ∙ sym (length-change as_back xs k));
   each = λ number x e.
       let y = numbered-change as_back xs k number x e in
+      let it = S.each number y.0 y.1 in
+      let up = numbered_update list k number returned it.0 some it.1 in (
+        up.0,
+        up.1,
+        elim y.2 [
+          | inl same ↦ subst₂ (λ (d : Exchange) (z : Asked). StandsForExchange s from to bytes d number z rs) (sym (up.2.1 same.0)) (sym same.1) it.2
+          | inr back ↦ subst₂ (λ (d : Exchange) (z : Asked). StandsForExchange s from to bytes d number z rs) (sym (up.2.0 back.0)) (sym back.1) (record { request = it.2.request; reply = it.2.reply; back = refl })
+        ],
+      );
+}
+
+-- ---- a request is sent again
+
+-- a request is sent again: its message is what it was
+pub pair_sent : (s : Parameters) (from to now : ℕ) (bytes : List ℕ) (list : List Exchange) (xs : List Asked) (rs : List Run) (k : ℕ) → StandsForPair s from to bytes list xs rs → StandsForPair s from to bytes list (change (sent_at now) xs k) rs
+pair_sent s from to now bytes list xs rs k S = record {
+  count = S.count ∙ sym (length-change (sent_at now) xs k);
+  each = λ number x e.
+      let y = numbered-change (sent_at now) xs k number x e in
       let it = S.each number y.0 y.1 in (
         it.0,
         it.1,
         elim y.2 [
           | inl same ↦ subst (λ (z : Asked). StandsForExchange s from to bytes it.0 number z rs) (sym same.1) it.2
-          | inr back ↦ subst (λ (z : Asked). StandsForExchange s from to bytes it.0 number z rs) (sym back.1) (record { request = it.2.request; reply = it.2.reply })
+          | inr again ↦ subst (λ (z : Asked). StandsForExchange s from to bytes it.0 number z rs) (sym again.1) (record { request = it.2.request; reply = it.2.reply; back = it.2.back })
         ],
       );
 }

@@ -1,128 +1,151 @@
 -- What an event does to its scene is the records' step.
-use Rattle.std.proofs.Common.{◌≡◌, ◌≢◌, ℕ, suc, ◌+◌, ◌*◌, ◌<◌, max, true, false, List, [], ◌∷◌, ◌++◌, length, Option, None, Some, refl, sym, ap, ap₂, ◌∙◌, subst, subst₂, arith}
-use Rattle.std.specs.Prelude.{option_and_then}
-use Rattle.std.specs.Option.{option_map}
+use Rattle.std.proofs.Common.{◌≡◌, inl, inr, ℕ, ◌+◌, ◌*◌, ◌<◌, max, List, [], Option, None, Some, refl, sym, ap, ap₂, ◌∙◌, subst, subst₂, append-nil}
+use Rattle.std.proofs.lemmas.Bool.{cases_eq}
 use Rattle.std.proofs.lemmas.Option.{same_Some}
 use Rattle.datagram_grammar.specs.Parameters.{Parameters}
-use Rattle.datagram_grammar.specs.Message.{Content, IsMessage, spelling, addressed}
-use Rattle.credit_slots.specs.State.{SlotState, Sealed, message_of, message_at, slot_at, with_request}
-use Rattle.credit_slots.proofs.Lookups.{slot_at-given}
-use Rattle.gas_world.specs.Record.{Asked, Node}
-use Rattle.gas_world.specs.Step.{IsSound, Answer, Accepted, WornOut, NotYet, Call, call_answer, after, put, with_asked}
-use Rattle.gas_world.specs.World.{Calls, world_answer, world_after}
+use Rattle.handler_rules.specs.declared.table.Entry.{Entry}
+use Rattle.am_core.specs.Record.{Asked, Node, change}
+use Rattle.am_core.specs.Requests.{Due, sent_at}
+use Rattle.am_core.specs.Step.{put, after_tick}
+use Rattle.am_core.specs.Held.{held}
+use Rattle.am_core.specs.Locals.{Local, Meaning, IsLawfulMeaning, Any, content_refusal}
+use Rattle.am_core.proofs.Puts.{put_same, put_other}
+use Rattle.gas_world.specs.Step.{NodeEvent, node_answer, node_after}
+use Rattle.gas_world.specs.World.{Event, IsAmong, falls, answer_at, after_at, world_answer, world_after}
 use Rattle.gas_world.specs.Held.{most_then}
 use Rattle.gas_world.specs.Invariant.{WorldInvariant}
-use Rattle.gas_world.specs.Shorts.{Nothing, Records, shorts, is_short}
+use Rattle.gas_world.specs.Nodes.{Records, all_rules}
 use Rattle.gas_world.specs.Exchanged.{ExchangesState}
 use Rattle.gas_world.specs.Archived.{ArchiveState}
-use Rattle.gas_world.specs.Endpoints.{EndpointState}
+use Rattle.gas_world.specs.Endpoints.{EndpointState, EndpointStands, NodeSteps}
+use Rattle.gas_world.specs.Sizes.{IsNodeOf}
 use Rattle.gas_world.specs.Worlds.{WorldState}
-use Rattle.gas_world.specs.Scenes.{Scene, IsSame, bytes_or_none, next_part, Requests, RequestAccepted}
-use Rattle.gas_world.specs.Stands.{StandsForNode, StandsForPair, Stands}
-use Rattle.gas_world.specs.Events.{Steps, answer_of}
-use Rattle.gas_world.specs.declared.exchanges.Exchange.{Exchange}
+use Rattle.gas_world.specs.Scenes.{Scene, MostIs, AddsNothing}
+use Rattle.gas_world.specs.Stands.{StandsForPair, Stands}
+use Rattle.gas_world.specs.Events.{rules_in}
+use Rattle.gas_world.specs.declared.event.Answer.{Answer}
 use Rattle.gas_world.specs.declared.event.WorldAnswer.{WorldAnswer}
-use Rattle.gas_world.specs.declared.event.WorldAnswer.TheVariants as answers
-use Rattle.gas_world.proofs.Worlds.{put_same, put_other, step_keeps}
-use Rattle.datagram_grammar.proofs.Spelling.{spelling_fits}
-use Rattle.gas_world.proofs.Holding.{held_fits}
-use Rattle.gas_world.proofs.Nodes.{request_found, node_worn, node_not_yet, node_accepts}
-use Rattle.gas_world.proofs.Archiving.{pair_accepted}
-use Rattle.gas_world.proofs.Standing.{Falls, Moves, only_asked, moves_stand, same_stands, own_stands}
+use Rattle.gas_world.specs.declared.event.WorldAnswer.TheVariants as world_answers
+use Rattle.gas_world.specs.declared.exchanges.Exchange.{Exchange}
+use Rattle.gas_world.proofs.Worlds.{step_keeps}
+use Rattle.gas_world.proofs.Sound.{rules_sound}
+use Rattle.gas_world.proofs.Archiving.{pair_sent}
+use Rattle.gas_world.proofs.Standing.{Falls, Sends, IsQuiet, quiet_pairs, Moves, moves_stand, still_stands}
+use Rattle.gas_world.proofs.Scenes.{node_kept}
 
--- ---- the rules are sound
-
-abbrev pub Any : Nothing → Type 0
-Any l = Unit {0}
-
-pub shorts_sound : IsSound shorts Any
-shorts_sound = record {
-  calls = λ c e. e;
-  replies = λ from c l g e. refl;
-  run = λ from c l g e. tt;
-  take = λ from number c l g e. tt;
-}
+-- the answer is the records', and the world stands for the records' next ones
+abbrev pub Stepped : Meaning → WorldState → (now : ℕ) → Event → WorldAnswer → WorldState → Records → (ℕ → ℕ) → Type 0
+Stepped meaning v now e a z w most = (a ≡ world_answer v.settings (rules_in meaning v) w now e)
+    × Stands z (world_after v.settings (rules_in meaning v) w now e) (most_then v.settings (world_after v.settings (rules_in meaning v) w now e) most)
 
 -- ---- what was there
 
-pub scene_node : (v z : WorldState) (w : Records) (most : ℕ → ℕ) (i place : ℕ) (old new : Scene) → Stands v w most → Falls v z i place old new → i < v.settings.nodes → StandsForNode v.settings i old.endpoint (w i)
+-- the endpoint stood for its node's record
+pub scene_node : (v z : WorldState) (w : Records) (most : ℕ → ℕ) (i place : ℕ) (old new : Scene) → Stands v w most → Falls v z i place old new → i < v.settings.nodes → IsNodeOf v.settings v.table i old.endpoint × EndpointStands old.endpoint (w i)
 scene_node v z w most i place old new S F low =
     let it = S.endpoints i low in
-    subst (λ (e : EndpointState). StandsForNode v.settings i e (w i)) (same_Some _ _ (sym it.1 ∙ F.endpoint_was)) it.2
+    subst (λ (e : EndpointState). IsNodeOf v.settings v.table i e × EndpointStands e (w i)) (same_Some _ _ (sym it.1 ∙ F.endpoint_was)) (it.2, it.3)
 
+-- the exchanges stood for the pair
 pub scene_pair : (v z : WorldState) (w : Records) (most : ℕ → ℕ) (node i j : ℕ) (old new : Scene) → Stands v w most → Falls v z node (i * v.settings.nodes + j) old new → i < v.settings.nodes → j < v.settings.nodes → StandsForPair v.settings i j v.archive.bytes old.exchanges.list ((w i).asked j) ((w j).ran i)
 scene_pair v z w most node i j old new S F i_in j_in =
     let it = S.exchanges i j i_in j_in in
     let same : record { list = it.0; room = it.1 } ≡ old.exchanges = same_Some _ _ (sym it.2 ∙ F.exchanges_were) in
     subst (λ (l : List Exchange). StandsForPair v.settings i j v.archive.bytes l ((w i).asked j) ((w j).ran i)) (ap (λ (x : ExchangesState). x.list) same) it.3
 
+-- the greatest number held
 pub scene_most : (v z : WorldState) (w : Records) (most : ℕ → ℕ) (i place : ℕ) (old new : Scene) → Stands v w most → Falls v z i place old new → i < v.settings.nodes → old.most ≡ most i
 scene_most v z w most i place old new S F low = same_Some _ _ (sym F.most_was ∙ S.most_is i low)
 
--- ---- a call
+-- the bytes of the archive
+pub scene_bytes : (v z : WorldState) (i place : ℕ) (old new : Scene) → Falls v z i place old new → v.archive.bytes ≡ old.archive.bytes
+scene_bytes v z i place old new F = ap (λ (r : ArchiveState). r.bytes) F.archive_was
 
--- what is kept of a request that was accepted is its message
-kept_message : (s : Parameters) (me to slot number now : ℕ) (e new : EndpointState) (r : Node Nothing) (message : List ℕ) → StandsForNode s me e r → to < s.nodes → to ≢ me → slot < s.credits → new.requests ≡ with_request e.requests to slot number now message → bytes_or_none (message_at new.requests to slot) ≡ message
-kept_message s me to slot number now e new r message S low other below is =
-    let found : slot_at new.requests to slot ≡ Some (Sealed number now message) = ap (λ t. slot_at t to slot) is ∙ (slot_at-given e.requests to slot number (Sealed number now message) ∙ ap (option_map (λ _. Sealed number now message)) (request_found s me to slot e r S low other below)) in
-    ap (λ (o : Option SlotState). bytes_or_none (option_and_then message_of o)) found
+-- ---- a step of the endpoint
 
-accepted_steps : (v z : WorldState) (now i t j slot number : ℕ) (c : Content) (old new : Scene) (w : Records) (most : ℕ → ℕ) → Stands v w most → Falls v z i (i * v.settings.nodes + j) old new → RequestAccepted old now j c slot number new
-    → i < v.settings.nodes → j < v.settings.nodes → i ≢ j → is_short c ≡ true
-    → (Accepted j slot number ≡ world_answer v.settings shorts w (Calls i t j c)) × Stands z (world_after v.settings shorts w now (Calls i t j c)) (most_then v.settings (world_after v.settings shorts w now (Calls i t j c)) most)
-accepted_steps v z now i t j slot number c old new w most S F A i_in j_in apart good =
+-- what holds of an endpoint's settings, table and node holds of its world's
+pub at_home : (s : Parameters) (table : List (Option Entry)) (me : ℕ) (e : EndpointState) (P : Parameters → List (Option Entry) → ℕ → Type 0) → IsNodeOf s table me e → P e.core.settings e.core.table e.core.me → P s table me
+at_home s table me e P N p = subst (λ x. P x table me) N.settings (subst (λ x. P e.core.settings x me) N.table_is (subst (λ x. P e.core.settings e.core.table x) N.me_is p))
+
+-- the endpoint answers as the record of its node does, and stands for its next one
+pub record Stepping (meaning : Meaning) (v : WorldState) (w : Records) (now i : ℕ) (ne : NodeEvent) (answer : Answer) (new : EndpointState) : Type 0 where
+  pub answer_is : answer ≡ node_answer v.settings (rules_in meaning v) i (w i) now ne
+  pub stands : EndpointStands new (node_after v.settings (rules_in meaning v) i (w i) now ne)
+  pub node : IsNodeOf v.settings v.table i new
+
+-- the endpoint of a scene does
+pub scene_steps : (meaning : Meaning) (v z : WorldState) (w : Records) (most : ℕ → ℕ) (now i place : ℕ) (ne : NodeEvent) (answer : Answer) (old new : Scene) → Stands v w most → Falls v z i place old new → i < v.settings.nodes
+    → NodeSteps meaning old.endpoint now ne answer new.endpoint → Stepping meaning v w now i ne answer new.endpoint
+scene_steps meaning v z w most now i place ne answer old new S F low N =
+    let it = scene_node v z w most i place old new S F low in
+    let P : Parameters → List (Option Entry) → ℕ → Type 0 = λ s t m. (answer ≡ node_answer s (all_rules s t meaning) m (w i) now ne) × EndpointStands new.endpoint (node_after s (all_rules s t meaning) m (w i) now ne) in
+    let at = at_home v.settings v.table i old.endpoint P it.0 (N.steps (w i) it.1) in
+    record { answer_is = at.0; stands = at.1; node = node_kept v.settings v.table i old.endpoint new.endpoint it.0 N.same }
+
+-- ---- a step of the world
+
+-- an event that falls on a node, where what it sends stands
+pub event_steps : (meaning : Meaning) (v z : WorldState) (now : ℕ) (e : Event) (i a b : ℕ) (ne : NodeEvent) (answer : Answer) (old new : Scene) (w : Records) (most : ℕ → ℕ)
+    → IsLawfulMeaning meaning → Stands v w most → IsAmong v.settings e → i < v.settings.nodes → b < v.settings.nodes → Falls v z i (a * v.settings.nodes + b) old new
+    → falls v.settings w e ≡ Some (i, ne) → Stepping meaning v w now i ne answer new.endpoint → MostIs old.most new.endpoint new.most
+    → Sends v w (put w i (node_after v.settings (rules_in meaning v) i (w i) now ne)) a b new
+    → Stepped meaning v now e (world_answers.Node answer) z w most
+event_steps meaning v z now e i a b ne answer old new w most lawful S among i_in b_in F at N H A =
     let s = v.settings in
-    let node = scene_node v z w most i (i * s.nodes + j) old new S F i_in in
-    let other : j ≢ i = (λ e. apart (sym e)) in
-    let few = held_fits s shorts w S.invariant_ i i_in S.range.nodes S.range.credits in
-    let N = node_accepts s i j now slot number old.endpoint (w i) c new.endpoint node (S.invariant_.pair i j).orderly j_in other few A.accepts in
-    let T = N.takes.1 in
-    let asked : Asked = record { slot = slot; content = c; time = now; back = false } in
-    let x = with_asked (w i) now j slot c in
-    let next : number ≡ suc (length ((w i).asked j)) = omega (arith, T.next) in
-    let message = spelling (addressed s.job i j slot number c) in
-    let fits : IsMessage (addressed s.job i j slot number c) = rw (← node.settings, ← node.me_is) A.accepts.message in
-    let kept : bytes_or_none (message_at new.endpoint.requests j slot) ≡ message =
-    kept_message s i j slot number now old.endpoint new.endpoint (w i) message node j_in other T.below (ap (λ (e : EndpointState). e.requests) A.accepts.kept ∙ rw (node.settings, node.me_is) refl) in
-    let bytes : new.archive.bytes ≡ v.archive.bytes ++ message =
-    A.adds.bytes (rw kept (spelling_fits (addressed s.job i j slot number c) fits).buffer) ∙ ap₂ (λ (b m : List ℕ). b ++ m) (ap (λ (r : ArchiveState). r.bytes) (sym F.archive_was)) kept in
-    let was = scene_pair v z w most i i j old new S F i_in j_in in
-    let pair = pair_accepted s shorts i j v.archive.bytes old.exchanges.list ((w i).asked j) ((w j).ran i) asked (S.invariant_.pair i j) was (subst (λ k. IsMessage (addressed s.job i j slot k c)) next fits) in
-    let spelled = ap (λ k. spelling (addressed s.job i j slot k c)) (sym next) in
-    let after_is : world_after s shorts w now (Calls i t j c) ≡ put w i x = ap (λ a. put w i (after shorts (w i) now (Call t j c) a)) T.answer in
-    let M : Moves v w most i i j x new = record {
-      invariant_ = subst (λ (u : Records). WorldInvariant s shorts u) after_is (step_keeps s shorts Any w now (Calls i t j c) shorts_sound (λ k. tt) (i_in, j_in, apart, good) S.invariant_);
-      node = N.stands;
-      extra = message;
-      bytes = bytes;
-      pair = rw (put_same w i x, put_same (w i).asked j ((w i).asked j ++ asked ∷ []), put_other w i x j other)
-          (subst₂ (λ (b : List ℕ) (l : List Exchange). StandsForPair s i j b l ((w i).asked j ++ asked ∷ []) ((w j).ran i))
-          (ap (λ m. v.archive.bytes ++ m) spelled ∙ sym bytes)
-          (ap₂ (λ (b m : List ℕ). old.exchanges.list ++ record { request = next_part b m; reply = None } ∷ []) (ap (λ (r : ArchiveState). r.bytes) F.archive_was) (spelled ∙ sym kept) ∙ sym A.list)
-          pair);
-      only = only_asked w i x j ((w i).asked j ++ asked ∷ []) refl refl;
-      most_is = A.adds.most_is ∙ ap₂ (λ a b. max a b) (scene_most v z w most i (i * s.nodes + j) old new S F i_in) N.stands.held_is;
+    let u = rules_in meaning v in
+    let x = node_after s u i (w i) now ne in
+    let after_is : world_after s u w now e ≡ put w i x = ap (after_at s u w now) at in
+    let M : Moves v w most i x new = record {
+      invariant_ = subst (λ (y : Records). WorldInvariant s (content_refusal v.table) y) after_is (step_keeps s u Any w now e (rules_sound s v.table meaning lawful) (λ k. tt) among S.invariant_);
+      node = N.node;
+      stands = N.stands;
+      most_is = H x N.stands ∙ ap₂ (λ p q. max p q) (scene_most v z w most i (a * s.nodes + b) old new S F i_in) (ap (λ (t : Parameters). held t x) N.node.settings);
     } in
-    (sym T.answer, subst (λ (u : Records). Stands z u (most_then s u most)) (sym after_is) (moves_stand v z w most i i j x old new S j_in F M))
+    (ap (λ n. world_answers.Node n) N.answer_is ∙ sym (ap (answer_at s u w now) at), subst (λ (y : Records). Stands z y (most_then s y most)) (sym after_is) (moves_stand v z w most i a b x old new S b_in F M A))
 
-refused_steps : (v z : WorldState) (now i t j place : ℕ) (c : Content) (old new : Scene) (w : Records) (most : ℕ → ℕ) (a : Answer) → Stands v w most → Falls v z i place old new → IsSame old new → after shorts (w i) now (Call t j c) a ≡ w i → call_answer v.settings j ((w i).asked j) ≡ a
-    → (a ≡ world_answer v.settings shorts w (Calls i t j c)) × Stands z (world_after v.settings shorts w now (Calls i t j c)) (most_then v.settings (world_after v.settings shorts w now (Calls i t j c)) most)
-refused_steps v z now i t j place c old new w most a S F I same e =
-    let after_is : world_after v.settings shorts w now (Calls i t j c) ≡ put w i (w i) = ap (λ b. put w i (after shorts (w i) now (Call t j c) b)) e ∙ ap (put w i) same in
-    (sym e, subst (λ (u : Records). Stands z u (most_then v.settings u most)) (sym after_is) (own_stands z v.settings w most i F.settings (same_stands v z w most i place old new S F I)))
+-- nothing is sent that is new
+pub quiet_sends : (v z : WorldState) (w : Records) (most : ℕ → ℕ) (i a b : ℕ) (x : Node Local) (old new : Scene) → Stands v w most → a < v.settings.nodes → b < v.settings.nodes → Falls v z i (a * v.settings.nodes + b) old new → AddsNothing old new → IsQuiet v.settings i (w i) x
+    → Sends v w (put w i x) a b new
+quiet_sends v z w most i a b x old new S a_in b_in F A Q =
+    let s = v.settings in
+    let bytes : new.archive.bytes ≡ v.archive.bytes = A.bytes ∙ sym (scene_bytes v z i (a * s.nodes + b) old new F) in
+    record {
+      extra = [];
+      bytes = bytes ∙ sym (append-nil v.archive.bytes);
+      pair = subst₂ (λ (t : List ℕ) (l : List Exchange). StandsForPair s a b t l ((put w i x a).asked b) ((put w i x b).ran a)) (sym bytes) (sym A.list)
+          (quiet_pairs s w i x Q a b v.archive.bytes old.exchanges.list (scene_pair v z w most i a b old new S F a_in b_in));
+      others = λ c d other. quiet_pairs s w i x Q c d;
+    }
 
-pub call_steps : (v z : WorldState) (now i t j : ℕ) (c : Content) (a : WorldAnswer) (old new : Scene) → Falls v z i (i * v.settings.nodes + j) old new → Requests old now j c a new → i < v.settings.nodes → j < v.settings.nodes → i ≢ j → is_short c ≡ true → Steps v now (Calls i t j c) (answer_of a) z
-call_steps v z now i t j c (answers.Accepted peer slot number) old new F R i_in j_in apart good = λ w most S. rw R.0 (accepted_steps v z now i t j slot number c old new w most S F R.1 i_in j_in apart good)
-call_steps v z now i t j c answers.WornOut old new F R i_in j_in apart good = λ w most S.
-    refused_steps v z now i t j (i * v.settings.nodes + j) c old new w most WornOut S F R.1 refl
-    (node_worn v.settings i j old.endpoint (w i) (scene_node v z w most i (i * v.settings.nodes + j) old new S F i_in) j_in (λ e. apart (sym e)) R.0)
-call_steps v z now i t j c answers.NotYet old new F R i_in j_in apart good = λ w most S.
-    refused_steps v z now i t j (i * v.settings.nodes + j) c old new w most NotYet S F R.1 refl
-    (node_not_yet v.settings i j old.endpoint (w i) (scene_node v z w most i (i * v.settings.nodes + j) old new S F i_in) j_in (λ e. apart (sym e)) R.0)
-call_steps v z now i t j c answers.NoMemory old new F R i_in j_in apart good = λ w most S. same_stands v z w most i (i * v.settings.nodes + j) old new S F R
-call_steps v z now i t j c answers.Ran old new F R i_in j_in apart good = absurd R
-call_steps v z now i t j c answers.Again old new F R i_in j_in apart good = absurd R
-call_steps v z now i t j c answers.Stale old new F R i_in j_in apart good = absurd R
-call_steps v z now i t j c answers.Returned old new F R i_in j_in apart good = absurd R
-call_steps v z now i t j c answers.Late old new F R i_in j_in apart good = absurd R
-call_steps v z now i t j c answers.Unsent old new F R i_in j_in apart good = absurd R
+-- ---- what is quiet
+
+-- a node that asked and ran the same
+pub same_quiet : (s : Parameters) (i : ℕ) (r x : Node Local) → x.asked ≡ r.asked → x.ran ≡ r.ran → IsQuiet s i r x
+same_quiet s i r x asked ran = record {
+  asked = λ peer bytes list rs P. subst (λ (f : ℕ → List Asked). StandsForPair s i peer bytes list (f peer) rs) (sym asked) P;
+  ran = ran;
+}
+
+-- a tick
+pub tick_quiet : (s : Parameters) (i now : ℕ) (r : Node Local) (d : Option Due) → IsQuiet s i r (after_tick r now d)
+tick_quiet s i now r None = same_quiet s i r r refl refl
+tick_quiet s i now r (Some d) =
+    let xs = change (sent_at now) (r.asked d.peer) d.number in
+    record {
+      asked = λ peer bytes list rs P. elim (cases_eq peer d.peer) [
+        | inl e ↦ subst (λ n. StandsForPair s i n bytes list (put r.asked d.peer xs n) rs) (sym e)
+            (subst (λ (ys : List Asked). StandsForPair s i d.peer bytes list ys rs) (sym (put_same r.asked d.peer xs))
+            (pair_sent s i d.peer now bytes list (r.asked d.peer) rs d.number (subst (λ n. StandsForPair s i n bytes list (r.asked n) rs) e P)))
+        | inr n ↦ subst (λ (ys : List Asked). StandsForPair s i peer bytes list ys rs) (sym (put_other r.asked d.peer xs peer n)) P
+      ];
+      ran = refl;
+    }
+
+-- ---- a message that was never sent
+
+-- an event that falls nowhere changes no record
+pub nowhere_steps : (meaning : Meaning) (v z : WorldState) (now : ℕ) (e : Event) (w : Records) (most : ℕ → ℕ) → z.settings ≡ v.settings → Stands z w most → falls v.settings w e ≡ None → Stepped meaning v now e world_answers.Unsent z w most
+nowhere_steps meaning v z now e w most same S none =
+    let u = rules_in meaning v in
+    let after_is : world_after v.settings u w now e ≡ w = ap (after_at v.settings u w now) none in
+    (sym (ap (answer_at v.settings u w now) none), subst (λ (y : Records). Stands z y (most_then v.settings y most)) (sym after_is) (still_stands z v.settings w most same S))

@@ -1,11 +1,14 @@
--- The events and answers of the code, as those of the records.
-use Rattle.std.specs.Prelude.{ℕ, ◌≡◌, Option, None, Some}
-use Rattle.gas_world.specs.Step.{Answer, Accepted, WornOut, NotYet, Ran, Again, Stale, Returned, Late, Unsent}
-use Rattle.gas_world.specs.World.{Event, Calls, RequestComes, ReplyComes, world_answer, world_after}
+-- The events of the code, as those of the records, and what a step of a world does.
+use Rattle.std.specs.Prelude.{ℕ, ◌≡◌, true, Option, None, Some}
+use Rattle.am_core.specs.Record.{Asked}
+use Rattle.am_core.specs.Locals.{Meaning, short}
+use Rattle.gas_world.specs.Step.{AllRules, Poll, Attempt, Cell, SetCell}
+use Rattle.gas_world.specs.World.{Event, Requests, Does, RequestComes, ReplyComes, Ticks, world_answer, world_after}
 use Rattle.gas_world.specs.Held.{most_then}
-use Rattle.gas_world.specs.Shorts.{Records, short, shorts}
+use Rattle.gas_world.specs.Nodes.{Records, all_rules}
 use Rattle.gas_world.specs.Worlds.{WorldState}
 use Rattle.gas_world.specs.Stands.{Stands}
+use Rattle.am_core.specs.Locals.{Local}
 use Rattle.gas_world.specs.declared.event.Call.{Call}
 use Rattle.gas_world.specs.declared.event.Call.TheVariants as call
 use Rattle.gas_world.specs.declared.event.WorldEvent.{WorldEvent}
@@ -13,29 +16,40 @@ use Rattle.gas_world.specs.declared.event.WorldEvent.TheVariants as event
 use Rattle.gas_world.specs.declared.event.WorldAnswer.{WorldAnswer}
 use Rattle.gas_world.specs.declared.event.WorldAnswer.TheVariants as answers
 
-abbrev pub called : ℕ → ℕ → Call → Event
-called node thread (call.Short to handler args) = Calls node thread to (short handler args.now)
+-- a thread's call, as an event of the world
+abbrev pub called_at : (node thread : ℕ) → Call → Event
+called_at node thread (call.Short to handler args) = Requests node thread to (short handler args.now)
+called_at node thread call.Poll = Does node thread Poll
+called_at node thread (call.Attempt kind) = Does node thread (Attempt kind)
+called_at node thread (call.Cell c) = Does node thread (Cell c)
+called_at node thread (call.SetCell c value) = Does node thread (SetCell c value)
+
+-- the call is a request to that node
+abbrev pub HasTarget : Call → (to : ℕ) → Type 0
+HasTarget (call.Short to handler args) target = to ≡ target
+HasTarget call.Poll target = ⊥
+HasTarget (call.Attempt kind) target = ⊥
+HasTarget (call.Cell c) target = ⊥
+HasTarget (call.SetCell c value) target = ⊥
 
 abbrev pub event_of : WorldEvent → Event
-event_of (event.Call node thread call) = called node thread call
+event_of (event.Call node thread call) = called_at node thread call
 event_of (event.Request from to number) = RequestComes from to number
 event_of (event.Reply from to number) = ReplyComes from to number
+event_of (event.Tick node) = Ticks node
 
--- the answer, or none where memory ran out
-abbrev pub answer_of : WorldAnswer → Option Answer
-answer_of (answers.Accepted to slot number) = Some (Accepted to slot number)
-answer_of answers.WornOut = Some WornOut
-answer_of answers.NotYet = Some NotYet
-answer_of answers.Ran = Some Ran
-answer_of answers.Again = Some Again
-answer_of answers.Stale = Some Stale
-answer_of answers.Returned = Some Returned
-answer_of answers.Late = Some Late
-answer_of answers.Unsent = Some Unsent
-answer_of answers.NoMemory = None
+-- the request was accepted and is back
+abbrev pub IsReturned : Option Asked → Type 0
+IsReturned None = ⊥
+IsReturned (Some x) = x.back ≡ true
+
+-- what the handlers and calls do in this world
+abbrev pub rules_in : Meaning → WorldState → AllRules Local
+rules_in meaning v = all_rules v.settings v.table meaning
 
 -- for every record for which the world stood: the answer is the record's, and the world stands for the record's next one; where memory ran out, it stands for the same record
-abbrev pub Steps : WorldState → ℕ → Event → Option Answer → WorldState → Type 0
-Steps old now e None new = (w : Records) (most : ℕ → ℕ) → Stands old w most → Stands new w most
-Steps old now e (Some a) new = (w : Records) (most : ℕ → ℕ) → Stands old w most
-    → (a ≡ world_answer old.settings shorts w e) × Stands new (world_after old.settings shorts w now e) (most_then old.settings (world_after old.settings shorts w now e) most)
+abbrev pub Steps : Meaning → WorldState → (now : ℕ) → Event → WorldAnswer → WorldState → Type 0
+Steps meaning old now e answers.NoMemory new = (w : Records) (most : ℕ → ℕ) → Stands old w most → Stands new w most
+Steps meaning old now e a new = (w : Records) (most : ℕ → ℕ) → Stands old w most
+    → (a ≡ world_answer old.settings (rules_in meaning old) w now e)
+    × Stands new (world_after old.settings (rules_in meaning old) w now e) (most_then old.settings (world_after old.settings (rules_in meaning old) w now e) most)

@@ -1,24 +1,20 @@
 -- What holds of each ordered pair of nodes in every state of a world.
-use Rattle.std.specs.Prelude.{ℕ, ◌≡◌, ◌<◌, ◌≤◌, true, List, [], Some, length, slice_get}
+use Rattle.std.specs.Prelude.{ℕ, ◌≡◌, ◌<◌, true, List, [], Option, Some, slice_get}
 use Rattle.datagram_grammar.specs.Parameters.{Parameters}
-use Rattle.gas_world.specs.Record.{Asked, Run, numbered}
-use Rattle.gas_world.specs.Step.{Rules, unreturned, run_of}
+use Rattle.datagram_grammar.specs.Message.{Content}
+use Rattle.am_core.specs.declared.answer.Why.{Why}
+use Rattle.am_core.specs.Record.{Asked, Run, numbered}
+use Rattle.am_core.specs.Executed.{run_of}
+use Rattle.am_core.specs.Rules.{asks_well, replies_well}
+use Rattle.am_core.specs.Invariant.{IsOrderly}
 use Rattle.gas_world.specs.World.{World}
 
--- of the requests that one node asked of another: it speaks of the requester's list alone, whatever bytes are delivered
-pub record IsOrderly (s : Parameters) (xs : List Asked) : Type 0 where
-  pub few : unreturned xs ≤ s.credits
-  pub short : length xs ≤ s.last
-  pub low : (k : ℕ) (x : Asked) → numbered xs k ≡ Some x → x.slot < s.credits
-  -- of the requests of one slot all but the last one are back
-  pub apart : (k l : ℕ) (x y : Asked) → numbered xs k ≡ Some x → numbered xs l ≡ Some y → k < l → x.slot ≡ y.slot → x.back ≡ true
-
--- of the requests that one node asked of another, and those that the other one ran
-pub record PairInvariant {Kept : Type 0} (s : Parameters) (u : Rules Kept) (xs : List Asked) (rs : List Run) : Type 0 where
+-- of the requests that one node asked of another, and those that the other one ran; `refuses` says why a node refuses a content
+pub record PairInvariant (s : Parameters) (refuses : Content → Option Why) (xs : List Asked) (rs : List Run) : Type 0 where
   pub orderly : IsOrderly s xs
   -- each content may be delivered
-  pub well : (k : ℕ) (x : Asked) → numbered xs k ≡ Some x → u.asks_well x.content ≡ true
-  pub replies : (place : ℕ) (r : Run) → slice_get rs place ≡ Some r → u.replies_well r.reply ≡ true
+  pub well : (k : ℕ) (x : Asked) → numbered xs k ≡ Some x → asks_well refuses x.content ≡ true
+  pub replies : (place : ℕ) (r : Run) → slice_get rs place ≡ Some r → replies_well refuses r.reply ≡ true
   -- what is back was run
   pub back_ran : (k : ℕ) (x : Asked) → numbered xs k ≡ Some x → x.back ≡ true → (r : Run) × (run_of k rs ≡ Some r)
   -- what was run was accepted, and ran with its slot and its content
@@ -27,8 +23,8 @@ pub record PairInvariant {Kept : Type 0} (s : Parameters) (u : Rules Kept) (xs :
   pub once : (place other : ℕ) (r t : Run) → slice_get rs place ≡ Some r → slice_get rs other ≡ Some t → r.number ≡ t.number → place ≡ other
 
 -- of all pairs
-pub record WorldInvariant {Kept : Type 0} (s : Parameters) (u : Rules Kept) (w : World Kept) : Type 0 where
-  pub pair : (i j : ℕ) → PairInvariant s u ((w i).asked j) ((w j).ran i)
+pub record WorldInvariant {Kept : Type 0} (s : Parameters) (refuses : Content → Option Why) (w : World Kept) : Type 0 where
+  pub pair : (i j : ℕ) → PairInvariant s refuses ((w i).asked j) ((w j).ran i)
   -- a node asks nothing of itself, and only nodes ask and are asked
   pub own : (i : ℕ) → (w i).asked i ≡ []
   pub nodes : (i j k : ℕ) (x : Asked) → numbered ((w i).asked j) k ≡ Some x → (i < s.nodes) × (j < s.nodes)

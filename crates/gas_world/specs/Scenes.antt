@@ -1,21 +1,24 @@
 -- What an event does to the endpoint on which it falls, the archive, the exchanges of the pair, and the greatest number held.
-use Rattle.std.specs.Prelude.{ℕ, ◌≡◌, ◌≤◌, ◌++◌, ◌∷◌, [], List, length, max, ◌⊎◌, IfSome, Option, None, Some, slice_get}
-use Rattle.datagram_grammar.specs.Message.{Content}
-use Rattle.credit_slots.specs.State.{Refuses, message_at}
-use Rattle.credit_slots.specs.declared.NoClaim.TheVariants as claims
-use Rattle.reply_slots.specs.State.{message_at as kept_at}
-use Rattle.gas_world.specs.Record.{numbered}
+use Rattle.std.specs.Prelude.{ℕ, ◌≡◌, ◌≤◌, ◌++◌, ◌∷◌, [], List, length, max, Option, None, Some}
+use Rattle.am_core.specs.declared.answer.SlotRef.{SlotRef}
+use Rattle.am_core.specs.declared.answer.Asked.TheVariants as asked
+use Rattle.am_core.specs.declared.answer.Delivered.TheVariants as delivered
+use Rattle.am_core.specs.Record.{Node, numbered}
+use Rattle.am_core.specs.Step.{request_slot}
+use Rattle.am_core.specs.Stands.{message_at}
+use Rattle.am_core.specs.Held.{held}
+use Rattle.am_core.specs.Locals.{Local, Meaning}
+use Rattle.gas_world.specs.Step.{NodeEvent}
 use Rattle.gas_world.specs.Archived.{ArchiveState}
 use Rattle.gas_world.specs.Exchanged.{ExchangesState}
-use Rattle.gas_world.specs.State.{part_of, with_reply_part}
-use Rattle.gas_world.specs.Endpoints.{EndpointState}
-use Rattle.gas_world.specs.Steps.{Accepts, Delivers}
+use Rattle.gas_world.specs.State.{part_of, requested, with_reply_part, with_returned}
+use Rattle.gas_world.specs.Endpoints.{EndpointState, EndpointStands, NodeSteps, BytesCome}
 use Rattle.gas_world.specs.declared.archive.Part.{Part}
 use Rattle.gas_world.specs.declared.exchanges.Exchange.{Exchange}
-use Rattle.gas_world.specs.declared.endpoint.Delivered.{Delivered}
-use Rattle.gas_world.specs.declared.endpoint.Delivered.TheVariants as delivered
+use Rattle.gas_world.specs.declared.event.Answer.{Answer}
+use Rattle.gas_world.specs.declared.event.Answer.TheVariants as answers
 use Rattle.gas_world.specs.declared.event.WorldAnswer.{WorldAnswer}
-use Rattle.gas_world.specs.declared.event.WorldAnswer.TheVariants as answers
+use Rattle.gas_world.specs.declared.event.WorldAnswer.TheVariants as world_answers
 
 pub record Scene : Type 0 where
   pub endpoint : EndpointState
@@ -30,6 +33,10 @@ pub record IsSame (old new : Scene) : Type 0 where
   pub list : new.exchanges.list ≡ old.exchanges.list
   pub most_is : new.most ≡ old.most
 
+-- the greatest number held was raised to what the endpoint holds
+abbrev pub MostIs : ℕ → EndpointState → ℕ → Type 0
+MostIs old e new = (r : Node Local) → EndpointStands e r → new ≡ max old (held e.core.settings r)
+
 -- the bytes, or none of them
 abbrev pub bytes_or_none : Option (List ℕ) → List ℕ
 bytes_or_none None = []
@@ -39,104 +46,68 @@ bytes_or_none (Some bytes) = bytes
 abbrev pub next_part : List ℕ → List ℕ → Part
 next_part bytes message = record { start = length bytes; len = length message }
 
--- the message that the endpoint keeps was added to the archive, and the greatest number was raised
-pub record Adds (old new : Scene) (message : List ℕ) : Type 0 where
-  pub bytes : length message ≤ 8296 → new.archive.bytes ≡ old.archive.bytes ++ message
-  pub most_is : new.most ≡ max old.most new.endpoint.held
-
-pub record RequestAccepted (old : Scene) (now to : ℕ) (c : Content) (slot number : ℕ) (new : Scene) : Type 0 where
-  pub accepts : Accepts old.endpoint now to c slot number new.endpoint
-  pub adds : Adds old new (bytes_or_none (message_at new.endpoint.requests to slot))
-  pub list : new.exchanges.list ≡ old.exchanges.list ++ record { request = next_part old.archive.bytes (bytes_or_none (message_at new.endpoint.requests to slot)); reply = None } ∷ []
-
--- a request to a peer
-abbrev pub Requests : Scene → (now to : ℕ) → Content → WorldAnswer → Scene → Type 0
-Requests old now to c (answers.Accepted peer slot number) new = (peer ≡ to) × RequestAccepted old now to c slot number new
-Requests old now to c answers.WornOut new = IfSome (slice_get old.endpoint.requests.peers to) (λ p. Refuses p old.endpoint.requests.last claims.WornOut) × IsSame old new
-Requests old now to c answers.NotYet new = IfSome (slice_get old.endpoint.requests.peers to) (λ p. Refuses p old.endpoint.requests.last claims.NotYet) × IsSame old new
-Requests old now to c answers.NoMemory new = IsSame old new
-Requests old now to c answers.Ran new = ⊥
-Requests old now to c answers.Again new = ⊥
-Requests old now to c answers.Stale new = ⊥
-Requests old now to c answers.Returned new = ⊥
-Requests old now to c answers.Late new = ⊥
-Requests old now to c answers.Unsent new = ⊥
-
--- how a request is answered where it comes
-abbrev pub request_answers : WorldAnswer → Delivered → Type 0
-request_answers answers.Ran (delivered.Ran slot) = Unit {0}
-request_answers answers.Again delivered.Again = Unit {0}
-request_answers answers.Stale delivered.Stale = Unit {0}
-request_answers answers.Unsent delivered.Returned = Unit {0}
-request_answers answers.Unsent delivered.Late = Unit {0}
-request_answers answers.Unsent delivered.Refused = Unit {0}
-request_answers _ _ = ⊥
-
--- how a reply is answered where it comes
-abbrev pub reply_answers : WorldAnswer → Delivered → Type 0
-reply_answers answers.Returned delivered.Returned = Unit {0}
-reply_answers answers.Late delivered.Late = Unit {0}
-reply_answers answers.Unsent (delivered.Ran slot) = Unit {0}
-reply_answers answers.Unsent delivered.Again = Unit {0}
-reply_answers answers.Unsent delivered.Stale = Unit {0}
-reply_answers answers.Unsent delivered.Refused = Unit {0}
-reply_answers _ _ = ⊥
-
--- nothing was added
-pub record IsKept (old new : Scene) : Type 0 where
+-- no message was added
+pub record AddsNothing (old new : Scene) : Type 0 where
   pub bytes : new.archive.bytes ≡ old.archive.bytes
   pub list : new.exchanges.list ≡ old.exchanges.list
-  pub most_is : new.most ≡ old.most
 
--- what is added where a request of that node ran
-abbrev pub AddsReply : Scene → (from number : ℕ) → Delivered → Scene → Type 0
-AddsReply old from number (delivered.Ran slot) new =
-    Adds old new (bytes_or_none (kept_at new.endpoint.replies from slot))
-    × (new.exchanges.list ≡ with_reply_part old.exchanges.list number (next_part old.archive.bytes (bytes_or_none (kept_at new.endpoint.replies from slot))))
-AddsReply old from number delivered.Again new = IsKept old new
-AddsReply old from number delivered.Stale new = IsKept old new
-AddsReply old from number delivered.Returned new = IsKept old new
-AddsReply old from number delivered.Late new = IsKept old new
-AddsReply old from number delivered.Refused new = IsKept old new
+-- the message of that slot of the endpoint was added to the archive, and the exchanges are those that name it there
+abbrev pub AddsMessage : Scene → Scene → SlotRef → (Part → List Exchange) → Type 0
+AddsMessage old new at list = (r : Node Local) → EndpointStands new.endpoint r
+    → let message = bytes_or_none (message_at new.endpoint.core.settings new.endpoint.core.me r at) in
+    (length message ≤ 8296 → new.archive.bytes ≡ old.archive.bytes ++ message) × (new.exchanges.list ≡ list (next_part old.archive.bytes message))
 
--- request `number` of that node comes
-pub record RequestDelivered (old : Scene) (from number : ℕ) (a : WorldAnswer) (new : Scene) : Type 0 where
+-- what is added by the answer to a request
+abbrev pub AddsRequest : Scene → Scene → Answer → Type 0
+AddsRequest old new (answers.Asked (asked.Accepted to slot number)) = AddsMessage old new (request_slot to slot) (λ part. old.exchanges.list ++ requested part ∷ [])
+AddsRequest old new _ = AddsNothing old new
+
+-- a call of a thread that may be a request of the pair
+pub record CallFalls (meaning : Meaning) (old : Scene) (now : ℕ) (e : NodeEvent) (answer : Answer) (new : Scene) : Type 0 where
+  pub steps : NodeSteps meaning old.endpoint now e answer new.endpoint
+  pub adds : AddsRequest old new answer
+  pub most_is : MostIs old.most new.endpoint new.most
+
+abbrev pub CallFallsOrNot : Meaning → Scene → (now : ℕ) → NodeEvent → WorldAnswer → Scene → Type 0
+CallFallsOrNot meaning old now e (world_answers.Node answer) new = CallFalls meaning old now e answer new
+CallFallsOrNot meaning old now e world_answers.NoMemory new = IsSame old new
+CallFallsOrNot meaning old now e world_answers.Unsent new = ⊥
+
+-- what is added by the answer to a delivered request with this number
+abbrev pub AddsReply : Scene → Scene → (number : ℕ) → Answer → Type 0
+AddsReply old new number (answers.Delivered (delivered.Ran at)) = AddsMessage old new at (with_reply_part old.exchanges.list number)
+AddsReply old new number _ = AddsNothing old new
+
+-- a request that was sent comes
+pub record RequestFalls (meaning : Meaning) (old : Scene) (now number : ℕ) (answer : Answer) (new : Scene) : Type 0 where
   pub exchange : Exchange
   pub sent : numbered old.exchanges.list number ≡ Some exchange
-  pub delivered_ : Delivered
-  pub delivers : Delivers old.endpoint (part_of old.archive.bytes exchange.request) delivered_ new.endpoint
-  pub adds : AddsReply old from number delivered_ new
-  pub answers_ : request_answers a delivered_
+  pub comes : BytesCome meaning old.endpoint now (part_of old.archive.bytes exchange.request) answer new.endpoint
+  pub adds : AddsReply old new number answer
+  pub most_is : MostIs old.most new.endpoint new.most
 
--- the reply to request `number` comes
-pub record ReplyDelivered (old : Scene) (number : ℕ) (a : WorldAnswer) (new : Scene) : Type 0 where
+abbrev pub RequestFallsOrNot : Meaning → Scene → (now number : ℕ) → WorldAnswer → Scene → Type 0
+RequestFallsOrNot meaning old now number (world_answers.Node answer) new = RequestFalls meaning old now number answer new
+RequestFallsOrNot meaning old now number world_answers.NoMemory new = IsSame old new
+RequestFallsOrNot meaning old now number world_answers.Unsent new = (numbered old.exchanges.list number ≡ None) × IsSame old new
+
+-- what the answer to a delivered reply leaves of the exchanges
+abbrev pub returned_list : List Exchange → (number : ℕ) → Answer → List Exchange
+returned_list list number (answers.Delivered (delivered.Returned to slot other)) = with_returned list number
+returned_list list number _ = list
+
+-- a reply that was sent comes
+pub record ReplyFalls (meaning : Meaning) (old : Scene) (now number : ℕ) (answer : Answer) (new : Scene) : Type 0 where
   pub exchange : Exchange
   pub sent : numbered old.exchanges.list number ≡ Some exchange
   pub reply : Part
   pub replied : exchange.reply ≡ Some reply
-  pub delivered_ : Delivered
-  pub delivers : Delivers old.endpoint (part_of old.archive.bytes reply) delivered_ new.endpoint
-  pub answers_ : reply_answers a delivered_
+  pub comes : BytesCome meaning old.endpoint now (part_of old.archive.bytes reply) answer new.endpoint
+  pub bytes : new.archive.bytes ≡ old.archive.bytes
+  pub list : new.exchanges.list ≡ returned_list old.exchanges.list number answer
+  pub most_is : MostIs old.most new.endpoint new.most
 
--- a request that was never sent
-pub record RequestUnsent (old : Scene) (number : ℕ) (a : WorldAnswer) (new : Scene) : Type 0 where
-  pub none : numbered old.exchanges.list number ≡ None
-  pub answer_is : a ≡ answers.Unsent
-  pub same : IsSame old new
-
--- memory ran out
-pub record HasNoMemory (old : Scene) (a : WorldAnswer) (new : Scene) : Type 0 where
-  pub answer_is : a ≡ answers.NoMemory
-  pub same : IsSame old new
-
--- a reply that was never sent
-pub record ReplyUnsent (old : Scene) (number : ℕ) (a : WorldAnswer) (new : Scene) : Type 0 where
-  pub none : (exchange : Exchange) → numbered old.exchanges.list number ≡ Some exchange → exchange.reply ≡ None
-  pub answer_is : a ≡ answers.Unsent
-  pub same : IsSame old new
-
-abbrev pub RequestComesTo : Scene → (from number : ℕ) → WorldAnswer → Scene → Type 0
-RequestComesTo old from number a new = RequestUnsent old number a new ⊎ (HasNoMemory old a new ⊎ RequestDelivered old from number a new)
-
-abbrev pub ReplyComesTo : Scene → (number : ℕ) → WorldAnswer → Scene → Type 0
-ReplyComesTo old number a new = ReplyUnsent old number a new ⊎ ReplyDelivered old number a new
+abbrev pub ReplyFallsOrNot : Meaning → Scene → (now number : ℕ) → WorldAnswer → Scene → Type 0
+ReplyFallsOrNot meaning old now number (world_answers.Node answer) new = ReplyFalls meaning old now number answer new
+ReplyFallsOrNot meaning old now number world_answers.NoMemory new = ⊥
+ReplyFallsOrNot meaning old now number world_answers.Unsent new = ((exchange : Exchange) → numbered old.exchanges.list number ≡ Some exchange → exchange.reply ≡ None) × IsSame old new

@@ -1,30 +1,27 @@
--- How many slots the tables of an endpoint have.
-use Rattle.std.specs.Prelude.{ℕ, ◌≡◌, ◌≢◌, ◌<◌, ◌*◌, List, [], length, Some, slice_get}
+-- How many endpoints and exchanges a world has.
+use Rattle.std.specs.Prelude.{ℕ, ◌≡◌, ◌*◌, List, [], Option, length, Some, slice_get}
 use Rattle.datagram_grammar.specs.Parameters.{Parameters}
-use Rattle.credit_slots.specs.State.{SlotsState, slot_count}
-use Rattle.reply_slots.specs.State.{RepliesState}
-use Rattle.reply_slots.specs.State.{slot_count as reply_count}
+use Rattle.handler_rules.specs.declared.table.Entry.{Entry}
+use Rattle.am_core.specs.Locals.{opening_node, nothing_done}
 use Rattle.gas_world.specs.Exchanged.{ExchangesState}
-use Rattle.gas_world.specs.Endpoints.{EndpointState}
-use Rattle.gas_world.specs.Steps.{IsOpening}
+use Rattle.gas_world.specs.Endpoints.{EndpointState, EndpointStands}
 
--- C slots for each other node
-pub record IsSized (s : Parameters) (me : ℕ) (requests : SlotsState) (replies : RepliesState) : Type 0 where
-  pub requesters : length requests.peers ≡ s.nodes
-  pub request_slots : (peer : ℕ) → peer < s.nodes → peer ≢ me → slot_count requests peer ≡ s.credits
-  pub responders : length replies.peers ≡ s.nodes
-  pub kept_slots : (peer : ℕ) → peer < s.nodes → peer ≢ me → reply_count replies peer ≡ s.credits
+-- the core is that of the node `me` of a job with these settings, with this table
+pub record IsNodeOf (s : Parameters) (table : List (Option Entry)) (me : ℕ) (e : EndpointState) : Type 0 where
+  pub settings : e.core.settings ≡ s
+  pub me_is : e.core.me ≡ me
+  pub table_is : e.core.table ≡ table
 
 -- an endpoint for each node, a place for each pair of nodes, and a number for each node
-pub record IsWorldSized (s : Parameters) (endpoints : List EndpointState) (exchanges : List ExchangesState) (most : List ℕ) : Type 0 where
+pub record IsWorldSized (s : Parameters) (table : List (Option Entry)) (endpoints : List EndpointState) (exchanges : List ExchangesState) (most : List ℕ) : Type 0 where
   pub endpoints_are : length endpoints ≡ s.nodes
-  pub settings : (i : ℕ) (e : EndpointState) → slice_get endpoints i ≡ Some e → (e.settings ≡ s) × (e.me ≡ i)
+  pub nodes : (i : ℕ) (e : EndpointState) → slice_get endpoints i ≡ Some e → IsNodeOf s table i e
   pub exchanges_are : length exchanges ≡ s.nodes * s.nodes
   pub most_are : length most ≡ s.nodes
 
 -- each node asked and ran nothing
-abbrev pub AreOpening : Parameters → List EndpointState → Type 0
-AreOpening s endpoints = (i : ℕ) (e : EndpointState) → slice_get endpoints i ≡ Some e → IsOpening s i e
+abbrev pub AreOpening : Parameters → List (Option Entry) → List EndpointState → Type 0
+AreOpening s table endpoints = (i : ℕ) (e : EndpointState) → slice_get endpoints i ≡ Some e → IsNodeOf s table i e × EndpointStands e (opening_node nothing_done)
 
 -- no pair has exchanges
 abbrev pub AreEmpty : List ExchangesState → Type 0

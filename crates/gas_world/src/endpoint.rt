@@ -1,223 +1,153 @@
-//! One node's active messages.
+//! One node: its active messages, and the other calls of its threads.
 
-ghost use Rattle.std.specs.Prelude.{◌≡◌, ◌≢◌, ◌<◌, ◌≤◌, ◌++◌, ◌↔◌, IsTrue, ℕ, length, drop, IfOk, option_copied};
-ghost use Rattle.datagram_grammar.specs.Message.{Message, IsMessage};
-ghost use Rattle.datagram_grammar.specs.Reading.{viewed_message};
-ghost use Rattle.credit_slots.specs.State.{message_at};
-ghost use Rattle.reply_slots.specs.State.{message_at as kept_at, JudgesAt};
-ghost use Rattle.gas_world.specs.Shorts.{short};
-ghost use Rattle.gas_world.specs.Steps.{Asks, Delivers, IsOpening};
+ghost use Rattle.std.specs.Prelude.{◌≡◌, ◌<◌, IfOk, option_copied, true};
+ghost use Rattle.handler_rules.specs.Logged.{log_of};
+ghost use Rattle.am_core.specs.Record.{Node};
+ghost use Rattle.am_core.specs.Held.{held};
+ghost use Rattle.am_core.specs.Locals.{Local as Kept, Meaning, opening_node, nothing_done};
+ghost use Rattle.am_core.specs.Stands.{message_at};
+ghost use Rattle.gas_world.specs.Endpoints.{EndpointStands, EndpointSteps, NodeSteps, Judged, called};
+ghost use Rattle.gas_world.specs.Sizes.{IsNodeOf};
 
-use crate::sealing::{answer, ask};
-use credit_slots::{CreditSlots, NoClaim};
-use datagram_grammar::{Kind, Settings, View, view};
-use reply_slots::{Judged, ReplySlots};
+use crate::event::{Answer, Call, Event, Local, Ticked};
+use am_core::{Asked, Core, SlotRef};
+use datagram_grammar::Settings;
+use handler_rules::{CallKind, Cells, Handlers, Log, Table};
 use std::alloc::{AllocError, Global};
 use std::marker::Model;
 
-/// The one handler that is registered.
-const HANDLER: u8 = 128;
-
-/// What a request is answered.
-#[derive(Clone, Copy, Debug, PartialEq, Eq)]
-pub enum Asked {
-    /// It has this slot and number.
-    Accepted { slot: u16, number: u64 },
-    /// The numbers of the pair are used up.
-    WornOut,
-    /// All credits of the pair are out.
-    NotYet,
-}
-
-/// What a datagram that is delivered is answered.
-#[derive(Clone, Copy, Debug, PartialEq, Eq)]
-pub enum Delivered {
-    /// A request of this slot ran, and its reply is kept.
-    Ran { slot: u16 },
-    /// The last request run in its slot.
-    Again,
-    /// An earlier request of its slot.
-    Stale,
-    /// A reply whose request is back now.
-    Returned,
-    /// A reply whose request was back before.
-    Late,
-    /// No message of this job to this node.
-    Refused,
-}
-
-/// The endpoint of one node: its requests that aren't back, and the replies that it keeps.
+/// One node of a job: its requests and runs, its cells and its violations.
+///
+/// All memory is taken by `new`.
 #[derive(Drop)]
 pub struct Endpoint {
-    settings: Settings,
-    me: u16,
-    requests: CreditSlots,
-    replies: ReplySlots,
-    held: usize,
+    core: Core,
 }
 
 impl Model for Endpoint {
     ghost use Rattle.gas_world.specs.Endpoints.{EndpointState};
-    ghost use Rattle.gas_world.specs.Sizes.{IsSized};
 
     ghost Value = { EndpointState };
 
-    ghost view = { λ e. record { settings = e.settings; me = e.me; requests = e.requests; replies = e.replies; held = e.held } };
-
-    ghost invariant = { λ e. IsSized e.settings e.me e.requests e.replies };
+    ghost view = { λ e. record { core = e.core } };
 }
 
 impl Endpoint {
-    /// An endpoint that asked and ran nothing.
-    pub fn new(alloc: Global, settings: &Settings, me: u16) -> Result<Endpoint, AllocError>
+    /// The endpoint of node `me`, which asked and ran nothing. It keeps a copy of the table.
+    ///
+    /// It is refused for want of memory alone. After it no call on an endpoint takes memory.
+    pub fn new(
+        alloc: Global,
+        settings: &Settings,
+        me: u16,
+        table: &Table,
+    ) -> Result<Endpoint, AllocError>
         requires { me < settings.now.nodes }
-        ensures { IfOk result (IsOpening settings.now me) }
+        ensures node { IfOk result (IsNodeOf settings.now table.now me) }
+        ensures stands { IfOk result (λ e. EndpointStands e (opening_node nothing_done)) }
     {
-        let nodes = settings.nodes();
-        let credits = settings.credits();
         Ok(Endpoint {
-            settings: *settings,
-            me,
-            requests: CreditSlots::new(alloc, nodes, credits, me, settings.last())?,
-            replies: ReplySlots::new(alloc, nodes, credits, me)?,
-            held: 0,
+            core: Core::new(alloc, settings, me, table)?,
         })
     }
 
-    /// How many message buffers are in use.
-    pub fn held(&self) -> usize
-        ensures { result ≡ self.now.held }
+    /// One event at the time `now`.
+    ///
+    /// A library call that the rule table forbids is answered `Forbidden`, whatever the call, and noted once as a violation; nothing
+    /// else happens. Else `Poll` is answered `Polled` and `Attempt` `Allowed`, and they change nothing. `Cell` and `SetCell` are no library calls.
+    /// Requests, deliveries and ticks are those of `am_core::Core`.
+    pub fn step<H: Handlers>(&mut self, handlers: &H, now: u64, event: &Event<'_>) -> Answer
+        ensures { EndpointSteps (H.meaning handlers.now) self.old now event.now result self.new }
     {
-        self.held
-    }
-
-    /// A Short request to another node.
-    pub fn short(&mut self, now: u64, to: u16, handler: u8, args: &[i32]) -> Asked
-        requires node { to < self.old.settings.nodes }
-        requires other { to ≢ self.old.me }
-        requires handler { 1 ≤ handler }
-        requires count { length args.now ≤ 16 }
-        ensures { Asks self.old now to (short handler args.now) result self.new }
-    {
-        let job = self.settings.job();
-        match ask(&mut self.requests, job, self.me, to, now, handler, args) {
-            Ok((slot, number)) => {
-                self.held = self.held.saturating_add(1);
-                Asked::Accepted { slot, number }
-            }
-            Err(NoClaim::WornOut) => Asked::WornOut,
-            Err(NoClaim::NotYet) => Asked::NotYet,
+        match event {
+            Event::Call { thread, call } => self.call(handlers, now, *thread, call),
+            Event::Deliver { bytes } => Answer::Delivered(self.core.deliver(handlers, bytes)),
+            Event::Tick => self.tick(now),
         }
     }
 
-    /// The message of a request that isn't back.
-    pub fn request(&self, to: u16, slot: u16) -> Option<&[u8]>
-        requires node { to < self.now.settings.nodes }
-        requires other { to ≢ self.now.me }
-        requires slot { slot < self.now.settings.credits }
-        ensures { option_copied result ≡ message_at self.now.requests to slot }
+    /// The datagram of a slot: None exactly where the peer is no other node, the slot isn't among those of its pair, or it has
+    /// no message.
+    pub fn message(&self, at: SlotRef) -> Option<&[u8]>
+        ensures { (r : Node Kept) → EndpointStands self.now r → option_copied result ≡ message_at self.now.core.settings self.now.core.me r at }
     {
-        self.requests.bytes(to, slot)
+        self.core.message(at)
     }
 
-    /// The reply that is kept for a slot of a peer.
-    pub fn reply(&self, from: u16, slot: u16) -> Option<&[u8]>
-        requires node { from < self.now.settings.nodes }
-        requires other { from ≢ self.now.me }
-        requires slot { slot < self.now.settings.credits }
-        ensures { option_copied result ≡ kept_at self.now.replies from slot }
+    /// The cells.
+    pub fn cells(&self) -> &Cells
+        ensures { (r : Node Kept) → EndpointStands self.now r → result.now ≡ r.local.cells }
     {
-        self.replies.bytes(from, slot)
+        self.core.cells()
+    }
+
+    /// The log of violations.
+    pub fn log(&self) -> &Log
+        ensures { (r : Node Kept) → EndpointStands self.now r → result.now ≡ log_of r.local.violations }
+    {
+        self.core.log()
+    }
+
+    /// How many message buffers are in use: one for each request that isn't back, and one for each slot with a reply.
+    pub fn held(&self) -> usize
+        ensures { (r : Node Kept) → EndpointStands self.now r → result ≡ held self.now.core.settings r }
+    {
+        self.core.held()
+    }
+
+    /// Whether the thread may poll: it holds no lock. There are no locks so far.
+    pub fn polls(&self, thread: u16) -> bool
+        ensures { result ≡ true }
+    {
+        let _ = thread;
+        true
     }
 }
 
 impl Endpoint {
-    ghost use Rattle.gas_world.specs.Steps.{DeliversMessage, IsOurRequest, IsOurReply, IsForUs};
-    ghost use Rattle.gas_world.specs.Steps.{KeepsAck, ack_at};
+    ghost use Rattle.gas_world.specs.Step.{Ticks};
 
-    /// A datagram that was delivered: any bytes.
-    pub fn deliver(&mut self, bytes: &[u8]) -> Delivered
-        ensures { Delivers self.old bytes.now result self.new }
+    /// A call of a thread.
+    fn call<H: Handlers>(&mut self, handlers: &H, now: u64, thread: u16, call: &Call<'_>) -> Answer
+        ensures { NodeSteps (H.meaning handlers.now) self.old now (called thread call.now) result self.new }
     {
-        match view(bytes) {
-            Ok(message) => self.receive(&message),
-            Err(_) => Delivered::Refused,
-        }
-    }
-
-    /// A message that was delivered.
-    fn receive(&mut self, message: &View<'_>) -> Delivered
-        requires { IsMessage (viewed_message message.now) }
-        ensures { DeliversMessage self.old (viewed_message message.now) result self.new }
-    {
-        if !self.is_for_us(message) {
-            return Delivered::Refused;
-        }
-        match message.kind {
-            Kind::ShortRequest if message.handler == HANDLER => self.run(message),
-            Kind::Ack => self.take(message),
-            _ => Delivered::Refused,
-        }
-    }
-
-    /// Whether a message is of this job, from another node to this one, and of a slot that is there.
-    fn is_for_us(&self, message: &View<'_>) -> bool
-        ensures { IsTrue result ↔ IsForUs self.now (viewed_message message.now) }
-    {
-        message.job == self.settings.job()
-            && message.to == self.me
-            && message.from < self.settings.nodes()
-            && message.slot < self.settings.credits()
-    }
-
-    /// A request that was delivered: unless it ran before, its handler runs, and its reply is kept.
-    fn run(&mut self, message: &View<'_>) -> Delivered
-        requires ours { IsOurRequest self.old (viewed_message message.now) }
-        requires message { IsMessage (viewed_message message.now) }
-        ensures { DeliversMessage self.old (viewed_message message.now) result self.new }
-    {
-        match self
-            .replies
-            .judge(message.from, message.slot, message.number)
-        {
-            Judged::Again => Delivered::Again,
-            Judged::Stale => Delivered::Stale,
-            Judged::New => {
-                self.keep_ack(message.from, message.slot, message.number);
-                Delivered::Ran { slot: message.slot }
+        match call {
+            Call::Short { to, handler, args } => {
+                match self
+                    .core
+                    .request_short(handlers, now, thread, *to, *handler, args)
+                {
+                    Asked::Forbidden(forbidden) => Answer::Forbidden(forbidden),
+                    asked => Answer::Asked(asked),
+                }
+            }
+            Call::Poll => self.judged(thread, CallKind::Poll, Answer::Polled),
+            Call::Attempt { call } => self.judged(thread, *call, Answer::Allowed),
+            Call::Cell { c } => Answer::Local(Local::Cell(self.core.cells().get(*c))),
+            Call::SetCell { c, value } => {
+                self.core.cells_mut().set(*c, *value);
+                Answer::Local(Local::Done)
             }
         }
     }
 
-    /// Keeps the Ack of the request with this number, which is greater than the slot's last one.
-    fn keep_ack(&mut self, from: u16, slot: u16, number: u64)
-        requires node { from < self.old.settings.nodes }
-        requires other { from ≢ self.old.me }
-        requires slot { slot < self.old.settings.credits }
-        requires new { JudgesAt self.old.replies from slot number Judged.New }
-        ensures { KeepsAck self.old from slot number self.new }
+    /// A call that does nothing but be judged by the rule table: this answer where it is allowed.
+    fn judged(&mut self, thread: u16, call: CallKind, allowed: Answer) -> Answer
+        ensures { Judged self.old thread call allowed result self.new }
     {
-        if self.replies.bytes(from, slot).is_none() {
-            self.held = self.held.saturating_add(1);
+        match self.core.check(thread, call) {
+            Ok(()) => allowed,
+            Err(forbidden) => Answer::Forbidden(forbidden),
         }
-        let job = self.settings.job();
-        answer(&mut self.replies, job, self.me, from, slot, number);
     }
 
-    /// A reply that was delivered: where its request isn't back, it is back now.
-    fn take(&mut self, message: &View<'_>) -> Delivered
-        requires ours { IsOurReply self.old (viewed_message message.now) }
-        requires message { IsMessage (viewed_message message.now) }
-        ensures { DeliversMessage self.old (viewed_message message.now) result self.new }
+    /// A tick.
+    fn tick(&mut self, now: u64) -> Answer
+        ensures { (meaning : Meaning) → NodeSteps meaning self.old now Ticks result self.new }
     {
-        if self
-            .requests
-            .take_back(message.from, message.slot, message.number)
-        {
-            self.held = self.held.saturating_sub(1);
-            Delivered::Returned
-        } else {
-            Delivered::Late
+        match self.core.tick(now) {
+            Some(at) => Answer::Ticked(Ticked::Resend(at)),
+            None => Answer::Ticked(Ticked::Nothing),
         }
     }
 }

@@ -1,10 +1,12 @@
-//! The events of a world, and their answers.
+//! The events of an endpoint and of a world, and their answers.
+
+use am_core::{Asked, Delivered, SlotRef};
+use handler_rules::{CallKind, Forbidden};
 
 /// A call of a client, as a thread of a node makes it.
 #[derive(Clone, Copy, Debug)]
 pub enum Call<'a> {
-    /// A Short request for a handler of another node, with up to 16 arguments
-    /// (GASNet 1.8.1, core API, `gasnet_AMRequestShort`).
+    /// A Short request for a handler of a node (GASNet 1.8.1, core API, `gasnet_AMRequestShort`).
     Short {
         /// The node that is to run the request.
         to: u16,
@@ -13,6 +15,81 @@ pub enum Call<'a> {
         /// The arguments.
         args: &'a [i32],
     },
+    /// A poll (GASNet 1.8.1, core API, `gasnet_AMPoll`). Messages are delivered by events of their own, so it changes nothing.
+    Poll,
+    /// A call that is judged by the rule table, and does nothing else (profile).
+    Attempt {
+        /// The kind of call.
+        call: CallKind,
+    },
+    /// The number in a cell (profile).
+    Cell {
+        /// The cell.
+        c: u8,
+    },
+    /// Puts a number into a cell (profile).
+    SetCell {
+        /// The cell.
+        c: u8,
+        /// The number.
+        value: i32,
+    },
+}
+
+/// What may happen to an endpoint.
+#[derive(Clone, Copy, Debug)]
+pub enum Event<'a> {
+    /// A thread of the node makes a call.
+    Call {
+        /// The thread.
+        thread: u16,
+        /// The call.
+        call: Call<'a>,
+    },
+    /// A datagram is delivered: any bytes.
+    Deliver {
+        /// Its bytes.
+        bytes: &'a [u8],
+    },
+    /// The time has come to send something.
+    Tick,
+}
+
+/// What a tick sends.
+#[derive(Clone, Copy, PartialEq, Eq, Debug)]
+pub enum Ticked {
+    /// The request in this slot is sent again.
+    Resend(SlotRef),
+    /// Nothing is due.
+    Nothing,
+}
+
+/// What a call on the node's own cells is answered.
+#[derive(Clone, Copy, PartialEq, Eq, Debug)]
+pub enum Local {
+    /// It is done.
+    Done,
+    /// The number in the cell.
+    Cell(i32),
+}
+
+/// What an event of an endpoint is answered.
+#[derive(Clone, Copy, PartialEq, Eq, Debug)]
+pub enum Answer {
+    /// To a request.
+    Asked(Asked),
+    /// To a poll.
+    Polled,
+    /// To an attempt that the rule table allows.
+    Allowed,
+    /// To any call that the rule table forbids; a violation was noted, and nothing else happened.
+    Forbidden(Forbidden),
+    /// To a call on the node's own cells.
+    Local(Local),
+    /// To bytes that were delivered.
+    Delivered(Delivered),
+    /// To a tick.
+    Ticked(Ticked),
 }
 
 /// What may happen to a world. A message that is lost is one that is never delivered; a message
@@ -46,34 +123,18 @@ pub enum WorldEvent<'a> {
         /// The number of the request.
         number: u64,
     },
+    /// A tick of a node.
+    Tick {
+        /// The node.
+        node: u16,
+    },
 }
 
-/// What an event is answered.
-#[derive(Clone, Copy, Debug, PartialEq, Eq)]
+/// What an event of a world is answered.
+#[derive(Clone, Copy, PartialEq, Eq, Debug)]
 pub enum WorldAnswer {
-    /// The request was accepted: it has a slot and the next number of the pair.
-    Accepted {
-        /// The node that is to run it.
-        to: u16,
-        /// The slot that it takes.
-        slot: u16,
-        /// Its number, from 1.
-        number: u64,
-    },
-    /// The request was refused: the numbers of the pair are used up.
-    WornOut,
-    /// The request was refused: all credits of the pair are out.
-    NotYet,
-    /// The request's handler ran.
-    Ran,
-    /// The last request run in its slot came again; it has its reply again, and nothing ran.
-    Again,
-    /// An earlier request of its slot came again; nothing ran.
-    Stale,
-    /// The reply's handler ran, and the credit came back.
-    Returned,
-    /// The reply came once more after its credit was back; nothing ran.
-    Late,
+    /// The answer of the endpoint on which it fell.
+    Node(Answer),
     /// That message was never sent.
     Unsent,
     /// Memory ran out; the world is as before.

@@ -1,8 +1,8 @@
 //! The requests of a pair of nodes, with their replies.
 
 ghost use Rattle.std.specs.Prelude.{◌≡◌, ◌≤◌, ◌<◌, ◌++◌, ◌∷◌, OnOk, length, [], IfSome, slice_get};
-ghost use Rattle.gas_world.specs.Record.{numbered};
-ghost use Rattle.gas_world.specs.State.{with_reply_part};
+ghost use Rattle.am_core.specs.Record.{numbered};
+ghost use Rattle.gas_world.specs.State.{requested, with_reply_part, with_returned};
 
 use crate::archive::Part;
 use std::alloc::{AllocError, Global};
@@ -15,6 +15,8 @@ pub struct Exchange {
     pub request: Part,
     /// Where its reply stands.
     pub reply: Option<Part>,
+    /// Whether its credit came back.
+    pub back: bool,
 }
 
 /// The exchanges of an ordered pair of nodes: that of request 1 first.
@@ -53,11 +55,12 @@ impl Exchanges {
     /// Adds the next request, for which there is room.
     pub fn add(&mut self, request: Part)
         requires { 1 ≤ self.old.room }
-        ensures { self.new.list ≡ self.old.list ++ (record { request = request; reply = None }) ∷ [] }
+        ensures { self.new.list ≡ self.old.list ++ requested request ∷ [] }
     {
         let _ = self.list.push(Exchange {
             request,
             reply: None,
+            back: false,
         });
     }
 
@@ -79,5 +82,21 @@ impl Exchanges {
         ensures { self.new.list ≡ with_reply_part self.old.list number reply }
     {
         self.list[(number - 1) as usize].reply = Some(reply);
+    }
+
+    /// Notes that the request with that number, which is there, is back.
+    pub fn set_back(&mut self, number: u64)
+        requires first { 1 ≤ number }
+        requires last { number ≤ length self.old.list }
+        ensures { self.new.list ≡ with_returned self.old.list number }
+    {
+        self.list[(number - 1) as usize].back = true;
+    }
+
+    /// How many requests there are.
+    pub fn len(&self) -> usize
+        ensures { result ≡ length self.now.list }
+    {
+        self.list.len()
     }
 }

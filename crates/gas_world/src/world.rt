@@ -1,19 +1,21 @@
 //! A world of endpoints.
 
-ghost use Rattle.std.specs.Prelude.{◌≡◌, ◌≢◌, ◌<◌, ◌≤◌, ◌+◌, ◌*◌, ℕ, IfOk, length};
-ghost use Rattle.gas_world.specs.Sizes.{AreOpening, AreEmpty};
-ghost use Rattle.gas_world.specs.Shorts.{Records, short, shorts, at_the_opening};
+ghost use Rattle.std.specs.Prelude.{◌≡◌, ◌≢◌, ◌<◌, ◌≤◌, ◌+◌, ◌*◌, ℕ, IfOk, IsTrue, ◌↔◌, length, Some};
+ghost use Rattle.am_core.specs.Record.{numbered};
+ghost use Rattle.gas_world.specs.Sizes.{AreOpening, AreEmpty, IsNodeOf};
+ghost use Rattle.gas_world.specs.Nodes.{Records, at_the_opening};
 ghost use Rattle.gas_world.specs.World.{IsAmong};
-ghost use Rattle.gas_world.specs.Held.{held};
+ghost use Rattle.gas_world.specs.Endpoints.{EndpointStands};
 ghost use Rattle.gas_world.specs.Stands.{Stands};
-ghost use Rattle.gas_world.specs.Events.{event_of, answer_of, Steps};
+ghost use Rattle.gas_world.specs.Events.{event_of, HasTarget, IsReturned, Steps};
 
 use crate::archive::Archive;
 use crate::endpoint::Endpoint;
-use crate::event::{Call, WorldAnswer, WorldEvent};
+use crate::event::{Call, Event, WorldAnswer, WorldEvent};
 use crate::exchanges::Exchanges;
 use crate::step;
 use datagram_grammar::Settings;
+use handler_rules::{Handlers, Table};
 use std::alloc::{AllocError, Global};
 use std::marker::Model;
 
@@ -22,6 +24,7 @@ use std::marker::Model;
 #[derive(Drop)]
 pub struct World {
     settings: Settings,
+    table: Table,
     endpoints: Vec<Endpoint>,
     archive: Archive,
     exchanges: Vec<Exchanges>,
@@ -34,24 +37,26 @@ impl Model for World {
 
     ghost Value = { WorldState };
 
-    ghost view = { λ w. record { settings = w.settings; endpoints = w.endpoints.items; archive = w.archive; exchanges = w.exchanges.items; most = w.most.items } };
+    ghost view = { λ w. record { settings = w.settings; table = w.table; endpoints = w.endpoints.items; archive = w.archive; exchanges = w.exchanges.items; most = w.most.items } };
 
-    ghost invariant = { λ w. IsWorldSized w.settings w.endpoints.items w.exchanges.items w.most.items };
+    ghost invariant = { λ w. IsWorldSized w.settings w.table w.endpoints.items w.exchanges.items w.most.items };
 }
 
 impl World {
-    /// A world of endpoints that asked and ran nothing.
+    /// A world of endpoints that asked and ran nothing. It keeps copies of the table.
     ///
-    /// It fails for want of memory alone.
-    pub fn new(alloc: Global, settings: &Settings) -> Result<World, AllocError>
+    /// It is refused for want of memory alone.
+    pub fn new(alloc: Global, settings: &Settings, table: &Table) -> Result<World, AllocError>
         ensures settings { IfOk result (λ v. v.settings ≡ settings.now) }
+        ensures table { IfOk result (λ v. v.table ≡ table.now) }
         ensures stands { IfOk result (λ v. Stands v at_the_opening (λ i. 0)) }
     {
         let nodes = settings.nodes();
         let pairs = usize::from(nodes) * usize::from(nodes);
         Ok(World {
             settings: *settings,
-            endpoints: opening_endpoints(alloc, settings)?,
+            table: table.copy()?,
+            endpoints: opening_endpoints(alloc, settings, table)?,
             archive: Archive::new(alloc),
             exchanges: no_exchanges(alloc, pairs)?,
             most: vec![in alloc; 0; usize::from(nodes)]?,
@@ -60,33 +65,43 @@ impl World {
 
     /// One event at the time `now`.
     ///
-    /// The event names two nodes that are there. A call is one to another node, for handler 128, with at most 16 arguments.
-    /// `Unsent` comes exactly where that message was never sent; after `NoMemory` the world is as before.
-    pub fn step(&mut self, now: u64, event: &WorldEvent<'_>) -> WorldAnswer
-        requires { IsAmong self.old.settings shorts (event_of event.now) }
+    /// The event names nodes that are there. `Unsent` comes exactly where that message was never sent; after `NoMemory` the world
+    /// is as before.
+    pub fn step<H: Handlers>(
+        &mut self,
+        handlers: &H,
+        now: u64,
+        event: &WorldEvent<'_>,
+    ) -> WorldAnswer
+        requires { IsAmong self.old.settings (event_of event.now) }
         ensures settings { self.new.settings ≡ self.old.settings }
-        ensures steps { Steps self.old now (event_of event.now) (answer_of result) self.new }
+        ensures table { self.new.table ≡ self.old.table }
+        ensures steps { Steps (H.meaning handlers.now) self.old now (event_of event.now) result self.new }
     {
         match event {
-            WorldEvent::Call {
-                node,
-                call: Call::Short { to, handler, args },
-                ..
-            } => self.short(now, *node, *to, *handler, args),
+            WorldEvent::Call { node, thread, call } => {
+                self.call(handlers, now, *node, *thread, call)
+            }
             // A node sends nothing to itself.
             WorldEvent::Request { from, to, .. } if *from == *to => WorldAnswer::Unsent,
             WorldEvent::Reply { from, to, .. } if *from == *to => WorldAnswer::Unsent,
-            WorldEvent::Request { from, to, number } => self.deliver_request(*from, *to, *number),
-            WorldEvent::Reply { from, to, number } => self.deliver_reply(*from, *to, *number),
+            WorldEvent::Request { from, to, number } => {
+                self.deliver_request(handlers, now, *from, *to, *number)
+            }
+            WorldEvent::Reply { from, to, number } => {
+                self.deliver_reply(handlers, now, *from, *to, *number)
+            }
+            WorldEvent::Tick { node } => self.tick(handlers, now, *node),
         }
     }
 
-    /// How many message buffers the node holds now.
-    pub fn held(&self, node: u16) -> usize
+    /// The node's own endpoint.
+    pub fn endpoint(&self, node: u16) -> &Endpoint
         requires { node < self.now.settings.nodes }
-        ensures { (w : Records) (most : ℕ → ℕ) → Stands self.now w most → result ≡ held self.now.settings (w node) }
+        ensures node { IsNodeOf self.now.settings self.now.table node result.now }
+        ensures stands { (w : Records) (most : ℕ → ℕ) → Stands self.now w most → EndpointStands result.now (w node) }
     {
-        self.endpoints[node as usize].held()
+        &self.endpoints[node as usize]
     }
 
     /// The greatest number of message buffers that the node held after any event so far; 0 at the opening.
@@ -96,16 +111,41 @@ impl World {
     {
         self.most[node as usize]
     }
+
+    /// How many requests of `from` to `to` were accepted.
+    pub fn accepted(&self, from: u16, to: u16) -> u64
+        requires from { from < self.now.settings.nodes }
+        requires to { to < self.now.settings.nodes }
+        ensures { (w : Records) (most : ℕ → ℕ) → Stands self.now w most → result ≡ length ((w from).asked to) }
+    {
+        self.exchanges[place_of(&self.settings, from, to)].len() as u64
+    }
+
+    /// Whether the request of `from` to `to` with that number was accepted and is back.
+    pub fn returned(&self, from: u16, to: u16, number: u64) -> bool
+        requires from { from < self.now.settings.nodes }
+        requires to { to < self.now.settings.nodes }
+        ensures { (w : Records) (most : ℕ → ℕ) → Stands self.now w most → IsTrue result ↔ IsReturned (numbered ((w from).asked to) number) }
+    {
+        match self.exchanges[place_of(&self.settings, from, to)].get(number) {
+            Some(exchange) => exchange.back,
+            None => false,
+        }
+    }
 }
 
 /// An endpoint for each node.
-fn opening_endpoints(alloc: Global, settings: &Settings) -> Result<Vec<Endpoint>, AllocError>
-    ensures { IfOk result (λ endpoints. (length endpoints.items ≡ settings.now.nodes) × AreOpening settings.now endpoints.items) }
+fn opening_endpoints(
+    alloc: Global,
+    settings: &Settings,
+    table: &Table,
+) -> Result<Vec<Endpoint>, AllocError>
+    ensures { IfOk result (λ endpoints. (length endpoints.items ≡ settings.now.nodes) × AreOpening settings.now table.now endpoints.items) }
 {
     let nodes = settings.nodes();
     let mut endpoints = Vec::with_capacity(alloc, usize::from(nodes))?;
     for node in 0..nodes {
-        endpoints.push(Endpoint::new(alloc, settings, node)?)?;
+        endpoints.push(Endpoint::new(alloc, settings, node, table)?)?;
     }
     Ok(endpoints)
 }
@@ -129,60 +169,163 @@ fn place_of(settings: &Settings, from: u16, to: u16) -> usize
 }
 
 impl World {
-    ghost use Rattle.gas_world.specs.World.{Calls, RequestComes, ReplyComes};
+    ghost use Rattle.gas_world.specs.World.{RequestComes, ReplyComes, Ticks};
+    ghost use Rattle.gas_world.specs.Events.{called_at};
 
-    /// A Short request of a node to another one.
-    fn short(&mut self, now: u64, node: u16, to: u16, handler: u8, args: &[i32]) -> WorldAnswer
-        requires among { IsAmong self.old.settings shorts (Calls node 0 to (short handler args.now)) }
+    /// A call of a thread of a node.
+    fn call<H: Handlers>(
+        &mut self,
+        handlers: &H,
+        now: u64,
+        node: u16,
+        thread: u16,
+        call: &Call<'_>,
+    ) -> WorldAnswer
+        requires { node < self.old.settings.nodes }
         ensures settings { self.new.settings ≡ self.old.settings }
-        ensures steps { (thread : ℕ) → Steps self.old now (Calls node thread to (short handler args.now)) (answer_of result) self.new }
+        ensures table { self.new.table ≡ self.old.table }
+        ensures steps { Steps (H.meaning handlers.now) self.old now (called_at node thread call.now) result self.new }
+    {
+        match call {
+            Call::Short { to, .. } if *to != node && *to < self.settings.nodes() => {
+                self.call_to(handlers, now, node, thread, *to, call)
+            }
+            _ => self.call_alone(handlers, now, node, thread, call),
+        }
+    }
+
+    /// A request of a thread to another node.
+    fn call_to<H: Handlers>(
+        &mut self,
+        handlers: &H,
+        now: u64,
+        node: u16,
+        thread: u16,
+        to: u16,
+        call: &Call<'_>,
+    ) -> WorldAnswer
+        requires node { node < self.old.settings.nodes }
+        requires to { to < self.old.settings.nodes }
+        requires other { to ≢ node }
+        requires target { HasTarget call.now to }
+        ensures settings { self.new.settings ≡ self.old.settings }
+        ensures table { self.new.table ≡ self.old.table }
+        ensures steps { Steps (H.meaning handlers.now) self.old now (called_at node thread call.now) result self.new }
     {
         let place = place_of(&self.settings, node, to);
         let node = usize::from(node);
-        step::request(
+        step::call(
+            handlers,
             &mut self.endpoints[node],
             &mut self.archive,
             &mut self.exchanges[place],
             &mut self.most[node],
             now,
-            to,
-            handler,
-            args,
+            thread,
+            call,
         )
     }
 
+    /// A call of a thread that is no request to another node.
+    fn call_alone<H: Handlers>(
+        &mut self,
+        handlers: &H,
+        now: u64,
+        node: u16,
+        thread: u16,
+        call: &Call<'_>,
+    ) -> WorldAnswer
+        requires node { node < self.old.settings.nodes }
+        requires target { (to : ℕ) → HasTarget call.now to → to < self.old.settings.nodes → to ≡ node }
+        ensures settings { self.new.settings ≡ self.old.settings }
+        ensures table { self.new.table ≡ self.old.table }
+        ensures steps { Steps (H.meaning handlers.now) self.old now (called_at node thread call.now) result self.new }
+    {
+        let event = Event::Call {
+            thread,
+            call: *call,
+        };
+        let node = usize::from(node);
+        WorldAnswer::Node(step::alone(
+            handlers,
+            &mut self.endpoints[node],
+            &mut self.most[node],
+            now,
+            &event,
+        ))
+    }
+
+    /// A tick of a node.
+    fn tick<H: Handlers>(&mut self, handlers: &H, now: u64, node: u16) -> WorldAnswer
+        requires { node < self.old.settings.nodes }
+        ensures settings { self.new.settings ≡ self.old.settings }
+        ensures table { self.new.table ≡ self.old.table }
+        ensures steps { Steps (H.meaning handlers.now) self.old now (Ticks node) result self.new }
+    {
+        let node = usize::from(node);
+        WorldAnswer::Node(step::alone(
+            handlers,
+            &mut self.endpoints[node],
+            &mut self.most[node],
+            now,
+            &Event::Tick,
+        ))
+    }
+
     /// A request that was sent is delivered.
-    fn deliver_request(&mut self, from: u16, to: u16, number: u64) -> WorldAnswer
-        requires among { IsAmong self.old.settings shorts (RequestComes from to number) }
+    fn deliver_request<H: Handlers>(
+        &mut self,
+        handlers: &H,
+        now: u64,
+        from: u16,
+        to: u16,
+        number: u64,
+    ) -> WorldAnswer
+        requires from { from < self.old.settings.nodes }
+        requires to { to < self.old.settings.nodes }
         requires other { from ≢ to }
         ensures settings { self.new.settings ≡ self.old.settings }
-        ensures steps { (now : ℕ) → Steps self.old now (RequestComes from to number) (answer_of result) self.new }
+        ensures table { self.new.table ≡ self.old.table }
+        ensures steps { Steps (H.meaning handlers.now) self.old now (RequestComes from to number) result self.new }
     {
         let place = place_of(&self.settings, from, to);
         let node = usize::from(to);
         step::deliver_request(
+            handlers,
             &mut self.endpoints[node],
             &mut self.archive,
             &mut self.exchanges[place],
             &mut self.most[node],
-            from,
+            now,
             number,
         )
     }
 
     /// A reply that was sent is delivered.
-    fn deliver_reply(&mut self, from: u16, to: u16, number: u64) -> WorldAnswer
-        requires among { IsAmong self.old.settings shorts (ReplyComes from to number) }
+    fn deliver_reply<H: Handlers>(
+        &mut self,
+        handlers: &H,
+        now: u64,
+        from: u16,
+        to: u16,
+        number: u64,
+    ) -> WorldAnswer
+        requires from { from < self.old.settings.nodes }
+        requires to { to < self.old.settings.nodes }
         requires other { from ≢ to }
         ensures settings { self.new.settings ≡ self.old.settings }
-        ensures steps { (now : ℕ) → Steps self.old now (ReplyComes from to number) (answer_of result) self.new }
+        ensures table { self.new.table ≡ self.old.table }
+        ensures steps { Steps (H.meaning handlers.now) self.old now (ReplyComes from to number) result self.new }
     {
         let place = place_of(&self.settings, from, to);
         let node = usize::from(from);
         step::deliver_reply(
+            handlers,
             &mut self.endpoints[node],
             &self.archive,
-            &self.exchanges[place],
+            &mut self.exchanges[place],
+            &mut self.most[node],
+            now,
             number,
         )
     }

@@ -1,18 +1,25 @@
-use Rattle.std.proofs.Common.{◌≡◌, ◌*◌, length, replicate, rules, ◌∙◌}
+use Rattle.std.proofs.Common.{◌≡◌, ◌*◌, length, replicate, rules, sym, ◌∙◌, subst}
+use Rattle.gas_world.specs.Sizes.{AreOpening}
 use Rattle.gas_world.proofs.Opening.{stands_opening, sized_opening}
 use Rattle.gas_world.proofs.world.World.new.Goals as goal
 
 pub invariant_of-result : goal.invariant_of-result
 invariant_of-result c =
     let s = c.args.settings.now in
+    let endpoints = c.in_ok-opening_endpoints.field-0.items in
     let zeros : c.in_ok-vec.field-0.items ≡ replicate s.nodes 0 = c.in_ok-vec.ensures.items_if_clones_equal (λ y h. h) ∙ search rules in
     let pairs : length c.in_ok-no_exchanges.field-0.items ≡ s.nodes * s.nodes = search rules in
-    sized_opening s c.in_ok-opening_endpoints.field-0.items c.in_ok-no_exchanges.field-0.items c.in_ok-vec.field-0.items c.in_ok-opening_endpoints.ensures.0 c.in_ok-opening_endpoints.ensures.1 pairs zeros
+    let copied : c.in_ok-copy.field-0 ≡ c.args.table.now = search rules in
+    let open_ = subst (λ t. AreOpening s t endpoints) (sym copied) c.in_ok-opening_endpoints.ensures.1 in
+    sized_opening s c.in_ok-copy.field-0 endpoints c.in_ok-no_exchanges.field-0.items c.in_ok-vec.field-0.items c.in_ok-opening_endpoints.ensures.0 open_ pairs zeros
 
 pub returns-clause-stands : goal.returns-clause-stands
 returns-clause-stands c =
     let s = c.args.settings.now in
+    let endpoints = c.in_ok-opening_endpoints.field-0.items in
     let zeros : c.in_ok-vec.field-0.items ≡ replicate s.nodes 0 = c.in_ok-vec.ensures.items_if_clones_equal (λ y h. h) ∙ search rules in
     let pairs : length c.in_ok-no_exchanges.field-0.items ≡ s.nodes * s.nodes = search rules in
-    stands_opening s c.in_ok-opening_endpoints.field-0.items c.new.result c.in_ok-no_exchanges.field-0.items c.in_ok-vec.field-0.items c.nodes-nodes.ensures.range
-    c.in_ok-opening_endpoints.ensures.0 c.in_ok-opening_endpoints.ensures.1 pairs c.in_ok-no_exchanges.ensures.1 zeros
+    let copied : c.in_ok-copy.field-0 ≡ c.args.table.now = search rules in
+    let open_ = subst (λ t. AreOpening s t endpoints) (sym copied) c.in_ok-opening_endpoints.ensures.1 in
+    stands_opening s c.in_ok-copy.field-0 endpoints c.new.result c.in_ok-no_exchanges.field-0.items c.in_ok-vec.field-0.items c.nodes-nodes.ensures.range
+    c.in_ok-opening_endpoints.ensures.0 open_ pairs c.in_ok-no_exchanges.ensures.1 zeros

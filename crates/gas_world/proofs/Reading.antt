@@ -1,0 +1,66 @@
+-- What is read of a world is what its records give.
+use Rattle.std.proofs.Common.{◌≡◌, ℕ, ◌+◌, ◌*◌, ◌<◌, true≢false, List, length, get_or, Option, None, Some, refl, sym, ap, ◌∙◌, subst, subst₂, arith}
+use Rattle.std.specs.Prelude.{IsTrue, ◌↔◌, false}
+use Rattle.std.specs.List.{slice_get}
+use Rattle.std.proofs.lemmas.Option.{slice_get_read, same_Some}
+use Rattle.datagram_grammar.specs.Parameters.{Parameters}
+use Rattle.handler_rules.specs.declared.table.Entry.{Entry}
+use Rattle.am_core.specs.Record.{Asked, Run, numbered}
+use Rattle.gas_world.specs.Nodes.{Records}
+use Rattle.gas_world.specs.Archived.{ArchiveState}
+use Rattle.gas_world.specs.Exchanged.{ExchangesState}
+use Rattle.gas_world.specs.Endpoints.{EndpointState, EndpointStands}
+use Rattle.gas_world.specs.Sizes.{IsWorldSized}
+use Rattle.gas_world.specs.Worlds.{WorldState}
+use Rattle.gas_world.specs.Stands.{StandsForPair, Stands}
+use Rattle.gas_world.specs.Events.{IsReturned}
+use Rattle.gas_world.specs.declared.exchanges.Exchange.{Exchange}
+use Rattle.gas_world.proofs.Scenes.{pair_place}
+use Rattle.gas_world.proofs.Deliveries.{sent_is, none_sent}
+
+-- the parts of a world
+abbrev pub world_of : Parameters → List (Option Entry) → List EndpointState → ArchiveState → List ExchangesState → List ℕ → WorldState
+world_of s table es archive xs most = record { settings = s; table = table; endpoints = es; archive = archive; exchanges = xs; most = most }
+
+-- a node's endpoint
+pub endpoint_read : (s : Parameters) (table : List (Option Entry)) (v : WorldState) (es : List EndpointState) (archive : ArchiveState) (xs : List ExchangesState) (most : List ℕ) (node : ℕ) (e : EndpointState)
+    → world_of s table es archive xs most ≡ v → IsWorldSized s table es xs most → node < v.settings.nodes → e ≡ get_or es node e
+    → (w : Records) (greatest : ℕ → ℕ) → Stands v w greatest → EndpointStands e (w node)
+endpoint_read s table v es archive xs most node e view sized low read w greatest S =
+    let it = S.endpoints node low in
+    let within : node < length es = omega (arith, low, sized.endpoints_are, ap (λ (t : WorldState). t.settings.nodes) view) in
+    let at = slice_get_read es (length es) node e refl within read in
+    let same : it.0 ≡ e = same_Some _ _ (sym it.1 ∙ (ap (λ (t : WorldState). slice_get t.endpoints node) (sym view) ∙ at)) in
+    subst (λ (y : EndpointState). EndpointStands y (w node)) same it.3
+
+-- a pair's exchanges
+pub pair_read : (s : Parameters) (table : List (Option Entry)) (v : WorldState) (es : List EndpointState) (archive : ArchiveState) (xs : List ExchangesState) (most : List ℕ) (i j place : ℕ) (x : ExchangesState)
+    → world_of s table es archive xs most ≡ v → IsWorldSized s table es xs most → i < v.settings.nodes → j < v.settings.nodes → place ≡ i * s.nodes + j → x ≡ get_or xs place x
+    → (w : Records) (greatest : ℕ → ℕ) → Stands v w greatest → StandsForPair v.settings i j v.archive.bytes x.list ((w i).asked j) ((w j).ran i)
+pair_read s table v es archive xs most i j place x view sized i_in j_in is read w greatest S =
+    let it = S.exchanges i j i_in j_in in
+    let nodes : s.nodes ≡ v.settings.nodes = ap (λ (t : WorldState). t.settings.nodes) view in
+    let within : place < length xs = subst₂ (λ p l. p < l) (sym is) (sym sized.exchanges_are) (pair_place s.nodes i j (omega (arith, i_in, nodes)) (omega (arith, j_in, nodes))) in
+    let at = slice_get_read xs (length xs) place x refl within read in
+    let there : slice_get v.exchanges (i * v.settings.nodes + j) ≡ Some x = ap (slice_get v.exchanges) (ap (λ n. i * n + j) (sym nodes) ∙ sym is) ∙ (ap (λ (t : WorldState). slice_get t.exchanges place) (sym view) ∙ at) in
+    let same : record { list = it.0; room = it.1 } ≡ x = same_Some _ _ (sym it.2 ∙ there) in
+    subst (λ (y : ExchangesState). StandsForPair v.settings i j v.archive.bytes y.list ((w i).asked j) ((w j).ran i)) same it.3
+
+-- a node's greatest number held
+pub most_read : (s : Parameters) (table : List (Option Entry)) (v : WorldState) (es : List EndpointState) (archive : ArchiveState) (xs : List ExchangesState) (most : List ℕ) (node m : ℕ)
+    → world_of s table es archive xs most ≡ v → IsWorldSized s table es xs most → node < v.settings.nodes → m ≡ get_or most node m
+    → (w : Records) (greatest : ℕ → ℕ) → Stands v w greatest → m ≡ greatest node
+most_read s table v es archive xs most node m view sized low read w greatest S =
+    let within : node < length most = omega (arith, low, sized.most_are, ap (λ (t : WorldState). t.settings.nodes) view) in
+    let at = slice_get_read most (length most) node m refl within read in
+    same_Some _ _ (sym (ap (λ (t : WorldState). slice_get t.most node) (sym view) ∙ at) ∙ S.most_is node low)
+
+-- whether a request is back, by its exchange
+pub back_is : (s : Parameters) (i j : ℕ) (bytes : List ℕ) (list : List Exchange) (xs : List Asked) (rs : List Run) (k : ℕ) (e : Exchange) → StandsForPair s i j bytes list xs rs → numbered list k ≡ Some e → IsTrue e.back ↔ IsReturned (numbered xs k)
+back_is s i j bytes list xs rs k e P at =
+    let it = sent_is s i j bytes list xs rs k e P at in
+    subst (λ o. IsTrue e.back ↔ IsReturned o) (sym it.at) ((λ b. sym it.stands.back ∙ b), λ b. it.stands.back ∙ b)
+
+-- what has no exchange isn't back
+pub none_back : (s : Parameters) (i j : ℕ) (bytes : List ℕ) (list : List Exchange) (xs : List Asked) (rs : List Run) (k : ℕ) → StandsForPair s i j bytes list xs rs → numbered list k ≡ None → IsTrue false ↔ IsReturned (numbered xs k)
+none_back s i j bytes list xs rs k P at = subst (λ o. IsTrue false ↔ IsReturned o) (sym (none_sent s i j bytes list xs rs k P at)) ((λ b. absurd (true≢false (sym b))), λ b. absurd b)
