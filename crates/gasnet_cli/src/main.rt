@@ -5,9 +5,11 @@
 //! status. Nothing is written to standard error.
 #![tactic(auto)]
 
+mod answer_words;
 mod command;
 mod ending;
 mod event_reader;
+mod idle;
 mod job;
 mod job_reader;
 mod line_reader;

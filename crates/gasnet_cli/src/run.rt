@@ -5,10 +5,11 @@ ghost use Rattle.std.specs.List.{AllByRecursion};
 ghost use Rattle.gas_outside.specs.Buffered.{outbox};
 ghost use Rattle.gas_outside.specs.Faults.{Rose};
 ghost use Rattle.gas_outside.specs.Whole.{IsWriteFault};
-ghost use Rattle.gas_world.specs.Events.{Steps, answer_of};
-ghost use Rattle.gas_world.specs.Shorts.{at_the_opening};
+ghost use Rattle.gas_world.specs.Events.{Steps, event_of, rules_in};
+ghost use Rattle.gas_world.specs.Nodes.{at_the_opening};
 ghost use Rattle.gas_world.specs.Stands.{Stands};
 ghost use Rattle.gasnet_cli.specs.JobText.{IsJob, IsTimed};
+ghost use Rattle.gasnet_cli.specs.JobRules.{idle_meaning, job_table};
 ghost use Rattle.gasnet_cli.specs.Output.{scheduled, run_lines};
 ghost use Rattle.gasnet_cli.specs.Laws.{RunLaws};
 ghost use Rattle.gasnet_cli.specs.Runs.{Runs, WritesEnd, StandsForRun};
@@ -16,6 +17,7 @@ ghost use Rattle.gasnet_cli.specs.Says.{Says, IsFault, OnDone};
 ghost use Rattle.gasnet_cli.specs.TopParts.{WorldIs};
 
 use crate::ending::End;
+use crate::idle::{self, HANDLER, Idle};
 use crate::job::{Event, Job, TimedEvent};
 use crate::output::{write_answer, write_nodes};
 use crate::said::Said;
@@ -24,50 +26,46 @@ use gas_outside::{BufferedSink, Sink, Wrote};
 use gas_world::{Call, World, WorldAnswer, WorldEvent};
 use std::alloc::Global;
 
-/// The handler of a job's calls.
-const HANDLER: u8 = 128;
-
-/// Runs one event in the world.
-fn step(world: &mut World, event: &TimedEvent) -> WorldAnswer
-    requires { IsTimed world.old.settings event.now }
-    ensures settings { world.new.settings ≡ world.old.settings }
-    ensures steps { Steps world.old event.now.time (scheduled event.now.event) (answer_of result) world.new }
+/// An event of a schedule, as an event of the world.
+fn world_event(event: &Event) -> WorldEvent<'_>
+    ensures { event_of result ≡ scheduled event.now }
 {
-    match &event.event {
+    match event {
         Event::Call {
             node,
             thread,
             to,
             args,
-        } => world.step(
-            event.time,
-            &WorldEvent::Call {
-                node: *node,
-                thread: *thread,
-                call: Call::Short {
-                    to: *to,
-                    handler: HANDLER,
-                    args: args.as_slice(),
-                },
-            },
-        ),
-        Event::Request { from, to, number } => world.step(
-            event.time,
-            &WorldEvent::Request {
-                from: *from,
+        } => WorldEvent::Call {
+            node: *node,
+            thread: *thread,
+            call: Call::Short {
                 to: *to,
-                number: *number,
+                handler: HANDLER,
+                args: args.as_slice(),
             },
-        ),
-        Event::Reply { from, to, number } => world.step(
-            event.time,
-            &WorldEvent::Reply {
-                from: *from,
-                to: *to,
-                number: *number,
-            },
-        ),
+        },
+        Event::Request { from, to, number } => WorldEvent::Request {
+            from: *from,
+            to: *to,
+            number: *number,
+        },
+        Event::Reply { from, to, number } => WorldEvent::Reply {
+            from: *from,
+            to: *to,
+            number: *number,
+        },
     }
+}
+
+/// Runs one event in the world.
+fn step(world: &mut World, event: &TimedEvent) -> WorldAnswer
+    requires { IsTimed world.old.settings event.now }
+    ensures settings { world.new.settings ≡ world.old.settings }
+    ensures table { world.new.table ≡ world.old.table }
+    ensures steps { Steps idle_meaning world.old event.now.time (scheduled event.now.event) result world.new }
+{
+    world.step(&Idle, event.time, &world_event(&event.event))
 }
 
 /// Runs one event, and writes its line, which has this number.
@@ -79,7 +77,8 @@ fn run_event<K: Sink>(
 ) -> Said
     requires { IsTimed world.old.settings event.now }
     ensures settings { world.new.settings ≡ world.old.settings }
-    ensures runs { Runs world.old.settings world.old world.new (outbox K.taken sink.old) (outbox K.taken sink.new) number (event.now ∷ []) result }
+    ensures table { world.new.table ≡ world.old.table }
+    ensures runs { Runs world.old.settings (rules_in idle_meaning world.old) world.old world.new (outbox K.taken sink.old) (outbox K.taken sink.new) number (event.now ∷ []) result }
     ensures later { K.faults sink.old.inner ≤ K.faults sink.new.inner }
     ensures fault { IsFault result → Rose (K.faults sink.old.inner) (K.faults sink.new.inner) }
 {
@@ -97,7 +96,8 @@ fn run_schedule<K: Sink>(
 ) -> Said
     requires { AllByRecursion (IsTimed world.old.settings) events.now }
     ensures settings { world.new.settings ≡ world.old.settings }
-    ensures runs { Runs world.old.settings world.old world.new (outbox K.taken sink.old) (outbox K.taken sink.new) 1 events.now result }
+    ensures table { world.new.table ≡ world.old.table }
+    ensures runs { Runs world.old.settings (rules_in idle_meaning world.old) world.old world.new (outbox K.taken sink.old) (outbox K.taken sink.new) 1 events.now result }
     ensures later { K.faults sink.old.inner ≤ K.faults sink.new.inner }
     ensures fault { IsFault result → Rose (K.faults sink.old.inner) (K.faults sink.new.inner) }
 {
@@ -127,6 +127,7 @@ fn write_end<K: Sink>(world: &World, nodes: u16, sink: &mut BufferedSink<K>) -> 
 fn run_in<K: Sink>(world: &mut World, job: &Job, sink: &mut BufferedSink<K>) -> Said
     requires job { IsJob job.now }
     requires settings { world.old.settings ≡ job.now.settings }
+    requires table { world.old.table ≡ job_table }
     requires stands { Stands world.old at_the_opening (λ i. 0) }
     ensures lines { Says (outbox K.taken sink.old) (outbox K.taken sink.new) (run_lines job.now) result }
     ensures world { OnDone result (StandsForRun job.now world.new) }
@@ -154,7 +155,10 @@ pub fn run_job<K: Sink>(
     ensures later { K.faults sink.old.inner ≤ K.faults sink.new.inner }
     ensures fault { IsFault result.0 → Rose (K.faults sink.old.inner) (K.faults sink.new.inner) }
 {
-    let Ok(mut world) = World::new(alloc, &job.settings) else {
+    let Ok(table) = idle::table(alloc) else {
+        return (Said::NoMemory, None);
+    };
+    let Ok(mut world) = World::new(alloc, &job.settings, &table) else {
         return (Said::NoMemory, None);
     };
     let said = run_in(&mut world, job, sink);

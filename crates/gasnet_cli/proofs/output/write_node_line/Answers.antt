@@ -6,4 +6,5 @@ returns-clause-bytes g c =
     let node = c.as_bytes.ensures.value ∙ c.format.ensures.text in
     let held = c.as_bytes-2.ensures.value ∙ c.format-2.ensures.text in
     let most = c.as_bytes-3.ensures.value ∙ c.format-3.ensures.text in
-    rw (node, held, most, c.as_slice.ensures, c.as_slice-2.ensures, c.as_slice-3.ensures, c.as_slice-4.ensures) at c.write_line.ensures.bytes
+    let violations = c.as_bytes-4.ensures.value ∙ c.format-4.ensures.text in
+    rw (node, held, most, violations, c.as_slice.ensures, c.as_slice-2.ensures, c.as_slice-3.ensures) at c.write_line.ensures.bytes

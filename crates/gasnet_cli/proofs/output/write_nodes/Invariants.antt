@@ -1,6 +1,6 @@
 use Rattle.std.proofs.Common.{ℕ, ◌≤◌, ◌-◌}
 use Rattle.gas_outside.specs.Buffered.{GathersUpTo, outbox}
-use Rattle.gas_world.specs.Shorts.{Records}
+use Rattle.gas_world.specs.Nodes.{Records}
 use Rattle.gas_world.specs.Stands.{Stands}
 use Rattle.gasnet_cli.specs.Lines.{spell}
 use Rattle.gasnet_cli.specs.Output.{node_lines}
