@@ -1,0 +1,17 @@
+pub mod Lines
+pub mod Number
+pub mod Jobs
+pub mod JobText
+pub mod Reading
+pub mod JobReading
+pub mod Registering
+pub mod Bodies
+pub mod AnswerWords
+pub mod Answering
+pub mod Schedules
+pub mod Acting
+pub mod Lawful
+pub mod Places
+pub mod Public
+pub mod Giving
+pub mod Made

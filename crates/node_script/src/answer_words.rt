@@ -1,0 +1,50 @@
+//! The words of the parts of an answer.
+
+ghost use Rattle.std.specs.Prelude.{◌≡◌};
+ghost use Rattle.node_script.specs.AnswerWords.{bad_word, rule_word, refusal_word};
+
+use am_core::Why;
+use handler_rules::{Forbidden, Which};
+
+/// The word of the part of a call that is bad.
+pub fn bad_word(part: Which) -> &'static [u8]
+    ensures { result.now ≡ bad_word part }
+{
+    match part {
+        Which::Node => b"node",
+        Which::Handler => b"handler",
+        Which::Count => b"count",
+        Which::Payload => b"payload",
+        Which::Source => b"source",
+        Which::Offset => b"offset",
+    }
+}
+
+/// The word of the rule that forbids a call.
+pub fn rule_word(rule: Forbidden) -> &'static [u8]
+    ensures { result.now ≡ rule_word rule }
+{
+    match rule {
+        Forbidden::InHandler => b"in-handler",
+        Forbidden::NoToken => b"no-token",
+        Forbidden::SecondReply => b"second-reply",
+        Forbidden::ReplyInReply => b"reply-in-reply",
+        Forbidden::ReplyUnderLock => b"reply-under-lock",
+        Forbidden::UnderLock => b"under-lock",
+        Forbidden::LockHeldAtReturn => b"lock-held-at-return",
+    }
+}
+
+/// The word of why bytes are refused.
+pub fn refusal_word(reason: Why) -> &'static [u8]
+    ensures { result.now ≡ refusal_word reason }
+{
+    match reason {
+        Why::Bytes(_) => b"bytes",
+        Why::Job => b"job",
+        Why::Receiver => b"receiver",
+        Why::Sender => b"sender",
+        Why::Slot => b"slot",
+        Why::Handler => b"handler",
+    }
+}

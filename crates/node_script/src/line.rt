@@ -1,0 +1,113 @@
+//! The lines of a schedule, as they are run.
+
+ghost use Rattle.std.specs.Prelude.{◌≡◌, ◌<◌, ℕ, IfSome, slice_get};
+ghost use Rattle.datagram_grammar.specs.Parameters.{Parameters};
+ghost use Rattle.gas_world.specs.Events.{called_at};
+ghost use Rattle.gas_world.specs.Nodes.{Records};
+ghost use Rattle.gas_world.specs.Stands.{Stands};
+ghost use Rattle.gas_world.specs.World.{IsAmong};
+ghost use Rattle.node_script.specs.Made.{IsWithin};
+ghost use Rattle.node_script.specs.Public.{IsLine, IsLineOf, NamesNodes};
+ghost use Rattle.node_script.specs.Schedules.{call_event, lines_of};
+
+use crate::job::{ScheduledCall, ScheduledEvent, TimedEvent};
+use crate::reading::Job;
+use gas_world::{Call, World, WorldEvent};
+use handler_rules::Cells;
+
+/// A line of a schedule, as it is run.
+#[derive(Clone, Copy, Debug)]
+pub enum Line<'a> {
+    /// An event at its time.
+    Event {
+        /// The time.
+        now: u64,
+        /// The event.
+        event: WorldEvent<'a>,
+    },
+    /// Rounds of ticks and deliveries, all at one time.
+    Settle {
+        /// The time.
+        now: u64,
+        /// How many.
+        rounds: u32,
+    },
+}
+
+impl Job {
+    /// Line `i` of the schedule, counted from 0, by the cells of the nodes in this world; none where there is no such line. The
+    /// arguments of a request are put into `args`.
+    pub fn line<'a>(&self, i: usize, world: &World, args: &'a mut [i32; 17]) -> Option<Line<'a>>
+        requires { world.now.settings ≡ self.now.settings }
+        ensures line { (w : Records) (most : ℕ → ℕ) → Stands world.now w most → IsLine w (slice_get (lines_of self.now.schedule) i) result }
+        ensures nodes { IfSome result (NamesNodes self.now.settings) }
+    {
+        match self.timed(i) {
+            Some(timed) => Some(line_of(timed, world, args)),
+            None => None,
+        }
+    }
+}
+
+/// A line, by the cells of the nodes in this world.
+fn line_of<'a>(timed: &TimedEvent, world: &World, args: &'a mut [i32; 17]) -> Line<'a>
+    requires { IsWithin world.now.settings.nodes timed.now.event }
+    ensures line { (w : Records) (most : ℕ → ℕ) → Stands world.now w most → IsLineOf w timed.now result }
+    ensures nodes { NamesNodes world.now.settings result }
+{
+    let now = timed.time;
+    let event = match &timed.event {
+        ScheduledEvent::Call { node, thread, call } => WorldEvent::Call {
+            node: *node,
+            thread: *thread,
+            call: call_of(call, world.endpoint(*node).cells(), args),
+        },
+        ScheduledEvent::Request { from, to, number } => WorldEvent::Request {
+            from: *from,
+            to: *to,
+            number: *number,
+        },
+        ScheduledEvent::Reply { from, to, number } => WorldEvent::Reply {
+            from: *from,
+            to: *to,
+            number: *number,
+        },
+        ScheduledEvent::Tick { node } => WorldEvent::Tick { node: *node },
+        ScheduledEvent::Settle { rounds } => {
+            return Line::Settle {
+                now,
+                rounds: *rounds,
+            };
+        }
+    };
+    Line::Event { now, event }
+}
+
+/// A call, by the cells of its node.
+fn call_of<'a>(call: &ScheduledCall, cells: &Cells, args: &'a mut [i32; 17]) -> Call<'a>
+    ensures call { (w : Records) (node thread : ℕ) → cells.now ≡ (w node).local.cells → called_at node thread result ≡ call_event w node thread call.now }
+    ensures nodes { (s : Parameters) (node thread : ℕ) → node < s.nodes → IsAmong s (called_at node thread result) }
+{
+    match call {
+        ScheduledCall::Short {
+            to,
+            handler,
+            operands,
+        } => {
+            *args = operands.values(cells, &[]);
+            let args: &'a [i32; 17] = args;
+            Call::Short {
+                to: *to,
+                handler: *handler,
+                args: &args[..operands.len()],
+            }
+        }
+        ScheduledCall::Poll => Call::Poll,
+        ScheduledCall::Attempt { call } => Call::Attempt { call: *call },
+        ScheduledCall::Cell { cell } => Call::Cell { c: *cell },
+        ScheduledCall::SetCell { cell, operand } => Call::SetCell {
+            c: *cell,
+            value: operand.value(cells, &[]),
+        },
+    }
+}
