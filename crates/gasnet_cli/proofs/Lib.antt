@@ -1,11 +1,9 @@
-pub mod Numbers
-pub mod Shapes
-pub mod Fronts
-pub mod LineLaws
-pub mod Integers
-pub mod FieldLaws
-pub mod JobLaws
 pub mod Saying
 pub mod Runs
-pub mod Endings
+pub mod Timed
+pub mod Among
 pub mod RunLaws
+pub mod Turns
+pub mod Newest
+pub mod Writing
+pub mod Endings

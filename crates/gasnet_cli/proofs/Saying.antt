@@ -7,7 +7,7 @@ use Rattle.gas_outside.specs.Whole.{IsWriteFault}
 use Rattle.gas_outside.proofs.Outboxes.{gathers_none, gathers_more, gathers_first, gathers_then}
 use Rattle.gas_outside.specs.declared.writing.Wrote.{Wrote}
 use Rattle.gas_outside.specs.declared.writing.Wrote.TheVariants as wrote
-use Rattle.gasnet_cli.specs.Lines.{Line, spell, line_text}
+use Rattle.node_script.specs.Lines.{Line, spell, line_text}
 use Rattle.gasnet_cli.specs.Says.{LinesUpTo, Says, OnDone, IsFault, said_of}
 use Rattle.gasnet_cli.specs.declared.said.Said.{Said}
 use Rattle.gasnet_cli.specs.declared.said.Said.TheVariants.{Done, Fault, NoMemory}

@@ -1,10 +1,4 @@
-pub mod Lines
-pub mod Number
-pub mod JobText
-pub mod Reading
 pub mod Says
-pub mod JobRules
-pub mod AnswerWords
 pub mod Output
 pub mod Runs
 pub mod Laws

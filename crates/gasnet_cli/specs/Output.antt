@@ -1,83 +1,145 @@
 -- The lines of the output of a run.
-use Rattle.std.specs.Prelude.{ℕ, zero, suc, ◌+◌, List, [], ◌∷◌, ◌++◌, map, codes, decimal}
+use Rattle.std.specs.Prelude.{ℕ, zero, suc, ◌+◌, ◌==◌, ◌||◌, Bool, false, not, if◌then◌else◌, List, [], ◌∷◌, ◌++◌, map, Option, None, Some, codes, decimal}
 use Rattle.datagram_grammar.specs.Parameters.{Parameters}
 use Rattle.handler_rules.specs.Logged.{log_of}
+use Rattle.handler_rules.specs.declared.rules.Context.{Context}
+use Rattle.handler_rules.specs.declared.rules.Context.TheVariants as context
+use Rattle.handler_rules.specs.declared.rules.Fault.{Fault}
+use Rattle.handler_rules.specs.declared.rules.Fault.TheVariants as fault
+use Rattle.handler_rules.specs.declared.rules.Violation.{Violation}
 use Rattle.am_core.specs.Record.{Node}
 use Rattle.am_core.specs.Held.{held}
-use Rattle.am_core.specs.Locals.{Local, short}
+use Rattle.am_core.specs.Locals.{Local}
 use Rattle.gas_world.specs.Step.{AllRules}
-use Rattle.gas_world.specs.World as world
+use Rattle.gas_world.specs.World.{Event, Requests, Does, RequestComes, ReplyComes, Ticks, world_answer, world_after, run}
 use Rattle.gas_world.specs.Held.{most_after}
 use Rattle.gas_world.specs.Nodes.{Records, at_the_opening}
 use Rattle.gas_world.specs.declared.event.WorldAnswer.{WorldAnswer}
-use Rattle.gasnet_cli.specs.Lines.{Line}
-use Rattle.gasnet_cli.specs.JobRules.{job_rules}
-use Rattle.gasnet_cli.specs.AnswerWords.{answer_words}
-use Rattle.gasnet_cli.specs.declared.job.Event.{Event}
-use Rattle.gasnet_cli.specs.declared.job.Event.TheVariants.{Call, Request, Reply}
-use Rattle.gasnet_cli.specs.declared.job.TimedEvent.{TimedEvent}
-use Rattle.gasnet_cli.specs.declared.job.Job.{Job}
+use Rattle.gas_world.specs.declared.event.WorldAnswer.TheVariants as answers
+use Rattle.node_script.specs.Lines.{Word, Line}
+use Rattle.node_script.specs.Jobs.{JobState}
+use Rattle.node_script.specs.AnswerWords.{answer_words, rule_word}
+use Rattle.node_script.specs.Schedules.{job_rules, scheduled_event, line_events, schedule_events, lines_of}
+use Rattle.node_script.specs.declared.job.TimedEvent.{TimedEvent}
 
--- an event of a schedule, as an event of the world
-abbrev pub scheduled : Event → world.Event
-scheduled (Call node thread to args) = world.Requests node thread to (short 128 args)
-scheduled (Request from to number) = world.RequestComes from to number
-scheduled (Reply from to number) = world.ReplyComes from to number
+-- ---- answers
 
--- the events of a schedule with their times
-abbrev pub events_of : List TimedEvent → List (ℕ × world.Event)
-events_of es = map (λ e. (e.time, scheduled e.event)) es
+-- the node on which an event falls
+abbrev pub node_of : Event → ℕ
+node_of (Requests node thread to c) = node
+node_of (Does node thread call) = node
+node_of (RequestComes from to number) = to
+node_of (ReplyComes from to number) = from
+node_of (Ticks node) = node
 
--- a line for each answer: its number, and its words
-abbrev pub answer_lines : ℕ → List WorldAnswer → List Line
-answer_lines number [] = []
-answer_lines number (a ∷ more) = (decimal number ∷ answer_words a) ∷ answer_lines (number + 1) more
+-- the words of the answer of a world, where the node on which the event fell has this record after it. No event is answered that memory ran out
+abbrev pub world_words : Node Local → WorldAnswer → Line
+world_words r (answers.Node answer) = answer_words r answer
+world_words r answers.Unsent = codes "unsent" ∷ []
+world_words r answers.NoMemory = codes "no-memory" ∷ []
 
--- the answers of a schedule by these rules, from these records on
-abbrev pub schedule_answers : Parameters → AllRules Local → List TimedEvent → Records → List WorldAnswer
-schedule_answers s u es w = world.answers_of s u (events_of es) w
+-- the words of the answer to an event at this time
+abbrev pub event_words : Parameters → AllRules Local → Records → (now : ℕ) → Event → Line
+event_words s u w now e = world_words (world_after s u w now e (node_of e)) (world_answer s u w now e)
+
+-- the words of the answer to a line of a schedule, by its one event; a line of rounds has none
+abbrev pub words_by : Parameters → AllRules Local → Records → (now : ℕ) → Option Event → Line
+words_by s u w now None = codes "settled" ∷ []
+words_by s u w now (Some e) = event_words s u w now e
+
+-- the words of the answer to a line of a schedule
+abbrev pub line_words : Parameters → AllRules Local → Records → TimedEvent → Line
+line_words s u w e = words_by s u w e.time (scheduled_event w e.event)
+
+-- a line for each line of a schedule: its number, and the words of its answer
+abbrev pub answer_lines : Parameters → AllRules Local → (number : ℕ) → List TimedEvent → Records → List Line
+answer_lines s u number [] w = []
+answer_lines s u number (e ∷ es) w = (decimal number ∷ line_words s u w e) ∷ answer_lines s u (number + 1) es (run s u (line_events s u w e.time e.event) w)
 
 -- the records after a schedule
 abbrev pub records_after : Parameters → AllRules Local → List TimedEvent → Records → Records
-records_after s u es w = world.run s u (events_of es) w
+records_after s u es w = run s u (schedule_events s u es w) w
 
 -- the greatest number of message buffers that each node held after an event, after a schedule
 abbrev pub most_held : Parameters → AllRules Local → List TimedEvent → Records → (ℕ → ℕ) → ℕ → ℕ
-most_held s u es w most = most_after s u (events_of es) w most
+most_held s u es w most = most_after s u (schedule_events s u es w) w most
+
+-- ---- nodes
 
 -- how many violations a node noted; it stands still at 2 ^ 64 - 1
 abbrev pub violations : Node Local → ℕ
 violations r = (log_of r.local.violations).count
 
+-- the last 64 violations that a node noted, the oldest first
+abbrev pub last_violations : Node Local → List Violation
+last_violations r = (log_of r.local.violations).newest
+
+-- the words of who made a call
+abbrev pub context_words : Context → Line
+context_words (context.Thread thread) = codes "thread" ∷ decimal thread ∷ []
+context_words context.RequestHandler = codes "request" ∷ []
+context_words context.ReplyHandler = codes "reply" ∷ []
+
+-- the word of what was wrong with a call
+abbrev pub fault_word : Fault → Word
+fault_word (fault.Rule rule) = rule_word rule
+
+-- the line of a violation of a node
+abbrev pub violation_line : (node : ℕ) → Violation → Line
+violation_line node v = codes "violation" ∷ decimal node ∷ (context_words v.context ++ fault_word v.fault ∷ [])
+
 -- the line of a node: what it holds, the most that it held, and how many violations it noted
 abbrev pub node_line : (node now most violations : ℕ) → Line
 node_line node now most violations = codes "node" ∷ decimal node ∷ codes "held" ∷ decimal now ∷ codes "most" ∷ decimal most ∷ codes "violations" ∷ decimal violations ∷ []
 
+-- the lines of a node with this record, which held at most so much: its own, and those of its last violations
+abbrev pub lines_of_node : Parameters → (node most : ℕ) → Node Local → List Line
+lines_of_node s node most r = node_line node (held s r) most (violations r) ∷ map (violation_line node) (last_violations r)
+
 -- the lines of the nodes from this one on, of which there are so many
 abbrev pub node_lines : Parameters → Records → (ℕ → ℕ) → ℕ → ℕ → List Line
 node_lines s w most node zero = []
-node_lines s w most node (suc count) = node_line node (held s (w node)) (most node) (violations (w node)) ∷ node_lines s w most (node + 1) count
+node_lines s w most node (suc count) = lines_of_node s node (most node) (w node) ++ node_lines s w most (node + 1) count
 
--- the line of a run that came to its end
+-- one of the nodes from this one on, of which there are so many, noted a violation
+abbrev pub any_violation : Records → ℕ → ℕ → Bool
+any_violation w node zero = false
+any_violation w node (suc count) = not (violations (w node) == 0) || any_violation w (node + 1) count
+
+-- ---- a run
+
+-- the line of a run that came to its end without a violation
 abbrev pub ok_line : Line
 ok_line = codes "status" ∷ codes "0" ∷ codes "ok" ∷ []
 
--- the lines at the end of a run: one for each node, and the last one
-abbrev pub end_lines : Parameters → Records → (ℕ → ℕ) → List Line
-end_lines s w most = node_lines s w most 0 s.nodes ++ ok_line ∷ []
+-- the line of a run that came to its end with violations
+abbrev pub violations_line : Line
+violations_line = codes "status" ∷ codes "1" ∷ codes "violations" ∷ []
 
--- the answers of a job's run
-abbrev pub run_answers : Job → List WorldAnswer
-run_answers j = schedule_answers j.settings (job_rules j) j.schedule at_the_opening
+-- the last line of a run
+abbrev pub last_line : (violated : Bool) → Line
+last_line violated = if violated then violations_line else ok_line
+
+-- the lines at the end of a run: those of each node, and the last one
+abbrev pub end_lines : Parameters → Records → (ℕ → ℕ) → List Line
+end_lines s w most = node_lines s w most 0 s.nodes ++ last_line (any_violation w 0 s.nodes) ∷ []
+
+-- the events of a job's run
+abbrev pub run_events : JobState → List (ℕ × Event)
+run_events j = schedule_events j.settings (job_rules j) (lines_of j.schedule) at_the_opening
 
 -- the records at the end of a job's run
-abbrev pub run_records : Job → Records
-run_records j = records_after j.settings (job_rules j) j.schedule at_the_opening
+abbrev pub run_records : JobState → Records
+run_records j = records_after j.settings (job_rules j) (lines_of j.schedule) at_the_opening
 
 -- the most that each node held in a job's run
-abbrev pub run_most : Job → ℕ → ℕ
-run_most j = most_held j.settings (job_rules j) j.schedule at_the_opening (λ i. 0)
+abbrev pub run_most : JobState → ℕ → ℕ
+run_most j = most_held j.settings (job_rules j) (lines_of j.schedule) at_the_opening (λ i. 0)
+
+-- a node noted a violation in a job's run
+abbrev pub is_violated : JobState → Bool
+is_violated j = any_violation (run_records j) 0 j.settings.nodes
 
 -- the lines of a job's run: the answers, and the lines at the end
-abbrev pub run_lines : Job → List Line
-run_lines j = answer_lines 1 (run_answers j) ++ end_lines j.settings (run_records j) (run_most j)
+abbrev pub run_lines : JobState → List Line
+run_lines j = answer_lines j.settings (job_rules j) 1 (lines_of j.schedule) at_the_opening ++ end_lines j.settings (run_records j) (run_most j)

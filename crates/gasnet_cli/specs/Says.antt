@@ -3,7 +3,7 @@ use Rattle.std.specs.Prelude.{◌≡◌, ℕ, List, ◌++◌, ⊤}
 use Rattle.gas_outside.specs.Buffered.{Outbox, Gathers, GathersUpTo}
 use Rattle.gas_outside.specs.declared.writing.Wrote.{Wrote}
 use Rattle.gas_outside.specs.declared.writing.Wrote.TheVariants as wrote
-use Rattle.gasnet_cli.specs.Lines.{Line, spell}
+use Rattle.node_script.specs.Lines.{Line, spell}
 use Rattle.gasnet_cli.specs.declared.said.Said.{Said}
 use Rattle.gasnet_cli.specs.declared.said.Said.TheVariants.{Done, Fault, NoMemory}
 

@@ -7,26 +7,29 @@ ghost use Rattle.gasnet_cli.specs.TopCall.{IsWorld};
 ghost use Rattle.gasnet_cli.specs.TopParts.{ReadsOrNot, IsReadFault, Tells};
 
 use crate::ending::End;
-use crate::job::Job;
-use crate::job_reader::read_job;
-use crate::read_error::ReadError;
 use crate::run::run_job;
 use crate::said::Said;
 use crate::status::say;
 use gas_outside::{BufferedSink, ReadAll, Sink, Source, read_all};
 use gas_world::World;
+use node_script::{Job, JobFault, JobWhy, read_job};
 use std::alloc::Global;
 
 /// The most bytes of a job's text.
 const LIMIT: usize = 4_194_304;
 
 /// What reading a job gave.
-#[derive(Debug, Drop)]
+#[derive(Drop)]
 pub enum JobRead {
     /// The job whose text was read.
     Job(Job),
     /// The bytes are no job's text, or too many.
-    NoJob,
+    NoJob {
+        /// The first bad line, counted from 1; 0 where there are too many bytes.
+        line: u32,
+        /// The first reason that applies to it.
+        why: JobWhy,
+    },
     /// The source failed.
     Fault,
     /// Memory ran out.
@@ -42,10 +45,13 @@ fn job_from<S: Source>(alloc: Global, source: &mut S) -> JobRead
     match read_all(alloc, source, LIMIT) {
         ReadAll::Bytes(bytes) => match read_job(alloc, &bytes) {
             Ok(job) => JobRead::Job(job),
-            Err(ReadError::Memory) => JobRead::NoMemory,
-            Err(ReadError::Fault(_)) => JobRead::NoJob,
+            Err(JobFault::Bad { line, why }) => JobRead::NoJob { line, why },
+            Err(JobFault::NoMemory) => JobRead::NoMemory,
         },
-        ReadAll::TooLong => JobRead::NoJob,
+        ReadAll::TooLong => JobRead::NoJob {
+            line: 0,
+            why: JobWhy::Size,
+        },
         ReadAll::Fault => JobRead::Fault,
         ReadAll::NoMemory => JobRead::NoMemory,
     }
@@ -64,11 +70,11 @@ fn world_command<S: Source, K: Sink>(
     match job_from(alloc, source) {
         JobRead::NoMemory => (say(sink, End::NoMemory), None),
         JobRead::Fault => (say(sink, End::ReadFault), None),
-        JobRead::NoJob => (say(sink, End::BadJob), None),
+        JobRead::NoJob { line, why } => (say(sink, End::BadJob { line, why }), None),
         JobRead::Job(job) => match run_job(alloc, &job, sink) {
-            (Said::Done, world) => (End::Done, world),
-            (Said::Fault, _) => (End::WriteFault, None),
-            (Said::NoMemory, _) => (say(sink, End::NoMemory), None),
+            (Said::Done, violated, world) => (End::of_run(violated), world),
+            (Said::Fault, _, _) => (End::WriteFault, None),
+            (Said::NoMemory, _, _) => (say(sink, End::NoMemory), None),
         },
     }
 }

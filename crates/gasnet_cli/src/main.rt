@@ -1,27 +1,21 @@
 //! Runs GASNet active messages over lossy datagrams.
 //!
 //! The one command is `world`: it reads a job from standard input, runs its schedule over the endpoints of a world, and
-//! writes one line for each line of the schedule, then one for each node, then `status CODE NAME`. The code is the exit
+//! writes one line for each line of the schedule, then those of each node, then `status CODE NAME`. The code is the exit
 //! status. Nothing is written to standard error.
 #![tactic(auto)]
 
-mod answer_words;
 mod command;
 mod ending;
-mod event_reader;
-mod idle;
-mod job;
-mod job_reader;
-mod line_reader;
-mod line_writer;
-mod number;
+mod moved;
 mod output;
-mod read_error;
 mod run;
 mod said;
+mod settling;
 mod standard;
 mod status;
 mod top;
+mod violations;
 
 use standard::{ReaderSource, WriterSink};
 use std::process::ExitCode;

@@ -1,17 +1,18 @@
 //! Writing status lines.
 
-ghost use Rattle.std.specs.Prelude.{◌≡◌, ◌≢◌, ◌≤◌, ◌∷◌, [], codes};
+ghost use Rattle.std.specs.Prelude.{◌≡◌, ◌≢◌, ◌≤◌, ◌∷◌, [], codes, decimal};
 ghost use Rattle.gas_outside.specs.Buffered.{GathersAll, outbox};
 ghost use Rattle.gas_outside.specs.Faults.{Rose};
 ghost use Rattle.gas_outside.specs.Whole.{IsWriteFault};
-ghost use Rattle.gasnet_cli.specs.Lines.{line_text};
-ghost use Rattle.gasnet_cli.specs.TopCall.{status_line};
+ghost use Rattle.node_script.specs.Lines.{line_text};
+ghost use Rattle.gasnet_cli.specs.TopCall.{status_line, why_word};
 ghost use Rattle.gasnet_cli.specs.TopParts.{SaysAlone};
 ghost use Rattle.gasnet_cli.specs.declared.ending.End.{End};
 
-use crate::ending::End;
-use crate::line_writer::write_line;
+use crate::ending::{End, why_word};
 use gas_outside::{BufferedSink, Sink, Wrote};
+use itoa::Buffer;
+use node_script::{JobWhy, write_line};
 
 /// Writes a status line of a number and a name.
 fn write_named<K: Sink>(sink: &mut BufferedSink<K>, code: &[u8], name: &[u8]) -> Wrote
@@ -23,15 +24,21 @@ fn write_named<K: Sink>(sink: &mut BufferedSink<K>, code: &[u8], name: &[u8]) ->
 }
 
 /// Writes the status line of a bad job: the line, and the reason.
-fn write_bad_job<K: Sink>(sink: &mut BufferedSink<K>, line: &[u8], why: &[u8]) -> Wrote
-    ensures bytes { GathersAll (outbox K.taken sink.old) (outbox K.taken sink.new) (line_text (codes "status" ∷ codes "3" ∷ codes "bad-job" ∷ line.now ∷ why.now ∷ [])) result }
+fn write_bad_job<K: Sink>(sink: &mut BufferedSink<K>, line: u32, why: JobWhy) -> Wrote
+    ensures bytes { GathersAll (outbox K.taken sink.old) (outbox K.taken sink.new) (line_text (codes "status" ∷ codes "3" ∷ codes "bad-job" ∷ decimal line ∷ why_word why ∷ [])) result }
     ensures later { K.faults sink.old.inner ≤ K.faults sink.new.inner }
     ensures fault { IsWriteFault result → Rose (K.faults sink.old.inner) (K.faults sink.new.inner) }
 {
+    let mut line_text = Buffer::new();
     write_line(
         sink,
         b"status",
-        &[b"3".as_slice(), b"bad-job".as_slice(), line, why],
+        &[
+            b"3".as_slice(),
+            b"bad-job".as_slice(),
+            line_text.format(line).as_bytes(),
+            why_word(why),
+        ],
     )
 }
 
@@ -43,8 +50,9 @@ pub fn write_status<K: Sink>(sink: &mut BufferedSink<K>, end: End) -> Wrote
 {
     match end {
         End::Done => write_named(sink, b"0", b"ok"),
+        End::Violations => write_named(sink, b"1", b"violations"),
         End::Usage => write_named(sink, b"2", b"usage"),
-        End::BadJob => write_bad_job(sink, b"0", b"form"),
+        End::BadJob { line, why } => write_bad_job(sink, line, why),
         End::ReadFault => write_named(sink, b"4", b"read-fault"),
         End::WriteFault => write_named(sink, b"5", b"write-fault"),
         End::NoMemory => write_named(sink, b"8", b"no-memory"),

@@ -1,13 +1,13 @@
 //! The top call.
 
-ghost use Rattle.std.specs.Prelude.{◌≡◌, ◌≤◌, ◌⊎◌, ℕ, List, Some, map, length, string_bytes};
+ghost use Rattle.std.specs.Prelude.{◌≡◌, ◌≤◌, ◌⊎◌, ℕ, List, Some, map, string_bytes};
 ghost use Rattle.gas_outside.specs.Buffered.{outbox};
 ghost use Rattle.gas_outside.specs.Faults.{Rose};
-ghost use Rattle.gasnet_cli.specs.JobText.{JobText};
-ghost use Rattle.gasnet_cli.specs.TopCall.{code_of, limit, IsWorld, Means};
+ghost use Rattle.node_script.specs.Jobs.{JobState};
+ghost use Rattle.node_script.specs.JobText.{JobText};
+ghost use Rattle.gasnet_cli.specs.TopCall.{code_of, IsWorld, Means};
 ghost use Rattle.gasnet_cli.specs.TopParts.{Flushed};
 ghost use Rattle.gasnet_cli.specs.declared.ending.End.{End};
-ghost use Rattle.gasnet_cli.specs.declared.job.Job.{Job};
 
 use crate::command::command;
 use crate::ending::End;
@@ -27,9 +27,9 @@ pub struct Outside<S, K> {
 /// How a call ended.
 #[derive(Drop)]
 pub struct Status {
-    /// The exit status: 0, 2, 3, 4, 5 or 8.
+    /// The exit status: 0, 1, 2, 3, 4, 5 or 8.
     pub code: u8,
-    /// The world after the run; there is one exactly where the code is 0.
+    /// The world after the run; there is one exactly where the code is 0 or 1.
     pub world: Option<World>,
 }
 
@@ -52,9 +52,11 @@ fn flushed<K: Sink>(
 ///
 /// The words `world` alone read a job and run it. The last line written is `status CODE NAME`, but with code 5:
 ///
-/// - 0 `ok`: the job was run, and the lines of its run were written before;
+/// - 0 `ok`: the job was run, the lines of its run were written before, and no node noted a violation;
+/// - 1 `violations`: the same, and a node noted a violation;
 /// - 2 `usage`: the words are others;
-/// - 3 `bad-job 0 form`: the bytes read are no job's text, or more than 4,194,304;
+/// - 3 `bad-job LINE WHY`: the bytes read are no job's text; the first bad line, and the first reason that applies to it. Of more than
+///   4,194,304 bytes they are `0 size`;
 /// - 4 `read-fault`, only where the source's count of faults rose;
 /// - 5, only where the sink's count of faults rose: a front of the text was written;
 /// - 8 `no-memory`: memory ran out; whole lines of the run were written before.
@@ -67,9 +69,9 @@ pub fn gasnet<S: Source, K: Sink>(
     ensures means { (e : End) × (result.0.code ≡ code_of e) × Means (map string_bytes words.now) (S.left outside.source) (S.left result.1.source) (K.taken outside.sink) (K.taken result.1.sink)
         (Rose (S.faults outside.source) (S.faults result.1.source)) (Rose (K.faults outside.sink) (K.faults result.1.sink)) result.0.world e }
     // The words are right, the bytes are a job's text and no fault was counted: the job was run, or memory ran out.
-    ensures complete { (job : Job) (bytes : List ℕ) → IsWorld (map string_bytes words.now) → S.left outside.source ≡ Some bytes → length bytes ≤ limit → JobText job bytes
+    ensures complete { (job : JobState) (bytes : List ℕ) → IsWorld (map string_bytes words.now) → S.left outside.source ≡ Some bytes → JobText job bytes
         → (Rose (S.faults outside.source) (S.faults result.1.source) → ⊥) → (Rose (K.faults outside.sink) (K.faults result.1.sink) → ⊥)
-        → (result.0.code ≡ 0) ⊎ (result.0.code ≡ 8) }
+        → (result.0.code ≡ 0) ⊎ ((result.0.code ≡ 1) ⊎ (result.0.code ≡ 8)) }
 {
     let Outside { source, sink } = outside;
     let mut source = source;

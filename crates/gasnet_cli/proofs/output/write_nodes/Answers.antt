@@ -1,17 +1,17 @@
-use Rattle.std.proofs.Common.{◌≡◌, ℕ, suc, ◌+◌, ◌-◌, ◌<◌, ◌++◌, refl, ap, arith}
+use Rattle.std.proofs.Common.{◌≡◌, ℕ, suc, ◌+◌, ◌-◌, ◌<◌, ◌++◌, ap, arith}
 use Rattle.datagram_grammar.specs.Parameters.{Parameters}
-use Rattle.am_core.specs.Held.{held}
+use Rattle.std.proofs.lemmas.List.Concat.{flat_map-append}
 use Rattle.gas_world.specs.Nodes.{Records}
-use Rattle.gasnet_cli.specs.Lines.{spell, line_text}
-use Rattle.gasnet_cli.specs.Output.{violations, node_line, node_lines}
+use Rattle.node_script.specs.Lines.{spell, line_text}
+use Rattle.gasnet_cli.specs.Output.{lines_of_node, node_lines}
 use Rattle.gas_outside.proofs.Outboxes.{nothing_yet, past_done, past_fault, all_gathered}
 use Rattle.gasnet_cli.proofs.output.write_nodes.Goals as goal
 
--- the next node's line, and the others
-next_node : (s : Parameters) (w : Records) (most : ℕ → ℕ) (node n : ℕ) → node < n → spell (node_lines s w most node (n - node)) ≡ line_text (node_line node (held s (w node)) (most node) (violations (w node))) ++ spell (node_lines s w most (node + 1) (n - (node + 1)))
+-- the next node's lines, and the others
+next_node : (s : Parameters) (w : Records) (most : ℕ → ℕ) (node n : ℕ) → node < n → spell (node_lines s w most node (n - node)) ≡ spell (lines_of_node s node (most node) (w node)) ++ spell (node_lines s w most (node + 1) (n - (node + 1)))
 next_node s w most node n h =
     let left : n - node ≡ suc (n - (node + 1)) = omega arith in
-    rw left refl
+    rw left (flat_map-append line_text (lines_of_node s node (most node) (w node)) (node_lines s w most (node + 1) (n - (node + 1))))
 
 pub loop-node-init : goal.loop-node-init
 loop-node-init g c =

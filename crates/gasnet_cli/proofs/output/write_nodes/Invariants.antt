@@ -2,7 +2,7 @@ use Rattle.std.proofs.Common.{ℕ, ◌≤◌, ◌-◌}
 use Rattle.gas_outside.specs.Buffered.{GathersUpTo, outbox}
 use Rattle.gas_world.specs.Nodes.{Records}
 use Rattle.gas_world.specs.Stands.{Stands}
-use Rattle.gasnet_cli.specs.Lines.{spell}
+use Rattle.node_script.specs.Lines.{spell}
 use Rattle.gasnet_cli.specs.Output.{node_lines}
 use Rattle.gasnet_cli.proofs.output.write_nodes.Given as goal
 

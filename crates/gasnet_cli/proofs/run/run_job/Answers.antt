@@ -3,9 +3,3 @@ use Rattle.gasnet_cli.proofs.run.run_job.Goals as goal
 
 pub returns-in_default-clause-lines : goal.returns-in_default-clause-lines
 returns-in_default-clause-lines g c = (_, no_lines_yet _ _)
-
-pub returns-in_default-new-clause-lines : goal.returns-in_default-new-clause-lines
-returns-in_default-new-clause-lines g c = (_, no_lines_yet _ _)
-
-pub run_in-said-requires-clause-stands : goal.run_in-said-requires-clause-stands
-run_in-said-requires-clause-stands g c = c.in-Ok-new.ensures.stands

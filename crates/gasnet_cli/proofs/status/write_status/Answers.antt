@@ -3,6 +3,9 @@ use Rattle.gasnet_cli.proofs.status.write_status.Goals as goal
 pub returns-in-Done-clause-bytes : goal.returns-in-Done-clause-bytes
 returns-in-Done-clause-bytes g c = rw c.in-Done.is c.write_named.ensures.bytes
 
+pub returns-in-Violations-clause-bytes : goal.returns-in-Violations-clause-bytes
+returns-in-Violations-clause-bytes g c = rw c.in-Violations.is c.write_named-in-Violations.ensures.bytes
+
 pub returns-in-Usage-clause-bytes : goal.returns-in-Usage-clause-bytes
 returns-in-Usage-clause-bytes g c = rw c.in-Usage.is c.write_named-in-Usage.ensures.bytes
 

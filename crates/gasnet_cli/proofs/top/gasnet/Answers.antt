@@ -9,6 +9,6 @@ returns-clause-means g c =
     (c.flushed-end.result.0, c.code.ensures, rw (c.into_inner.ensures) (rw c.new-sink.ensures.inner at m))
 
 pub returns-clause-complete : goal.returns-clause-complete
-returns-clause-complete g c = λ j bytes words told within text source sink.
+returns-clause-complete g c = λ j bytes words told text source sink.
     let m = returns-clause-means g c in
-    rw m.1 (complete _ _ _ _ _ _ _ _ m.0 j bytes words told within text source sink m.2)
+    rw m.1 (complete _ _ _ _ _ _ _ _ m.0 j bytes words told text source sink m.2)
