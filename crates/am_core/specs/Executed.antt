@@ -18,7 +18,7 @@ abbrev pub run_at : ℕ → ℕ → List Run → Option Run
 run_at slot number [] = None
 run_at slot number (r ∷ rs) = if (r.number == number) && (r.slot == slot) then Some r else run_at slot number rs
 
--- the last run of the slot, whose reply is kept
+-- the run with the greatest number of the slot, whose reply is kept
 abbrev pub last_run : ℕ → List Run → Option Run
 last_run slot rs = run_at slot (greatest slot rs) rs
 

@@ -61,7 +61,7 @@ has_handler table c = if is_request c.kind then is_for_requests (entry_at table 
 abbrev pub content_refusal : (table : List (Option Entry)) → Content → Option Why
 content_refusal table c = if is_ack (code c.kind) || has_handler table c then None else Some why.Handler
 
--- the first of a request's arguments that is bad: no handler of requests is registered for its index; it has too many arguments
+-- the first part of a request that is bad: its handler, where none of requests is registered for the index; or the count of its arguments, where there are more than 16
 abbrev pub content_fault : (table : List (Option Entry)) → Content → Option Which
 content_fault table c =
     if is_for_requests (entry_at table c.handler) then (if nat_lt 16 (length c.args) then Some which.Count else None)

@@ -148,7 +148,7 @@ after_delivery u me r m _ = r
 
 -- ---- a tick
 
--- the request that is sent again
+-- the request that is due first, if any: it is sent again
 abbrev pub next_due : {Kept : Type 0} → Parameters → Node Kept → (now : ℕ) → Option Due
 next_due s r now = earliest (all_dues now s.resend r.asked s.nodes)
 
