@@ -144,20 +144,20 @@ request_sends meaning v z now i thread j c answer old new w most S i_in j_in F N
     quiet_sends v z w most i i j _ old new S i_in j_in F (subst (AddsRequest old new) (N.answer_is ∙ ap asked_answer e) A) (same_quiet v.settings i (w i) _ refl refl)
 
 -- a request to another node
-pub short_steps : (meaning : Meaning) (v z : WorldState) (now i thread j : ℕ) (k : Call) (a : WorldAnswer) (old new : Scene) → IsLawfulMeaning meaning → i < v.settings.nodes → j < v.settings.nodes → HasTarget k j → Falls v z i (i * v.settings.nodes + j) old new
+pub short_steps : (meaning : Meaning) (v z : WorldState) (now i thread j : ℕ) (k : Call) (a : WorldAnswer) (old new : Scene) → IsLawfulMeaning meaning → i < v.settings.nodes → j < v.settings.nodes → HasTarget k j → j ≢ i → Falls v z i (i * v.settings.nodes + j) old new
     → CallFallsOrNot meaning old now (called thread k) a new → Steps meaning v now (called_at i thread k) a z
-short_steps meaning v z now i thread j (call.Short to handler args) (world_answers.Node answer) old new lawful i_in j_in target F C = λ w most S.
+short_steps meaning v z now i thread j (call.Short to handler args) (world_answers.Node answer) old new lawful i_in j_in target other F C = λ w most S.
     let c = short handler args.now in
     let N = scene_steps meaning v z w most now i (i * v.settings.nodes + j) (NodeRequests thread to c) answer old new S F i_in C.steps in
     call_steps meaning v z now i j thread (call.Short to handler args) answer old new w most lawful S i_in j_in F N C.most_is
     (subst (λ t. Sends v w (put w i (after_request (rules_in meaning v).messages i (w i) now thread t c (request_answer v.settings (rules_in meaning v).messages i (w i) thread t c))) i j new) (sym target)
     (request_sends meaning v z now i thread j c answer old new w most S i_in j_in F (subst (λ t. Stepping meaning v w now i (NodeRequests thread t c) answer new.endpoint) target N) C.adds _ refl))
-short_steps meaning v z now i thread j (call.Short to handler args) world_answers.NoMemory old new lawful i_in j_in target F C = λ w most S. same_stands v z w most i (i * v.settings.nodes + j) old new S F C
-short_steps meaning v z now i thread j (call.Short to handler args) world_answers.Unsent old new lawful i_in j_in target F C = absurd C
-short_steps meaning v z now i thread j call.Poll a old new lawful i_in j_in target F C = absurd target
-short_steps meaning v z now i thread j (call.Attempt kind) a old new lawful i_in j_in target F C = absurd target
-short_steps meaning v z now i thread j (call.Cell cell) a old new lawful i_in j_in target F C = absurd target
-short_steps meaning v z now i thread j (call.SetCell cell value) a old new lawful i_in j_in target F C = absurd target
+short_steps meaning v z now i thread j (call.Short to handler args) world_answers.NoMemory old new lawful i_in j_in target other F C = ((λ same. other (sym target ∙ same)), λ w most S. same_stands v z w most i (i * v.settings.nodes + j) old new S F C)
+short_steps meaning v z now i thread j (call.Short to handler args) world_answers.Unsent old new lawful i_in j_in target other F C = absurd C
+short_steps meaning v z now i thread j call.Poll a old new lawful i_in j_in target other F C = absurd target
+short_steps meaning v z now i thread j (call.Attempt kind) a old new lawful i_in j_in target other F C = absurd target
+short_steps meaning v z now i thread j (call.Cell cell) a old new lawful i_in j_in target other F C = absurd target
+short_steps meaning v z now i thread j (call.SetCell cell value) a old new lawful i_in j_in target other F C = absurd target
 
 -- ---- what was sent
 
@@ -260,7 +260,7 @@ request_steps meaning v z now i j k (world_answers.Node answer) old new lawful i
     let request = (and_parts _ _ ((S.invariant_.pair i j).well k it.x it.at)).0 in
     event_steps meaning v z now (RequestComes i j k) j i j (Comes m) answer old new w most lawful S (i_in, j_in) j_in j_in F (ap (request_event s i j k) it.at) N R.most_is
     (delivered_sends meaning v z now i j k it.x answer old new w most S i_in j_in apart F it.at request N R.adds _ refl)
-request_steps meaning v z now i j k world_answers.NoMemory old new lawful i_in j_in apart F R = λ w most S. same_stands v z w most j (i * v.settings.nodes + j) old new S F R
+request_steps meaning v z now i j k world_answers.NoMemory old new lawful i_in j_in apart F R = (apart, λ w most S. same_stands v z w most j (i * v.settings.nodes + j) old new S F R)
 request_steps meaning v z now i j k world_answers.Unsent old new lawful i_in j_in apart F R = λ w most S.
     nowhere_steps meaning v z now (RequestComes i j k) w most F.settings (same_stands v z w most j (i * v.settings.nodes + j) old new S F R.1)
     (ap (request_event v.settings i j k) (none_sent v.settings i j v.archive.bytes old.exchanges.list ((w i).asked j) ((w j).ran i) k (scene_pair v z w most j i j old new S F i_in j_in) R.0))

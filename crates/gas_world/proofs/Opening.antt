@@ -6,6 +6,7 @@ use Rattle.datagram_grammar.specs.Parameters.{Parameters, AreInRange}
 use Rattle.handler_rules.specs.declared.table.Entry.{Entry}
 use Rattle.am_core.specs.Locals.{opening_node, nothing_done, content_refusal}
 use Rattle.am_core.proofs.Lists.{slice_get_push, numbered_nil}
+use Rattle.am_core.proofs.Nodes.{held_nothing}
 use Rattle.gas_world.specs.Nodes.{at_the_opening}
 use Rattle.gas_world.specs.Archived.{ArchiveState}
 use Rattle.gas_world.specs.Exchanged.{ExchangesState}
@@ -14,7 +15,6 @@ use Rattle.gas_world.specs.Sizes.{IsWorldSized, IsNodeOf, AreOpening, AreEmpty}
 use Rattle.gas_world.specs.Stands.{Stands, StandsForPair}
 use Rattle.gas_world.specs.declared.exchanges.Exchange.{Exchange}
 use Rattle.gas_world.proofs.Worlds.{opening_keeps}
-use Rattle.gas_world.proofs.Laws.{held_nothing}
 use Rattle.gas_world.proofs.Scenes.{pair_place}
 
 -- one endpoint more
@@ -55,7 +55,8 @@ stands_opening s table es archive xs most range count A pairs E zeros = record {
       let it = item_in xs (i * s.nodes + j) (subst (λ n. i * s.nodes + j < n) (sym pairs) (pair_place s.nodes i j i_in j_in)) in
       (it.0.list, it.0.room, it.1, empty_pair s i j archive.bytes it.0.list (E (i * s.nodes + j) it.0 it.1));
   most_is = λ i low. ap (λ ms. slice_get ms i) zeros ∙ slice_get-replicate s.nodes i 0 low;
-  held_le = λ i low. omega (arith, held_nothing s.credits s.nodes i);
+  held_le = λ i low. omega (arith, held_nothing s.credits nothing_done s.nodes);
+  most_few = λ i low. omega arith;
 }
 
 -- and it has its sizes

@@ -1,6 +1,6 @@
 -- What is read of a world is what its records give.
-use Rattle.std.proofs.Common.{◌≡◌, ℕ, ◌+◌, ◌*◌, ◌<◌, true≢false, List, length, get_or, Option, None, Some, refl, sym, ap, ◌∙◌, subst, subst₂, arith}
-use Rattle.std.specs.Prelude.{IsTrue, ◌↔◌, false}
+use Rattle.std.proofs.Common.{◌≡◌, ℕ, ◌+◌, ◌*◌, ◌<◌, List, length, get_or, Option, None, Some, refl, sym, ap, ◌∙◌, subst, subst₂, arith}
+use Rattle.std.specs.Prelude.{false}
 use Rattle.std.specs.List.{slice_get}
 use Rattle.std.proofs.lemmas.Option.{slice_get_read, same_Some}
 use Rattle.datagram_grammar.specs.Parameters.{Parameters}
@@ -13,7 +13,7 @@ use Rattle.gas_world.specs.Endpoints.{EndpointState, EndpointStands}
 use Rattle.gas_world.specs.Sizes.{IsWorldSized}
 use Rattle.gas_world.specs.Worlds.{WorldState}
 use Rattle.gas_world.specs.Stands.{StandsForPair, Stands}
-use Rattle.gas_world.specs.Events.{IsReturned}
+use Rattle.gas_world.specs.Plain.{is_back}
 use Rattle.gas_world.specs.declared.exchanges.Exchange.{Exchange}
 use Rattle.gas_world.proofs.Scenes.{pair_place}
 use Rattle.gas_world.proofs.Deliveries.{sent_is, none_sent}
@@ -56,11 +56,11 @@ most_read s table v es archive xs most node m view sized low read w greatest S =
     same_Some _ _ (sym (ap (λ (t : WorldState). slice_get t.most node) (sym view) ∙ at) ∙ S.most_is node low)
 
 -- whether a request is back, by its exchange
-pub back_is : (s : Parameters) (i j : ℕ) (bytes : List ℕ) (list : List Exchange) (xs : List Asked) (rs : List Run) (k : ℕ) (e : Exchange) → StandsForPair s i j bytes list xs rs → numbered list k ≡ Some e → IsTrue e.back ↔ IsReturned (numbered xs k)
+pub back_is : (s : Parameters) (i j : ℕ) (bytes : List ℕ) (list : List Exchange) (xs : List Asked) (rs : List Run) (k : ℕ) (e : Exchange) → StandsForPair s i j bytes list xs rs → numbered list k ≡ Some e → e.back ≡ is_back (numbered xs k)
 back_is s i j bytes list xs rs k e P at =
     let it = sent_is s i j bytes list xs rs k e P at in
-    subst (λ o. IsTrue e.back ↔ IsReturned o) (sym it.at) ((λ b. sym it.stands.back ∙ b), λ b. it.stands.back ∙ b)
+    it.stands.back ∙ ap is_back (sym it.at)
 
 -- what has no exchange isn't back
-pub none_back : (s : Parameters) (i j : ℕ) (bytes : List ℕ) (list : List Exchange) (xs : List Asked) (rs : List Run) (k : ℕ) → StandsForPair s i j bytes list xs rs → numbered list k ≡ None → IsTrue false ↔ IsReturned (numbered xs k)
-none_back s i j bytes list xs rs k P at = subst (λ o. IsTrue false ↔ IsReturned o) (sym (none_sent s i j bytes list xs rs k P at)) ((λ b. absurd (true≢false (sym b))), λ b. absurd b)
+pub none_back : (s : Parameters) (i j : ℕ) (bytes : List ℕ) (list : List Exchange) (xs : List Asked) (rs : List Run) (k : ℕ) → StandsForPair s i j bytes list xs rs → numbered list k ≡ None → false ≡ is_back (numbered xs k)
+none_back s i j bytes list xs rs k P at = ap is_back (sym (none_sent s i j bytes list xs rs k P at))

@@ -13,6 +13,7 @@ use Rattle.am_core.specs.Locals.{Local, content_refusal}
 use Rattle.am_core.proofs.Puts.{put_same, put_other}
 use Rattle.gas_world.specs.Held.{most_then}
 use Rattle.gas_world.specs.Invariant.{WorldInvariant}
+use Rattle.gas_world.specs.Laws.{greatest_holding}
 use Rattle.gas_world.specs.Nodes.{Records}
 use Rattle.gas_world.specs.Exchanged.{ExchangesState}
 use Rattle.gas_world.specs.Archived.{ArchiveState}
@@ -22,6 +23,7 @@ use Rattle.gas_world.specs.Worlds.{WorldState}
 use Rattle.gas_world.specs.Scenes.{Scene, IsSame}
 use Rattle.gas_world.specs.Stands.{StandsForPair, Stands}
 use Rattle.gas_world.specs.declared.exchanges.Exchange.{Exchange}
+use Rattle.gas_world.proofs.Laws.{records_few}
 use Rattle.gas_world.proofs.Archiving.{pair_grows}
 
 -- ---- places
@@ -153,6 +155,10 @@ with_settings v z w most e f S = subst (λ (t : WorldState). Stands t w most) (a
 max_same : (a b : ℕ) → b ≤ a → a ≡ max a b
 max_same a b le = omega arith
 
+-- the greater of two isn't above what neither is above
+max_few : (a b c : ℕ) → a ≤ c → b ≤ c → max a b ≤ c
+max_few a b c low few = omega arith
+
 -- the world stands where one node changed, and what it sent stands
 pub moves_stand : (v z : WorldState) (w : Records) (most : ℕ → ℕ) (i a b : ℕ) (x : Node Local) (old new : Scene) → Stands v w most → b < v.settings.nodes → Falls v z i (a * v.settings.nodes + b) old new → Moves v w most i x new → Sends v w (put w i x) a b new
     → Stands z (put w i x) (most_then v.settings (put w i x) most)
@@ -193,6 +199,7 @@ moves_stand v z w most i a b x old new S b_in F M A =
         | inr e ↦ set_there v.most z.most i k new.most F.most_is e ∙ (S.most_is k low ∙ ap Some (max_same (most k) (held s (w k)) (S.held_le k low) ∙ ap (λ (r : Node Local). max (most k) (held s r)) (sym (put_other w i x k e))))
       ];
       held_le = λ k low. omega arith;
+      most_few = λ k low. max_few (most k) (held s (w' k)) (greatest_holding s) (S.most_few k low) (records_few s (content_refusal v.table) w' M.invariant_ k low);
     })
 
 -- ---- nothing changed
@@ -217,6 +224,7 @@ same_stands v z w most node place old new S F I =
       ];
       most_is = λ k low. as_before v.most z.most node k old.most new.most F.most_was F.most_is I.most_is ∙ S.most_is k low;
       held_le = S.held_le;
+      most_few = S.most_few;
     })
   where
     as_before : {X : Type 0} (xs ys : List X) (i k : ℕ) (x y : X) → slice_get xs i ≡ Some x → ys ≡ set xs i y → y ≡ x → slice_get ys k ≡ slice_get xs k
@@ -234,4 +242,5 @@ still_stands z s w most e S = record {
   exchanges = S.exchanges;
   most_is = λ k low. S.most_is k low ∙ ap Some (max_same (most k) (held s (w k)) (subst (λ t. held t (w k) ≤ most k) e (S.held_le k low)));
   held_le = λ k low. omega (arith, S.held_le k low);
+  most_few = λ k low. subst (λ m. m ≤ greatest_holding z.settings) (max_same (most k) (held s (w k)) (subst (λ t. held t (w k) ≤ most k) e (S.held_le k low))) (S.most_few k low);
 }

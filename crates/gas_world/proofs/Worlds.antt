@@ -86,7 +86,7 @@ same_step s refuses w i x I kept_asked kept_ran = record {
 -- ---- what an answer says
 
 -- a request that is answered so far is allowed and not bad
-request_parts : (j : Result (Unit {0}) Forbidden) (f : Option Which) (own : Bool) (claim : AskedAnswer) (peer slot k : ℕ) → unless_forbidden j (unless_bad f (cond own asked.Ran claim)) ≡ asked.Accepted peer slot k → (f ≡ None) × (own ≡ false) × (claim ≡ asked.Accepted peer slot k)
+pub request_parts : (j : Result (Unit {0}) Forbidden) (f : Option Which) (own : Bool) (claim : AskedAnswer) (peer slot k : ℕ) → unless_forbidden j (unless_bad f (cond own asked.Ran claim)) ≡ asked.Accepted peer slot k → (f ≡ None) × (own ≡ false) × (claim ≡ asked.Accepted peer slot k)
 request_parts (Ok t) None true claim peer slot k e = absurd (cc)
 request_parts (Ok t) None false claim peer slot k e = (refl, refl, e)
 request_parts (Ok t) (Some part) own claim peer slot k e = absurd (cc)
@@ -109,7 +109,7 @@ fault_parts s u to c e = elim (cases_Bool (leb s.nodes to)) [
     some_none e = cc
 
 -- what is claimed is the smallest free slot and the next number
-claimed_says : (s : Parameters) (to : ℕ) (xs : List Asked) (peer slot k : ℕ) → claim_answer s to xs ≡ asked.Accepted peer slot k
+pub claimed_says : (s : Parameters) (to : ℕ) (xs : List Asked) (peer slot k : ℕ) → claim_answer s to xs ≡ asked.Accepted peer slot k
     → (unreturned xs < s.credits) × (length xs < s.last) × (slot ≡ free_slot xs) × (k ≡ suc (length xs))
 claimed_says s to xs peer slot k e = (grind (arith, nat_tests), grind (arith, nat_tests), grind (arith, nat_tests), grind (arith, nat_tests))
 

@@ -1,14 +1,15 @@
 -- The events of the code, as those of the records, and what a step of a world does.
-use Rattle.std.specs.Prelude.{ℕ, ◌≡◌, true, Option, None, Some}
-use Rattle.am_core.specs.Record.{Asked}
-use Rattle.am_core.specs.Locals.{Meaning, short}
+use Rattle.std.specs.Prelude.{ℕ, ◌≡◌, ◌≢◌, List}
+use Rattle.std.specs.List.{AllByRecursion}
+use Rattle.am_core.specs.Locals.{Local, Meaning, IsLawfulMeaning, nothing_done, short}
 use Rattle.gas_world.specs.Step.{AllRules, Poll, Attempt, Cell, SetCell}
-use Rattle.gas_world.specs.World.{Event, Requests, Does, RequestComes, ReplyComes, Ticks, world_answer, world_after}
+use Rattle.gas_world.specs.World.{Event, Requests, Does, RequestComes, ReplyComes, Ticks, world_answer, world_after, IsAmong}
 use Rattle.gas_world.specs.Held.{most_then}
+use Rattle.gas_world.specs.Plain.{PlainStep, plain_of}
+use Rattle.gas_world.specs.Headline.{Headline}
 use Rattle.gas_world.specs.Nodes.{Records, all_rules}
 use Rattle.gas_world.specs.Worlds.{WorldState}
 use Rattle.gas_world.specs.Stands.{Stands}
-use Rattle.am_core.specs.Locals.{Local}
 use Rattle.gas_world.specs.declared.event.Call.{Call}
 use Rattle.gas_world.specs.declared.event.Call.TheVariants as call
 use Rattle.gas_world.specs.declared.event.WorldEvent.{WorldEvent}
@@ -38,18 +39,32 @@ event_of (event.Request from to number) = RequestComes from to number
 event_of (event.Reply from to number) = ReplyComes from to number
 event_of (event.Tick node) = Ticks node
 
--- the request was accepted and is back
-abbrev pub IsReturned : Option Asked → Type 0
-IsReturned None = ⊥
-IsReturned (Some x) = x.back ≡ true
-
 -- what the handlers and calls do in this world
 abbrev pub rules_in : Meaning → WorldState → AllRules Local
 rules_in meaning v = all_rules v.settings v.table meaning
 
+-- by any lawful handlers, each run from the opening by events among the nodes has the headline
+abbrev pub RunsHaveTheHeadline : WorldState → Type 0
+RunsHaveTheHeadline v = (meaning : Meaning) (es : List (ℕ × Event)) → IsLawfulMeaning meaning → AllByRecursion (λ (e : ℕ × Event). IsAmong v.settings e.1) es
+    → Headline v.settings (rules_in meaning v) (λ i. nothing_done) es
+
+-- the event may want memory: it is a request to another node, or the delivery of one
+abbrev pub MayWantMemory : Event → Type 0
+MayWantMemory (Requests node thread to c) = to ≢ node
+MayWantMemory (Does node thread call) = ⊥
+MayWantMemory (RequestComes from to number) = from ≢ to
+MayWantMemory (ReplyComes from to number) = ⊥
+MayWantMemory (Ticks node) = ⊥
+
 -- for every record for which the world stood: the answer is the record's, and the world stands for the record's next one; where memory ran out, it stands for the same record
 abbrev pub Steps : Meaning → WorldState → (now : ℕ) → Event → WorldAnswer → WorldState → Type 0
-Steps meaning old now e answers.NoMemory new = (w : Records) (most : ℕ → ℕ) → Stands old w most → Stands new w most
+Steps meaning old now e answers.NoMemory new = MayWantMemory e × ((w : Records) (most : ℕ → ℕ) → Stands old w most → Stands new w most)
 Steps meaning old now e a new = (w : Records) (most : ℕ → ℕ) → Stands old w most
     → (a ≡ world_answer old.settings (rules_in meaning old) w now e)
     × Stands new (world_after old.settings (rules_in meaning old) w now e) (most_then old.settings (world_after old.settings (rules_in meaning old) w now e) most)
+
+-- for every record for which the world stood: read as a plain world, it steps by this event with this answer to what its next record is. Where memory ran out it doesn't step
+abbrev pub StepsPlainly : Meaning → WorldState → (now : ℕ) → Event → WorldAnswer → Type 0
+StepsPlainly meaning old now e answers.NoMemory = Unit {0}
+StepsPlainly meaning old now e a = (w : Records) (most : ℕ → ℕ) → Stands old w most
+    → PlainStep old.settings (rules_in meaning old) (plain_of w) now e a (plain_of (world_after old.settings (rules_in meaning old) w now e))

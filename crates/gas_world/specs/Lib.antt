@@ -2,7 +2,10 @@ pub mod Step
 pub mod World
 pub mod Held
 pub mod Invariant
+pub mod Plain
 pub mod Laws
+pub mod Sent
+pub mod Headline
 pub mod Nodes
 pub mod Archived
 pub mod Exchanged

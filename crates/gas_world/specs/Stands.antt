@@ -8,6 +8,7 @@ use Rattle.am_core.specs.Held.{held}
 use Rattle.am_core.specs.Locals.{content_refusal}
 use Rattle.am_core.specs.Invariant.{request_message, reply_message}
 use Rattle.gas_world.specs.Invariant.{WorldInvariant}
+use Rattle.gas_world.specs.Laws.{greatest_holding}
 use Rattle.gas_world.specs.Nodes.{Records}
 use Rattle.gas_world.specs.State.{part_of}
 use Rattle.gas_world.specs.Endpoints.{EndpointState, EndpointStands}
@@ -41,7 +42,7 @@ pub record StandsForPair (s : Parameters) (from to : ℕ) (bytes : List ℕ) (li
 
 -- ---- a world
 
--- the world stands for these records, after events in which each node held at most so much
+-- the world stands for these records, where each node holds at most so much, and that is at most 2C(n-1)
 pub record Stands (v : WorldState) (w : Records) (most : ℕ → ℕ) : Type 0 where
   pub range : AreInRange v.settings
   pub invariant_ : WorldInvariant v.settings (content_refusal v.table) w
@@ -49,3 +50,4 @@ pub record Stands (v : WorldState) (w : Records) (most : ℕ → ℕ) : Type 0 w
   pub exchanges : (i j : ℕ) → i < v.settings.nodes → j < v.settings.nodes → (list : List Exchange) × (room : ℕ) × (slice_get v.exchanges (i * v.settings.nodes + j) ≡ Some (record { list = list; room = room })) × StandsForPair v.settings i j v.archive.bytes list ((w i).asked j) ((w j).ran i)
   pub most_is : (i : ℕ) → i < v.settings.nodes → slice_get v.most i ≡ Some (most i)
   pub held_le : (i : ℕ) → i < v.settings.nodes → held v.settings (w i) ≤ most i
+  pub most_few : (i : ℕ) → i < v.settings.nodes → most i ≤ greatest_holding v.settings

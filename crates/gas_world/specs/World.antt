@@ -19,7 +19,7 @@ World Kept = ℕ → Node Kept
 abbrev pub opening : {Kept : Type 0} → (ℕ → Kept) → World Kept
 opening start i = record { asked = λ j. []; ran = λ j. []; local = start i }
 
--- what may happen next. A message that is lost is never delivered; one that is repeated is delivered again; there is no order
+-- what may happen next: also the delivery of what was never sent. A message that is lost is never delivered; one that is repeated is delivered again; there is no order
 pub data Event : Type 0 where
   Requests : (node thread to : ℕ) → Content → Event  -- a thread of the node makes a request
   Does : (node thread : ℕ) → OtherCall → Event  -- a thread of the node makes another call
@@ -35,7 +35,7 @@ abbrev pub reply_event : Parameters → (from to : ℕ) → Option Run → Optio
 reply_event s from to None = None
 reply_event s from to (Some r) = Some (from, Comes (reply_message s from to r))
 
--- the node on which an event falls, and what it is there. There is none for a message that was never sent: sent were the requests accepted, and the replies of the requests run
+-- the node on which an event falls, and what it is there. There is none for a message that was never sent; sent are the requests accepted, and the replies of the requests run
 abbrev pub falls : {Kept : Type 0} → Parameters → World Kept → Event → Option (ℕ × NodeEvent)
 falls s w (Requests node thread to c) = Some (node, NodeRequests thread to c)
 falls s w (Does node thread call) = Some (node, NodeDoes thread call)
@@ -69,7 +69,7 @@ abbrev pub answers_of : {Kept : Type 0} → Parameters → AllRules Kept → Lis
 answers_of s u [] w = []
 answers_of s u (e ∷ es) w = world_answer s u w e.0 e.1 ∷ answers_of s u es (world_after s u w e.0 e.1)
 
--- the event names nodes that are there, and its content is that of a request
+-- the node on which a call or a tick falls, and both nodes of a delivery, are there; the content of a request is that of a request
 abbrev pub IsAmong : Parameters → Event → Type 0
 IsAmong s (Requests node thread to c) = (node < s.nodes) × (is_request c.kind ≡ true)
 IsAmong s (Does node thread call) = node < s.nodes

@@ -51,7 +51,7 @@ pub enum Event<'a> {
         /// Its bytes.
         bytes: &'a [u8],
     },
-    /// The time has come to send something.
+    /// A tick: what is due may be sent again.
     Tick,
 }
 

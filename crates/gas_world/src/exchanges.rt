@@ -1,8 +1,8 @@
 //! The requests of a pair of nodes, with their replies.
 
-ghost use Rattle.std.specs.Prelude.{◌≡◌, ◌≤◌, ◌<◌, ◌++◌, ◌∷◌, OnOk, length, [], IfSome, slice_get};
+ghost use Rattle.std.specs.Prelude.{◌≡◌, ◌≤◌, ◌<◌, suc, ◌++◌, ◌∷◌, OnOk, length, [], IfSome, slice_get};
 ghost use Rattle.am_core.specs.Record.{numbered};
-ghost use Rattle.gas_world.specs.State.{requested, with_reply_part, with_returned};
+ghost use Rattle.gas_world.specs.State.{front_back, requested, with_reply_part, with_returned};
 
 use crate::archive::Part;
 use std::alloc::{AllocError, Global};
@@ -23,15 +23,20 @@ pub struct Exchange {
 #[derive(Debug, Drop)]
 pub struct Exchanges {
     list: Vec<Exchange>,
+    // The lowest number of a request that isn't back; where all are back, the number after the last.
+    first_out: u64,
 }
 
 impl Model for Exchanges {
-    ghost use Rattle.std.specs.Prelude.{◌-◌, vec_len, vec_capacity};
+    ghost use Rattle.std.specs.Prelude.{◌≡◌, ◌-◌, suc, vec_len, vec_capacity};
     ghost use Rattle.gas_world.specs.Exchanged.{ExchangesState};
+    ghost use Rattle.gas_world.specs.State.{front_back};
 
     ghost Value = { ExchangesState };
 
     ghost view = { λ e. record { list = e.list.items; room = vec_capacity e.list - vec_len e.list } };
+
+    ghost invariant = { λ e. e.first_out ≡ suc (front_back e.list.items) };
 }
 
 impl Exchanges {
@@ -41,6 +46,7 @@ impl Exchanges {
     {
         Exchanges {
             list: Vec::new(alloc),
+            first_out: 1,
         }
     }
 
@@ -91,6 +97,14 @@ impl Exchanges {
         ensures { self.new.list ≡ with_returned self.old.list number }
     {
         self.list[(number - 1) as usize].back = true;
+        self.first_out = first_out_from(&self.list, self.first_out);
+    }
+
+    /// The lowest number of a request that isn't back; where all are back, the number after the last.
+    pub fn first_out(&self) -> u64
+        ensures { result ≡ suc (front_back self.now.list) }
+    {
+        self.first_out
     }
 
     /// How many requests there are.
@@ -99,4 +113,18 @@ impl Exchanges {
     {
         self.list.len()
     }
+}
+
+/// The lowest number of a request that isn't back, where no lower one than `known` is out. It looks at none of those.
+fn first_out_from(list: &[Exchange], known: u64) -> u64
+    requires first { 1 ≤ known }
+    requires last { known ≤ suc (front_back list.now) }
+    ensures { result ≡ suc (front_back list.now) }
+{
+    for place in (known - 1) as usize..list.len() {
+        if !list[place].back {
+            return place as u64 + 1;
+        }
+    }
+    (list.len() + 1) as u64
 }

@@ -1,13 +1,14 @@
 //! A world of endpoints.
 
-ghost use Rattle.std.specs.Prelude.{◌≡◌, ◌≢◌, ◌<◌, ◌≤◌, ◌+◌, ◌*◌, ℕ, IfOk, IsTrue, ◌↔◌, length, Some};
-ghost use Rattle.am_core.specs.Record.{numbered};
+ghost use Rattle.std.specs.Prelude.{◌≡◌, ◌≢◌, ◌<◌, ◌≤◌, ◌+◌, ◌*◌, ℕ, IfOk, length, Some};
 ghost use Rattle.gas_world.specs.Sizes.{AreOpening, AreEmpty, IsNodeOf};
 ghost use Rattle.gas_world.specs.Nodes.{Records, at_the_opening};
 ghost use Rattle.gas_world.specs.World.{IsAmong};
+ghost use Rattle.gas_world.specs.Plain.{plain_of, IsFirstOut};
+ghost use Rattle.gas_world.specs.Laws.{greatest_holding, IsLawful};
 ghost use Rattle.gas_world.specs.Endpoints.{EndpointStands};
 ghost use Rattle.gas_world.specs.Stands.{Stands};
-ghost use Rattle.gas_world.specs.Events.{event_of, HasTarget, IsReturned, Steps};
+ghost use Rattle.gas_world.specs.Events.{event_of, HasTarget, rules_in, RunsHaveTheHeadline, Steps, StepsPlainly};
 
 use crate::archive::Archive;
 use crate::endpoint::Endpoint;
@@ -45,11 +46,12 @@ impl Model for World {
 impl World {
     /// A world of endpoints that asked and ran nothing. It keeps copies of the table.
     ///
-    /// It is refused for want of memory alone.
+    /// Want of memory is its one error. Each run from here has the headline, whatever the handlers and the events.
     pub fn new(alloc: Global, settings: &Settings, table: &Table) -> Result<World, AllocError>
         ensures settings { IfOk result (λ v. v.settings ≡ settings.now) }
         ensures table { IfOk result (λ v. v.table ≡ table.now) }
         ensures stands { IfOk result (λ v. Stands v at_the_opening (λ i. 0)) }
+        ensures headline { IfOk result RunsHaveTheHeadline }
     {
         let nodes = settings.nodes();
         let pairs = usize::from(nodes) * usize::from(nodes);
@@ -65,8 +67,10 @@ impl World {
 
     /// One event at the time `now`.
     ///
-    /// The event names nodes that are there. `Unsent` comes exactly where that message was never sent; after `NoMemory` the world
-    /// is as before.
+    /// The node on which a call or a tick falls, and both nodes of a delivery, are there. `Unsent` comes exactly where that message
+    /// was never sent. `NoMemory` comes only at a request to another node, or at the delivery of one, and then the world stands for
+    /// the same records. Else, read as a plain world, one without buffers, kept replies and times, it steps by the same event with
+    /// the same answer. The laws of the headline hold of each state that it comes to.
     pub fn step<H: Handlers>(
         &mut self,
         handlers: &H,
@@ -77,6 +81,8 @@ impl World {
         ensures settings { self.new.settings ≡ self.old.settings }
         ensures table { self.new.table ≡ self.old.table }
         ensures steps { Steps (H.meaning handlers.now) self.old now (event_of event.now) result self.new }
+        ensures plain { StepsPlainly (H.meaning handlers.now) self.old now (event_of event.now) result }
+        ensures lawful { (w : Records) (most : ℕ → ℕ) → Stands self.new w most → IsLawful self.new.settings (rules_in (H.meaning handlers.now) self.new) w }
     {
         match event {
             WorldEvent::Call { node, thread, call } => {
@@ -104,10 +110,12 @@ impl World {
         &self.endpoints[node as usize]
     }
 
-    /// The greatest number of message buffers that the node held after any event so far; 0 at the opening.
+    /// The greatest number of message buffers that the node held after any event so far; 0 at the opening. With C credits a pair
+    /// and n nodes it is at most 2C(n-1).
     pub fn most_held(&self, node: u16) -> usize
         requires { node < self.now.settings.nodes }
-        ensures { (w : Records) (most : ℕ → ℕ) → Stands self.now w most → result ≡ most node }
+        ensures most { (w : Records) (most : ℕ → ℕ) → Stands self.now w most → result ≡ most node }
+        ensures few { (w : Records) (most : ℕ → ℕ) → Stands self.now w most → result ≤ greatest_holding self.now.settings }
     {
         self.most[node as usize]
     }
@@ -116,16 +124,27 @@ impl World {
     pub fn accepted(&self, from: u16, to: u16) -> u64
         requires from { from < self.now.settings.nodes }
         requires to { to < self.now.settings.nodes }
-        ensures { (w : Records) (most : ℕ → ℕ) → Stands self.now w most → result ≡ length ((w from).asked to) }
+        ensures { (w : Records) (most : ℕ → ℕ) → Stands self.now w most → result ≡ length ((plain_of w).req from to) }
     {
         self.exchanges[place_of(&self.settings, from, to)].len() as u64
+    }
+
+    /// The lowest number of a request of `from` to `to` that isn't back; where all that were accepted are back, the number after the
+    /// last. It takes no search.
+    pub fn first_out(&self, from: u16, to: u16) -> u64
+        requires from { from < self.now.settings.nodes }
+        requires to { to < self.now.settings.nodes }
+        ensures number { 1 ≤ result }
+        ensures out { (w : Records) (most : ℕ → ℕ) → Stands self.now w most → IsFirstOut (plain_of w) from to result }
+    {
+        self.exchanges[place_of(&self.settings, from, to)].first_out()
     }
 
     /// Whether the request of `from` to `to` with that number was accepted and is back.
     pub fn returned(&self, from: u16, to: u16, number: u64) -> bool
         requires from { from < self.now.settings.nodes }
         requires to { to < self.now.settings.nodes }
-        ensures { (w : Records) (most : ℕ → ℕ) → Stands self.now w most → IsTrue result ↔ IsReturned (numbered ((w from).asked to) number) }
+        ensures { (w : Records) (most : ℕ → ℕ) → Stands self.now w most → result ≡ (plain_of w).back from to number }
     {
         match self.exchanges[place_of(&self.settings, from, to)].get(number) {
             Some(exchange) => exchange.back,

@@ -13,7 +13,7 @@ returns-clause-steps g c =
     let falls = falls_at c.self.inside.settings c.self.inside.table v _ c.self.inside.endpoints.items c.self.inside.exchanges.items c.self.inside.most.items c.args.node c.args.to c.args.node c.from-node.result c.place_of-place.result old new
     c.self.view_is c.self.invariant c.requires.node c.requires.to c.requires.node c.from-node.ensures c.place_of-place.ensures
     c.index_mut.ensures.value c.index_mut-2.ensures.value c.index_mut-3.ensures.value refl in
-    short_steps meaning v _ c.args.now c.args.node c.args.thread c.args.to c.args.call.now c.call.result old new (g.met.H.Handlers.is_lawful c.args.handlers.now) c.requires.node c.requires.to c.requires.target falls c.call.ensures.steps
+    short_steps meaning v _ c.args.now c.args.node c.args.thread c.args.to c.args.call.now c.call.result old new (g.met.H.Handlers.is_lawful c.args.handlers.now) c.requires.node c.requires.to c.requires.target c.requires.other falls c.call.ensures.steps
 
 pub invariant_of-self : goal.invariant_of-self
 invariant_of-self g c =

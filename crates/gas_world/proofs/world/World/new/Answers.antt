@@ -1,6 +1,7 @@
 use Rattle.std.proofs.Common.{◌≡◌, ◌*◌, length, replicate, rules, sym, ◌∙◌, subst}
 use Rattle.gas_world.specs.Sizes.{AreOpening}
 use Rattle.gas_world.proofs.Opening.{stands_opening, sized_opening}
+use Rattle.gas_world.proofs.Headline.{headline}
 use Rattle.gas_world.proofs.world.World.new.Goals as goal
 
 pub invariant_of-result : goal.invariant_of-result
@@ -23,3 +24,6 @@ returns-clause-stands c =
     let open_ = subst (λ t. AreOpening s t endpoints) (sym copied) c.in_ok-opening_endpoints.ensures.1 in
     stands_opening s c.in_ok-copy.field-0 endpoints c.new.result c.in_ok-no_exchanges.field-0.items c.in_ok-vec.field-0.items c.nodes-nodes.ensures.range
     c.in_ok-opening_endpoints.ensures.0 open_ pairs c.in_ok-no_exchanges.ensures.1 zeros
+
+pub returns-clause-headline : goal.returns-clause-headline
+returns-clause-headline c = headline c.args.settings.now c.in_ok-copy.field-0
