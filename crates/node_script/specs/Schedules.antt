@@ -46,7 +46,7 @@ open_numbers number (x ∷ xs) = if x.back then open_numbers (suc number) xs els
 abbrev pub exchange_events : (now from to number : ℕ) → List (ℕ × Event)
 exchange_events now from to number = (now, RequestComes from to number) ∷ (now, ReplyComes from to number) ∷ []
 
--- the turn of a pair whose requests are these: each that isn't back as the turn comes is delivered, and then its reply, where it was sent
+-- the turn of a pair whose requests are these: each that isn't back as the turn comes is delivered, and then its reply
 abbrev pub turn_events : (now from to : ℕ) → List Asked → List (ℕ × Event)
 turn_events now from to xs = flat_map (exchange_events now from to) (open_numbers 1 xs)
 
