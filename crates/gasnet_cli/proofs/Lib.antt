@@ -2,6 +2,7 @@ pub mod Saying
 pub mod Runs
 pub mod Timed
 pub mod Among
+pub mod Told
 pub mod RunLaws
 pub mod Turns
 pub mod Newest

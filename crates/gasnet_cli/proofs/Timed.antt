@@ -57,8 +57,8 @@ settle_line w o e read line now rounds at is line_is h = read_at w o e read (Som
 pub never_none : (w : Records) (o : Option TimedEvent) (e : TimedEvent) (read : Option Line) → o ≡ Some e → read ≡ None → IsLine w o read → ⊥
 never_none w o e read at is h = read_at w o e read None at is h
 
--- the words and the events of a line, by its one event
-one_event : (s : Parameters) (u : AllRules Local) (w : Records) (now : ℕ) (e : ScheduledEvent) (x : Event) → scheduled_event w e ≡ Some x → line_events s u w now e ≡ (now, x) ∷ []
+-- the events of a line, by its one event
+pub one_event : (s : Parameters) (u : AllRules Local) (w : Records) (now : ℕ) (e : ScheduledEvent) (x : Event) → scheduled_event w e ≡ Some x → line_events s u w now e ≡ (now, x) ∷ []
 one_event s u w now (scheduled.Call node thread c) x h = ap (λ (y : Event). (now, y) ∷ []) (same_Some _ x h)
 one_event s u w now (scheduled.Request from to number) x h = ap (λ (y : Event). (now, y) ∷ []) (same_Some _ x h)
 one_event s u w now (scheduled.Reply from to number) x h = ap (λ (y : Event). (now, y) ∷ []) (same_Some _ x h)

@@ -1,9 +1,9 @@
 -- The turn of a pair, number by number: what is back as its turn comes is what was back as the turn of the pair began.
-use Rattle.std.proofs.Common.{◌≡◌, ◌≢◌, ℕ, zero, suc, ◌+◌, ◌-◌, ◌<◌, ◌≤◌, IsTrue, ◌↔◌, Bool, true, false, List, [], ◌∷◌, ◌++◌, length, drop, Option, None, Some, refl, sym, ap, subst, ◌∙◌, arith, inl, inr}
+use Rattle.std.proofs.Common.{◌≡◌, ◌≢◌, ℕ, zero, suc, ◌+◌, ◌-◌, ◌<◌, ◌≤◌, Bool, true, false, List, [], ◌∷◌, ◌++◌, length, drop, Option, None, Some, refl, sym, ap, subst, ◌∙◌, arith}
 use Rattle.std.specs.Option.{option_map}
 use Rattle.std.specs.List.{flat_map, slice_get}
 use Rattle.std.proofs.lemmas.Option.{same_Some}
-use Rattle.std.proofs.lemmas.Bool.{cases_Bool}
+use Rattle.std.proofs.lemmas.List.{length-map}
 use Rattle.datagram_grammar.specs.Parameters.{Parameters}
 use Rattle.datagram_grammar.specs.Message.{Message}
 use Rattle.am_core.specs.Record.{Asked, Run, Node, numbered, change, change_at}
@@ -18,11 +18,13 @@ use Rattle.am_core.specs.declared.answer.Delivered.TheVariants as delivered
 use Rattle.am_core.proofs.Lists.{run_of_there}
 use Rattle.am_core.proofs.Puts.{put_same, put_other}
 use Rattle.gas_world.specs.Step.{AllRules, Comes, node_after}
-use Rattle.gas_world.specs.Events.{IsReturned}
+use Rattle.gas_world.specs.Plain.{plain_of, labelled, is_back}
 use Rattle.gas_world.specs.Stands.{Stands}
 use Rattle.gas_world.specs.Worlds.{WorldState}
 use Rattle.gas_world.specs.World.{Event, RequestComes, ReplyComes, Ticks, request_event, reply_event, after_at, world_after, run}
 use Rattle.gas_world.specs.Nodes.{Records}
+use Rattle.gas_world.specs.Plain.{IsFirstOut, plain_of, is_back}
+use Rattle.gas_world.proofs.PlainReadings.{is_back_says}
 use Rattle.node_script.specs.Schedules.{exchange_events, turn_events, open_numbers, tick_events, row_events, pair_events, round_events, settle_events}
 use Rattle.gasnet_cli.specs.Runs.{Moves}
 use Rattle.gasnet_cli.specs.declared.moved.Moved.TheVariants as moved
@@ -126,14 +128,17 @@ pub record TurnLeft (s : Parameters) (u : AllRules Local) (v : WorldState) (now 
   pub same : (k : ℕ) → place ≤ k → slice_get ((half.records from).asked to) k ≡ slice_get ((w from).asked to) k
 
 -- before the first place
-pub turn_begins : (s : Parameters) (u : AllRules Local) (v : WorldState) (now from to : ℕ) (w : Records) (most : ℕ → ℕ) → Stands v w most → TurnLeft s u v now from to w most 0
+turn_begins : (s : Parameters) (u : AllRules Local) (v : WorldState) (now from to : ℕ) (w : Records) (most : ℕ → ℕ) → Stands v w most → TurnLeft s u v now from to w most 0
 turn_begins s u v now from to w most h = record { half = halfway_none s u v w most (λ x. turn_from now from to ((w from).asked to) 0) h; same = λ k low. refl }
 
+-- how many requests of a pair the world says were accepted
+pub accepted_is : (w : Records) (from to count : ℕ) → count ≡ length ((plain_of w).req from to) → count ≡ length ((w from).asked to)
+accepted_is w from to count e = e ∙ length-map ((w from).asked to) labelled
+
 -- the answer of the world tells whether the next request is back
-told_back : (o : Option Asked) (b c : Bool) → (IsTrue b ↔ IsReturned o) → option_map (λ (x : Asked). x.back) o ≡ Some c → option_map (λ (x : Asked). x.back) o ≡ Some b
-told_back None b c h e = absurd (cc)
-told_back (Some x) true c h e = ap Some (h.0 refl)
-told_back (Some x) false c h e = elim (cases_Bool x.back) [ inl t ↦ (let q = h.1 t in absurd (cc)) | inr f ↦ ap Some f ]
+told_back : (o : Option Asked) (b c : Bool) → b ≡ is_back o → option_map (λ (x : Asked). x.back) o ≡ Some c → option_map (λ (x : Asked). x.back) o ≡ Some b
+told_back None b c told e = absurd (cc)
+told_back (Some x) b c told e = ap Some (sym told)
 
 -- the number after a place
 numbered_next : (xs : List Asked) (place : ℕ) → numbered xs (place + 1) ≡ slice_get xs place
@@ -141,16 +146,16 @@ numbered_next xs place = ap (numbered xs) (let e : place + 1 ≡ suc place = ome
 
 -- so it was back as the turn began
 was_back : (s : Parameters) (u : AllRules Local) (v : WorldState) (now from to : ℕ) (w : Records) (most : ℕ → ℕ) (place : ℕ) (b : Bool) (h : TurnLeft s u v now from to w most place) → place < length ((w from).asked to)
-    → (IsTrue b ↔ IsReturned (numbered ((h.half.records from).asked to) (place + 1))) → back_at ((w from).asked to) place ≡ Some b
+    → b ≡ (plain_of h.half.records).back from to (place + 1) → back_at ((w from).asked to) place ≡ Some b
 was_back s u v now from to w most place b h low told =
     let there = back_there ((w from).asked to) place low in
     let same = h.same place (omega arith) in
-    let one = told_back (slice_get ((h.half.records from).asked to) place) b there.0 (subst (λ o. IsTrue b ↔ IsReturned o) (numbered_next ((h.half.records from).asked to) place) told) (ap (option_map (λ (x : Asked). x.back)) same ∙ there.1) in
+    let one = told_back (slice_get ((h.half.records from).asked to) place) b there.0 (told ∙ ap is_back (numbered_next ((h.half.records from).asked to) place)) (ap (option_map (λ (x : Asked). x.back)) same ∙ there.1) in
     sym (ap (option_map (λ (x : Asked). x.back)) same) ∙ one
 
 -- a request that is back was passed
 pub turn_passes : (s : Parameters) (u : AllRules Local) (v : WorldState) (now from to : ℕ) (w : Records) (most : ℕ → ℕ) (place : ℕ) (b : Bool) (h : TurnLeft s u v now from to w most place) → place < length ((w from).asked to)
-    → b ≡ true → (IsTrue b ↔ IsReturned (numbered ((h.half.records from).asked to) (place + 1))) → TurnLeft s u v now from to w most (place + 1)
+    → b ≡ true → b ≡ (plain_of h.half.records).back from to (place + 1) → TurnLeft s u v now from to w most (place + 1)
 turn_passes s u v now from to w most place b h low is told =
     let xs = (w from).asked to in
     let next : suc place ≡ place + 1 = omega arith in
@@ -162,7 +167,7 @@ turn_passes s u v now from to w most place b h low is told =
 
 -- one that isn't back was delivered, and its reply
 pub turn_delivers : (s : Parameters) (u : AllRules Local) (v v' : WorldState) (now from to : ℕ) (w : Records) (most : ℕ → ℕ) (place : ℕ) (b : Bool) (h : TurnLeft s u v now from to w most place) → from ≢ to → place < length ((w from).asked to)
-    → b ≡ false → (IsTrue b ↔ IsReturned (numbered ((h.half.records from).asked to) (place + 1))) → Moves s u (λ x. exchange_events now from to (place + 1)) v v' moved.Done → TurnLeft s u v' now from to w most (place + 1)
+    → b ≡ false → b ≡ (plain_of h.half.records).back from to (place + 1) → Moves s u (λ x. exchange_events now from to (place + 1)) v v' moved.Done → TurnLeft s u v' now from to w most (place + 1)
 turn_delivers s u v v' now from to w most place b h other low is told moves =
     let xs = (w from).asked to in
     let next : suc place ≡ place + 1 = omega arith in
@@ -200,3 +205,27 @@ settle_next s u now turn n w h = let left : n - turn ≡ suc (n - (turn + 1)) = 
 
 pub tick_next : (now node : ℕ) → tick_events now (node + 1) ≡ tick_events now node ++ (now, Ticks node) ∷ []
 tick_next now node = let next : node + 1 ≡ suc node = omega arith in rw next refl
+
+-- ---- where a turn begins
+
+-- what is back in the plain world is back in the list
+back_listed : (xs : List Asked) (place : ℕ) → is_back (numbered xs (suc place)) ≡ true → back_at xs place ≡ Some true
+back_listed xs place h =
+    let it = is_back_says (slice_get xs place) h in
+    ap (option_map (λ (x : Asked). x.back)) it.1 ∙ ap Some it.2
+
+-- where all requests before a place are back, no events are before it
+turn_skips : (now from to : ℕ) (xs : List Asked) (place : ℕ) → ((k : ℕ) → k < place → back_at xs k ≡ Some true) → turn_from now from to xs 0 ≡ turn_from now from to xs place
+turn_skips now from to xs zero back = refl
+turn_skips now from to xs (suc place) back = turn_skips now from to xs place (λ k low. back k (omega (arith, low))) ∙ turn_past now from to xs place (back place (omega arith))
+
+-- the turn of a pair begins at its first request that is out
+pub turn_begins_at : (s : Parameters) (u : AllRules Local) (v : WorldState) (now from to : ℕ) (w : Records) (most : ℕ → ℕ) (first : ℕ) → Stands v w most → IsFirstOut (plain_of w) from to first → TurnLeft s u v now from to w most (first - 1)
+turn_begins_at s u v now from to w most first h out =
+    let xs = (w from).asked to in
+    let start = turn_begins s u v now from to w most h in
+    record {
+      half = halfway_same s u v w most (turn_events now from to xs) (λ x. turn_from now from to xs 0) (λ x. turn_from now from to xs (first - 1)) start.half
+          (turn_skips now from to xs (first - 1) (λ k low. back_listed xs k (out.before (suc k) (omega arith) (omega (arith, low)))));
+      same = λ k low. start.same k (omega arith);
+    }

@@ -32,7 +32,7 @@ node_of (RequestComes from to number) = to
 node_of (ReplyComes from to number) = from
 node_of (Ticks node) = node
 
--- the words of the answer of a world, where the node on which the event fell has this record after it. No event is answered that memory ran out
+-- the words of the answer of a world, where the node on which the event fell has this record after it. The records never answer that memory ran out
 abbrev pub world_words : Node Local → WorldAnswer → Line
 world_words r (answers.Node answer) = answer_words r answer
 world_words r answers.Unsent = codes "unsent" ∷ []

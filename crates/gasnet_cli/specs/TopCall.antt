@@ -36,7 +36,7 @@ why_word why.Count = codes "count"
 why_word why.Early = codes "early"
 why_word why.After = codes "after"
 
--- the words of the last line, where there is one
+-- the words of the last line of an end; that of a failed write is never written
 abbrev pub status_line : End → Line
 status_line ends.Done = ok_line
 status_line ends.Violations = violations_line

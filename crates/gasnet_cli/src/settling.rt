@@ -57,8 +57,9 @@ fn turn<H: Handlers>(world: &mut World, handlers: &H, now: u64, from: u16, to: u
     if from == to {
         return Moved::Done;
     }
+    let first = world.first_out(from, to);
     let accepted = world.accepted(from, to);
-    for place in 0..accepted {
+    for place in first - 1..accepted {
         if world.returned(from, to, place + 1) {
             continue;
         }

@@ -57,9 +57,9 @@ fn flushed<K: Sink>(
 /// - 2 `usage`: the words are others;
 /// - 3 `bad-job LINE WHY`: the bytes read are no job's text; the first bad line, and the first reason that applies to it. Of more than
 ///   4,194,304 bytes they are `0 size`;
-/// - 4 `read-fault`, only where the source's count of faults rose;
-/// - 5, only where the sink's count of faults rose: a front of the text was written;
-/// - 8 `no-memory`: memory ran out; whole lines of the run were written before.
+/// - 4 `read-fault`, only where the source's count of faults rose, or stands at its last value;
+/// - 5, only where the sink's count of faults rose, or stands at its last value: a front of the text was written;
+/// - 8 `no-memory`: memory ran out; whole lines of the run were written before, or none.
 pub fn gasnet<S: Source, K: Sink>(
     alloc: Global,
     words: &[String],

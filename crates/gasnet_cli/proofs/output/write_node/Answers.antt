@@ -16,7 +16,7 @@ returns-in-Fault-clause-bytes g c = λ w most h.
     let same : c.endpoint-endpoint.result.now.core.settings ≡ c.args.world.now.settings = c.endpoint-endpoint.ensures.node.settings in
     let now = c.held-held.ensures (w node) stands ∙ ap (λ (s : Parameters). held s (w node)) same in
     let count = c.count.ensures ∙ ap (λ (log : Logged). log.count) (c.log-log.ensures (w node) stands) in
-    past_fault _ _ _ _ _ _ _ refl (nothing_yet _ _) (rw (now, c.most_held-most.ensures w most h, count) at c.in-Fault.ensures.bytes)
+    past_fault _ _ _ _ _ _ _ refl (nothing_yet _ _) (rw (now, c.most_held-most.ensures.most w most h, count) at c.in-Fault.ensures.bytes)
 
 pub returns-clause-bytes : goal.returns-clause-bytes
 returns-clause-bytes g c = λ w most h.
@@ -26,6 +26,6 @@ returns-clause-bytes g c = λ w most h.
     let now = c.held-held.ensures (w node) stands ∙ ap (λ (s : Parameters). held s (w node)) same in
     let log = c.log-log.ensures (w node) stands in
     let count = c.count.ensures ∙ ap (λ (l : Logged). l.count) log in
-    let line = rw (now, c.most_held-most.ensures w most h, count) at c.in_default.ensures.bytes in
+    let line = rw (now, c.most_held-most.ensures.most w most h, count) at c.in_default.ensures.bytes in
     let others = subst (λ (l : Logged). length l.newest ≤ 64 → GathersAll (outbox g.K.Sink.taken c.write_node_line.new.sink) (outbox g.K.Sink.taken c.write_violations.new.sink) (spell (map (violation_line node) l.newest)) c.write_violations.result) log c.write_violations.ensures.bytes in
     past_last _ _ _ _ _ _ (past_done _ _ _ _ _ _ _ refl (nothing_yet _ _) line) (others (few_kept (w node).local.violations))

@@ -3,14 +3,14 @@ use Rattle.gas_world.specs.Events.{rules_in}
 use Rattle.node_script.specs.Schedules.{exchange_events}
 use Rattle.gasnet_cli.specs.Runs.{Moves}
 use Rattle.gasnet_cli.proofs.Runs.{same_rules}
-use Rattle.gasnet_cli.proofs.Turns.{turn_begins, turn_passes, turn_delivers, turn_ends}
+use Rattle.gasnet_cli.proofs.Turns.{accepted_is, turn_begins_at, turn_passes, turn_delivers, turn_ends}
 use Rattle.gasnet_cli.proofs.settling.turn.Goals as goal
 
 pub loop-place-init : goal.loop-place-init
 loop-place-init g c = record {
   settings = refl;
   table = refl;
-  left = λ w most h. turn_begins c.args.world.now.settings (rules_in (g.H.Handlers.meaning c.args.handlers.now) c.args.world.now) c.args.world.now c.args.now c.args.from c.args.to w most h;
+  left = λ w most h. turn_begins_at c.args.world.now.settings (rules_in (g.H.Handlers.meaning c.args.handlers.now) c.args.world.now) c.args.world.now c.args.now c.args.from c.args.to w most c.first_out-first.result h (c.first_out-first.ensures.out w most h);
 }
 
 pub loop-place-preserved-then-returned : goal.loop-place-preserved-then-returned
@@ -19,7 +19,7 @@ loop-place-preserved-then-returned g c = record {
   table = c.loop-place.invariant.table;
   left = λ w most h.
       let left = c.loop-place.invariant.left w most h in
-      let low : c.loop-place.place < length ((w c.args.from).asked c.args.to) = subst (λ n. c.loop-place.place < n) (c.accepted-accepted.ensures w most h) c.loop-place-test.true in
+      let low : c.loop-place.place < length ((w c.args.from).asked c.args.to) = subst (λ n. c.loop-place.place < n) (accepted_is w c.args.from c.args.to c.accepted-accepted.result (c.accepted-accepted.ensures w most h)) c.loop-place-test.true in
       turn_passes c.args.world.now.settings (rules_in (g.H.Handlers.meaning c.args.handlers.now) c.args.world.now) c.loop-place.world c.args.now c.args.from c.args.to w most c.loop-place.place c.returned.result left low c.if-returned.true (c.returned.ensures left.half.records left.half.most_now left.half.stands);
 }
 
@@ -34,11 +34,11 @@ loop-place-preserved g c =
       table = c.exchange.ensures.table ∙ c.loop-place.invariant.table;
       left = λ w most h.
           let left = c.loop-place.invariant.left w most h in
-          let low : c.loop-place.place < length ((w c.args.from).asked c.args.to) = subst (λ n. c.loop-place.place < n) (c.accepted-accepted.ensures w most h) c.loop-place-test.true in
+          let low : c.loop-place.place < length ((w c.args.from).asked c.args.to) = subst (λ n. c.loop-place.place < n) (accepted_is w c.args.from c.args.to c.accepted-accepted.result (c.accepted-accepted.ensures w most h)) c.loop-place-test.true in
           turn_delivers old.settings (rules_in meaning old) c.loop-place.world c.exchange.new.world c.args.now c.args.from c.args.to w most c.loop-place.place c.returned.result left c.if-from-to.false low c.if-returned.false (c.returned.ensures left.half.records left.half.most_now left.half.stands) moved;
     }
 
 pub returns-clause-moves : goal.returns-clause-moves
 returns-clause-moves g c = λ w most h.
-    let high : length ((w c.args.from).asked c.args.to) ≤ c.loop-place.place = subst (λ n. n ≤ c.loop-place.place) (c.accepted-accepted.ensures w most h) c.loop-place-test.false in
+    let high : length ((w c.args.from).asked c.args.to) ≤ c.loop-place.place = subst (λ n. n ≤ c.loop-place.place) (accepted_is w c.args.from c.args.to c.accepted-accepted.result (c.accepted-accepted.ensures w most h)) c.loop-place-test.false in
     turn_ends c.args.world.now.settings (rules_in (g.H.Handlers.meaning c.args.handlers.now) c.args.world.now) c.loop-place.world c.args.now c.args.from c.args.to w most c.loop-place.place high (c.loop-place.invariant.left w most h)
