@@ -1,0 +1,9 @@
+pub mod Cases
+pub mod Members
+pub mod Places
+pub mod Update
+pub mod Indexes
+pub mod Cut
+pub mod Sums
+pub mod Numbered
+pub mod Put
