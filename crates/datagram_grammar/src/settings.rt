@@ -1,26 +1,49 @@
 //! The settings of a job.
 
-ghost use Rattle.std.specs.Prelude.{◌≡◌, MatchOption};
-ghost use Rattle.datagram_grammar.specs.Parameters.{Parameters, AreInRange};
+ghost use Rattle.std.specs.Prelude.{◌≡◌, ◌≢◌, true, MatchOption, [], replicate};
+ghost use Rattle.datagram_grammar.specs.Parameters.{Parameters, AreInRange, credits_of, with_pair};
+ghost use Rattle.datagram_grammar.specs.Stored.{no_pair};
+ghost use Rattle.datagram_grammar.specs.declared.pairs.PairCredits.{PairCredits};
+ghost use Rattle.datagram_grammar.specs.Message.{is_version};
 
+use crate::kind::is_version;
+use crate::pairs::{PairCredits, own_credits};
 use std::marker::Model;
+
+/// How many pairs may have credits of their own.
+const PLACES: usize = 64;
+
+/// What stands at a place that no pair has.
+const NO_PAIR: PairCredits = PairCredits {
+    from: 0,
+    to: 0,
+    credits: 0,
+};
 
 /// The numbers that every node of a job knows, each within its limits (profile).
 ///
 /// | Number | Limits |
 /// |---|---|
+/// | version of the datagrams | 1 or 2 |
 /// | job | any |
-/// | nodes | 1 to 64 |
+/// | nodes | 1 to 64 in version 1, 1 to 256 in version 2 |
 /// | credits of each ordered pair of nodes | 1 to 32, and at most 65,536 over all pairs |
+/// | pairs with credits of their own | at most 64 |
 /// | threads of each node | 1 to 16 |
-/// | bytes of each node's segment | a multiple of 4,096, from 4,096 to 67,108,864, and at most 268,435,456 over all nodes |
+/// | bytes of each node's segment | a multiple of 4,096, from 4,096 to 67,108,864; at most 268,435,456 over all nodes |
 /// | last number of a request | at least 1 |
-/// | milliseconds after which a request is sent again | 1 to 1,000,000 |
+/// | time after which a request is sent again, in the unit of the calls' `now` | 1 to 1,000,000 |
 #[derive(Clone, Copy, Debug, PartialEq, Eq)]
 pub struct Settings {
+    version: u8,
     job: u64,
     nodes: u16,
     credits: u16,
+    // the pairs with credits of their own, and how many they are; the places behind them are empty
+    places: [PairCredits; PLACES],
+    count: usize,
+    // the credits of all pairs together
+    sum: u32,
     threads: u16,
     segment: u64,
     last: u64,
@@ -28,20 +51,61 @@ pub struct Settings {
 }
 
 impl Model for Settings {
-    ghost use Rattle.datagram_grammar.specs.Parameters.{Parameters, AreInRange};
+    ghost use Rattle.std.specs.Prelude.{◌++◌, ◌-◌, replicate, length};
+    ghost use Rattle.std.proofs.Common.{ap, ◌∙◌, sym, take-append-drop, length-take-le, arith};
+    ghost use Rattle.datagram_grammar.specs.Parameters.{Parameters, credits_in_all};
 
     ghost Value = { Parameters };
 
-    ghost view = { λ s. record { job = s.job; nodes = s.nodes; credits = s.credits; threads = s.threads; segment = s.segment; last = s.last; resend = s.resend } };
+    ghost use Rattle.datagram_grammar.specs.Stored.{parameters_of, IsStored, places_of};
+    ghost use Rattle.datagram_grammar.specs.Stored.{places_back};
 
-    ghost inverse = { λ s. record { job = s.job; nodes = s.nodes; credits = s.credits; threads = s.threads; segment = s.segment; last = s.last; resend = s.resend } };
+    ghost view = { parameters_of };
 
-    ghost invariant = { λ s. AreInRange (record { job = s.job; nodes = s.nodes; credits = s.credits; threads = s.threads; segment = s.segment; last = s.last; resend = s.resend }) };
+    ghost inverse = { λ p. record {
+      version = p.version;
+      job = p.job;
+      nodes = p.nodes;
+      credits = p.credits;
+      places = places_of p.pairs;
+      count = length p.pairs;
+      sum = credits_in_all p;
+      threads = p.threads;
+      segment = p.segment;
+      last = p.last;
+      resend = p.resend;
+    } };
+
+    ghost inverse_ok = { λ s h i. record {
+      version = s.version;
+      job = s.job;
+      nodes = s.nodes;
+      credits = s.credits;
+      places = places_back s h i;
+      count = length-take-le s.count s.places (omega (arith, h.count, h.places)) i;
+      sum = sym h.sum i;
+      threads = s.threads;
+      segment = s.segment;
+      last = s.last;
+      resend = s.resend;
+    } };
+
+    ghost invariant = { IsStored };
+}
+
+/// No pairs.
+fn no_places() -> [PairCredits; PLACES]
+    ensures { result ≡ replicate 64 no_pair }
+{
+    [NO_PAIR; PLACES]
 }
 
 impl Settings {
-    /// The settings with these numbers; None exactly where a limit is broken.
+    /// The settings with these numbers, where each pair of nodes has these credits.
+    ///
+    /// None exactly where a limit is broken.
     pub fn new(
+        version: u8,
         job: u64,
         nodes: u16,
         credits: u16,
@@ -50,16 +114,33 @@ impl Settings {
         last: u64,
         resend: u64,
     ) -> Option<Settings>
-        ensures { let asked : Parameters = record { job = job; nodes = nodes; credits = credits; threads = threads; segment = segment; last = last; resend = resend } in
+        ensures { let asked : Parameters = record {
+          version = version;
+          job = job;
+          nodes = nodes;
+          credits = credits;
+          pairs = [];
+          threads = threads;
+          segment = segment;
+          last = last;
+          resend = resend;
+        } in
             MatchOption result (¬ (AreInRange asked)) (λ s. (s ≡ asked) × AreInRange asked) }
     {
-        if nodes < 1 || nodes > 64 {
+        if !is_version(version) {
+            return None;
+        }
+        if nodes < 1 || nodes > 256 {
+            return None;
+        }
+        if version == 1 && nodes > 64 {
             return None;
         }
         if credits < 1 || credits > 32 {
             return None;
         }
-        if u32::from(nodes) * u32::from(nodes - 1) * u32::from(credits) > 65_536 {
+        let sum = u32::from(nodes) * u32::from(nodes - 1) * u32::from(credits);
+        if sum > 65_536 {
             return None;
         }
         if threads < 1 || threads > 16 {
@@ -81,14 +162,64 @@ impl Settings {
             return None;
         }
         Some(Settings {
+            version,
             job,
             nodes,
             credits,
+            places: no_places(),
+            count: 0,
+            sum,
             threads,
             segment,
             last,
             resend,
         })
+    }
+
+    /// The settings where `from` has so many credits towards `to`.
+    ///
+    /// None exactly where a limit is broken: one of the two is no node, or they are equal; the credits aren't 1 to 32;
+    /// the pair was set before, or 64 pairs were; or all pairs together have more than 65,536 credits.
+    pub fn with_pair(&self, from: u16, to: u16, credits: u16) -> Option<Settings>
+        ensures { let pair : PairCredits = record { from = from; to = to; credits = credits } in
+            let asked = with_pair self.now pair in
+            MatchOption result (¬ (AreInRange asked)) (λ s. (s ≡ asked) × AreInRange asked) }
+    {
+        if from >= self.nodes || to >= self.nodes {
+            return None;
+        }
+        if from == to {
+            return None;
+        }
+        if credits < 1 || credits > 32 {
+            return None;
+        }
+        if self.count >= PLACES {
+            return None;
+        }
+        if own_credits(&self.places[..self.count], from, to).is_some() {
+            return None;
+        }
+        let sum = self.sum + u32::from(credits) - u32::from(self.credits);
+        if sum > 65_536 {
+            return None;
+        }
+        let mut places = self.places;
+        places[self.count] = PairCredits { from, to, credits };
+        Some(Settings {
+            places,
+            count: self.count + 1,
+            sum,
+            ..*self
+        })
+    }
+
+    /// The version of the datagrams, 1 or 2.
+    pub fn version(&self) -> u8
+        ensures version { result ≡ self.now.version }
+        ensures known { is_version self.now.version ≡ true }
+    {
+        self.version
     }
 
     /// The job's number.
@@ -106,11 +237,20 @@ impl Settings {
         self.nodes
     }
 
-    /// How many credits each ordered pair of nodes has, which is how many requests may be under way from one to the other.
-    pub fn credits(&self) -> u16
-        ensures { result ≡ self.now.credits }
+    /// How many credits `from` has towards `to`, which is how many requests may be under way from the one to the
+    /// other.
+    pub fn credits(&self, from: u16, to: u16) -> u16
+        requires { from ≢ to }
+        ensures { result ≡ credits_of self.now from to }
     {
-        self.credits
+        own_credits(&self.places[..self.count], from, to).unwrap_or(self.credits)
+    }
+
+    /// The pairs that have credits of their own, in the order in which they were set.
+    pub fn pairs(&self) -> &[PairCredits]
+        ensures { result.now ≡ self.now.pairs }
+    {
+        &self.places[..self.count]
     }
 
     /// How many client threads each node has.
@@ -134,7 +274,7 @@ impl Settings {
         self.last
     }
 
-    /// After how many milliseconds without a reply a request is sent again.
+    /// The time without a reply after which a request is sent again, in the unit of the calls' `now`.
     pub fn resend(&self) -> u64
         ensures { result ≡ self.now.resend }
     {

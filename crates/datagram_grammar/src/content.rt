@@ -1,0 +1,97 @@
+//! What messages say, and where they go, with their spelling.
+
+ghost use Rattle.std.specs.Prelude.{◌≡◌, ◌+◌, ◌≤◌, [], ◌++◌, length, drop};
+ghost use Rattle.datagram_grammar.specs.Message.{IsMessage, IsWellFormed, spelling};
+ghost use Rattle.datagram_grammar.specs.Reading.{outgoing_message};
+ghost use Rattle.datagram_grammar.specs.Content.{Content, IsWellAddressed, addressed};
+ghost use Rattle.datagram_grammar.specs.Content.{short_request, short_reply, ack};
+
+use crate::kind::Kind;
+use crate::outgoing::Outgoing;
+use crate::writing::write_whole;
+
+/// Where a message goes, and of which request it tells.
+#[derive(Clone, Copy, Debug, PartialEq, Eq)]
+pub struct Address {
+    /// The version of the layout, 1 or 2.
+    pub version: u8,
+    /// The job's number.
+    pub job: u64,
+    /// The sender's node.
+    pub from: u16,
+    /// The receiver's node; another one.
+    pub to: u16,
+    /// The slot of the request that the message is, or is the reply to.
+    pub slot: u16,
+    /// The number of that request among those of its pair of nodes, from 1.
+    pub number: u64,
+}
+
+/// The parts of a message with arguments alone, or of an Ack.
+fn bare<'a>(address: Address, kind: Kind, handler: u8, args: &'a [i32]) -> Outgoing<'a>
+    ensures { let content : Content =
+        record { kind = kind; handler = handler; args = args.now; offset = 0; payload = [] } in
+        outgoing_message result ≡ addressed address content }
+{
+    Outgoing {
+        version: address.version,
+        kind,
+        job: address.job,
+        from: address.from,
+        to: address.to,
+        slot: address.slot,
+        number: address.number,
+        handler,
+        args,
+        offset: 0,
+        payload: &[],
+    }
+}
+
+/// The parts of a Short request for a handler, which isn't 0, with at most 16 arguments.
+pub fn short_request<'a>(address: Address, handler: u8, args: &'a [i32]) -> Outgoing<'a>
+    requires address { IsWellAddressed address }
+    requires handler { 1 ≤ handler }
+    requires count { length args.now ≤ 16 }
+    ensures value { outgoing_message result ≡ addressed address (short_request handler args.now) }
+    ensures formed { IsWellFormed (outgoing_message result) }
+{
+    bare(address, Kind::ShortRequest, handler, args)
+}
+
+/// The parts of a Short reply for a handler, which isn't 0, with at most 16 arguments.
+pub fn short_reply<'a>(address: Address, handler: u8, args: &'a [i32]) -> Outgoing<'a>
+    requires address { IsWellAddressed address }
+    requires handler { 1 ≤ handler }
+    requires count { length args.now ≤ 16 }
+    ensures value { outgoing_message result ≡ addressed address (short_reply handler args.now) }
+    ensures formed { IsWellFormed (outgoing_message result) }
+{
+    bare(address, Kind::ShortReply, handler, args)
+}
+
+/// The parts of an Ack, the empty reply.
+pub fn ack<'a>(address: Address) -> Outgoing<'a>
+    requires { IsWellAddressed address }
+    ensures value { outgoing_message result ≡ addressed address ack }
+    ensures formed { IsWellFormed (outgoing_message result) }
+{
+    bare(address, Kind::Ack, 0, &[])
+}
+
+/// Writes the message's one spelling at the front of a buffer of 8,296 bytes, which has room for each, and answers
+/// its length.
+///
+/// The parts must be well formed, as they are where they were made here. The rest of the buffer is unchanged.
+pub fn spell(parts: &Outgoing<'_>, buffer: &mut [u8]) -> usize
+    requires formed { IsWellFormed (outgoing_message parts.now) }
+    requires room { length buffer.old ≡ 8296 }
+    ensures message { IsMessage (outgoing_message parts.now) }
+    ensures len { result ≡ length (spelling (outgoing_message parts.now)) }
+    ensures some { 1 ≤ result }
+    ensures fits { result ≤ 8296 }
+    ensures written { buffer.new ≡ spelling (outgoing_message parts.now) ++ drop result buffer.old }
+    ensures room { length buffer.new ≡ 8296 }
+{
+    write_whole(parts, buffer)
+}
