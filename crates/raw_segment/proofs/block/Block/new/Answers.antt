@@ -1,0 +1,15 @@
+use Rattle.std.proofs.Common.{Some, None, refl, arith}
+use Rattle.raw_segment.proofs.Placed.{placed-none, parts-none}
+use Rattle.raw_segment.proofs.block.Block.new.Goals as goal
+
+pub invariant_of-result : goal.invariant_of-result
+invariant_of-result c =
+    rw c.in_ok-filled.ensures.len
+    (placed-none c.args.parts _ _
+    (c.in_ok-places.ensures.items_if_clones_equal (elim [ None ↦ λ _. refl | Some y ↦ λ h. absurd h ]))
+    (rw c.in_ok-filled.ensures.exact (omega arith)) c.requires)
+
+pub returns : goal.returns
+returns c =
+    parts-none _ _ c.args.parts _
+    (c.in_ok-places.ensures.items_if_clones_equal (elim [ None ↦ λ _. refl | Some y ↦ λ h. absurd h ]))
