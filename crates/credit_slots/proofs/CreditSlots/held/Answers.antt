@@ -1,0 +1,13 @@
+use Rattle.std.proofs.Common.{ap, sym, ◌∙◌}
+use Rattle.credit_slots.specs.State.{held_count}
+use Rattle.credit_slots.proofs.Viewed.{held-is}
+use Rattle.credit_slots.proofs.CreditSlots.held.Goals as goal
+
+pub returns-clause-count : goal.returns-clause-count
+returns-clause-count c =
+    let fields = c.self.inside in
+    let given = fields.given.items in
+    let table = fields.table in
+    c.held.ensures.count
+    ∙ (sym (held-is fields.last given table c.self.invariant.nodes c.self.invariant.whole)
+    ∙ ap held_count c.self.view_is)

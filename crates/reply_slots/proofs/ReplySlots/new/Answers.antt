@@ -1,0 +1,22 @@
+use Rattle.std.proofs.Common.{length, ap, ◌∙◌, length-set}
+use Rattle.std.specs.Prelude.{slice_get, map}
+use Rattle.lists.proofs.Cut.{length-cut}
+use Rattle.slot_table.specs.State.{TableState}
+use Rattle.slot_table.specs.State.{counts_of, new_table}
+use Rattle.reply_slots.specs.Views.{reply_of, replies_view}
+use Rattle.reply_slots.proofs.Viewed.{parts-new}
+use Rattle.reply_slots.proofs.ReplySlots.new.Goals as goal
+
+pub returns : goal.returns
+returns c =
+    let credits = c.args.credits.now in
+    let me = c.args.me in
+    let is = c.in_ok-new.ensures in
+    record {
+      nodes =
+          ap (λ (u : TableState). length (replies_view u).peers) is
+          ∙ (length-cut (counts_of credits me) (map reply_of (new_table credits me).slots) ∙ length-set credits me 0);
+      peers =
+          λ j number at. ap (λ (u : TableState). slice_get (replies_view u).peers j) is
+          ∙ parts-new credits me j number at;
+    }
