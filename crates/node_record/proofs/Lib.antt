@@ -1,0 +1,12 @@
+pub mod Slots
+pub mod Lists
+pub mod Puts
+pub mod Orderly
+pub mod NodeKeeps
+pub mod Under
+pub mod Answers
+pub mod LocalKept
+pub mod NodeEvents
+pub mod Keeping
+pub mod Runs
+pub mod Holding

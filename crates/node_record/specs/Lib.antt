@@ -1,0 +1,14 @@
+pub mod Record
+pub mod Requests
+pub mod Executed
+pub mod Credits
+pub mod Held
+pub mod Behaviour
+pub mod Step
+pub mod NodeStep
+pub mod Transition
+pub mod Invariant
+pub mod Under
+pub mod SlotMessages
+pub mod Spelled
+pub mod EveryEvent
