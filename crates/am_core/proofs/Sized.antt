@@ -1,33 +1,47 @@
 -- The tables keep their sizes.
-use Rattle.std.proofs.Common.{ℕ, List, ◌∙◌, ap, Option, Some, None, Bool, if◌then◌else◌, ne_eqb, length, replicate}
+use Rattle.std.proofs.Common.{◌<◌, arith, refl, eq-eqb, get_or, ℕ, List, ◌∙◌, ap, Option, Some, None, Bool}
+use Rattle.std.proofs.Common.{if◌then◌else◌, ne_eqb, length, replicate}
 use Rattle.std.proofs.lemmas.List.{length-replicate}
-use Rattle.datagram_grammar.specs.Parameters.{Parameters}
+use Rattle.std.proofs.lemmas.Option.{slice_get-get_or}
+use Rattle.datagram_grammar.specs.Parameters.{Parameters, AreInRange, credits_of}
+use Rattle.node_record.specs.declared.answer.Side.TheVariants as side
 use Rattle.credit_slots.specs.State.{SlotsState, SlotState, PeerState, Vacant, IsNew, new_peer}
 use Rattle.credit_slots.specs.State.{with_slot as with_request_slot}
 use Rattle.credit_slots.proofs.Shape as requests
 use Rattle.reply_slots.specs.State.{RepliesState, ReplyState, with_reply, Kept, Unused}
 use Rattle.reply_slots.specs.State.{IsNew as IsNewReplies}
 use Rattle.reply_slots.proofs.Shape as replies
-use Rattle.am_core.specs.Sizes.{IsSized}
+use Rattle.am_core.specs.Sizes.{IsSized, AreSlots}
 
 -- where a reply is kept
-pub sized_reply : (s : Parameters) (me : ℕ) (asked : SlotsState) (kept : RepliesState) (from slot number : ℕ) (message : List ℕ)
+pub sized_reply : (s : Parameters) (me : ℕ) (asked : SlotsState) (kept : RepliesState) (from slot number : ℕ)
+    (message : List ℕ)
     → IsSized s me asked kept → IsSized s me asked (with_reply kept from slot number message)
 sized_reply s me asked kept from slot number message sized = record {
+  range = sized.range;
   requesters = sized.requesters;
   request_slots = sized.request_slots;
+  none_asked = sized.none_asked;
   responders = replies.nodes-changed kept from slot (λ _. Kept number message) ∙ sized.responders;
-  kept_slots = λ peer below other. replies.slot_count-changed kept from slot (λ _. Kept number message) peer ∙ sized.kept_slots peer below other;
+  kept_slots =
+      λ peer below other. replies.slot_count-changed kept from slot (λ _. Kept number message) peer
+      ∙ sized.kept_slots peer below other;
+  none_kept = replies.slot_count-changed kept from slot (λ _. Kept number message) me ∙ sized.none_kept;
 }
 
 -- where a slot of requests has a new state
 pub sized_slot : (s : Parameters) (me : ℕ) (asked : SlotsState) (kept : RepliesState) (to slot : ℕ) (state : SlotState)
     → IsSized s me asked kept → IsSized s me (with_request_slot asked to slot state) kept
 sized_slot s me asked kept to slot state sized = record {
+  range = sized.range;
   requesters = requests.nodes-changed asked to slot (λ _. state) ∙ sized.requesters;
-  request_slots = λ peer below other. requests.slot_count-changed asked to slot (λ _. state) peer ∙ sized.request_slots peer below other;
+  request_slots =
+      λ peer below other. requests.slot_count-changed asked to slot (λ _. state) peer
+      ∙ sized.request_slots peer below other;
+  none_asked = requests.slot_count-changed asked to slot (λ _. state) me ∙ sized.none_asked;
   responders = sized.responders;
   kept_slots = sized.kept_slots;
+  none_kept = sized.none_kept;
 }
 
 -- how many slots a peer has
@@ -38,14 +52,25 @@ abbrev count_replies : Option (List ReplyState) → ℕ
 count_replies o = elim o [ Some p ↦ length p | None ↦ 0 ]
 
 -- new tables
-pub sized_new : (s : Parameters) (me : ℕ) (asked : SlotsState) (kept : RepliesState) → IsNew s.nodes s.credits me s.last asked → IsNewReplies s.nodes s.credits me kept → IsSized s me asked kept
-sized_new s me asked kept new_asked new_kept = record {
-  requesters = new_asked.nodes;
-  request_slots = λ peer below other. ap count_requests (new_asked.peers peer below)
-      ∙ ap (λ (b : Bool). count_requests (Some (new_peer (if b then 0 else s.credits)))) (ne_eqb peer me other)
-      ∙ length-replicate s.credits Vacant;
-  responders = new_kept.nodes;
-  kept_slots = λ peer below other. ap count_replies (new_kept.peers peer below)
-      ∙ ap (λ (b : Bool). count_replies (Some (replicate (if b then 0 else s.credits) Unused))) (ne_eqb peer me other)
-      ∙ length-replicate s.credits Unused;
+pub sized_new : (s : Parameters) → AreInRange s → (me : ℕ) → me < s.nodes → (asked ran : List ℕ)
+    → AreSlots s me side.Request asked → AreSlots s me side.Reply ran → (table : SlotsState) (kept : RepliesState)
+    → IsNew asked me s.last table → IsNewReplies ran me kept → IsSized s me table kept
+sized_new s range me me_in asked ran asked_are ran_are table kept new_table new_kept = record {
+  range = range;
+  requesters = new_table.nodes ∙ asked_are.nodes;
+  request_slots = λ peer below other. let count = credits_of s me peer in
+      ap count_requests (new_table.peers peer count (asked_are.others peer below other))
+      ∙ ap (λ (b : Bool). count_requests (Some (new_peer (if b then 0 else count)))) (ne_eqb peer me other)
+      ∙ length-replicate count Vacant;
+  none_asked = let count = get_or asked me 0 in
+      ap count_requests (new_table.peers me count (slice_get-get_or asked me 0 (omega (arith, asked_are.nodes))))
+      ∙ ap (λ (b : Bool). count_requests (Some (new_peer (if b then 0 else count)))) (eq-eqb me me refl);
+  responders = new_kept.nodes ∙ ran_are.nodes;
+  kept_slots = λ peer below other. let count = credits_of s peer me in
+      ap count_replies (new_kept.peers peer count (ran_are.others peer below other))
+      ∙ ap (λ (b : Bool). count_replies (Some (replicate (if b then 0 else count) Unused))) (ne_eqb peer me other)
+      ∙ length-replicate count Unused;
+  none_kept = let count = get_or ran me 0 in
+      ap count_replies (new_kept.peers me count (slice_get-get_or ran me 0 (omega (arith, ran_are.nodes))))
+      ∙ ap (λ (b : Bool). count_replies (Some (replicate (if b then 0 else count) Unused))) (eq-eqb me me refl);
 }

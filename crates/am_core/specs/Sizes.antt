@@ -1,13 +1,26 @@
 -- How many slots the tables of a core have.
-use Rattle.std.specs.Prelude.{ℕ, ◌≡◌, ◌≢◌, ◌<◌, length}
-use Rattle.datagram_grammar.specs.Parameters.{Parameters}
+use Rattle.std.specs.Prelude.{ℕ, ◌≡◌, ◌≢◌, ◌<◌, List, length, Some, slice_get}
+use Rattle.datagram_grammar.specs.Parameters.{Parameters, AreInRange, credits_of}
 use Rattle.credit_slots.specs.State.{SlotsState, slot_count}
 use Rattle.reply_slots.specs.State.{RepliesState}
 use Rattle.reply_slots.specs.State.{slot_count as reply_count}
+use Rattle.node_record.specs.declared.answer.Side.{Side}
+use Rattle.node_record.specs.SlotMessages.{slots_of}
 
--- C slots for each other node
-pub record IsSized (s : Parameters) (me : ℕ) (requests : SlotsState) (replies : RepliesState) : Type 0 where
-  pub requesters : length requests.peers ≡ s.nodes
-  pub request_slots : (peer : ℕ) → peer < s.nodes → peer ≢ me → slot_count requests peer ≡ s.credits
-  pub responders : length replies.peers ≡ s.nodes
-  pub kept_slots : (peer : ℕ) → peer < s.nodes → peer ≢ me → reply_count replies peer ≡ s.credits
+-- as many slots for each other node as its pair has credits, and none for the node itself
+pub record IsSized (settings : Parameters) (me : ℕ) (requests : SlotsState) (replies : RepliesState) : Type 0 where
+  pub range : AreInRange settings
+  pub requesters : length requests.peers ≡ settings.nodes
+  pub request_slots : (peer : ℕ) → peer < settings.nodes → peer ≢ me
+      → slot_count requests peer ≡ credits_of settings me peer
+  pub none_asked : slot_count requests me ≡ 0
+  pub responders : length replies.peers ≡ settings.nodes
+  pub kept_slots : (peer : ℕ) → peer < settings.nodes → peer ≢ me
+      → reply_count replies peer ≡ credits_of settings peer me
+  pub none_kept : reply_count replies me ≡ 0
+
+-- these numbers, by node, are those of the slots of that side for each other node
+pub record AreSlots (settings : Parameters) (me : ℕ) (which : Side) (counts : List ℕ) : Type 0 where
+  pub nodes : length counts ≡ settings.nodes
+  pub others : (peer : ℕ) → peer < settings.nodes → peer ≢ me
+      → slice_get counts peer ≡ Some (slots_of settings me which peer)

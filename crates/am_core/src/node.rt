@@ -1,29 +1,30 @@
 //! One node's active messages.
 
-ghost use Rattle.std.specs.Prelude.{◌≡◌, ◌≢◌, ◌<◌, ◌-◌, nat_le, false, IfOk, length, option_copied};
+ghost use Rattle.std.specs.Prelude.{ℕ, ◌≡◌, ◌≢◌, ◌<◌, ◌-◌, nat_le, IfOk, length, option_copied};
+ghost use Rattle.datagram_grammar.specs.Parameters.{credits_of};
 ghost use Rattle.handler_rules.specs.Logged.{log_of};
-ghost use Rattle.handler_rules.specs.Rules.{rule};
-ghost use Rattle.handler_rules.specs.declared.rules.Context.TheVariants as context;
-ghost use Rattle.am_core.specs.Record.{Node};
-ghost use Rattle.am_core.specs.Requests.{unreturned};
-ghost use Rattle.am_core.specs.Held.{held};
-ghost use Rattle.am_core.specs.Locals.{Local, Meaning, short, opening_node, nothing_done};
-ghost use Rattle.am_core.specs.Stands.{Stands, message_at};
-ghost use Rattle.am_core.specs.Calls.{Requests, Delivers, Ticks, Checks};
+ghost use Rattle.handler_rules.specs.Runs.{Meaning};
+ghost use Rattle.node_record.specs.Record.{opening_node};
+ghost use Rattle.node_record.specs.Requests.{unreturned};
+ghost use Rattle.node_record.specs.Held.{held};
+ghost use Rattle.node_record.specs.SlotMessages.{message_at, number_at};
+ghost use Rattle.node_record.specs.NodeStep.{Asks, Does, Ticks, OfRequest, OfCall, OfTick};
+ghost use Rattle.am_core.specs.Kept.{nothing_done};
+ghost use Rattle.am_core.specs.ClientRules.{short_ask};
+ghost use Rattle.am_core.specs.Stands.{Stands};
+ghost use Rattle.am_core.specs.CoreContracts.{CoreSteps, Check, Delivers, ForItsRecord, resends};
 
 use crate::answer::{Asked, Delivered, Side, SlotRef, Why};
-use credit_slots::CreditSlots;
+use crate::slots::{slots_by_peer, slots_of};
+use credit_slots::{BUFFER_BYTES, CreditSlots};
 use datagram_grammar::{Settings, view};
 use handler_rules::{CallKind, Cells, Forbidden, Handlers, Log, Table};
 use reply_slots::ReplySlots;
 use std::alloc::{AllocError, Global};
 use std::marker::Model;
 
-/// The length of a buffer for one message.
-const BUFFER: usize = 8296;
-
 /// The active messages of one node (GASNet 1.8.1, core API): its requests that aren't back, the replies that it keeps, its
-/// handlers' cells, and the violations of their rules.
+/// handlers' cells, and the violations of the rules.
 ///
 /// All memory is taken by `new`.
 #[derive(Drop)]
@@ -36,19 +37,27 @@ pub struct Core {
     pub(crate) cells: Cells,
     pub(crate) log: Log,
     pub(crate) desk: Vec<u8>,
-    pub(crate) held: usize,
 }
 
 impl Model for Core {
     ghost use Rattle.std.specs.Prelude.{◌≡◌, vec_len};
-    ghost use Rattle.am_core.specs.Cores.{CoreState};
+    ghost use Rattle.am_core.specs.CoreState.{CoreState};
     ghost use Rattle.am_core.specs.Sizes.{IsSized};
 
     ghost Value = { CoreState };
 
-    ghost view = { λ c. record { settings = c.settings; me = c.me; table = c.table; requests = c.requests; replies = c.replies; cells = c.cells; log = c.log; held = c.held } };
+    ghost view = { λ c. record {
+      settings = c.settings;
+      me = c.me;
+      table = c.table;
+      requests = c.requests;
+      replies = c.replies;
+      cells = c.cells;
+      log = c.log;
+    } };
 
-    ghost invariant = { λ c. IsSized c.settings c.me c.requests c.replies × (vec_len c.desk ≡ 8296) };
+    ghost invariant = { λ c.
+        IsSized c.settings c.me c.requests c.replies × (vec_len c.desk ≡ 8296) };
 }
 
 impl Core {
@@ -67,18 +76,18 @@ impl Core {
         ensures table_is { IfOk result (λ core. core.table ≡ table.now) }
         ensures stands { IfOk result (λ core. Stands core (opening_node nothing_done)) }
     {
-        let nodes = settings.nodes();
-        let credits = settings.credits();
+        let nodes = settings.nodes() as usize;
+        let asked = slots_by_peer(settings, me, Side::Request);
+        let ran = slots_by_peer(settings, me, Side::Reply);
         Ok(Core {
             settings: *settings,
             me,
             table: table.copy()?,
-            requests: CreditSlots::new(alloc, nodes, credits, me, settings.last())?,
-            replies: ReplySlots::new(alloc, nodes, credits, me)?,
+            requests: CreditSlots::new(alloc, &asked[..nodes], me, settings.last())?,
+            replies: ReplySlots::new(alloc, &ran[..nodes], me)?,
             cells: Cells::new(),
             log: Log::new(alloc)?,
-            desk: vec![in alloc; 0; BUFFER]?,
-            held: 0,
+            desk: vec![in alloc; 0; BUFFER_BYTES]?,
         })
     }
 
@@ -89,7 +98,8 @@ impl Core {
     /// with `Handler` where no handler of requests is registered for the index, with `Count` where there are more than 16
     /// arguments; `Ran` for the own node, where the handler runs at once and then that of its reply; `WornOut` where the numbers of
     /// the pair are used up; `NotYet` where all its credits are out; else `Accepted`. `now` is the time of its sending, in any
-    /// one unit. A refusal leaves the core as it was, but that `Forbidden` is noted as a violation.
+    /// one unit. After a refusal the core stands for the same record, but that
+    /// `Forbidden` is noted as a violation.
     pub fn request_short<H: Handlers>(
         &mut self,
         handlers: &H,
@@ -99,7 +109,13 @@ impl Core {
         handler: u8,
         args: &[i32],
     ) -> Asked
-        ensures { Requests (H.meaning handlers.now) self.old now thread to (short handler args.now) result self.new }
+        ensures { CoreSteps (H.meaning handlers.now) self.old
+            (record {
+              now = now;
+              event = Asks (short_ask thread to handler args.now);
+              answer = OfRequest result;
+            })
+            self.new }
     {
         self.short(handlers, now, thread, to, handler, args)
     }
@@ -113,7 +129,7 @@ impl Core {
     pub fn deliver<H: Handlers>(&mut self, handlers: &H, bytes: &[u8]) -> Delivered
         ensures { Delivers (H.meaning handlers.now) self.old bytes.now result self.new }
     {
-        match view(bytes) {
+        match view(bytes, self.settings.version()) {
             Ok(message) => self.receive(handlers, &message),
             Err(refused) => Delivered::Refused(Why::Bytes(refused)),
         }
@@ -123,7 +139,8 @@ impl Core {
     /// `resend` or more before, the one that was sent earliest, then the one to the lower node, then the one in the lower slot.
     /// None exactly where none is due.
     pub fn tick(&mut self, now: u64) -> Option<SlotRef>
-        ensures { Ticks self.old now result self.new }
+        ensures { (meaning : Meaning) → CoreSteps meaning self.old
+            (record { now = now; event = Ticks; answer = OfTick (resends result) }) self.new }
     {
         let (peer, slot) = self.resend(now)?;
         Some(SlotRef {
@@ -135,8 +152,12 @@ impl Core {
 
     /// Judges a call of a thread by the rule table; where it is forbidden, a violation is noted.
     pub fn check(&mut self, thread: u16, call: CallKind) -> Result<(), Forbidden>
-        ensures judged { result ≡ rule (context.Thread thread) false call }
-        ensures checks { (meaning : Meaning) → Checks meaning self.old thread call self.new }
+        ensures { (meaning : Meaning) (now : ℕ) → CoreSteps meaning self.old
+            (record {
+              now = now;
+              event = Does thread (Check call);
+              answer = OfCall result;
+            }) self.new }
     {
         self.judge(thread, call)
     }
@@ -146,11 +167,12 @@ impl Core {
     /// The datagram of a slot: None exactly where the peer is no other node, the slot isn't among those of its pair, or it has
     /// no message. A request's slot has its message until it is back; a reply's slot has the reply to the last request run in it.
     pub fn message(&self, at: SlotRef) -> Option<&[u8]>
-        ensures { (r : Node Local) → Stands self.now r → option_copied result ≡ message_at self.now.settings self.now.me r at }
+        ensures { ForItsRecord self.now (λ node.
+            option_copied result ≡ message_at self.now.settings self.now.me node at) }
     {
         if at.peer >= self.settings.nodes()
             || at.peer == self.me
-            || at.slot >= self.settings.credits()
+            || at.slot >= slots_of(&self.settings, self.me, at.side, at.peer)
         {
             return None;
         }
@@ -160,18 +182,36 @@ impl Core {
         }
     }
 
+    /// The number of the message of a slot, from 1: None exactly where `message` is None.
+    pub fn number(&self, at: SlotRef) -> Option<u64>
+        ensures { ForItsRecord self.now (λ node.
+            result ≡ number_at self.now.settings self.now.me node at) }
+    {
+        if at.peer >= self.settings.nodes()
+            || at.peer == self.me
+            || at.slot >= slots_of(&self.settings, self.me, at.side, at.peer)
+        {
+            return None;
+        }
+        match at.side {
+            Side::Request => self.requests.number(at.peer, at.slot),
+            Side::Reply => self.replies.number(at.peer, at.slot),
+        }
+    }
+
     /// How many message buffers are in use: one for each request that isn't back, and one for each slot with a reply.
     pub fn held(&self) -> usize
-        ensures { (r : Node Local) → Stands self.now r → result ≡ held self.now.settings r }
+        ensures { ForItsRecord self.now (λ node. result ≡ held self.now.settings self.now.me node) }
     {
-        self.held
+        self.requests.held() + self.replies.held()
     }
 
     /// How many credits are left for requests to another node.
     pub fn free(&self, to: u16) -> u16
         requires node { to < self.now.settings.nodes }
         requires other { to ≢ self.now.me }
-        ensures { (r : Node Local) → Stands self.now r → result ≡ self.now.settings.credits - unreturned (r.asked to) }
+        ensures { ForItsRecord self.now (λ node.
+            result ≡ credits_of self.now.settings self.now.me to - unreturned (node.asked to)) }
     {
         self.requests.free(to)
     }
@@ -180,21 +220,22 @@ impl Core {
     pub fn worn_out(&self, to: u16) -> bool
         requires node { to < self.now.settings.nodes }
         requires other { to ≢ self.now.me }
-        ensures { (r : Node Local) → Stands self.now r → result ≡ nat_le self.now.settings.last (length (r.asked to)) }
+        ensures { ForItsRecord self.now (λ node.
+            result ≡ nat_le self.now.settings.last (length (node.asked to))) }
     {
         self.requests.worn_out(to)
     }
 
     /// The cells.
     pub fn cells(&self) -> &Cells
-        ensures { (r : Node Local) → Stands self.now r → result.now ≡ r.local.cells }
+        ensures { ForItsRecord self.now (λ node. result.now ≡ node.local.cells) }
     {
         &self.cells
     }
 
     /// The log of violations.
     pub fn log(&self) -> &Log
-        ensures { (r : Node Local) → Stands self.now r → result.now ≡ log_of r.local.violations }
+        ensures { ForItsRecord self.now (λ node. result.now ≡ log_of node.local.violations) }
     {
         &self.log
     }
@@ -206,7 +247,8 @@ impl Core {
 
     /// The cells, to be written: the core is then as it was, with the cells that were written.
     pub fn cells_mut(&mut self) -> &mut Cells
-        ensures* writes_back { sem 𝓛 (Lends core_row cells_row self.entry result (with_cells self.old)) }
+        ensures* writes_back { sem 𝓛 (Lends core_row cells_row self.entry result
+            (with_cells self.old)) }
         ensures value { result.now ≡ self.old.cells }
     {
         &mut self.cells

@@ -1,24 +1,34 @@
 //! What the calls of a core do, part by part.
 
 ghost use Rattle.std.specs.Prelude.{◌≡◌, ◌≢◌, ◌<◌, ◌≤◌, false, length};
-ghost use Rattle.datagram_grammar.specs.Message.{IsMessage, content_of};
+ghost use Rattle.datagram_grammar.specs.Message.{IsMessage};
+ghost use Rattle.datagram_grammar.specs.Content.{content_of, short_request};
 ghost use Rattle.datagram_grammar.specs.Reading.{viewed_message};
+ghost use Rattle.node_record.specs.Step.{slots_for, with_sender};
 ghost use Rattle.handler_rules.specs.Rules.{rule};
+ghost use Rattle.handler_rules.specs.Desks.{arrival_of};
 ghost use Rattle.handler_rules.specs.declared.rules.Context.TheVariants as context;
 ghost use Rattle.handler_rules.specs.declared.rules.Role.TheVariants as role;
 ghost use Rattle.reply_slots.specs.State.{JudgesAt};
 ghost use Rattle.reply_slots.specs.declared.Judged.TheVariants as judged;
-ghost use Rattle.am_core.specs.Locals.{short};
-ghost use Rattle.am_core.specs.Deeds.{AsksShort, Claims, DeliversMessage, IsOurRequest, IsOurReply, IsOwn, IsReceived, Runs, Resends, after_judgement, has_entry, message_refusal, reply_outcome, short_fault, with_held, with_outcome, with_own_run};
+ghost use Rattle.am_core.specs.CoreStep.{AsksShort, Claims, DeliversMessage, IsOurRequest};
+ghost use Rattle.am_core.specs.CoreStep.{IsOurReply};
+ghost use Rattle.am_core.specs.CoreStep.{Runs, RunsHere, Resends, own_arrival, arrival, outcome_at};
+ghost use Rattle.am_core.specs.ClientRules.{short_ask};
+ghost use Rattle.am_core.specs.CoreStep.{after_judgement};
+ghost use Rattle.am_core.specs.CoreStep.{message_refusal, reply_outcome, short_fault, with_outcome};
+ghost use Rattle.am_core.specs.CoreStep.{with_own_run};
 
 use crate::answer::{Asked, Delivered, Side, SlotRef, Why};
+use crate::arguments::arguments;
+use crate::floor::Floor;
 use crate::node::Core;
-use crate::running::{answer, arguments, run_at_desk};
 use crate::sealing::ask;
+use crate::slots::slots_of;
 use credit_slots::NoClaim;
-use datagram_grammar::{Kind, View};
+use datagram_grammar::{Address, Kind, View};
 use handler_rules::{
-    CallKind, Context, Fault, Forbidden, Handlers, Incoming, Role, Violation, Which, allowed,
+    CallKind, Context, Fault, Forbidden, Handlers, Incoming, Reply, Role, Violation, Which, allowed,
 };
 use reply_slots::Judged;
 
@@ -33,7 +43,9 @@ impl Core {
         handler: u8,
         args: &[i32],
     ) -> Asked
-        ensures { AsksShort (H.meaning handlers.now) self.old now thread to (short handler args.now) result self.new }
+        ensures { AsksShort (H.meaning handlers.now) self.old
+            (record { now = now; event = short_ask thread to handler args.now; answer = result })
+            self.new }
     {
         if let Err(forbidden) = self.judge(thread, CallKind::Request) {
             return Asked::Forbidden(forbidden);
@@ -65,13 +77,13 @@ impl Core {
     }
 
     /// The first argument of a Short request that is bad.
-    fn bad_argument(&self, to: u16, handler: u8, args: &[i32]) -> Option<Which>
-        ensures { result ≡ short_fault self.now to (short handler args.now) }
+    pub(crate) fn bad_argument(&self, to: u16, handler: u8, args: &[i32]) -> Option<Which>
+        ensures { result ≡ short_fault self.now to (short_request handler args.now) }
     {
         if to >= self.settings.nodes() {
             return Some(Which::Node);
         }
-        if !self.has(Role::Request, handler) {
+        if !self.table.has(Role::Request, handler) {
             return Some(Which::Handler);
         }
         if args.len() > 16 {
@@ -80,51 +92,23 @@ impl Core {
         None
     }
 
-    /// Whether a handler of this role is registered for the index.
-    fn has(&self, role: Role, handler: u8) -> bool
-        ensures { result ≡ has_entry self.now.table role handler }
-    {
-        match self.table.entry(handler) {
-            Some(entry) => entry.role == role,
-            None => false,
-        }
-    }
-
     /// A Short request to the own node: its handler runs, and then that of its reply where it sent one.
     fn run_here<H: Handlers>(&mut self, handlers: &H, handler: u8, args: &[i32])
         requires { length args.now ≤ 16 }
-        ensures { self.new ≡ with_own_run (H.meaning handlers.now) self.old (short handler args.now) }
+        ensures { self.new ≡ with_own_run (H.meaning handlers.now) self.old
+            (short_request handler args.now) }
     {
-        let request = self.incoming(Role::Request, args);
-        let reply = run_at_desk(
-            handlers,
-            handler,
-            &self.settings,
-            &self.table,
-            request,
-            &mut self.cells,
-            &mut self.log,
-            &mut self.desk,
-        );
-        let Some(reply) = reply else {
+        let request = self.own_message(Role::Request, args);
+        let Some(reply) = self.run_handler(handlers, handler, request) else {
             return;
         };
-        let taken = self.incoming(Role::Reply, &reply.args[..reply.count as usize]);
-        let _ = run_at_desk(
-            handlers,
-            reply.handler,
-            &self.settings,
-            &self.table,
-            taken,
-            &mut self.cells,
-            &mut self.log,
-            &mut self.desk,
-        );
+        let taken = self.own_message(Role::Reply, &reply.args[..reply.count as usize]);
+        let _ = self.run_handler(handlers, reply.handler, taken);
     }
 
     /// A message of the own node, without a payload.
-    fn incoming<'a>(&self, role: Role, args: &'a [i32]) -> Incoming<'a>
-        ensures { IsOwn result self.now role args.now }
+    fn own_message<'a>(&self, role: Role, args: &'a [i32]) -> Incoming<'a>
+        ensures { arrival_of result ≡ own_arrival self.now role args.now }
     {
         Incoming {
             role,
@@ -138,20 +122,53 @@ impl Core {
         }
     }
 
+    /// Runs the handler of this index for a message, at the core's own desk; its reply, where it sent one.
+    fn run_handler<H: Handlers>(
+        &mut self,
+        handlers: &H,
+        handler: u8,
+        message: Incoming<'_>,
+    ) -> Option<Reply>
+        requires few { length message.args.now ≤ 16 }
+        requires numbered { message.role ≡ role.Request → message.source ≢ message.me
+            → 1 ≤ message.number }
+        ensures { let arrival = arrival_of message.entry in
+            RunsHere self.old arrival (outcome_at (H.meaning handlers.now) self.old handler arrival)
+            result self.new }
+    {
+        let floor = Floor {
+            cells: &mut self.cells,
+            log: &mut self.log,
+            settings: &self.settings,
+            table: &self.table,
+        };
+        floor.run(handlers, handler, message, &mut self.desk)
+    }
+
     /// A Short request to another node.
     fn claim_short(&mut self, now: u64, to: u16, handler: u8, args: &[i32]) -> Asked
         requires node { to < self.old.settings.nodes }
         requires other { to ≢ self.old.me }
         requires handler { 1 ≤ handler }
         requires count { length args.now ≤ 16 }
-        ensures { Claims self.old now to (short handler args.now) result self.new }
+        ensures { Claims self.old
+            (record {
+              now = now;
+              event = record { to = to; content = short_request handler args.now };
+              answer = result;
+            })
+            self.new }
     {
-        let job = self.settings.job();
-        match ask(&mut self.requests, job, self.me, to, now, handler, args) {
-            Ok((slot, number)) => {
-                self.held = self.held.saturating_add(1);
-                Asked::Accepted { to, slot, number }
-            }
+        let way = Address {
+            version: self.settings.version(),
+            job: self.settings.job(),
+            from: self.me,
+            to,
+            slot: 0,
+            number: 0,
+        };
+        match ask(&mut self.requests, way, now, handler, args) {
+            Ok((slot, number)) => Asked::Accepted { to, slot, number },
             Err(NoClaim::WornOut) => Asked::WornOut,
             Err(NoClaim::NotYet) => Asked::NotYet,
         }
@@ -162,7 +179,8 @@ impl Core {
     /// A message that was delivered.
     pub(crate) fn receive<H: Handlers>(&mut self, handlers: &H, message: &View<'_>) -> Delivered
         requires { IsMessage (viewed_message message.now) }
-        ensures { DeliversMessage (H.meaning handlers.now) self.old (viewed_message message.now) result self.new }
+        ensures { DeliversMessage (H.meaning handlers.now) self.old
+            (viewed_message message.now) result self.new }
     {
         if let Some(why) = self.refusal(message) {
             return Delivered::Refused(why);
@@ -179,6 +197,7 @@ impl Core {
 
     /// Why a message is refused.
     fn refusal(&self, message: &View<'_>) -> Option<Why>
+        requires { IsMessage (viewed_message message.now) }
         ensures { result ≡ message_refusal self.now (viewed_message message.now) }
     {
         if message.job != self.settings.job() {
@@ -190,25 +209,38 @@ impl Core {
         if message.from >= self.settings.nodes() {
             return Some(Why::Sender);
         }
-        if message.slot >= self.settings.credits() {
+        if message.slot >= self.slots_for(message) {
             return Some(Why::Slot);
         }
         let is_handled = match message.kind {
             Kind::Ack => true,
             Kind::ShortRequest | Kind::MediumRequest | Kind::LongRequest => {
-                self.has(Role::Request, message.handler)
+                self.table.has(Role::Request, message.handler)
             }
             Kind::ShortReply | Kind::MediumReply | Kind::LongReply => {
-                self.has(Role::Reply, message.handler)
+                self.table.has(Role::Reply, message.handler)
             }
         };
         if is_handled { None } else { Some(Why::Handler) }
     }
 
+    /// How many slots the pair has on which a message goes.
+    fn slots_for(&self, message: &View<'_>) -> u16
+        requires { message.now.from ≢ self.now.me }
+        ensures { result ≡ slots_for self.now.settings self.now.me (viewed_message message.now) }
+    {
+        let side = match message.kind {
+            Kind::ShortRequest | Kind::MediumRequest | Kind::LongRequest => Side::Reply,
+            Kind::ShortReply | Kind::MediumReply | Kind::LongReply | Kind::Ack => Side::Request,
+        };
+        slots_of(&self.settings, self.me, side, message.from)
+    }
+
     /// A request that was delivered: unless it ran before, its handler runs, and its reply is kept.
     fn run<H: Handlers>(&mut self, handlers: &H, message: &View<'_>) -> Delivered
         requires { IsOurRequest self.old (viewed_message message.now) }
-        ensures { DeliversMessage (H.meaning handlers.now) self.old (viewed_message message.now) result self.new }
+        ensures { DeliversMessage (H.meaning handlers.now) self.old
+            (viewed_message message.now) result self.new }
     {
         let at = SlotRef {
             side: Side::Reply,
@@ -231,61 +263,39 @@ impl Core {
     /// Runs a request whose number is greater than the last one of its slot, and keeps its reply there.
     fn run_new<H: Handlers>(&mut self, handlers: &H, message: &View<'_>)
         requires ours { IsOurRequest self.old (viewed_message message.now) }
-        requires new { JudgesAt self.old.replies message.now.from message.now.slot message.now.number judged.New }
+        requires new { JudgesAt self.old.replies message.now.from message.now.slot
+            message.now.number judged.New }
         ensures { Runs (H.meaning handlers.now) self.old (viewed_message message.now) self.new }
     {
-        self.hold(message.from, message.slot);
         let (args, count) = arguments(message);
-        let incoming = self.received(
-            Role::Request,
-            message.from,
-            message.slot,
-            message.number,
-            &args[..count],
-            message.payload,
-        );
-        answer(
-            handlers,
-            message.handler,
-            &self.settings,
-            &self.table,
-            incoming,
-            &mut self.cells,
-            &mut self.log,
-            &mut self.replies,
-        );
+        let incoming = self.received(Role::Request, message, &args[..count], message.payload);
+        let floor = Floor {
+            cells: &mut self.cells,
+            log: &mut self.log,
+            settings: &self.settings,
+            table: &self.table,
+        };
+        floor.answer(handlers, message.handler, incoming, &mut self.replies);
     }
 
-    /// Counts the message buffer of a reply, where its slot had none.
-    fn hold(&mut self, from: u16, slot: u16)
-        requires node { from < self.old.settings.nodes }
-        requires other { from ≢ self.old.me }
-        requires slot { slot < self.old.settings.credits }
-        ensures { self.new ≡ with_held self.old from slot }
-    {
-        if self.replies.bytes(from, slot).is_none() {
-            self.held = self.held.saturating_add(1);
-        }
-    }
-
-    /// A message of another node.
+    /// A message of another node, with these as its arguments and its payload.
     fn received<'a>(
         &self,
         role: Role,
-        source: u16,
-        slot: u16,
-        number: u64,
+        message: &View<'_>,
         args: &'a [i32],
         payload: &'a [u8],
     ) -> Incoming<'a>
-        ensures { IsReceived result self.now role source slot number args.now payload.now }
+        requires args { args.now ≡ (viewed_message message.now).args }
+        requires payload { payload.now ≡ message.now.payload.now }
+        ensures { arrival_of result ≡ arrival self.now role (viewed_message message.now) }
     {
         Incoming {
             role,
             me: self.me,
-            source,
-            slot,
-            number,
+            source: message.from,
+            slot: message.slot,
+            number: message.number,
             args,
             payload,
             place: None,
@@ -295,15 +305,13 @@ impl Core {
     /// A reply that was delivered: where its request isn't back, its handler runs, and the credit is back.
     fn take<H: Handlers>(&mut self, handlers: &H, message: &View<'_>) -> Delivered
         requires { IsOurReply self.old (viewed_message message.now) }
-        ensures { DeliversMessage (H.meaning handlers.now) self.old (viewed_message message.now) result self.new }
+        ensures { DeliversMessage (H.meaning handlers.now) self.old
+            (viewed_message message.now) result self.new }
     {
-        if !self
-            .requests
-            .take_back(message.from, message.slot, message.number)
-        {
+        let (peer, slot, number) = (message.from, message.slot, message.number);
+        if !self.requests.take_back(peer, slot, number) {
             return Delivered::Late;
         }
-        self.held = self.held.saturating_sub(1);
         if message.kind != Kind::Ack {
             self.run_reply(handlers, message);
         }
@@ -317,27 +325,14 @@ impl Core {
     /// Runs the handler of a reply.
     fn run_reply<H: Handlers>(&mut self, handlers: &H, message: &View<'_>)
         requires { IsMessage (viewed_message message.now) }
-        ensures { self.new ≡ with_outcome self.old role.Reply (reply_outcome (H.meaning handlers.now) self.old message.now.from message.now.slot message.now.number (content_of (viewed_message message.now))) }
+        ensures { self.new ≡ with_outcome self.old role.Reply
+            (reply_outcome (H.meaning handlers.now) self.old
+            (with_sender self.old.me (viewed_message message.now))
+            (content_of (viewed_message message.now))) }
     {
         let (args, count) = arguments(message);
-        let incoming = self.received(
-            Role::Reply,
-            message.from,
-            message.slot,
-            message.number,
-            &args[..count],
-            message.payload,
-        );
-        let _ = run_at_desk(
-            handlers,
-            message.handler,
-            &self.settings,
-            &self.table,
-            incoming,
-            &mut self.cells,
-            &mut self.log,
-            &mut self.desk,
-        );
+        let incoming = self.received(Role::Reply, message, &args[..count], message.payload);
+        let _ = self.run_handler(handlers, message.handler, incoming);
     }
 
     /// Notes that the request which is due at `now` is sent again, and tells its node and slot.

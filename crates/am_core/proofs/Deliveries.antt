@@ -1,0 +1,286 @@
+-- What the code does with a message that is delivered, as steps of every record for which a core stands.
+use Rattle.std.proofs.Common.{◌≡◌, ◌≢◌, inl, inr, ℕ, ◌<◌, true, List, Option, None, Some}
+use Rattle.std.proofs.Common.{refl, sym, ap, ap₂, ◌∙◌, subst, arith}
+use Rattle.std.specs.Prelude.{if◌then◌else◌}
+use Rattle.std.proofs.lemmas.Bool.Decides.{nat_tests}
+use Rattle.std.proofs.lemmas.Bool.{cases_Bool}
+use Rattle.std.proofs.lemmas.Option.{same_Some}
+use Rattle.datagram_grammar.specs.Message.{Message, IsMessage, Spells, spelling, code, is_ack}
+use Rattle.datagram_grammar.specs.Content.{content_of}
+use Rattle.datagram_grammar.specs.Refusals.{first_refusal}
+use Rattle.datagram_grammar.specs.declared.refused.Refused.{Refused}
+use Rattle.credit_slots.specs.State.{Vacant, with_slot}
+use Rattle.reply_slots.specs.State.{with_reply}
+use Rattle.reply_slots.specs.declared.Judged.TheVariants as judged
+use Rattle.handler_rules.specs.declared.rules.Role.TheVariants as role
+use Rattle.node_record.specs.declared.answer.Why.{Why}
+use Rattle.node_record.specs.declared.answer.Why.TheVariants as why
+use Rattle.node_record.specs.declared.answer.Delivered.{Delivered}
+use Rattle.node_record.specs.declared.answer.Delivered.TheVariants as delivered
+use Rattle.node_record.specs.Record.{Node, numbered}
+use Rattle.node_record.specs.Requests.{is_open}
+use Rattle.node_record.specs.Executed.{greatest}
+use Rattle.node_record.specs.Behaviour.{is_request}
+use Rattle.node_record.specs.NodeStep.{NodeAnswer, OfDelivery, Comes}
+use Rattle.node_record.specs.Step.{judged as judged_answer, taken_back, unless_refused}
+use Rattle.node_record.specs.Step.{deliver_answer, after_delivery}
+use Rattle.node_record.specs.Step.{address_fault, first_why, with_run, with_back}
+use Rattle.node_record.specs.Step.{Verdict, Refused as RefusedVerdict, Repeated, Passed, Runs as RunsVerdict, Missed}
+use Rattle.node_record.specs.Step.{Returns as ReturnsVerdict, verdict, answer_by, slots_for, with_sender}
+use Rattle.datagram_grammar.specs.Parameters.{credits_of}
+use Rattle.am_core.specs.Kept.{Local}
+use Rattle.handler_rules.specs.Runs.{Meaning}
+use Rattle.am_core.specs.ClientRules.{content_refusal}
+use Rattle.am_core.specs.HandlerRuns.{left_by, outcome, reply_or_ack, run_request}
+use Rattle.am_core.specs.HandlerRuns.{run_reply}
+use Rattle.am_core.specs.CoreState.{CoreState}
+use Rattle.am_core.specs.CoreContracts.{IsSameNode}
+use Rattle.am_core.specs.Stands.{Stands}
+use Rattle.am_core.specs.CoreContracts.{CoreTold, CoreSteps, Delivers}
+use Rattle.am_core.specs.CoreStep.{request_outcome}
+use Rattle.am_core.specs.CoreStep.{with_outcome, DeliversMessage}
+use Rattle.am_core.specs.CoreStep.{IsOurRequest, IsOurReply, Runs, message_refusal, with_reply_run}
+use Rattle.am_core.specs.CoreStep.{answer_message, handlers_at}
+use Rattle.am_core.proofs.CoreStands.{outcome_stands, node_taken}
+use Rattle.am_core.proofs.CoreStands.{node_not_taken, node_returns, node_judged, node_runs}
+use Rattle.am_core.proofs.CoreSteps.{rules_at, site_at, same_core, reply_run_stands}
+
+-- how a core tells a delivery
+abbrev of_delivery : Delivered → NodeAnswer CoreTold
+of_delivery a = OfDelivery a
+
+-- ---- what becomes of a message
+
+-- what a message that isn't refused says of its way
+pub record IsOurs (e : CoreState) (m : Message) : Type 0 where
+  pub to : m.to ≡ e.me
+  pub from : m.from < e.settings.nodes
+  pub slot : m.slot < slots_for e.settings e.me m
+
+-- where nothing is wrong, the first thing isn't
+first_none : (a b : Option Why) → first_why a b ≡ None → a ≡ None
+first_none None b h = refl
+first_none (Some reason) b h = absurd (cc)
+
+-- a message that isn't refused is for this node, from a node, with a slot of its pair
+pub ours_says : (e : CoreState) (m : Message) → message_refusal e m ≡ None → IsOurs e m
+ours_says e m h =
+    let none : address_fault e.settings e.me m ≡ None = first_none (address_fault e.settings e.me m)
+    (content_refusal e.table (content_of m)) h in
+    record {
+      to = grind (arith, nat_tests, none);
+      from = grind (arith, nat_tests, none);
+      slot = grind
+          (arith, nat_tests, none);
+    }
+
+-- a message comes from another node
+from_other : (e : CoreState) (m : Message) → IsOurs e m → IsMessage m → m.from ≢ e.me
+from_other e m O M same = M.apart (same ∙ sym O.to)
+
+-- what becomes of a message that isn't refused
+abbrev pub taken_verdict : Node Local → Message → Verdict
+taken_verdict r m =
+    if is_request m.kind then judged_answer m.number (greatest m.slot (r.ran m.from)) None else taken_back m.slot
+    (numbered (r.asked m.from) m.number) None
+
+-- of a request that isn't refused
+request_verdict : (meaning : Meaning) (e : CoreState) (r : Node Local) (m : Message) (v : Verdict) → IsOurRequest e m
+    → judged_answer m.number (greatest m.slot (r.ran m.from)) None ≡ v → verdict (site_at meaning e) r m ≡ v
+request_verdict meaning e r m v O is =
+    ap (λ x. unless_refused x (taken_verdict r m)) O.ours
+    ∙ (ap (λ b. if b then judged_answer m.number (greatest m.slot (r.ran m.from)) None else taken_back m.slot
+    (numbered (r.asked m.from) m.number) None) O.request ∙ is)
+
+-- of a reply that isn't refused
+reply_verdict : (meaning : Meaning) (e : CoreState) (r : Node Local) (m : Message) (v : Verdict) → IsOurReply e m
+    → taken_back m.slot (numbered (r.asked m.from) m.number) None ≡ v → verdict (site_at meaning e) r m ≡ v
+reply_verdict meaning e r m v O is =
+    ap (λ x. unless_refused x (taken_verdict r m)) O.ours
+    ∙ (ap (λ b. if b then judged_answer m.number (greatest m.slot (r.ran m.from)) None else taken_back m.slot
+    (numbered (r.asked m.from) m.number) None) O.reply ∙ is)
+
+-- a greater number is run
+judged_new : (m : Message) (last : ℕ) → last < m.number → judged_answer m.number last None ≡ RunsVerdict
+judged_new m last l = grind (arith, nat_tests)
+
+-- the greatest number came again
+judged_again : (m : Message) (last : ℕ) → m.number ≡ last → judged_answer m.number last None ≡ Repeated
+judged_again m last l = grind (arith, nat_tests)
+
+-- a smaller number is stale
+judged_stale : (m : Message) (last : ℕ) → m.number < last → judged_answer m.number last None ≡ Passed
+judged_stale m last l = grind (arith, nat_tests)
+
+-- where this becomes of a message: the answer, and what stands
+by_verdict : (meaning : Meaning) (e new : CoreState) (r : Node Local) (m : Message) (v : Verdict) (a : Delivered)
+    → verdict (site_at meaning e) r m ≡ v → a ≡ answer_by (rules_at meaning e) m v
+    → Stands new (after_delivery (site_at meaning e) r m v)
+    → (a ≡ deliver_answer (site_at meaning e) r m) × Stands new
+    (after_delivery (site_at meaning e) r m (verdict (site_at meaning e) r m))
+by_verdict meaning e new r m v a is answer stands = (
+  answer ∙ ap (answer_by (rules_at meaning e) m) (sym is),
+  subst
+      (λ x. Stands new (after_delivery (site_at meaning e) r m x)) (sym is) stands,
+)
+
+-- a message that is delivered: what it is answered, and what it leaves
+pub record MessageStep (meaning : Meaning) (e : CoreState) (m : Message) (a : Delivered) (new : CoreState) : Type 0
+  where
+    pub same : IsSameNode e new
+    pub steps : (r : Node Local) → Stands e r
+        → (a ≡ deliver_answer (site_at meaning e) r m) × Stands new
+        (after_delivery (site_at meaning e) r m (verdict (site_at meaning e) r m))
+
+-- a slot of the pair of a request, and of a reply
+request_slot_in : (e : CoreState) (m : Message) → IsOurRequest e m → m.slot < credits_of e.settings m.from e.me
+request_slot_in e m O =
+    subst (λ b. m.slot < (if b then credits_of e.settings m.from e.me else credits_of e.settings e.me m.from))
+    O.request (ours_says e m O.ours).slot
+
+reply_slot_in : (e : CoreState) (m : Message) → IsOurReply e m → m.slot < credits_of e.settings e.me m.from
+reply_slot_in e m O =
+    subst (λ b. m.slot < (if b then credits_of e.settings m.from e.me else credits_of e.settings e.me m.from)) O.reply
+    (ours_says e m O.ours).slot
+
+-- a request that is new in its slot ran
+runs_stand : (meaning : Meaning) (e : CoreState) (m : Message) (new : CoreState) (r : Node Local) → IsOurRequest e m
+    → Runs meaning e m new → Stands e r → greatest m.slot (r.ran m.from) < m.number
+    → Stands new (with_run r (with_sender e.me m) (content_of m)
+    (run_request (handlers_at meaning e) (with_sender e.me m) (content_of m) r.local))
+runs_stand meaning e m new r O R S above =
+    let ours = ours_says e m O.ours in
+    let o = request_outcome meaning e (with_sender e.me m) (content_of m) in
+    let answer = answer_message e (with_sender e.me m) o in
+    let ran : CoreState = record e {
+      replies = with_reply e.replies m.from m.slot m.number (spelling answer);
+    } in
+    let N = node_runs m.from m.slot m.number e r (content_of m) (reply_or_ack o.reply) ran S ours.from
+    (from_other e m ours O.message) (request_slot_in e m O) above R.message refl in
+    let stands = outcome_stands ran (with_run r (with_sender e.me m) (content_of m) (r.local, reply_or_ack o.reply))
+    role.Request o N in
+    rw R.kept (subst (λ cells. Stands (with_outcome ran role.Request o)
+    (with_run r (with_sender e.me m) (content_of m)
+    (let out = outcome (handlers_at meaning e) role.Request (with_sender e.me m) (content_of m) cells in
+    (left_by role.Request out r.local, reply_or_ack out.reply)))) S.cells_are stands)
+
+-- the reply to a request that isn't back came
+returns_stand : (meaning : Meaning) (e : CoreState) (m : Message) (new : CoreState) (r : Node Local) → IsOurReply e m
+    → new ≡ with_reply_run meaning
+    (record e { requests = with_slot e.requests m.from m.slot Vacant }) m → Stands e r
+    → is_open m.slot (numbered (r.asked m.from) m.number) ≡ true
+    → Stands new (with_back r m.from m.number
+    (run_reply (handlers_at meaning e) (with_sender e.me m) (content_of m) r.local))
+returns_stand meaning e m new r O is S open_ =
+    let ours = ours_says e m O.ours in
+    let back : CoreState = record e { requests = with_slot e.requests m.from m.slot Vacant } in
+    let N = node_returns m.from m.slot m.number e r back S ours.from (from_other e m ours O.message)
+    (reply_slot_in e m O) open_ refl in
+    reply_run_stands meaning back (with_back r m.from m.number r.local) (with_sender e.me m) (content_of m) new
+    N (λ t. is ∙ rw t refl) (λ f. is ∙ rw f refl)
+
+-- by what the code answered
+pub message_step : (meaning : Meaning) (e : CoreState) (m : Message) (a : Delivered) (new : CoreState)
+    → DeliversMessage meaning e m a new → MessageStep meaning e m a new
+message_step meaning e m (delivered.Ran at) new h = record {
+  same = rw h.3.kept (record { settings = refl; me_is = refl; table = refl });
+  steps = λ r S.
+      let ours = ours_says e m h.0.ours in
+      let above : greatest m.slot (r.ran m.from) < m.number = node_judged m.from m.slot m.number e r judged.New S
+      ours.from (from_other e m ours h.0.message) (request_slot_in e m h.0) h.2 in
+      by_verdict meaning e new r m RunsVerdict _
+      (request_verdict meaning e r m _ h.0 (judged_new m (greatest m.slot (r.ran m.from)) above))
+      (ap delivered.Ran h.1) (runs_stand meaning e m new r h.0 h.3 S above);
+}
+message_step meaning e m (delivered.Again at) new h = record {
+  same = same_core e new h.3;
+  steps = λ r S.
+      let ours = ours_says e m h.0.ours in
+      let same = node_judged m.from m.slot m.number e r judged.Again S ours.from (from_other e m ours h.0.message)
+      (request_slot_in e m h.0) h.2 in
+      by_verdict meaning e new r m Repeated _
+      (request_verdict meaning e r m _ h.0 (judged_again m (greatest m.slot (r.ran m.from)) same))
+      (ap delivered.Again h.1) (rw h.3 S);
+}
+message_step meaning e m delivered.Stale new h = record {
+  same = same_core e new h.2;
+  steps = λ r S.
+      let ours = ours_says e m h.0.ours in
+      let below = node_judged m.from m.slot m.number e r judged.Stale S ours.from (from_other e m ours h.0.message)
+      (request_slot_in e m h.0) h.1 in
+      by_verdict meaning e new r m Passed _
+      (request_verdict meaning e r m _ h.0 (judged_stale m (greatest m.slot (r.ran m.from)) below)) refl (rw h.2 S);
+}
+message_step meaning e m (delivered.Returned to slot number) new h = record {
+  same =
+      rw h.5 (same_run meaning e (record e { requests = with_slot e.requests m.from m.slot Vacant })
+      m (record { settings = refl; me_is = refl; table = refl }));
+  steps = λ r S.
+      let ours = ours_says e m h.0.ours in
+      let open_ = node_taken m.from m.slot m.number e r S ours.from (from_other e m ours h.0.message)
+      (reply_slot_in e m h.0) h.4 in
+      by_verdict meaning e new r m ReturnsVerdict _ (reply_verdict meaning e r m _ h.0 (rw open_ refl))
+      (ap₂ (λ p q. delivered.Returned p q number) h.1 h.2 ∙ ap (λ n. delivered.Returned m.from m.slot n) h.3)
+      (returns_stand meaning e m new r h.0 h.5 S open_);
+}
+  where
+    same_run : (meaning : Meaning) (e v : CoreState) (m : Message) → IsSameNode e v
+        → IsSameNode e (with_reply_run meaning v m)
+    same_run meaning e v m h =
+        elim (cases_Bool (is_ack (code m.kind)))
+        [ inl t ↦ rw t h | inr f ↦ rw f (record { settings = h.settings; me_is = h.me_is; table = h.table }) ]
+message_step meaning e m delivered.Late new h = record {
+  same = same_core e new h.2;
+  steps = λ r S.
+      let ours = ours_says e m h.0.ours in
+      let not_open = node_not_taken m.from m.slot m.number e r S ours.from (from_other e m ours h.0.message)
+      (reply_slot_in e m h.0) h.1 in
+      by_verdict meaning e new r m Missed _ (reply_verdict meaning e r m _ h.0 (rw not_open refl)) refl (rw h.2 S);
+}
+message_step meaning e m (delivered.Refused reason) new h = record {
+  same = same_core e new h.1;
+  steps =
+      λ r S. by_verdict meaning e new r m (RefusedVerdict reason) _
+      (ap (λ x. unless_refused x (taken_verdict r m)) h.0) refl (rw h.1 S);
+}
+message_step meaning e m (delivered.Deferred lock) new h = absurd h
+
+-- a message that is delivered, told as an event
+message_comes : (meaning : Meaning) (e : CoreState) (m : Message) (a : Delivered) (new : CoreState) (now : ℕ)
+    → MessageStep meaning e m a new
+    → CoreSteps meaning e (record { now = now; event = Comes m; answer = OfDelivery a }) new
+message_comes meaning e m a new now h =
+    record { same = h.same; steps = λ r S. let it = h.steps r S in (ap of_delivery it.0, it.1) }
+
+-- bytes that spell a message of the version, the only one that they spell
+pub delivers_step : (meaning : Meaning) (e : CoreState) (version : ℕ) (bytes : List ℕ) (m : Message) (a : Delivered)
+    (new : CoreState) → version ≡ e.settings.version
+    → ((other : Message) → other.version ≡ version → Spells other bytes → m ≡ other)
+    → None ≡ first_refusal version bytes
+    → DeliversMessage meaning e m a new → Delivers meaning e bytes a new
+delivers_step meaning e version bytes m a new same only fine h = record {
+  same = (message_comes meaning e m a new 0 (message_step meaning e m a new h)).same;
+  comes = λ other is spelled now.
+      subst (λ (n : Message). CoreSteps meaning e (record { now = now; event = Comes n; answer = OfDelivery a }) new)
+      (only other (is ∙ sym same) spelled) (message_comes meaning e m a new now (message_step meaning e m a new h));
+  refused = λ reason is. absurd (some_none reason (fine ∙ ap (λ v. first_refusal v bytes) same ∙ is));
+}
+  where
+    some_none : (reason : Refused) → None ≡ Some reason → ⊥
+    some_none reason e = cc
+
+-- bytes that are refused
+pub refused_step : (meaning : Meaning) (e : CoreState) (version : ℕ) (bytes : List ℕ) (reason : Refused)
+    → version ≡ e.settings.version
+    → ((m : Message) → m.version ≡ version → Spells m bytes → ⊥)
+    → Some reason ≡ first_refusal version bytes
+    → Delivers meaning e bytes (delivered.Refused (why.Bytes reason)) e
+refused_step meaning e version bytes reason same no_message first = record {
+  same = record { settings = refl; me_is = refl; table = refl };
+  comes = λ m is spelled. absurd (no_message m (is ∙ sym same) spelled);
+  refused = λ other h. (
+    ap (λ x. delivered.Refused (why.Bytes x))
+        (same_Some reason other (first ∙ ap (λ v. first_refusal v bytes) same ∙ h)),
+    refl,
+  );
+}

@@ -1,0 +1,22 @@
+use Rattle.std.proofs.Common.{arith, rules}
+use Rattle.datagram_grammar.proofs.Spelling.{spelling_fits}
+use Rattle.reply_slots.proofs.Replies.{reply_sealed}
+use Rattle.am_core.proofs.floor.Floor.answer.Goals as goal
+
+pub seal-requires-clause-some : goal.seal-requires-clause-some
+seal-requires-clause-some g c =
+    let fits = spelling_fits _ c.run_request-len.ensures.message in
+    omega (arith, c.run_request-len.ensures.len_is, fits.header)
+
+pub returns : goal.returns
+returns g c =
+    let ran = c.run_request-len.ensures in
+    let sealed = rw (← ran.len_is) at
+    (reply_sealed _ _ _ c.place-place.ensures.placed ran.buffer_is (spelling_fits _ ran.message).buffer) in
+    record {
+      cells_are = ran.cells_are;
+      log_is = ran.log_is;
+      message = ran.message;
+      replies_are = search
+          (rules, sealed);
+    }

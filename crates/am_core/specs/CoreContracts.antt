@@ -1,0 +1,89 @@
+-- What each call of a core does, of every record for which the core stood.
+use Rattle.std.specs.Prelude.{ℕ, ◌≡◌, List, Option, Some, None, Result}
+use Rattle.datagram_grammar.specs.Message.{Message, Spells}
+use Rattle.datagram_grammar.specs.Refusals.{first_refusal}
+use Rattle.datagram_grammar.specs.declared.refused.Refused.{Refused}
+use Rattle.handler_rules.specs.declared.rules.CallKind.{CallKind}
+use Rattle.handler_rules.specs.declared.rules.Forbidden.{Forbidden}
+use Rattle.handler_rules.specs.Runs.{Meaning}
+use Rattle.node_record.specs.declared.answer.SlotRef.{SlotRef}
+use Rattle.node_record.specs.declared.answer.Why.TheVariants as why
+use Rattle.node_record.specs.declared.answer.Delivered.{Delivered}
+use Rattle.node_record.specs.declared.answer.Delivered.TheVariants as delivered
+use Rattle.node_record.specs.declared.answer.Ticked.{Ticked}
+use Rattle.node_record.specs.declared.answer.Ticked.TheVariants as ticked
+use Rattle.node_record.specs.Record.{Node}
+use Rattle.node_record.specs.Behaviour.{Behaviour}
+use Rattle.node_record.specs.Step.{judged_local}
+use Rattle.node_record.specs.NodeStep.{Job, NodeEvent, Comes, NodeAnswer, OfDelivery, node_answer, node_after}
+use Rattle.node_record.specs.Transition.{Transition}
+use Rattle.am_core.specs.Kept.{Local}
+use Rattle.am_core.specs.ClientRules.{rules}
+use Rattle.am_core.specs.CoreState.{CoreState}
+use Rattle.am_core.specs.Stands.{Stands}
+
+-- ---- a core as a node
+
+-- what a thread may call of a core beside a request
+pub data CoreCall : Type 0 where
+  Check : CallKind → CoreCall  -- such a call is judged by the rule table
+
+-- what that is answered
+abbrev pub CoreTold : Type 0
+CoreTold = Result (Unit {0}) Forbidden
+
+-- what such a call answers and leaves, where a node does this with messages
+abbrev pub core_does : Behaviour Local → (thread : ℕ) → CoreCall → Local → CoreTold × Local
+core_does behaviour thread (Check kind) local =
+    let judged = behaviour.judges thread kind local in
+    (judged, judged_local behaviour thread judged local)
+
+-- the core's job: what it does with messages by its table and these handlers, and by the other calls
+abbrev pub core_job : Meaning → CoreState → Job Local CoreCall CoreTold
+core_job meaning core =
+    let messages = rules core.settings core.table meaning in
+    record {
+      settings = core.settings;
+      behaviour = record {
+        messages = messages;
+        does = λ me worn thread call local. core_does messages thread call local;
+      };
+    }
+
+-- the core of the same node of the same job, with the same table
+pub record IsSameNode (old new : CoreState) : Type 0 where
+  pub settings : new.settings ≡ old.settings
+  pub me_is : new.me ≡ old.me
+  pub table : new.table ≡ old.table
+
+-- ---- every call
+
+-- the event with its answer is the step of every record for which the core stood, and it stands for what that leaves
+pub record CoreSteps
+    (meaning : Meaning) (old : CoreState) (step : Transition (NodeEvent CoreCall) (NodeAnswer CoreTold))
+    (new : CoreState) : Type 0 where
+  pub same : IsSameNode old new
+  pub steps : (node : Node Local) → Stands old node
+      → (step.answer ≡ node_answer (core_job meaning old) old.me node step.now step.event)
+      × Stands new (node_after (core_job meaning old) old.me node step.now step.event)
+
+-- bytes that are delivered: they spell a message of the job's version, which comes, whatever the time; or they are
+-- refused by the first reason, and nothing happened
+pub record Delivers (meaning : Meaning) (old : CoreState) (bytes : List ℕ) (answer : Delivered) (new : CoreState)
+    : Type 0 where
+  pub same : IsSameNode old new
+  pub comes : (message : Message) → message.version ≡ old.settings.version → Spells message bytes → (now : ℕ)
+      → CoreSteps meaning old (record { now = now; event = Comes message; answer = OfDelivery answer }) new
+  pub refused : (reason : Refused) → first_refusal old.settings.version bytes ≡ Some reason
+      → (answer ≡ delivered.Refused (why.Bytes reason)) × (new ≡ old)
+
+-- how a tick is answered that sends the request of this slot again, or nothing
+abbrev pub resends : Option SlotRef → Ticked
+resends None = ticked.Nothing
+resends (Some at) = ticked.Resend at
+
+-- ---- what is read of a core
+
+-- this holds of every record for which the core stands
+abbrev pub ForItsRecord : CoreState → (Node Local → Type 0) → Type 0
+ForItsRecord core Holds = (node : Node Local) → Stands core node → Holds node

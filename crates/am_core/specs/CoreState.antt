@@ -1,0 +1,16 @@
+-- What a core is, as a value.
+use Rattle.std.specs.Prelude.{ℕ, ℤ, List, Option}
+use Rattle.datagram_grammar.specs.Parameters.{Parameters}
+use Rattle.credit_slots.specs.State.{SlotsState}
+use Rattle.reply_slots.specs.State.{RepliesState}
+use Rattle.handler_rules.specs.declared.table.Entry.{Entry}
+use Rattle.handler_rules.specs.Logged.{Logged}
+
+pub record CoreState : Type 0 where
+  pub settings : Parameters
+  pub me : ℕ
+  pub table : List (Option Entry)
+  pub requests : SlotsState
+  pub replies : RepliesState
+  pub cells : List ℤ
+  pub log : Logged
