@@ -1,13 +1,12 @@
 -- How many exchanges at the front of a list are back.
-use Rattle.std.proofs.Common.{◌≡◌, inl, inr, ℕ, zero, suc, ◌+◌, ◌-◌, ◌<◌, ◌≤◌, Bool, true, false, true≢false, List, [], ◌∷◌, ◌++◌, length, get_or, set, refl, sym, ap, ◌∙◌, arith}
-use Rattle.std.specs.Prelude.{if◌then◌else◌}
+use Rattle.std.proofs.Common.{◌≡◌, inl, inr, ℕ, zero, suc, ◌+◌, ◌-◌, ◌<◌, ◌≤◌, true, false, true≢false, List, []}
+use Rattle.std.proofs.Common.{◌∷◌, ◌++◌, length, get_or, set, refl, sym, ap, ◌∙◌, arith}
 use Rattle.std.proofs.lemmas.Bool.{cases_Bool, cases_lt}
 use Rattle.std.proofs.lemmas.Option.{slice_get_read}
-use Rattle.list_places.specs.Update.{update}
-use Rattle.list_places.proofs.Update.{update-Some}
+use Rattle.lists.specs.Update.{update}
+use Rattle.lists.proofs.Update.{update-Some}
 use Rattle.gas_world.specs.Exchanged.{ExchangesState}
 use Rattle.gas_world.specs.State.{front_back, requested}
-use Rattle.gas_world.specs.declared.archive.Part.{Part}
 use Rattle.gas_world.specs.declared.exchanges.Exchange.{Exchange}
 
 -- ---- how many are back
@@ -29,7 +28,8 @@ front_within (e ∷ es) = elim (cases_Bool e.back) [
 ]
 
 -- each of them is back
-pub front_is_back : (list : List Exchange) (place : ℕ) (d : Exchange) → place < front_back list → (get_or list place d).back ≡ true
+pub front_is_back : (list : List Exchange) (place : ℕ) (d : Exchange) → place < front_back list
+    → (get_or list place d).back ≡ true
 front_is_back [] place d low = absurd (omega (arith, low))
 front_is_back (e ∷ es) zero d low = elim (cases_Bool e.back) [
   | inl t ↦ t
@@ -41,7 +41,8 @@ front_is_back (e ∷ es) (suc place) d low = elim (cases_Bool e.back) [
 ]
 
 -- the next one is out
-pub front_is_out : (list : List Exchange) (d : Exchange) → front_back list < length list → (get_or list (front_back list) d).back ≡ false
+pub front_is_out : (list : List Exchange) (d : Exchange) → front_back list < length list
+    → (get_or list (front_back list) d).back ≡ false
 front_is_out [] d low = absurd (omega (arith, low))
 front_is_out (e ∷ es) d low = elim (cases_Bool e.back) [
   | inl t ↦ rw (front_more e es t) (front_is_out es d (omega (arith, low, front_more e es t)))
@@ -49,7 +50,8 @@ front_is_out (e ∷ es) d low = elim (cases_Bool e.back) [
 ]
 
 -- where so many are back and the next one too, one more is
-pub front_next : (list : List Exchange) (front : ℕ) (d : Exchange) → front < length list → front ≤ front_back list → (get_or list front d).back ≡ true → front + 1 ≤ front_back list
+pub front_next : (list : List Exchange) (front : ℕ) (d : Exchange) → front < length list → front ≤ front_back list
+    → (get_or list front d).back ≡ true → front + 1 ≤ front_back list
 front_next list front d inside low t = elim (cases_lt front (front_back list)) [
   | inl less ↦ omega (arith, less)
   | inr high ↦ (
@@ -59,7 +61,8 @@ front_next list front d inside low t = elim (cases_lt front (front_back list)) [
 ]
 
 -- where so many are back and the next one is out, no more are
-pub front_ends : (list : List Exchange) (front : ℕ) (d : Exchange) → front ≤ front_back list → (get_or list front d).back ≡ false → front ≡ front_back list
+pub front_ends : (list : List Exchange) (front : ℕ) (d : Exchange) → front ≤ front_back list
+    → (get_or list front d).back ≡ false → front ≡ front_back list
 front_ends list front d low f = elim (cases_lt front (front_back list)) [
   | inl less ↦ absurd (true≢false (sym (front_is_back list front d less) ∙ f))
   | inr high ↦ omega (arith, low, high)
@@ -68,20 +71,16 @@ front_ends list front d low f = elim (cases_lt front (front_back list)) [
 -- ---- how the list changes
 
 -- a request that is added is out
-front_added : (list : List Exchange) (request : Part) → front_back (list ++ requested request ∷ []) ≡ front_back list
-front_added [] request = refl
-front_added (e ∷ es) request = elim (cases_Bool e.back) [
-  | inl t ↦ front_more e (es ++ requested request ∷ []) t ∙ (ap suc (front_added es request) ∙ sym (front_more e es t))
-  | inr f ↦ front_none e (es ++ requested request ∷ []) f ∙ sym (front_none e es f)
+pub front_added : (list : List Exchange) (slot : ℕ) → front_back (list ++ requested slot ∷ []) ≡ front_back list
+front_added [] slot = refl
+front_added (e ∷ es) slot = elim (cases_Bool e.back) [
+  | inl t ↦ front_more e (es ++ requested slot ∷ []) t ∙ (ap suc (front_added es slot) ∙ sym (front_more e es t))
+  | inr f ↦ front_none e (es ++ requested slot ∷ []) f ∙ sym (front_none e es f)
 ]
 
--- whether it was added or not
-pub front_pushed : (added : Bool) (list : List Exchange) (request : Part) → front_back (if added then list ++ requested request ∷ [] else list) ≡ front_back list
-front_pushed true list request = front_added list request
-front_pushed false list request = refl
-
 -- an exchange that is as much back as the one in whose place it stands
-pub front_same : (list : List Exchange) (place : ℕ) (x y : Exchange) → x ≡ get_or list place x → y.back ≡ x.back → front_back (set list place y) ≡ front_back list
+pub front_same : (list : List Exchange) (place : ℕ) (x y : Exchange) → x ≡ get_or list place x → y.back ≡ x.back
+    → front_back (set list place y) ≡ front_back list
 front_same [] place x y was same = refl
 front_same (e ∷ es) zero x y was same =
     let back : y.back ≡ e.back = same ∙ ap (λ (z : Exchange). z.back) was in
@@ -95,7 +94,8 @@ front_same (e ∷ es) (suc place) x y was same = elim (cases_Bool e.back) [
 ]
 
 -- where one more is back they become no fewer
-pub front_grows : (list : List Exchange) (place : ℕ) (x : Exchange) → x.back ≡ true → front_back list ≤ front_back (set list place x)
+pub front_grows : (list : List Exchange) (place : ℕ) (x : Exchange) → x.back ≡ true
+    → front_back list ≤ front_back (set list place x)
 front_grows [] place x back = omega arith
 front_grows (e ∷ es) zero x back = elim (cases_Bool e.back) [
   | inl t ↦ omega (arith, front_more e es t, front_more x es back)
@@ -109,9 +109,12 @@ front_grows (e ∷ es) (suc place) x back = elim (cases_Bool e.back) [
 -- ---- what a change is, in the value of the exchanges
 
 -- a place that was written is a number that was changed
-pub written_is : (list : List Exchange) (room number : ℕ) (now : ExchangesState) (f : Exchange → Exchange) (x : Exchange) → record { list = list; room = room } ≡ now → 1 ≤ number → number ≤ length now.list → x ≡ get_or list (number - 1) x
+pub written_is : (list : List Exchange) (room number : ℕ) (now : ExchangesState) (f : Exchange → Exchange)
+    (x : Exchange) → record { list = list; room = room } ≡ now → 1 ≤ number → number ≤ length now.list
+    → x ≡ get_or list (number - 1) x
     → set list (number - 1) (f x) ≡ update now.list (number - 1) f
 written_is list room number now f x view first last was =
     let same : list ≡ now.list = ap (λ (e : ExchangesState). e.list) view in
     let low : number - 1 < length list = omega (arith, first, last, ap length same) in
-    sym (update-Some list (number - 1) f x (slice_get_read list (length list) (number - 1) x refl low was)) ∙ ap (λ l. update l (number - 1) f) same
+    sym (update-Some list (number - 1) f x (slice_get_read list (length list) (number - 1) x refl low was))
+    ∙ ap (λ l. update l (number - 1) f) same

@@ -1,27 +1,32 @@
 -- A new world stands for records that are empty.
-use Rattle.std.proofs.Common.{◌≡◌, inl, inr, ℕ, zero, suc, ◌+◌, ◌*◌, ◌<◌, List, [], ◌∷◌, ◌++◌, length, replicate, Option, Some, refl, sym, ap, ◌∙◌, subst, subst₂, arith}
+use Rattle.std.proofs.Common.{◌≡◌, inl, inr, ℕ, zero, suc, ◌+◌, ◌*◌, ◌<◌, List, [], ◌∷◌, ◌++◌, length, replicate}
+use Rattle.std.proofs.Common.{Option, Some, refl, sym, ap, ◌∙◌, subst, subst₂, arith}
 use Rattle.std.specs.List.{slice_get}
 use Rattle.std.proofs.lemmas.List.{length-replicate}
 use Rattle.datagram_grammar.specs.Parameters.{Parameters, AreInRange}
 use Rattle.handler_rules.specs.declared.table.Entry.{Entry}
-use Rattle.am_core.specs.Locals.{opening_node, nothing_done, content_refusal}
-use Rattle.am_core.proofs.Lists.{slice_get_push, numbered_nil}
-use Rattle.am_core.proofs.Nodes.{held_nothing}
-use Rattle.gas_world.specs.Nodes.{at_the_opening}
-use Rattle.gas_world.specs.Archived.{ArchiveState}
+use Rattle.node_record.specs.Record.{opening_node}
+use Rattle.am_core.specs.Kept.{nothing_done, IsKept}
+use Rattle.am_core.specs.ClientRules.{content_refusal}
+use Rattle.node_record.proofs.Lists.{slice_get_push, numbered_nil}
+use Rattle.node_record.proofs.Holding.{held_nothing}
+use Rattle.gas_world.specs.CallRules.{at_the_opening}
 use Rattle.gas_world.specs.Exchanged.{ExchangesState}
 use Rattle.gas_world.specs.Endpoints.{EndpointState, EndpointStands}
 use Rattle.gas_world.specs.Sizes.{IsWorldSized, IsNodeOf, AreOpening, AreEmpty}
 use Rattle.gas_world.specs.Stands.{Stands, StandsForPair}
 use Rattle.gas_world.specs.declared.exchanges.Exchange.{Exchange}
-use Rattle.gas_world.proofs.Worlds.{opening_keeps}
+use Rattle.plain_world.proofs.Worlds.{opening_keeps}
 use Rattle.gas_world.proofs.Scenes.{pair_place}
 
 -- one endpoint more
-pub opening_push : (s : Parameters) (table : List (Option Entry)) (es : List EndpointState) (e : EndpointState) → AreOpening s table es → IsNodeOf s table (length es) e → EndpointStands e (opening_node nothing_done) → AreOpening s table (es ++ e ∷ [])
+pub opening_push : (s : Parameters) (table : List (Option Entry)) (es : List EndpointState) (e : EndpointState)
+    → AreOpening s table es → IsNodeOf s table (length es) e → EndpointStands e (opening_node nothing_done)
+    → AreOpening s table (es ++ e ∷ [])
 opening_push s table es e A N S i x at = elim (slice_get_push es e i x at) [
   | inl was ↦ A i x was
-  | inr last ↦ subst₂ (λ (n : ℕ) (y : EndpointState). IsNodeOf s table n y × EndpointStands y (opening_node nothing_done)) (sym last.0) last.1 (N, S)
+  | inr last ↦ subst₂ (λ (n : ℕ) (y : EndpointState). IsNodeOf s table n y × EndpointStands y
+      (opening_node nothing_done)) (sym last.0) last.1 (N, S)
 ]
 
 -- what is at a place
@@ -37,30 +42,37 @@ slice_get-replicate (suc n) zero x l = refl
 slice_get-replicate (suc n) (suc i) x l = slice_get-replicate n i x (omega arith)
 
 -- no exchange of a pair that asked nothing
-empty_pair : (s : Parameters) (i j : ℕ) (bytes : List ℕ) (list : List Exchange) → list ≡ [] → StandsForPair s i j bytes list [] []
-empty_pair s i j bytes list e = record {
+empty_pair : (list : List Exchange) → list ≡ [] → StandsForPair list [] []
+empty_pair list e = record {
   count = ap length e;
   each = λ k x at. absurd (numbered_nil k x at);
 }
 
 -- the world of endpoints that are new, where no pair has exchanges
-pub stands_opening : (s : Parameters) (table : List (Option Entry)) (es : List EndpointState) (archive : ArchiveState) (xs : List ExchangesState) (most : List ℕ)
-    → AreInRange s → length es ≡ s.nodes → AreOpening s table es → length xs ≡ s.nodes * s.nodes → AreEmpty xs → most ≡ replicate s.nodes 0
-    → Stands (record { settings = s; table = table; endpoints = es; archive = archive; exchanges = xs; most = most }) at_the_opening (λ i. 0)
-stands_opening s table es archive xs most range count A pairs E zeros = record {
+pub stands_opening : (s : Parameters) (table : List (Option Entry)) (es : List EndpointState)
+    (xs : List ExchangesState) (most : List ℕ)
+    → AreInRange s → length es ≡ s.nodes → AreOpening s table es → length xs ≡ s.nodes * s.nodes → AreEmpty xs
+    → most ≡ replicate s.nodes 0
+    → Stands (record { settings = s; table = table; endpoints = es; exchanges = xs; most = most })
+    at_the_opening (λ i. 0)
+stands_opening s table es xs most range count A pairs E zeros = record {
   range = range;
-  invariant_ = opening_keeps s (content_refusal table) (λ i. nothing_done);
-  endpoints = λ i low. let it = item_in es i (omega (arith, low, count)) in let at = A i it.0 it.1 in (it.0, it.1, at.0, at.1);
+  invariant_ = opening_keeps s (content_refusal table) IsKept (λ i. nothing_done) (λ i. tt);
+  endpoints =
+      λ i low. let it = item_in es i (omega (arith, low, count)) in let at = A i it.0 it.1 in (it.0, it.1, at.0, at.1);
   exchanges = λ i j i_in j_in.
-      let it = item_in xs (i * s.nodes + j) (subst (λ n. i * s.nodes + j < n) (sym pairs) (pair_place s.nodes i j i_in j_in)) in
-      (it.0.list, it.0.room, it.1, empty_pair s i j archive.bytes it.0.list (E (i * s.nodes + j) it.0 it.1));
+      let it = item_in xs (i * s.nodes + j)
+      (subst (λ n. i * s.nodes + j < n) (sym pairs) (pair_place s.nodes i j i_in j_in)) in
+      (it.0.list, it.0.room, it.1, empty_pair it.0.list (E (i * s.nodes + j) it.0 it.1));
   most_is = λ i low. ap (λ ms. slice_get ms i) zeros ∙ slice_get-replicate s.nodes i 0 low;
-  held_le = λ i low. omega (arith, held_nothing s.credits nothing_done s.nodes);
+  held_le = λ i low. omega (arith, held_nothing s i nothing_done);
   most_few = λ i low. omega arith;
 }
 
 -- and it has its sizes
-pub sized_opening : (s : Parameters) (table : List (Option Entry)) (es : List EndpointState) (xs : List ExchangesState) (most : List ℕ) → length es ≡ s.nodes → AreOpening s table es → length xs ≡ s.nodes * s.nodes → most ≡ replicate s.nodes 0 → IsWorldSized s table es xs most
+pub sized_opening : (s : Parameters) (table : List (Option Entry)) (es : List EndpointState) (xs : List ExchangesState)
+    (most : List ℕ) → length es ≡ s.nodes → AreOpening s table es → length xs ≡ s.nodes * s.nodes
+    → most ≡ replicate s.nodes 0 → IsWorldSized s table es xs most
 sized_opening s table es xs most count A pairs zeros = record {
   endpoints_are = count;
   nodes = λ i e at. (A i e at).0;

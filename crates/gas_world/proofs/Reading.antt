@@ -1,66 +1,82 @@
 -- What is read of a world is what its records give.
-use Rattle.std.proofs.Common.{◌≡◌, ℕ, ◌+◌, ◌*◌, ◌<◌, List, length, get_or, Option, None, Some, refl, sym, ap, ◌∙◌, subst, subst₂, arith}
+use Rattle.std.proofs.Common.{◌≡◌, ℕ, ◌+◌, ◌*◌, ◌<◌, List, length, get_or, Option, None, Some, refl, sym, ap, ◌∙◌}
+use Rattle.std.proofs.Common.{subst, subst₂, arith}
 use Rattle.std.specs.Prelude.{false}
 use Rattle.std.specs.List.{slice_get}
 use Rattle.std.proofs.lemmas.Option.{slice_get_read, same_Some}
 use Rattle.datagram_grammar.specs.Parameters.{Parameters}
 use Rattle.handler_rules.specs.declared.table.Entry.{Entry}
-use Rattle.am_core.specs.Record.{Asked, Run, numbered}
-use Rattle.gas_world.specs.Nodes.{Records}
-use Rattle.gas_world.specs.Archived.{ArchiveState}
+use Rattle.node_record.specs.Record.{Request, Run, numbered}
+use Rattle.gas_world.specs.CallRules.{Records}
 use Rattle.gas_world.specs.Exchanged.{ExchangesState}
 use Rattle.gas_world.specs.Endpoints.{EndpointState, EndpointStands}
 use Rattle.gas_world.specs.Sizes.{IsWorldSized}
 use Rattle.gas_world.specs.Worlds.{WorldState}
 use Rattle.gas_world.specs.Stands.{StandsForPair, Stands}
-use Rattle.gas_world.specs.Plain.{is_back}
+use Rattle.plain_world.specs.Plain.{is_back}
 use Rattle.gas_world.specs.declared.exchanges.Exchange.{Exchange}
 use Rattle.gas_world.proofs.Scenes.{pair_place}
-use Rattle.gas_world.proofs.Deliveries.{sent_is, none_sent}
+use Rattle.gas_world.proofs.PairStands.{sent_is, none_sent}
 
 -- the parts of a world
-abbrev pub world_of : Parameters → List (Option Entry) → List EndpointState → ArchiveState → List ExchangesState → List ℕ → WorldState
-world_of s table es archive xs most = record { settings = s; table = table; endpoints = es; archive = archive; exchanges = xs; most = most }
+abbrev pub world_of : Parameters → List (Option Entry) → List EndpointState → List ExchangesState → List ℕ
+    → WorldState
+world_of s table es xs most =
+    record { settings = s; table = table; endpoints = es; exchanges = xs; most = most }
 
 -- a node's endpoint
-pub endpoint_read : (s : Parameters) (table : List (Option Entry)) (v : WorldState) (es : List EndpointState) (archive : ArchiveState) (xs : List ExchangesState) (most : List ℕ) (node : ℕ) (e : EndpointState)
-    → world_of s table es archive xs most ≡ v → IsWorldSized s table es xs most → node < v.settings.nodes → e ≡ get_or es node e
+pub endpoint_read : (s : Parameters) (table : List (Option Entry)) (v : WorldState) (es : List EndpointState)
+    (xs : List ExchangesState) (most : List ℕ) (node : ℕ) (e : EndpointState)
+    → world_of s table es xs most ≡ v → IsWorldSized s table es xs most → node < v.settings.nodes
+    → e ≡ get_or es node e
     → (w : Records) (greatest : ℕ → ℕ) → Stands v w greatest → EndpointStands e (w node)
-endpoint_read s table v es archive xs most node e view sized low read w greatest S =
+endpoint_read s table v es xs most node e view sized low read w greatest S =
     let it = S.endpoints node low in
-    let within : node < length es = omega (arith, low, sized.endpoints_are, ap (λ (t : WorldState). t.settings.nodes) view) in
+    let within : node < length es = omega
+    (arith, low, sized.endpoints_are, ap (λ (t : WorldState). t.settings.nodes) view) in
     let at = slice_get_read es (length es) node e refl within read in
-    let same : it.0 ≡ e = same_Some _ _ (sym it.1 ∙ (ap (λ (t : WorldState). slice_get t.endpoints node) (sym view) ∙ at)) in
+    let same : it.0 ≡ e = same_Some _ _
+    (sym it.1 ∙ (ap (λ (t : WorldState). slice_get t.endpoints node) (sym view) ∙ at)) in
     subst (λ (y : EndpointState). EndpointStands y (w node)) same it.3
 
 -- a pair's exchanges
-pub pair_read : (s : Parameters) (table : List (Option Entry)) (v : WorldState) (es : List EndpointState) (archive : ArchiveState) (xs : List ExchangesState) (most : List ℕ) (i j place : ℕ) (x : ExchangesState)
-    → world_of s table es archive xs most ≡ v → IsWorldSized s table es xs most → i < v.settings.nodes → j < v.settings.nodes → place ≡ i * s.nodes + j → x ≡ get_or xs place x
-    → (w : Records) (greatest : ℕ → ℕ) → Stands v w greatest → StandsForPair v.settings i j v.archive.bytes x.list ((w i).asked j) ((w j).ran i)
-pair_read s table v es archive xs most i j place x view sized i_in j_in is read w greatest S =
+pub pair_read : (s : Parameters) (table : List (Option Entry)) (v : WorldState) (es : List EndpointState)
+    (xs : List ExchangesState) (most : List ℕ) (i j place : ℕ) (x : ExchangesState)
+    → world_of s table es xs most ≡ v → IsWorldSized s table es xs most → i < v.settings.nodes
+    → j < v.settings.nodes → place ≡ i * s.nodes + j → x ≡ get_or xs place x
+    → (w : Records) (greatest : ℕ → ℕ) → Stands v w greatest
+    → StandsForPair x.list ((w i).asked j) ((w j).ran i)
+pair_read s table v es xs most i j place x view sized i_in j_in is read w greatest S =
     let it = S.exchanges i j i_in j_in in
     let nodes : s.nodes ≡ v.settings.nodes = ap (λ (t : WorldState). t.settings.nodes) view in
-    let within : place < length xs = subst₂ (λ p l. p < l) (sym is) (sym sized.exchanges_are) (pair_place s.nodes i j (omega (arith, i_in, nodes)) (omega (arith, j_in, nodes))) in
+    let within : place < length xs = subst₂ (λ p l. p < l) (sym is) (sym sized.exchanges_are)
+    (pair_place s.nodes i j (omega (arith, i_in, nodes)) (omega (arith, j_in, nodes))) in
     let at = slice_get_read xs (length xs) place x refl within read in
-    let there : slice_get v.exchanges (i * v.settings.nodes + j) ≡ Some x = ap (slice_get v.exchanges) (ap (λ n. i * n + j) (sym nodes) ∙ sym is) ∙ (ap (λ (t : WorldState). slice_get t.exchanges place) (sym view) ∙ at) in
+    let there : slice_get v.exchanges (i * v.settings.nodes + j) ≡ Some x = ap (slice_get v.exchanges)
+    (ap (λ n. i * n + j) (sym nodes) ∙ sym is)
+    ∙ (ap (λ (t : WorldState). slice_get t.exchanges place) (sym view) ∙ at) in
     let same : record { list = it.0; room = it.1 } ≡ x = same_Some _ _ (sym it.2 ∙ there) in
-    subst (λ (y : ExchangesState). StandsForPair v.settings i j v.archive.bytes y.list ((w i).asked j) ((w j).ran i)) same it.3
+    subst (λ (y : ExchangesState). StandsForPair y.list ((w i).asked j) ((w j).ran i))
+    same it.3
 
 -- a node's greatest number held
-pub most_read : (s : Parameters) (table : List (Option Entry)) (v : WorldState) (es : List EndpointState) (archive : ArchiveState) (xs : List ExchangesState) (most : List ℕ) (node m : ℕ)
-    → world_of s table es archive xs most ≡ v → IsWorldSized s table es xs most → node < v.settings.nodes → m ≡ get_or most node m
+pub most_read : (s : Parameters) (table : List (Option Entry)) (v : WorldState) (es : List EndpointState)
+    (xs : List ExchangesState) (most : List ℕ) (node m : ℕ)
+    → world_of s table es xs most ≡ v → IsWorldSized s table es xs most → node < v.settings.nodes
+    → m ≡ get_or most node m
     → (w : Records) (greatest : ℕ → ℕ) → Stands v w greatest → m ≡ greatest node
-most_read s table v es archive xs most node m view sized low read w greatest S =
-    let within : node < length most = omega (arith, low, sized.most_are, ap (λ (t : WorldState). t.settings.nodes) view) in
+most_read s table v es xs most node m view sized low read w greatest S =
+    let within : node < length most = omega
+    (arith, low, sized.most_are, ap (λ (t : WorldState). t.settings.nodes) view) in
     let at = slice_get_read most (length most) node m refl within read in
     same_Some _ _ (sym (ap (λ (t : WorldState). slice_get t.most node) (sym view) ∙ at) ∙ S.most_is node low)
 
 -- whether a request is back, by its exchange
-pub back_is : (s : Parameters) (i j : ℕ) (bytes : List ℕ) (list : List Exchange) (xs : List Asked) (rs : List Run) (k : ℕ) (e : Exchange) → StandsForPair s i j bytes list xs rs → numbered list k ≡ Some e → e.back ≡ is_back (numbered xs k)
-back_is s i j bytes list xs rs k e P at =
-    let it = sent_is s i j bytes list xs rs k e P at in
-    it.stands.back ∙ ap is_back (sym it.at)
+pub back_is : (list : List Exchange) (xs : List Request) (rs : List Run) (k : ℕ) (e : Exchange)
+    → StandsForPair list xs rs → numbered list k ≡ Some e → e.back ≡ is_back (numbered xs k)
+back_is list xs rs k e P at = let it = sent_is list xs rs k e P at in it.stands.back ∙ ap is_back (sym it.at)
 
 -- what has no exchange isn't back
-pub none_back : (s : Parameters) (i j : ℕ) (bytes : List ℕ) (list : List Exchange) (xs : List Asked) (rs : List Run) (k : ℕ) → StandsForPair s i j bytes list xs rs → numbered list k ≡ None → false ≡ is_back (numbered xs k)
-none_back s i j bytes list xs rs k P at = ap is_back (sym (none_sent s i j bytes list xs rs k P at))
+pub none_back : (list : List Exchange) (xs : List Request) (rs : List Run) (k : ℕ) → StandsForPair list xs rs
+    → numbered list k ≡ None → false ≡ is_back (numbered xs k)
+none_back list xs rs k P at = ap is_back (sym (none_sent list xs rs k P at))

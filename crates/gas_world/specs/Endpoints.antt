@@ -1,20 +1,25 @@
 -- What an endpoint is, as a value, and what its step does.
-use Rattle.std.specs.Prelude.{ℕ, ◌≡◌, false, List, Some, Ok, Err}
+use Rattle.std.specs.Prelude.{ℕ, ◌≡◌, Bool, List, Some, false}
 use Rattle.datagram_grammar.specs.Message.{Message, Spells}
 use Rattle.datagram_grammar.specs.Refusals.{first_refusal}
 use Rattle.datagram_grammar.specs.declared.refused.Refused.{Refused}
-use Rattle.am_core.specs.declared.answer.Why.TheVariants as why
-use Rattle.am_core.specs.declared.answer.Delivered.TheVariants as delivered
+use Rattle.node_record.specs.declared.answer.Why.TheVariants as why
+use Rattle.node_record.specs.declared.answer.Delivered.TheVariants as delivered
 use Rattle.handler_rules.specs.declared.rules.CallKind.{CallKind}
-use Rattle.handler_rules.specs.declared.rules.Context.TheVariants.{Thread}
-use Rattle.handler_rules.specs.Rules.{rule}
-use Rattle.am_core.specs.Record.{Node}
-use Rattle.am_core.specs.Step.{after_check}
-use Rattle.am_core.specs.Cores.{CoreState, IsSameNode}
+use Rattle.node_record.specs.Record.{Node}
+use Rattle.node_record.specs.Behaviour.{Behaviour}
+use Rattle.node_record.specs.Step.{with_local}
+use Rattle.node_record.specs.NodeStep.{Job, Asks, Does, Comes, Ticks, node_answer, node_after}
+use Rattle.am_core.specs.CoreState.{CoreState}
+use Rattle.am_core.specs.CoreContracts.{IsSameNode}
 use Rattle.am_core.specs.Stands.{Stands}
-use Rattle.am_core.specs.Locals.{Local, Meaning, short}
-use Rattle.gas_world.specs.Step.{AllRules, Poll, Attempt, Cell, SetCell, NodeEvent, Requests, Does, Comes, Ticks, node_answer, node_after}
-use Rattle.gas_world.specs.Nodes.{all_rules}
+use Rattle.am_core.specs.Known.{WouldAccept}
+use Rattle.am_core.specs.Kept.{Local}
+use Rattle.handler_rules.specs.Runs.{Meaning}
+use Rattle.am_core.specs.ClientRules.{short_ask}
+use Rattle.gas_world.specs.CallRules.{OtherCall, Poll, Attempt, Cell, SetCell, RecordEvent, job_of, told}
+use Rattle.gas_world.specs.CallRules.{transition, if_allowed}
+use Rattle.node_record.specs.Transition.{Transition}
 use Rattle.gas_world.specs.declared.event.Call.{Call}
 use Rattle.gas_world.specs.declared.event.Call.TheVariants as call
 use Rattle.gas_world.specs.declared.event.Event.{Event}
@@ -30,39 +35,68 @@ abbrev pub EndpointStands : EndpointState → Node Local → Type 0
 EndpointStands e r = Stands e.core r
 
 -- what the handlers and calls do at this endpoint
-abbrev pub rules_here : Meaning → EndpointState → AllRules Local
-rules_here meaning e = all_rules e.core.settings e.core.table meaning
+abbrev pub job_here : Meaning → EndpointState → Job Local OtherCall Answer
+job_here meaning e = job_of e.core.settings e.core.table meaning
 
--- an event that falls on the node: of every record for which the endpoint stood, the answer is the record's, and the endpoint stands for the record's next one
-pub record NodeSteps (meaning : Meaning) (old : EndpointState) (now : ℕ) (e : NodeEvent) (a : Answer) (new : EndpointState) : Type 0 where
-  pub same : IsSameNode old.core new.core
-  pub steps : (r : Node Local) → EndpointStands old r
-      → (a ≡ node_answer old.core.settings (rules_here meaning old) old.core.me r now e)
-      × EndpointStands new (node_after old.core.settings (rules_here meaning old) old.core.me r now e)
+-- this holds of every record for which the endpoint stands
+abbrev pub ForItsRecord : EndpointState → (Node Local → Type 0) → Type 0
+ForItsRecord e Holds = (node : Node Local) → EndpointStands e node → Holds node
 
--- a call that does nothing but be judged by the rule table, with this answer where it is allowed
-pub record Judged (old : EndpointState) (thread : ℕ) (kind : CallKind) (allowed a : Answer) (new : EndpointState) : Type 0 where
-  pub same : IsSameNode old.core new.core
-  pub answer : a ≡ elim (rule (Thread thread) false kind) [ Ok t ↦ allowed | Err forbidden ↦ answers.Forbidden forbidden ]
-  pub stands : (meaning : Meaning) (r : Node Local) → EndpointStands old r → EndpointStands new (after_check (rules_here meaning old).messages r thread kind)
+-- an event that falls on the node: of every record for which the endpoint stood, the answer is the record's, and the
+-- endpoint stands for the record's next one
+pub record NodeSteps
+    (meaning : Meaning) (old : EndpointState) (step : Transition RecordEvent Answer) (new : EndpointState) : Type 0
+  where
+    pub same : IsSameNode old.core new.core
+    pub steps : ForItsRecord old (λ node.
+        (step.answer ≡ told (node_answer (job_here meaning old) old.core.me node step.now step.event))
+        × EndpointStands new (node_after (job_here meaning old) old.core.me node step.now step.event))
 
--- bytes that are delivered: the message that they spell comes, or they are refused
-pub record BytesCome (meaning : Meaning) (old : EndpointState) (now : ℕ) (bytes : List ℕ) (a : Answer) (new : EndpointState) : Type 0 where
+-- a call of a thread that does nothing but be judged by the rule table
+pub record JudgedCall : Type 0 where
+  pub thread : ℕ
+  pub kind : CallKind
+  pub allowed : Answer  -- its answer where it is allowed
+
+-- what it answers and leaves
+abbrev pub judged_outcome : Behaviour Local → JudgedCall → Local → Answer × Local
+judged_outcome behaviour call local =
+    if_allowed behaviour call.thread (behaviour.judges call.thread call.kind local) call.allowed local
+
+pub record Judged (old : EndpointState) (call : JudgedCall) (answer : Answer) (new : EndpointState) : Type 0 where
   pub same : IsSameNode old.core new.core
-  pub comes : (m : Message) → Spells m bytes → NodeSteps meaning old now (Comes m) a new
-  pub none : (refused : Refused) → first_refusal bytes ≡ Some refused → (a ≡ answers.Delivered (delivered.Refused (why.Bytes refused)))
-      × ((r : Node Local) → EndpointStands old r → EndpointStands new r)
+  pub steps : (meaning : Meaning) → ForItsRecord old (λ node.
+      (answer ≡ (judged_outcome (job_here meaning old).behaviour.messages call node.local).0)
+      × EndpointStands new
+      (with_local node (judged_outcome (job_here meaning old).behaviour.messages call node.local).1))
+
+-- bytes that are delivered: they spell a message of the job's version, which comes, or they are refused
+pub record BytesCome
+    (meaning : Meaning) (old : EndpointState) (step : Transition (List ℕ) Answer) (new : EndpointState) : Type 0 where
+  pub same : IsSameNode old.core new.core
+  pub comes : (message : Message) → message.version ≡ old.core.settings.version → Spells message step.event
+      → NodeSteps meaning old (transition step.now (Comes message) step.answer) new
+  pub refused : (reason : Refused) → first_refusal old.core.settings.version step.event ≡ Some reason
+      → (step.answer ≡ answers.Delivered (delivered.Refused (why.Bytes reason))) × (new ≡ old)
 
 -- a thread's call, as an event of the node
-abbrev pub called : (thread : ℕ) → Call → NodeEvent
-called thread (call.Short to handler args) = Requests thread to (short handler args.now)
+abbrev pub called : (thread : ℕ) → Call → RecordEvent
+called thread (call.Short to handler args) = Asks (short_ask thread to handler args.now)
 called thread call.Poll = Does thread Poll
 called thread (call.Attempt kind) = Does thread (Attempt kind)
 called thread (call.Cell c) = Does thread (Cell c)
 called thread (call.SetCell c value) = Does thread (SetCell c value)
 
 -- what a step of the endpoint does
-abbrev pub EndpointSteps : Meaning → EndpointState → (now : ℕ) → Event → Answer → EndpointState → Type 0
-EndpointSteps meaning old now (event.Call thread call) a new = NodeSteps meaning old now (called thread call) a new
-EndpointSteps meaning old now (event.Deliver bytes) a new = BytesCome meaning old now bytes.now a new
-EndpointSteps meaning old now event.Tick a new = NodeSteps meaning old now Ticks a new
+abbrev pub EndpointSteps : Meaning → EndpointState → Transition Event Answer → EndpointState → Type 0
+EndpointSteps meaning old step new = elim step.event [
+  | event.Call thread call ↦ NodeSteps meaning old (transition step.now (called thread call) step.answer) new
+  | event.Deliver bytes ↦ BytesCome meaning old (transition step.now bytes.now step.answer) new
+  | event.Tick ↦ NodeSteps meaning old (transition step.now Ticks step.answer) new
+]
+
+-- whether a request would be accepted; no other event would
+abbrev pub WouldAcceptAt : EndpointState → Event → Bool → Type 0
+WouldAcceptAt e (event.Call thread (call.Short to handler args)) would =
+    WouldAccept e.core (short_ask thread to handler args.now) would
+WouldAcceptAt e _ would = would ≡ false

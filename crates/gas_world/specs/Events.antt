@@ -1,13 +1,22 @@
 -- The events of the code, as those of the records, and what a step of a world does.
-use Rattle.std.specs.Prelude.{ℕ, ◌≡◌, ◌≢◌, List}
+use Rattle.std.specs.Prelude.{ℕ, ◌≡◌, List}
 use Rattle.std.specs.List.{AllByRecursion}
-use Rattle.am_core.specs.Locals.{Local, Meaning, IsLawfulMeaning, nothing_done, short}
-use Rattle.gas_world.specs.Step.{AllRules, Poll, Attempt, Cell, SetCell}
-use Rattle.gas_world.specs.World.{Event, Requests, Does, RequestComes, ReplyComes, Ticks, world_answer, world_after, IsAmong}
-use Rattle.gas_world.specs.Held.{most_then}
-use Rattle.gas_world.specs.Plain.{PlainStep, plain_of}
-use Rattle.gas_world.specs.Headline.{Headline}
-use Rattle.gas_world.specs.Nodes.{Records, all_rules}
+use Rattle.am_core.specs.Kept.{Local, nothing_done}
+use Rattle.handler_rules.specs.Runs.{Meaning, IsLawfulMeaning}
+use Rattle.am_core.specs.ClientRules.{short_ask}
+use Rattle.node_record.specs.declared.answer.Asked.TheVariants as asked
+use Rattle.node_record.specs.declared.answer.Ticked.TheVariants as ticked
+use Rattle.node_record.specs.NodeStep.{Job, OfRequest, OfTick}
+use Rattle.plain_world.specs.World.{Asks, Does, RequestComes, ReplyComes, Ticks, Timed, world_answer, world_after}
+use Rattle.plain_world.specs.World.{IsAmong, WorldAnswer as RecordsAnswer, OfNode}
+use Rattle.plain_world.specs.MostHeld.{most_then}
+use Rattle.plain_world.specs.PlainStep.{PlainStep}
+use Rattle.plain_world.specs.Plain.{plain_of}
+use Rattle.plain_world.specs.Headline.{Headline}
+use Rattle.gas_world.specs.CallRules.{OtherCall, Poll, Attempt, Cell, SetCell, Records, RecordsEvent, timed, job_of}
+use Rattle.gas_world.specs.CallRules.{world_told}
+use Rattle.node_record.specs.Transition.{Transition}
+use Rattle.gas_world.specs.declared.event.Answer.{Answer}
 use Rattle.gas_world.specs.Worlds.{WorldState}
 use Rattle.gas_world.specs.Stands.{Stands}
 use Rattle.gas_world.specs.declared.event.Call.{Call}
@@ -18,8 +27,8 @@ use Rattle.gas_world.specs.declared.event.WorldAnswer.{WorldAnswer}
 use Rattle.gas_world.specs.declared.event.WorldAnswer.TheVariants as answers
 
 -- a thread's call, as an event of the world
-abbrev pub called_at : (node thread : ℕ) → Call → Event
-called_at node thread (call.Short to handler args) = Requests node thread to (short handler args.now)
+abbrev pub called_at : (node thread : ℕ) → Call → RecordsEvent
+called_at node thread (call.Short to handler args) = Asks node (short_ask thread to handler args.now)
 called_at node thread call.Poll = Does node thread Poll
 called_at node thread (call.Attempt kind) = Does node thread (Attempt kind)
 called_at node thread (call.Cell c) = Does node thread (Cell c)
@@ -33,38 +42,71 @@ HasTarget (call.Attempt kind) target = ⊥
 HasTarget (call.Cell c) target = ⊥
 HasTarget (call.SetCell c value) target = ⊥
 
-abbrev pub event_of : WorldEvent → Event
+abbrev pub event_of : WorldEvent → RecordsEvent
 event_of (event.Call node thread call) = called_at node thread call
 event_of (event.Request from to number) = RequestComes from to number
 event_of (event.Reply from to number) = ReplyComes from to number
 event_of (event.Tick node) = Ticks node
 
 -- what the handlers and calls do in this world
-abbrev pub rules_in : Meaning → WorldState → AllRules Local
-rules_in meaning v = all_rules v.settings v.table meaning
+abbrev pub job_in : Meaning → WorldState → Job Local OtherCall Answer
+job_in meaning v = job_of v.settings v.table meaning
 
 -- by any lawful handlers, each run from the opening by events among the nodes has the headline
 abbrev pub RunsHaveTheHeadline : WorldState → Type 0
-RunsHaveTheHeadline v = (meaning : Meaning) (es : List (ℕ × Event)) → IsLawfulMeaning meaning → AllByRecursion (λ (e : ℕ × Event). IsAmong v.settings e.1) es
-    → Headline v.settings (rules_in meaning v) (λ i. nothing_done) es
+RunsHaveTheHeadline v =
+    (meaning : Meaning) (es : List (Timed OtherCall)) → IsLawfulMeaning meaning
+    → AllByRecursion (λ (e : Timed OtherCall). IsAmong v.settings e.event) es
+    → Headline (job_in meaning v) (λ i. nothing_done) es
 
--- the event may want memory: it is a request to another node, or the delivery of one
-abbrev pub MayWantMemory : Event → Type 0
-MayWantMemory (Requests node thread to c) = to ≢ node
-MayWantMemory (Does node thread call) = ⊥
-MayWantMemory (RequestComes from to number) = from ≢ to
-MayWantMemory (ReplyComes from to number) = ⊥
-MayWantMemory (Ticks node) = ⊥
+-- this holds of all records for which the world stands, and of what the nodes held at most
+abbrev pub ForItsRecords : WorldState → (Records → (ℕ → ℕ) → Type 0) → Type 0
+ForItsRecords v Holds = (records : Records) (most : ℕ → ℕ) → Stands v records most → Holds records most
 
--- for every record for which the world stood: the answer is the record's, and the world stands for the record's next one; where memory ran out, it stands for the same record
-abbrev pub Steps : Meaning → WorldState → (now : ℕ) → Event → WorldAnswer → WorldState → Type 0
-Steps meaning old now e answers.NoMemory new = MayWantMemory e × ((w : Records) (most : ℕ → ℕ) → Stands old w most → Stands new w most)
-Steps meaning old now e a new = (w : Records) (most : ℕ → ℕ) → Stands old w most
-    → (a ≡ world_answer old.settings (rules_in meaning old) w now e)
-    × Stands new (world_after old.settings (rules_in meaning old) w now e) (most_then old.settings (world_after old.settings (rules_in meaning old) w now e) most)
+-- the event of a transition at its time
+abbrev pub timed_of : Transition RecordsEvent WorldAnswer → Timed OtherCall
+timed_of step = timed step.now step.event
 
--- for every record for which the world stood: read as a plain world, it steps by this event with this answer to what its next record is. Where memory ran out it doesn't step
-abbrev pub StepsPlainly : Meaning → WorldState → (now : ℕ) → Event → WorldAnswer → Type 0
-StepsPlainly meaning old now e answers.NoMemory = Unit {0}
-StepsPlainly meaning old now e a = (w : Records) (most : ℕ → ℕ) → Stands old w most
-    → PlainStep old.settings (rules_in meaning old) (plain_of w) now e a (plain_of (world_after old.settings (rules_in meaning old) w now e))
+-- the answer is the records', and the world stands for the records' next ones
+abbrev pub StepsOn : Meaning → WorldState → Transition RecordsEvent WorldAnswer → WorldState → Type 0
+StepsOn meaning old step new = ForItsRecords old (λ records most.
+    (step.answer ≡ world_told (world_answer (job_in meaning old) records (timed_of step)))
+    × Stands new (world_after (job_in meaning old) records (timed_of step))
+    (most_then old.settings (world_after (job_in meaning old) records (timed_of step)) most))
+
+-- a request is accepted: one that a thread makes, or one that a tick sends for the first time
+abbrev pub Accepts : RecordsAnswer Answer → Type 0
+Accepts (OfNode (OfRequest (asked.Accepted to slot number))) = Unit {0}
+Accepts (OfNode (OfTick (ticked.Note at))) = Unit {0}
+Accepts (OfNode (OfTick (ticked.Chunk at))) = Unit {0}
+Accepts _ = ⊥
+
+-- the event wants memory: all records for which the world stands accept a request
+abbrev pub WantsMemory : Meaning → WorldState → Timed OtherCall → Type 0
+WantsMemory meaning old event =
+    ForItsRecords old (λ records most. Accepts (world_answer (job_in meaning old) records event))
+
+-- so it does for all records for which it stood; where memory ran out, they accept, and it stands for the same records
+abbrev pub Steps : Meaning → WorldState → Transition RecordsEvent WorldAnswer → WorldState → Type 0
+Steps meaning old step new = elim step.answer [
+  | answers.Node answer ↦ StepsOn meaning old step new
+  | answers.Unsent ↦ StepsOn meaning old step new
+  | answers.NoMemory ↦ WantsMemory meaning old (timed_of step)
+      × ForItsRecords old (λ records most. Stands new records most)
+]
+
+-- read as a plain world, it steps by this event with this answer to what its next record is
+abbrev pub StepsPlainlyOn : Meaning → WorldState → Transition RecordsEvent WorldAnswer → Type 0
+StepsPlainlyOn meaning old step = ForItsRecords old (λ records most.
+    (step.answer ≡ world_told (world_answer (job_in meaning old) records (timed_of step)))
+    × PlainStep (job_in meaning old) (plain_of records) step.event
+    (world_answer (job_in meaning old) records (timed_of step))
+    (plain_of (world_after (job_in meaning old) records (timed_of step))))
+
+-- so it does for all records for which it stood. Where memory ran out it doesn't step
+abbrev pub StepsPlainly : Meaning → WorldState → Transition RecordsEvent WorldAnswer → Type 0
+StepsPlainly meaning old step = elim step.answer [
+  | answers.Node answer ↦ StepsPlainlyOn meaning old step
+  | answers.Unsent ↦ StepsPlainlyOn meaning old step
+  | answers.NoMemory ↦ Unit {0}
+]

@@ -1,13 +1,4 @@
-pub mod Step
-pub mod World
-pub mod Held
-pub mod Invariant
-pub mod Plain
-pub mod Laws
-pub mod Sent
-pub mod Headline
-pub mod Nodes
-pub mod Archived
+pub mod CallRules
 pub mod Exchanged
 pub mod State
 pub mod Endpoints
@@ -16,3 +7,6 @@ pub mod Sizes
 pub mod Stands
 pub mod Events
 pub mod Scenes
+pub mod Aims
+pub mod Settling
+pub mod Sends

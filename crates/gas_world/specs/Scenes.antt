@@ -1,20 +1,33 @@
--- What an event does to the endpoint on which it falls, the archive, the exchanges of the pair, and the greatest number held.
-use Rattle.std.specs.Prelude.{ℕ, ◌≡◌, ◌≤◌, ◌++◌, ◌∷◌, [], List, length, max, Option, None, Some}
-use Rattle.am_core.specs.declared.answer.SlotRef.{SlotRef}
-use Rattle.am_core.specs.declared.answer.Asked.TheVariants as asked
-use Rattle.am_core.specs.declared.answer.Delivered.TheVariants as delivered
-use Rattle.am_core.specs.Record.{Node, numbered}
-use Rattle.am_core.specs.Step.{request_slot}
-use Rattle.am_core.specs.Stands.{message_at}
-use Rattle.am_core.specs.Held.{held}
-use Rattle.am_core.specs.Locals.{Local, Meaning}
-use Rattle.gas_world.specs.Step.{NodeEvent}
-use Rattle.gas_world.specs.Archived.{ArchiveState}
+-- What an event does to the endpoint on which it falls, the exchanges of the pair, and the greatest number held.
+use Rattle.std.specs.Prelude.{ℕ, ◌≡◌, ◌≢◌, ◌<◌, ◌==◌, ◌++◌, ◌∷◌, [], List, max, set, None, Some, Bool}
+use Rattle.std.specs.Prelude.{true, false, not, slice_get, ◌⊎◌}
+use Rattle.node_record.specs.declared.answer.Side.TheVariants as side
+use Rattle.node_record.specs.declared.answer.SlotRef.{SlotRef}
+use Rattle.node_record.specs.declared.answer.Asked.TheVariants as asked
+use Rattle.node_record.specs.declared.answer.Delivered.{Delivered}
+use Rattle.node_record.specs.declared.answer.Delivered.TheVariants as delivered
+use Rattle.node_record.specs.Record.{Node, numbered}
+use Rattle.node_record.specs.Step.{request_slot, reply_slot}
+use Rattle.node_record.specs.SlotMessages.{message_at}
+use Rattle.node_record.specs.Held.{held}
+use Rattle.am_core.specs.CoreContracts.{IsSameNode}
+use Rattle.am_core.specs.Kept.{Local}
+use Rattle.handler_rules.specs.Runs.{Meaning}
+use Rattle.am_core.specs.Known.{Repeats}
+use Rattle.gas_world.specs.CallRules.{transition}
 use Rattle.gas_world.specs.Exchanged.{ExchangesState}
-use Rattle.gas_world.specs.State.{part_of, requested, with_reply_part, with_returned}
-use Rattle.gas_world.specs.Endpoints.{EndpointState, EndpointStands, NodeSteps, BytesCome}
-use Rattle.gas_world.specs.declared.archive.Part.{Part}
+use Rattle.gas_world.specs.State.{requested, with_ran, with_returned}
+use Rattle.gas_world.specs.Endpoints.{EndpointState, EndpointStands, EndpointSteps, BytesCome, WouldAcceptAt}
 use Rattle.gas_world.specs.declared.exchanges.Exchange.{Exchange}
+use Rattle.node_record.specs.Transition.{Transition}
+use Rattle.gas_world.specs.declared.event.Call.{Call}
+use Rattle.gas_world.specs.declared.event.Call.TheVariants as call
+use Rattle.gas_world.specs.declared.event.Event.{Event}
+use Rattle.gas_world.specs.declared.event.Event.TheVariants as event
+use Rattle.gas_world.specs.declared.event.WorldEvent.{WorldEvent}
+use Rattle.gas_world.specs.declared.event.WorldEvent.TheVariants as world_event
+use Rattle.gas_world.specs.declared.step.Letter.{Letter}
+use Rattle.gas_world.specs.declared.step.Scene.{Scene as Spot}
 use Rattle.gas_world.specs.declared.event.Answer.{Answer}
 use Rattle.gas_world.specs.declared.event.Answer.TheVariants as answers
 use Rattle.gas_world.specs.declared.event.WorldAnswer.{WorldAnswer}
@@ -22,92 +35,266 @@ use Rattle.gas_world.specs.declared.event.WorldAnswer.TheVariants as world_answe
 
 pub record Scene : Type 0 where
   pub endpoint : EndpointState
-  pub archive : ArchiveState
   pub exchanges : ExchangesState
   pub most : ℕ
+
+-- what is behind the references
+abbrev pub scene_of : Spot → Scene
+scene_of spot = record {
+  endpoint = spot.endpoint.now;
+  exchanges = spot.exchanges.now;
+  most = spot.most.now;
+}
+
+-- they are the same references still
+pub record LendsOn (old new : Spot) : Type 0 where
+  pub endpoint : new.endpoint.ghost_name ≡ old.endpoint.ghost_name
+  pub exchanges : new.exchanges.ghost_name ≡ old.exchanges.ghost_name
+  pub most : new.most.ghost_name ≡ old.most.ghost_name
 
 -- nothing but the room changed
 pub record IsSame (old new : Scene) : Type 0 where
   pub endpoint : new.endpoint ≡ old.endpoint
-  pub bytes : new.archive.bytes ≡ old.archive.bytes
   pub list : new.exchanges.list ≡ old.exchanges.list
   pub most_is : new.most ≡ old.most
 
 -- the greatest number held was raised to what the endpoint holds
 abbrev pub MostIs : ℕ → EndpointState → ℕ → Type 0
-MostIs old e new = (r : Node Local) → EndpointStands e r → new ≡ max old (held e.core.settings r)
+MostIs old e new = (r : Node Local) → EndpointStands e r → new ≡ max old (held e.core.settings e.core.me r)
 
--- the bytes, or none of them
-abbrev pub bytes_or_none : Option (List ℕ) → List ℕ
-bytes_or_none None = []
-bytes_or_none (Some bytes) = bytes
+-- ---- an event of one node
 
--- the part that a message takes when it is added
-abbrev pub next_part : List ℕ → List ℕ → Part
-next_part bytes message = record { start = length bytes; len = length message }
-
--- no message was added
-pub record AddsNothing (old new : Scene) : Type 0 where
-  pub bytes : new.archive.bytes ≡ old.archive.bytes
+-- an event that sends no request
+pub record AloneFalls (meaning : Meaning) (old : Scene) (step : Transition Event Answer) (new : Scene) : Type 0 where
+  pub steps : EndpointSteps meaning old.endpoint step new.endpoint
   pub list : new.exchanges.list ≡ old.exchanges.list
-
--- the message of that slot of the endpoint was added to the archive, and the exchanges are those that name it there
-abbrev pub AddsMessage : Scene → Scene → SlotRef → (Part → List Exchange) → Type 0
-AddsMessage old new at list = (r : Node Local) → EndpointStands new.endpoint r
-    → let message = bytes_or_none (message_at new.endpoint.core.settings new.endpoint.core.me r at) in
-    (length message ≤ 8296 → new.archive.bytes ≡ old.archive.bytes ++ message) × (new.exchanges.list ≡ list (next_part old.archive.bytes message))
-
--- what is added by the answer to a request
-abbrev pub AddsRequest : Scene → Scene → Answer → Type 0
-AddsRequest old new (answers.Asked (asked.Accepted to slot number)) = AddsMessage old new (request_slot to slot) (λ part. old.exchanges.list ++ requested part ∷ [])
-AddsRequest old new _ = AddsNothing old new
-
--- a call of a thread that may be a request of the pair
-pub record CallFalls (meaning : Meaning) (old : Scene) (now : ℕ) (e : NodeEvent) (answer : Answer) (new : Scene) : Type 0 where
-  pub steps : NodeSteps meaning old.endpoint now e answer new.endpoint
-  pub adds : AddsRequest old new answer
   pub most_is : MostIs old.most new.endpoint new.most
 
-abbrev pub CallFallsOrNot : Meaning → Scene → (now : ℕ) → NodeEvent → WorldAnswer → Scene → Type 0
-CallFallsOrNot meaning old now e (world_answers.Node answer) new = CallFalls meaning old now e answer new
-CallFallsOrNot meaning old now e world_answers.NoMemory new = IsSame old new
-CallFallsOrNot meaning old now e world_answers.Unsent new = ⊥
+-- what the answer to a request leaves of the exchanges
+abbrev pub asked_list : List Exchange → Answer → List Exchange
+asked_list list (answers.Asked (asked.Accepted to slot number)) = list ++ requested slot ∷ []
+asked_list list _ = list
 
--- what is added by the answer to a delivered request with this number
-abbrev pub AddsReply : Scene → Scene → (number : ℕ) → Answer → Type 0
-AddsReply old new number (answers.Delivered (delivered.Ran at)) = AddsMessage old new at (with_reply_part old.exchanges.list number)
-AddsReply old new number _ = AddsNothing old new
+-- a request of the pair, for which there is room
+pub record IsAsked (meaning : Meaning) (old : Scene) (step : Transition Event Answer) (new : Scene) : Type 0 where
+  pub steps : EndpointSteps meaning old.endpoint step new.endpoint
+  pub list : new.exchanges.list ≡ asked_list old.exchanges.list step.answer
+  pub most_is : MostIs old.most new.endpoint new.most
+
+-- a request of the pair that wouldn't be accepted
+pub record IsDeclined (meaning : Meaning) (old : Scene) (step : Transition Event Answer) (new : Scene) : Type 0 where
+  pub falls : AloneFalls meaning old step new
+  pub declined : WouldAcceptAt old.endpoint step.event false
+
+-- one that would be accepted, for which there is no memory
+pub record HasNoRoom (old : Scene) (event : Event) (new : Scene) : Type 0 where
+  pub same : IsSame old new
+  pub accepted : WouldAcceptAt old.endpoint event true
+
+abbrev pub AskFalls : Meaning → Scene → Transition Event WorldAnswer → Scene → Type 0
+AskFalls meaning old step new = elim step.answer [
+  | world_answers.Node answer ↦ IsAsked meaning old (transition step.now step.event answer) new
+      ⊎ IsDeclined meaning old (transition step.now step.event answer) new
+  | world_answers.NoMemory ↦ HasNoRoom old step.event new
+  | world_answers.Unsent ↦ ⊥
+]
+
+-- ---- a delivery
+
+-- the message of a slot of the sender comes: it is lent out of the slot
+pub record Carries (meaning : Meaning) (sender old : EndpointState) (step : Transition SlotRef Answer)
+    (new : EndpointState) : Type 0 where
+  pub bytes : List ℕ
+  pub stands : (r : Node Local) → EndpointStands sender r
+      → message_at sender.core.settings sender.core.me r step.event ≡ Some bytes
+  pub comes : BytesCome meaning old (transition step.now bytes step.answer) new
+
+-- no message stands there
+abbrev pub IsEmptySlot : EndpointState → SlotRef → Type 0
+IsEmptySlot sender at = (r : Node Local) → EndpointStands sender r
+    → message_at sender.core.settings sender.core.me r at ≡ None
+
+-- what the answer to a delivered request leaves of the exchanges
+abbrev pub ran_list : List Exchange → (number : ℕ) → Answer → List Exchange
+ran_list list number (answers.Delivered (delivered.Ran at)) = with_ran list number
+ran_list list number _ = list
+
+-- a request that didn't run
+pub record RequestRuns (meaning : Meaning) (sender : EndpointState) (slot : ℕ) (old : Scene)
+    (step : Transition Letter Answer) (new : Scene) : Type 0 where
+  pub carries : Carries meaning sender old.endpoint
+      (transition step.now (request_slot step.event.receiver slot) step.answer) new.endpoint
+  pub list : new.exchanges.list ≡ ran_list old.exchanges.list step.event.number step.answer
+  pub most_is : MostIs old.most new.endpoint new.most
+
+-- a request that ran
+pub record RequestRepeats (slot : ℕ) (old : Scene) (step : Transition Letter Answer) (new : Scene) : Type 0 where
+  pub same : IsSame old new
+  pub answer : Delivered
+  pub is_answer : step.answer ≡ answers.Delivered answer
+  pub repeats : Repeats old.endpoint.core step.event.sender slot step.event.number answer
 
 -- a request that was sent comes
-pub record RequestFalls (meaning : Meaning) (old : Scene) (now number : ℕ) (answer : Answer) (new : Scene) : Type 0 where
+pub record RequestComes (meaning : Meaning) (sender : EndpointState) (old : Scene) (step : Transition Letter Answer)
+    (new : Scene) : Type 0 where
   pub exchange : Exchange
-  pub sent : numbered old.exchanges.list number ≡ Some exchange
-  pub comes : BytesCome meaning old.endpoint now (part_of old.archive.bytes exchange.request) answer new.endpoint
-  pub adds : AddsReply old new number answer
-  pub most_is : MostIs old.most new.endpoint new.most
+  pub sent : numbered old.exchanges.list step.event.number ≡ Some exchange
+  pub repeats : exchange.ran ≡ true → RequestRepeats exchange.slot old step new
+  pub runs : exchange.ran ≡ false → RequestRuns meaning sender exchange.slot old step new
 
-abbrev pub RequestFallsOrNot : Meaning → Scene → (now number : ℕ) → WorldAnswer → Scene → Type 0
-RequestFallsOrNot meaning old now number (world_answers.Node answer) new = RequestFalls meaning old now number answer new
-RequestFallsOrNot meaning old now number world_answers.NoMemory new = IsSame old new
-RequestFallsOrNot meaning old now number world_answers.Unsent new = (numbered old.exchanges.list number ≡ None) × IsSame old new
+-- none does: it wasn't sent, or nothing stands in its slot
+pub record NoRequest (sender : EndpointState) (old : Scene) (letter : Letter) (new : Scene) : Type 0 where
+  pub same : IsSame old new
+  pub ran : (exchange : Exchange) → numbered old.exchanges.list letter.number ≡ Some exchange → exchange.ran ≡ false
+  pub empty : (exchange : Exchange) → numbered old.exchanges.list letter.number ≡ Some exchange
+      → IsEmptySlot sender (request_slot letter.receiver exchange.slot)
+
+-- a request of that number comes, where it was sent
+abbrev pub RequestFalls : Meaning → EndpointState → Scene → Transition Letter WorldAnswer → Scene → Type 0
+RequestFalls meaning sender old step new = elim step.answer [
+  | world_answers.Node answer ↦ RequestComes meaning sender old (transition step.now step.event answer) new
+  | world_answers.NoMemory ↦ ⊥
+  | world_answers.Unsent ↦ NoRequest sender old step.event new
+]
 
 -- what the answer to a delivered reply leaves of the exchanges
 abbrev pub returned_list : List Exchange → (number : ℕ) → Answer → List Exchange
 returned_list list number (answers.Delivered (delivered.Returned to slot other)) = with_returned list number
 returned_list list number _ = list
 
--- a reply that was sent comes
-pub record ReplyFalls (meaning : Meaning) (old : Scene) (now number : ℕ) (answer : Answer) (new : Scene) : Type 0 where
-  pub exchange : Exchange
-  pub sent : numbered old.exchanges.list number ≡ Some exchange
-  pub reply : Part
-  pub replied : exchange.reply ≡ Some reply
-  pub comes : BytesCome meaning old.endpoint now (part_of old.archive.bytes reply) answer new.endpoint
-  pub bytes : new.archive.bytes ≡ old.archive.bytes
-  pub list : new.exchanges.list ≡ returned_list old.exchanges.list number answer
+-- a reply to a request that isn't back
+pub record ReplyReturns (meaning : Meaning) (sender : EndpointState) (slot : ℕ) (old : Scene)
+    (step : Transition Letter Answer) (new : Scene) : Type 0 where
+  pub carries : Carries meaning sender old.endpoint
+      (transition step.now (reply_slot step.event.receiver slot) step.answer) new.endpoint
+  pub list : new.exchanges.list ≡ returned_list old.exchanges.list step.event.number step.answer
   pub most_is : MostIs old.most new.endpoint new.most
 
-abbrev pub ReplyFallsOrNot : Meaning → Scene → (now number : ℕ) → WorldAnswer → Scene → Type 0
-ReplyFallsOrNot meaning old now number (world_answers.Node answer) new = ReplyFalls meaning old now number answer new
-ReplyFallsOrNot meaning old now number world_answers.NoMemory new = ⊥
-ReplyFallsOrNot meaning old now number world_answers.Unsent new = ((exchange : Exchange) → numbered old.exchanges.list number ≡ Some exchange → exchange.reply ≡ None) × IsSame old new
+-- a reply to one that is back
+pub record ReplyIsLate (old : Scene) (answer : Answer) (new : Scene) : Type 0 where
+  pub same : IsSame old new
+  pub late : answer ≡ answers.Delivered delivered.Late
+
+-- a reply that was sent comes
+pub record ReplyComes (meaning : Meaning) (sender : EndpointState) (old : Scene) (step : Transition Letter Answer)
+    (new : Scene) : Type 0 where
+  pub exchange : Exchange
+  pub sent : numbered old.exchanges.list step.event.number ≡ Some exchange
+  pub ran : exchange.ran ≡ true
+  pub late : exchange.back ≡ true → ReplyIsLate old step.answer new
+  pub returns : exchange.back ≡ false → ReplyReturns meaning sender exchange.slot old step new
+
+-- none does: the request didn't run, or nothing stands in its slot
+pub record NoReply (sender : EndpointState) (old : Scene) (letter : Letter) (new : Scene) : Type 0 where
+  pub same : IsSame old new
+  pub back : (exchange : Exchange) → numbered old.exchanges.list letter.number ≡ Some exchange
+      → exchange.ran ≡ true → exchange.back ≡ false
+  pub empty : (exchange : Exchange) → numbered old.exchanges.list letter.number ≡ Some exchange
+      → exchange.ran ≡ true → IsEmptySlot sender (reply_slot letter.receiver exchange.slot)
+
+-- the reply to the request of that number comes, where it was sent
+abbrev pub ReplyFalls : Meaning → EndpointState → Scene → Transition Letter WorldAnswer → Scene → Type 0
+ReplyFalls meaning sender old step new = elim step.answer [
+  | world_answers.Node answer ↦ ReplyComes meaning sender old (transition step.now step.event answer) new
+  | world_answers.NoMemory ↦ ⊥
+  | world_answers.Unsent ↦ NoReply sender old step.event new
+]
+
+-- a message of the sender comes
+abbrev pub LetterFalls : Meaning → EndpointState → Scene → Transition Letter WorldAnswer → Scene → Type 0
+LetterFalls meaning sender old step new = elim step.event.side [
+  | side.Request ↦ RequestFalls meaning sender old step new
+  | side.Reply ↦ ReplyFalls meaning sender old step new
+]
+
+-- ---- an event of a world
+
+-- the call is a request to another node
+abbrev pub is_to_other : (node : ℕ) → Call → Bool
+is_to_other node (call.Short to handler args) = not (to == node)
+is_to_other node _ = false
+
+-- what an event that is no request to another node does, as an event of a world
+abbrev pub AloneFallsIn : Meaning → Scene → Transition Event WorldAnswer → Scene → Type 0
+AloneFallsIn meaning old step new = elim step.answer [
+  | world_answers.Node answer ↦ AloneFalls meaning old (transition step.now step.event answer) new
+  | world_answers.NoMemory ↦ ⊥
+  | world_answers.Unsent ↦ ⊥
+]
+
+-- a call of a thread, which may be a request to another node
+abbrev pub CallFalls : Meaning → Scene → (is_ask : Bool) → Transition Event WorldAnswer → Scene → Type 0
+CallFalls meaning old true step new = AskFalls meaning old step new
+CallFalls meaning old false step new = AloneFallsIn meaning old step new
+
+-- a message comes from one of these endpoints
+pub record Meets (meaning : Meaning) (endpoints : List EndpointState) (old : Scene)
+    (step : Transition Letter WorldAnswer) (new : Scene) : Type 0 where
+  pub sender : EndpointState
+  pub lent : slice_get endpoints step.event.sender ≡ Some sender
+  pub falls : LetterFalls meaning sender old step new
+
+-- a request of the pair, and the reply to one
+abbrev pub request_letter : (from to number : ℕ) → Letter
+request_letter from to number = record { side = side.Request; sender = from; receiver = to; number = number }
+
+abbrev pub reply_letter : (from to number : ℕ) → Letter
+reply_letter from to number = record { side = side.Reply; sender = to; receiver = from; number = number }
+
+-- an event does this to the scene on which it falls, among these endpoints
+abbrev pub SceneSteps : Meaning → List EndpointState → Scene → Transition WorldEvent WorldAnswer → Scene → Type 0
+SceneSteps meaning endpoints old step new = elim step.event [
+  | world_event.Call node thread call ↦
+      CallFalls meaning old (is_to_other node call) (transition step.now (event.Call thread call) step.answer) new
+  | world_event.Request from to number ↦
+      Meets meaning endpoints old (transition step.now (request_letter from to number) step.answer) new
+  | world_event.Reply from to number ↦
+      Meets meaning endpoints old (transition step.now (reply_letter from to number) step.answer) new
+  | world_event.Tick node ↦ AloneFallsIn meaning old (transition step.now event.Tick step.answer) new
+]
+
+-- the node on which an event falls
+abbrev pub node_of : WorldEvent → ℕ
+node_of (world_event.Call node thread call) = node
+node_of (world_event.Request from to number) = to
+node_of (world_event.Reply from to number) = from
+node_of (world_event.Tick node) = node
+
+-- there are endpoints for its nodes, and a message goes between two different ones
+abbrev pub IsBetween : (count : ℕ) → WorldEvent → Type 0
+IsBetween count (world_event.Call node thread call) = node < count
+IsBetween count (world_event.Request from to number) = (from < count) × (to < count) × (from ≢ to)
+IsBetween count (world_event.Reply from to number) = (from < count) × (to < count) × (from ≢ to)
+IsBetween count (world_event.Tick node) = node < count
+
+-- the endpoints, with the exchanges of a pair and the greatest number that a node held
+pub record Stage : Type 0 where
+  pub endpoints : List EndpointState
+  pub exchanges : ExchangesState
+  pub most : ℕ
+
+-- with one endpoint of them
+abbrev pub scene_with : Stage → EndpointState → Scene
+scene_with stage endpoint = record { endpoint = endpoint; exchanges = stage.exchanges; most = stage.most }
+
+-- one endpoint changes alone, to this one, and stays that of its node
+pub record ChangesOne (old new : List EndpointState) (node : ℕ) (was is : EndpointState) : Type 0 where
+  pub there : slice_get old node ≡ Some was
+  pub changed : new ≡ set old node is
+  pub same : IsSameNode was.core is.core
+
+-- an event falls on its node's endpoint
+pub record Happens (meaning : Meaning) (old : Stage) (step : Transition WorldEvent WorldAnswer) (new : Stage) : Type 0
+  where
+    pub was : EndpointState
+    pub is : EndpointState
+    pub changes : ChangesOne old.endpoints new.endpoints (node_of step.event) was is
+    pub steps : SceneSteps meaning old.endpoints (scene_with old was) step (scene_with new is)
+
+-- a message comes to its receiver's endpoint
+pub record Delivers (meaning : Meaning) (old : Stage) (step : Transition Letter WorldAnswer) (new : Stage) : Type 0
+  where
+    pub was : EndpointState
+    pub is : EndpointState
+    pub changes : ChangesOne old.endpoints new.endpoints step.event.receiver was is
+    pub meets : Meets meaning old.endpoints (scene_with old was) step (scene_with new is)

@@ -2,7 +2,8 @@
 use Rattle.std.specs.Prelude.{ℕ, ◌≡◌, ◌*◌, List, [], Option, length, Some, slice_get}
 use Rattle.datagram_grammar.specs.Parameters.{Parameters}
 use Rattle.handler_rules.specs.declared.table.Entry.{Entry}
-use Rattle.am_core.specs.Locals.{opening_node, nothing_done}
+use Rattle.node_record.specs.Record.{opening_node}
+use Rattle.am_core.specs.Kept.{nothing_done}
 use Rattle.gas_world.specs.Exchanged.{ExchangesState}
 use Rattle.gas_world.specs.Endpoints.{EndpointState, EndpointStands}
 
@@ -13,7 +14,8 @@ pub record IsNodeOf (s : Parameters) (table : List (Option Entry)) (me : ℕ) (e
   pub table_is : e.core.table ≡ table
 
 -- an endpoint for each node, a place for each pair of nodes, and a number for each node
-pub record IsWorldSized (s : Parameters) (table : List (Option Entry)) (endpoints : List EndpointState) (exchanges : List ExchangesState) (most : List ℕ) : Type 0 where
+pub record IsWorldSized (s : Parameters) (table : List (Option Entry)) (endpoints : List EndpointState)
+    (exchanges : List ExchangesState) (most : List ℕ) : Type 0 where
   pub endpoints_are : length endpoints ≡ s.nodes
   pub nodes : (i : ℕ) (e : EndpointState) → slice_get endpoints i ≡ Some e → IsNodeOf s table i e
   pub exchanges_are : length exchanges ≡ s.nodes * s.nodes
@@ -21,7 +23,9 @@ pub record IsWorldSized (s : Parameters) (table : List (Option Entry)) (endpoint
 
 -- each node asked and ran nothing
 abbrev pub AreOpening : Parameters → List (Option Entry) → List EndpointState → Type 0
-AreOpening s table endpoints = (i : ℕ) (e : EndpointState) → slice_get endpoints i ≡ Some e → IsNodeOf s table i e × EndpointStands e (opening_node nothing_done)
+AreOpening s table endpoints =
+    (i : ℕ) (e : EndpointState) → slice_get endpoints i ≡ Some e
+    → IsNodeOf s table i e × EndpointStands e (opening_node nothing_done)
 
 -- no pair has exchanges
 abbrev pub AreEmpty : List ExchangesState → Type 0

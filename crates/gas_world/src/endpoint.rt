@@ -2,15 +2,19 @@
 
 ghost use Rattle.std.specs.Prelude.{◌≡◌, ◌<◌, IfOk, option_copied, true};
 ghost use Rattle.handler_rules.specs.Logged.{log_of};
-ghost use Rattle.am_core.specs.Record.{Node};
-ghost use Rattle.am_core.specs.Held.{held};
-ghost use Rattle.am_core.specs.Locals.{Local as Kept, Meaning, opening_node, nothing_done};
-ghost use Rattle.am_core.specs.Stands.{message_at};
-ghost use Rattle.gas_world.specs.Endpoints.{EndpointStands, EndpointSteps, NodeSteps, Judged, called};
+ghost use Rattle.node_record.specs.Held.{held};
+ghost use Rattle.node_record.specs.Record.{opening_node};
+ghost use Rattle.handler_rules.specs.Runs.{Meaning};
+ghost use Rattle.am_core.specs.Kept.{nothing_done};
+ghost use Rattle.node_record.specs.SlotMessages.{message_at, number_at};
+ghost use Rattle.gas_world.specs.Endpoints.{EndpointStands, ForItsRecord, EndpointSteps};
+ghost use Rattle.am_core.specs.Known.{Repeats};
+ghost use Rattle.gas_world.specs.Endpoints.{NodeSteps, Judged, WouldAcceptAt, called};
+ghost use Rattle.gas_world.specs.CallRules.{transition};
 ghost use Rattle.gas_world.specs.Sizes.{IsNodeOf};
 
 use crate::event::{Answer, Call, Event, Local, Ticked};
-use am_core::{Asked, Core, SlotRef};
+use am_core::{Core, Delivered, SlotRef};
 use datagram_grammar::Settings;
 use handler_rules::{CallKind, Cells, Handlers, Log, Table};
 use std::alloc::{AllocError, Global};
@@ -53,11 +57,13 @@ impl Endpoint {
 
     /// One event at the time `now`.
     ///
-    /// A library call that the rule table forbids is answered `Forbidden`, whatever the call, and noted once as a violation; nothing
-    /// else happens. Else `Poll` is answered `Polled` and `Attempt` `Allowed`, and they change nothing. `Cell` and `SetCell` are no library calls.
+    /// A library call that the rule table forbids is answered `Forbidden`, whatever the call, and
+    /// noted once as a violation; nothing else happens. Else `Poll` is answered `Polled` and
+    /// `Attempt` `Allowed`, and they change nothing. `Cell` and `SetCell` are no library calls.
     /// Requests, deliveries and ticks are those of `am_core::Core`.
     pub fn step<H: Handlers>(&mut self, handlers: &H, now: u64, event: &Event<'_>) -> Answer
-        ensures { EndpointSteps (H.meaning handlers.now) self.old now event.now result self.new }
+        ensures { EndpointSteps (H.meaning handlers.now) self.old
+            (transition now event.now result) self.new }
     {
         match event {
             Event::Call { thread, call } => self.call(handlers, now, *thread, call),
@@ -66,31 +72,64 @@ impl Endpoint {
         }
     }
 
-    /// The datagram of a slot: None exactly where the peer is no other node, the slot isn't among those of its pair, or it has
-    /// no message.
+    /// The datagram of a slot: None exactly where the peer is no other node, the slot isn't among
+    /// those of its pair, or it has no message.
     pub fn message(&self, at: SlotRef) -> Option<&[u8]>
-        ensures { (r : Node Kept) → EndpointStands self.now r → option_copied result ≡ message_at self.now.core.settings self.now.core.me r at }
+        ensures { ForItsRecord self.now (λ node.
+            option_copied result ≡ message_at self.now.core.settings self.now.core.me node at) }
     {
         self.core.message(at)
     }
 
+    /// The number of the message of a slot, from 1: None exactly where `message` is None.
+    pub fn number(&self, at: SlotRef) -> Option<u64>
+        ensures { ForItsRecord self.now (λ node.
+            result ≡ number_at self.now.core.settings self.now.core.me node at) }
+    {
+        self.core.number(at)
+    }
+
+    /// How a request of the node `from` that ran in this slot is answered when it comes again:
+    /// `Again` where it is the last one that ran there, else `Stale`. It changes nothing.
+    pub fn repeat(&self, from: u16, slot: u16, number: u64) -> Delivered
+        ensures { Repeats self.now.core from slot number result }
+    {
+        self.core.repeat(from, slot, number)
+    }
+
+    /// Whether a request to another node would be accepted; false for every other event. It changes
+    /// nothing.
+    pub fn would_accept(&self, event: &Event<'_>) -> bool
+        ensures { WouldAcceptAt self.now event.now result }
+    {
+        let Event::Call { thread, call } = event else {
+            return false;
+        };
+        let Call::Short { to, handler, args } = call else {
+            return false;
+        };
+        self.core.would_accept_short(*thread, *to, *handler, args)
+    }
+
     /// The cells.
     pub fn cells(&self) -> &Cells
-        ensures { (r : Node Kept) → EndpointStands self.now r → result.now ≡ r.local.cells }
+        ensures { ForItsRecord self.now (λ node. result.now ≡ node.local.cells) }
     {
         self.core.cells()
     }
 
     /// The log of violations.
     pub fn log(&self) -> &Log
-        ensures { (r : Node Kept) → EndpointStands self.now r → result.now ≡ log_of r.local.violations }
+        ensures { ForItsRecord self.now (λ node. result.now ≡ log_of node.local.violations) }
     {
         self.core.log()
     }
 
-    /// How many message buffers are in use: one for each request that isn't back, and one for each slot with a reply.
+    /// How many message buffers are in use: one for each request that isn't back, and one for each
+    /// slot with a reply.
     pub fn held(&self) -> usize
-        ensures { (r : Node Kept) → EndpointStands self.now r → result ≡ held self.now.core.settings r }
+        ensures { ForItsRecord self.now (λ node.
+            result ≡ held self.now.core.settings self.now.core.me node) }
     {
         self.core.held()
     }
@@ -105,21 +144,20 @@ impl Endpoint {
 }
 
 impl Endpoint {
-    ghost use Rattle.gas_world.specs.Step.{Ticks};
+    ghost use Rattle.node_record.specs.NodeStep.{Ticks};
 
     /// A call of a thread.
     fn call<H: Handlers>(&mut self, handlers: &H, now: u64, thread: u16, call: &Call<'_>) -> Answer
-        ensures { NodeSteps (H.meaning handlers.now) self.old now (called thread call.now) result self.new }
+        ensures { NodeSteps (H.meaning handlers.now) self.old
+            (transition now (called thread call.now) result)
+            self.new }
     {
         match call {
             Call::Short { to, handler, args } => {
-                match self
+                let asked = self
                     .core
-                    .request_short(handlers, now, thread, *to, *handler, args)
-                {
-                    Asked::Forbidden(forbidden) => Answer::Forbidden(forbidden),
-                    asked => Answer::Asked(asked),
-                }
+                    .request_short(handlers, now, thread, *to, *handler, args);
+                Answer::of_request(asked)
             }
             Call::Poll => self.judged(thread, CallKind::Poll, Answer::Polled),
             Call::Attempt { call } => self.judged(thread, *call, Answer::Allowed),
@@ -133,7 +171,8 @@ impl Endpoint {
 
     /// A call that does nothing but be judged by the rule table: this answer where it is allowed.
     fn judged(&mut self, thread: u16, call: CallKind, allowed: Answer) -> Answer
-        ensures { Judged self.old thread call allowed result self.new }
+        ensures { Judged self.old (record { thread = thread; kind = call; allowed = allowed })
+            result self.new }
     {
         match self.core.check(thread, call) {
             Ok(()) => allowed,
@@ -143,7 +182,8 @@ impl Endpoint {
 
     /// A tick.
     fn tick(&mut self, now: u64) -> Answer
-        ensures { (meaning : Meaning) → NodeSteps meaning self.old now Ticks result self.new }
+        ensures { (meaning : Meaning) → NodeSteps meaning self.old
+            (transition now Ticks result) self.new }
     {
         match self.core.tick(now) {
             Some(at) => Answer::Ticked(Ticked::Resend(at)),

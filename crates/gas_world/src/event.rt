@@ -1,7 +1,13 @@
 //! The events of an endpoint and of a world, and their answers.
 
-use am_core::{Asked, Delivered, SlotRef};
+ghost use Rattle.std.specs.Prelude.{◌≡◌};
+ghost use Rattle.gas_world.specs.Scenes.{is_to_other};
+ghost use Rattle.gas_world.specs.CallRules.{asked_answer};
+ghost use Rattle.gas_world.specs.Sends.{sends};
+
+use am_core::{Asked, Delivered, Side, SlotRef};
 use handler_rules::{CallKind, Forbidden};
+pub use node_record::Ticked;
 
 /// A call of a client, as a thread of a node makes it.
 #[derive(Clone, Copy, Debug)]
@@ -15,7 +21,8 @@ pub enum Call<'a> {
         /// The arguments.
         args: &'a [i32],
     },
-    /// A poll (GASNet 1.8.1, core API, `gasnet_AMPoll`). Messages are delivered by events of their own, so it changes nothing.
+    /// A poll (GASNet 1.8.1, core API, `gasnet_AMPoll`). Messages are delivered by events of their
+    /// own, so it changes nothing.
     Poll,
     /// A call that is judged by the rule table, and does nothing else (profile).
     Attempt {
@@ -36,6 +43,18 @@ pub enum Call<'a> {
     },
 }
 
+impl Call<'_> {
+    /// Whether it is a request of this node to another one.
+    pub(crate) fn is_to_other(&self, node: u16) -> bool
+        ensures { result ≡ is_to_other node self.now }
+    {
+        match self {
+            Call::Short { to, .. } => *to != node,
+            _ => false,
+        }
+    }
+}
+
 /// What may happen to an endpoint.
 #[derive(Clone, Copy, Debug)]
 pub enum Event<'a> {
@@ -53,15 +72,6 @@ pub enum Event<'a> {
     },
     /// A tick: what is due may be sent again.
     Tick,
-}
-
-/// What a tick sends.
-#[derive(Clone, Copy, PartialEq, Eq, Debug)]
-pub enum Ticked {
-    /// The request in this slot is sent again.
-    Resend(SlotRef),
-    /// Nothing is due.
-    Nothing,
 }
 
 /// What a call on the node's own cells is answered.
@@ -92,8 +102,38 @@ pub enum Answer {
     Ticked(Ticked),
 }
 
-/// What may happen to a world. A message that is lost is one that is never delivered; a message
-/// may be delivered any number of times, and in any order.
+impl Answer {
+    /// The answer to a request.
+    pub(crate) fn of_request(asked: Asked) -> Answer
+        ensures { result ≡ asked_answer asked }
+    {
+        match asked {
+            Asked::Forbidden(forbidden) => Answer::Forbidden(forbidden),
+            _ => Answer::Asked(asked),
+        }
+    }
+
+    /// The slot of the node whose message the event sends: a request's where one was accepted, is
+    /// sent again, or is sent by a tick; a reply's where a request ran or came again. None where
+    /// the event sends nothing.
+    pub fn sends(&self) -> Option<SlotRef>
+        ensures { result ≡ sends self.now }
+    {
+        match self {
+            Answer::Asked(Asked::Accepted { to, slot, .. }) => Some(SlotRef {
+                side: Side::Request,
+                peer: *to,
+                slot: *slot,
+            }),
+            Answer::Delivered(Delivered::Ran(at) | Delivered::Again(at)) => Some(*at),
+            Answer::Ticked(Ticked::Resend(at) | Ticked::Note(at) | Ticked::Chunk(at)) => Some(*at),
+            _ => None,
+        }
+    }
+}
+
+/// What may happen to a world. A message that is lost is one that is never delivered; a message may
+/// be delivered any number of times, and in any order.
 #[derive(Clone, Copy, Debug)]
 pub enum WorldEvent<'a> {
     /// A thread of a node makes a call.

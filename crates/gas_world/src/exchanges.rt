@@ -1,20 +1,21 @@
-//! The requests of a pair of nodes, with their replies.
+//! The requests of a pair of nodes: where each stands, and what became of it.
 
-ghost use Rattle.std.specs.Prelude.{◌≡◌, ◌≤◌, ◌<◌, suc, ◌++◌, ◌∷◌, OnOk, length, [], IfSome, slice_get};
-ghost use Rattle.am_core.specs.Record.{numbered};
-ghost use Rattle.gas_world.specs.State.{front_back, requested, with_reply_part, with_returned};
+ghost use Rattle.std.specs.Prelude.{◌≡◌, ◌≤◌, ◌<◌, suc, ◌++◌, ◌∷◌, OnOk, length, [], IfSome};
+ghost use Rattle.std.specs.Prelude.{slice_get};
+ghost use Rattle.node_record.specs.Record.{numbered};
+ghost use Rattle.gas_world.specs.State.{front_back, requested, with_ran, with_returned};
 
-use crate::archive::Part;
 use std::alloc::{AllocError, Global};
 use std::marker::Model;
 
-/// A request that was sent, and its reply where one was.
+/// A request that was sent. Its message stands in its slot at its node until it is back, and the
+/// reply in the slot of the same number at the other node.
 #[derive(Clone, Copy, Debug, PartialEq, Eq)]
 pub struct Exchange {
-    /// Where the request stands.
-    pub request: Part,
-    /// Where its reply stands.
-    pub reply: Option<Part>,
+    /// The slot of its pair.
+    pub slot: u16,
+    /// Whether it ran.
+    pub ran: bool,
     /// Whether its credit came back.
     pub back: bool,
 }
@@ -34,7 +35,10 @@ impl Model for Exchanges {
 
     ghost Value = { ExchangesState };
 
-    ghost view = { λ e. record { list = e.list.items; room = vec_capacity e.list - vec_len e.list } };
+    ghost view = { λ e. record {
+      list = e.list.items;
+      room = vec_capacity e.list - vec_len e.list;
+    } };
 
     ghost invariant = { λ e. e.first_out ≡ suc (front_back e.list.items) };
 }
@@ -59,13 +63,13 @@ impl Exchanges {
     }
 
     /// Adds the next request, for which there is room.
-    pub fn add(&mut self, request: Part)
+    pub fn add(&mut self, slot: u16)
         requires { 1 ≤ self.old.room }
-        ensures { self.new.list ≡ self.old.list ++ requested request ∷ [] }
+        ensures { self.new.list ≡ self.old.list ++ requested slot ∷ [] }
     {
-        let _ = self.list.push(Exchange {
-            request,
-            reply: None,
+        self.list.push_reserved(Exchange {
+            slot,
+            ran: false,
             back: false,
         });
     }
@@ -81,13 +85,13 @@ impl Exchanges {
         Some(self.list[place as usize])
     }
 
-    /// Keeps the reply to the request with that number, which is there.
-    pub fn set_reply(&mut self, number: u64, reply: Part)
+    /// Notes that the request with that number, which is there, ran.
+    pub fn set_ran(&mut self, number: u64)
         requires first { 1 ≤ number }
         requires last { number ≤ length self.old.list }
-        ensures { self.new.list ≡ with_reply_part self.old.list number reply }
+        ensures { self.new.list ≡ with_ran self.old.list number }
     {
-        self.list[(number - 1) as usize].reply = Some(reply);
+        self.list[(number - 1) as usize].ran = true;
     }
 
     /// Notes that the request with that number, which is there, is back.
@@ -115,7 +119,8 @@ impl Exchanges {
     }
 }
 
-/// The lowest number of a request that isn't back, where no lower one than `known` is out. It looks at none of those.
+/// The lowest number of a request that isn't back, where no lower one than `known` is out. It looks
+/// at none of those.
 fn first_out_from(list: &[Exchange], known: u64) -> u64
     requires first { 1 ≤ known }
     requires last { known ≤ suc (front_back list.now) }

@@ -2,32 +2,36 @@
 
 ghost use Rattle.std.specs.Prelude.{◌≡◌, ◌≢◌, ◌<◌, ◌≤◌, ◌+◌, ◌*◌, ℕ, IfOk, length, Some};
 ghost use Rattle.gas_world.specs.Sizes.{AreOpening, AreEmpty, IsNodeOf};
-ghost use Rattle.gas_world.specs.Nodes.{Records, at_the_opening};
-ghost use Rattle.gas_world.specs.World.{IsAmong};
-ghost use Rattle.gas_world.specs.Plain.{plain_of, IsFirstOut};
-ghost use Rattle.gas_world.specs.Laws.{greatest_holding, IsLawful};
+ghost use Rattle.gas_world.specs.CallRules.{at_the_opening, transition};
+ghost use Rattle.plain_world.specs.World.{IsAmong};
+ghost use Rattle.plain_world.specs.Plain.{plain_of, IsFirstOut};
+ghost use Rattle.plain_world.specs.Laws.{IsLawful};
+ghost use Rattle.node_record.specs.Credits.{greatest_holding};
 ghost use Rattle.gas_world.specs.Endpoints.{EndpointStands};
 ghost use Rattle.gas_world.specs.Stands.{Stands};
-ghost use Rattle.gas_world.specs.Events.{event_of, HasTarget, rules_in, RunsHaveTheHeadline, Steps, StepsPlainly};
+ghost use Rattle.gas_world.specs.Aims.{AimsAt};
+ghost use Rattle.gas_world.specs.Events.{event_of, ForItsRecords, job_in, RunsHaveTheHeadline};
+ghost use Rattle.gas_world.specs.Events.{Steps, StepsPlainly};
 
-use crate::archive::Archive;
 use crate::endpoint::Endpoint;
-use crate::event::{Call, Event, WorldAnswer, WorldEvent};
+use crate::event::{Call, WorldAnswer, WorldEvent};
 use crate::exchanges::Exchanges;
-use crate::step;
+use crate::step::{Happening, happen};
 use datagram_grammar::Settings;
 use handler_rules::{Handlers, Table};
 use std::alloc::{AllocError, Global};
 use std::marker::Model;
 
-/// The endpoints of a job, and every message that they ever sent. A message may be delivered at any
-/// time, any number of times, and in any order; a message that is lost is never delivered.
+/// The endpoints of a job, and of each request that they ever sent its slot, whether it ran, and
+/// whether it is back. A message may be delivered at any time, any number of times, and in any
+/// order; a message that is lost is never delivered. It is lent out of the slot where it stands: a
+/// request that didn't run at its requester, a reply that wasn't taken at its responder. What ran
+/// or is back is answered by its number alone.
 #[derive(Drop)]
 pub struct World {
     settings: Settings,
     table: Table,
     endpoints: Vec<Endpoint>,
-    archive: Archive,
     exchanges: Vec<Exchanges>,
     most: Vec<usize>,
 }
@@ -38,15 +42,23 @@ impl Model for World {
 
     ghost Value = { WorldState };
 
-    ghost view = { λ w. record { settings = w.settings; table = w.table; endpoints = w.endpoints.items; archive = w.archive; exchanges = w.exchanges.items; most = w.most.items } };
+    ghost view = { λ w. record {
+      settings = w.settings;
+      table = w.table;
+      endpoints = w.endpoints.items;
+      exchanges = w.exchanges.items;
+      most = w.most.items;
+    } };
 
-    ghost invariant = { λ w. IsWorldSized w.settings w.table w.endpoints.items w.exchanges.items w.most.items };
+    ghost invariant = { λ w.
+        IsWorldSized w.settings w.table w.endpoints.items w.exchanges.items w.most.items };
 }
 
 impl World {
     /// A world of endpoints that asked and ran nothing. It keeps copies of the table.
     ///
-    /// Want of memory is its one error. Each run from here has the headline, whatever the handlers and the events.
+    /// Want of memory is its one error. Each run from here, by any lawful handlers and any
+    /// events among the nodes, has the headline.
     pub fn new(alloc: Global, settings: &Settings, table: &Table) -> Result<World, AllocError>
         ensures settings { IfOk result (λ v. v.settings ≡ settings.now) }
         ensures table { IfOk result (λ v. v.table ≡ table.now) }
@@ -59,7 +71,6 @@ impl World {
             settings: *settings,
             table: table.copy()?,
             endpoints: opening_endpoints(alloc, settings, table)?,
-            archive: Archive::new(alloc),
             exchanges: no_exchanges(alloc, pairs)?,
             most: vec![in alloc; 0; usize::from(nodes)]?,
         })
@@ -67,10 +78,11 @@ impl World {
 
     /// One event at the time `now`.
     ///
-    /// The node on which a call or a tick falls, and both nodes of a delivery, are there. `Unsent` comes exactly where that message
-    /// was never sent. `NoMemory` comes only at a request to another node, or at the delivery of one, and then the world stands for
-    /// the same records. Else, read as a plain world, one without buffers, kept replies and times, it steps by the same event with
-    /// the same answer. The laws of the headline hold of each state that it comes to.
+    /// The node on which a call or a tick falls, and both nodes of a delivery, are there. `Unsent`
+    /// comes exactly where that message was never sent. `NoMemory` comes only where a request would
+    /// be accepted, and then the world stands for the same records. Else, read as a plain world,
+    /// one without buffers, kept replies and times, it steps by the same event with the same
+    /// answer. The laws of the headline hold of each state that it comes to.
     pub fn step<H: Handlers>(
         &mut self,
         handlers: &H,
@@ -80,42 +92,41 @@ impl World {
         requires { IsAmong self.old.settings (event_of event.now) }
         ensures settings { self.new.settings ≡ self.old.settings }
         ensures table { self.new.table ≡ self.old.table }
-        ensures steps { Steps (H.meaning handlers.now) self.old now (event_of event.now) result self.new }
-        ensures plain { StepsPlainly (H.meaning handlers.now) self.old now (event_of event.now) result }
-        ensures lawful { (w : Records) (most : ℕ → ℕ) → Stands self.new w most → IsLawful self.new.settings (rules_in (H.meaning handlers.now) self.new) w }
+        ensures steps { Steps (H.meaning handlers.now) self.old
+            (transition now (event_of event.now) result) self.new }
+        ensures plain { StepsPlainly (H.meaning handlers.now) self.old
+            (transition now (event_of event.now) result) }
+        ensures lawful { ForItsRecords self.new (λ records most.
+            IsLawful (job_in (H.meaning handlers.now) self.new) records) }
     {
-        match event {
-            WorldEvent::Call { node, thread, call } => {
-                self.call(handlers, now, *node, *thread, call)
-            }
-            // A node sends nothing to itself.
-            WorldEvent::Request { from, to, .. } if *from == *to => WorldAnswer::Unsent,
-            WorldEvent::Reply { from, to, .. } if *from == *to => WorldAnswer::Unsent,
-            WorldEvent::Request { from, to, number } => {
-                self.deliver_request(handlers, now, *from, *to, *number)
-            }
-            WorldEvent::Reply { from, to, number } => {
-                self.deliver_reply(handlers, now, *from, *to, *number)
-            }
-            WorldEvent::Tick { node } => self.tick(handlers, now, *node),
-        }
+        self.step_as_recorded(handlers, now, event)
+    }
+
+    /// How many nodes there are.
+    pub fn nodes(&self) -> u16
+        ensures { result ≡ self.now.settings.nodes }
+    {
+        self.settings.nodes()
     }
 
     /// The node's own endpoint.
     pub fn endpoint(&self, node: u16) -> &Endpoint
         requires { node < self.now.settings.nodes }
         ensures node { IsNodeOf self.now.settings self.now.table node result.now }
-        ensures stands { (w : Records) (most : ℕ → ℕ) → Stands self.now w most → EndpointStands result.now (w node) }
+        ensures stands { ForItsRecords self.now
+            (λ records most. EndpointStands result.now (records node)) }
     {
         &self.endpoints[node as usize]
     }
 
-    /// The greatest number of message buffers that the node held after any event so far; 0 at the opening. With C credits a pair
-    /// and n nodes it is at most 2C(n-1).
+    /// The greatest number of message buffers that the node held after any event so far; 0 at the
+    /// opening. It is at most the sum, over the other nodes, of the credits of each pair that
+    /// begins or ends at the node.
     pub fn most_held(&self, node: u16) -> usize
         requires { node < self.now.settings.nodes }
-        ensures most { (w : Records) (most : ℕ → ℕ) → Stands self.now w most → result ≡ most node }
-        ensures few { (w : Records) (most : ℕ → ℕ) → Stands self.now w most → result ≤ greatest_holding self.now.settings }
+        ensures most { ForItsRecords self.now (λ records most. result ≡ most node) }
+        ensures few { ForItsRecords self.now (λ records most.
+            result ≤ greatest_holding self.now.settings node) }
     {
         self.most[node as usize]
     }
@@ -124,18 +135,20 @@ impl World {
     pub fn accepted(&self, from: u16, to: u16) -> u64
         requires from { from < self.now.settings.nodes }
         requires to { to < self.now.settings.nodes }
-        ensures { (w : Records) (most : ℕ → ℕ) → Stands self.now w most → result ≡ length ((plain_of w).req from to) }
+        ensures { ForItsRecords self.now (λ records most.
+            result ≡ length ((plain_of records).requests from to)) }
     {
         self.exchanges[place_of(&self.settings, from, to)].len() as u64
     }
 
-    /// The lowest number of a request of `from` to `to` that isn't back; where all that were accepted are back, the number after the
-    /// last. It takes no search.
+    /// The lowest number of a request of `from` to `to` that isn't back; where all that were
+    /// accepted are back, the number after the last. It takes no search.
     pub fn first_out(&self, from: u16, to: u16) -> u64
         requires from { from < self.now.settings.nodes }
         requires to { to < self.now.settings.nodes }
         ensures number { 1 ≤ result }
-        ensures out { (w : Records) (most : ℕ → ℕ) → Stands self.now w most → IsFirstOut (plain_of w) from to result }
+        ensures out { ForItsRecords self.now
+            (λ records most. IsFirstOut (plain_of records) from to result) }
     {
         self.exchanges[place_of(&self.settings, from, to)].first_out()
     }
@@ -144,7 +157,8 @@ impl World {
     pub fn returned(&self, from: u16, to: u16, number: u64) -> bool
         requires from { from < self.now.settings.nodes }
         requires to { to < self.now.settings.nodes }
-        ensures { (w : Records) (most : ℕ → ℕ) → Stands self.now w most → result ≡ (plain_of w).back from to number }
+        ensures { ForItsRecords self.now (λ records most.
+            result ≡ (plain_of records).back from to number) }
     {
         match self.exchanges[place_of(&self.settings, from, to)].get(number) {
             Some(exchange) => exchange.back,
@@ -159,7 +173,9 @@ fn opening_endpoints(
     settings: &Settings,
     table: &Table,
 ) -> Result<Vec<Endpoint>, AllocError>
-    ensures { IfOk result (λ endpoints. (length endpoints.items ≡ settings.now.nodes) × AreOpening settings.now table.now endpoints.items) }
+    ensures count { IfOk result (λ endpoints. length endpoints.items ≡ settings.now.nodes) }
+    ensures each { IfOk result (λ endpoints.
+        AreOpening settings.now table.now endpoints.items) }
 {
     let nodes = settings.nodes();
     let mut endpoints = Vec::with_capacity(alloc, usize::from(nodes))?;
@@ -171,13 +187,44 @@ fn opening_endpoints(
 
 /// No exchange, for each of that many pairs of nodes.
 fn no_exchanges(alloc: Global, pairs: usize) -> Result<Vec<Exchanges>, AllocError>
-    ensures { IfOk result (λ exchanges. (length exchanges.items ≡ pairs) × AreEmpty exchanges.items) }
+    ensures { IfOk
+        result (λ exchanges. (length exchanges.items ≡ pairs) × AreEmpty exchanges.items) }
 {
     let mut exchanges = Vec::with_capacity(alloc, pairs)?;
     for _ in 0..pairs {
         exchanges.push(Exchanges::new(alloc))?;
     }
     Ok(exchanges)
+}
+
+/// Where an event falls.
+#[derive(Clone, Copy)]
+struct Aim {
+    /// The node.
+    node: u16,
+    /// The ordered pair of nodes whose message the event sends or delivers begins with this one.
+    from: u16,
+    /// And it ends with this one. Where there is no other node, it is the same.
+    to: u16,
+}
+
+/// Where an event falls; None where a node is to deliver a message to itself, since it sends itself
+/// none.
+fn aim_of(settings: &Settings, event: &WorldEvent<'_>) -> Option<Aim>
+    ensures { AimsAt settings.now event.now result }
+{
+    let (node, from, to) = match event {
+        WorldEvent::Call {
+            node,
+            call: Call::Short { to, .. },
+            ..
+        } if *to < settings.nodes() => { (*node, *node, *to) }
+        WorldEvent::Call { node, .. } | WorldEvent::Tick { node } => (*node, *node, *node),
+        WorldEvent::Request { from, to, .. } if *from != *to => (*to, *from, *to),
+        WorldEvent::Reply { from, to, .. } if *from != *to => (*from, *from, *to),
+        _ => return None,
+    };
+    Some(Aim { node, from, to })
 }
 
 /// The place of an ordered pair of nodes among all pairs.
@@ -188,164 +235,34 @@ fn place_of(settings: &Settings, from: u16, to: u16) -> usize
 }
 
 impl World {
-    ghost use Rattle.gas_world.specs.World.{RequestComes, ReplyComes, Ticks};
-    ghost use Rattle.gas_world.specs.Events.{called_at};
-
-    /// A call of a thread of a node.
-    fn call<H: Handlers>(
+    /// One event at the time `now`, as the records of the nodes say it.
+    fn step_as_recorded<H: Handlers>(
         &mut self,
         handlers: &H,
         now: u64,
-        node: u16,
-        thread: u16,
-        call: &Call<'_>,
+        event: &WorldEvent<'_>,
     ) -> WorldAnswer
-        requires { node < self.old.settings.nodes }
+        requires { IsAmong self.old.settings (event_of event.now) }
         ensures settings { self.new.settings ≡ self.old.settings }
         ensures table { self.new.table ≡ self.old.table }
-        ensures steps { Steps (H.meaning handlers.now) self.old now (called_at node thread call.now) result self.new }
+        ensures steps { Steps (H.meaning handlers.now) self.old
+            (transition now (event_of event.now) result) self.new }
     {
-        match call {
-            Call::Short { to, .. } if *to != node && *to < self.settings.nodes() => {
-                self.call_to(handlers, now, node, thread, *to, call)
-            }
-            _ => self.call_alone(handlers, now, node, thread, call),
-        }
-    }
-
-    /// A request of a thread to another node.
-    fn call_to<H: Handlers>(
-        &mut self,
-        handlers: &H,
-        now: u64,
-        node: u16,
-        thread: u16,
-        to: u16,
-        call: &Call<'_>,
-    ) -> WorldAnswer
-        requires node { node < self.old.settings.nodes }
-        requires to { to < self.old.settings.nodes }
-        requires other { to ≢ node }
-        requires target { HasTarget call.now to }
-        ensures settings { self.new.settings ≡ self.old.settings }
-        ensures table { self.new.table ≡ self.old.table }
-        ensures steps { Steps (H.meaning handlers.now) self.old now (called_at node thread call.now) result self.new }
-    {
-        let place = place_of(&self.settings, node, to);
-        let node = usize::from(node);
-        step::call(
-            handlers,
-            &mut self.endpoints[node],
-            &mut self.archive,
-            &mut self.exchanges[place],
-            &mut self.most[node],
-            now,
-            thread,
-            call,
-        )
-    }
-
-    /// A call of a thread that is no request to another node.
-    fn call_alone<H: Handlers>(
-        &mut self,
-        handlers: &H,
-        now: u64,
-        node: u16,
-        thread: u16,
-        call: &Call<'_>,
-    ) -> WorldAnswer
-        requires node { node < self.old.settings.nodes }
-        requires target { (to : ℕ) → HasTarget call.now to → to < self.old.settings.nodes → to ≡ node }
-        ensures settings { self.new.settings ≡ self.old.settings }
-        ensures table { self.new.table ≡ self.old.table }
-        ensures steps { Steps (H.meaning handlers.now) self.old now (called_at node thread call.now) result self.new }
-    {
-        let event = Event::Call {
-            thread,
-            call: *call,
+        let Some(aim) = aim_of(&self.settings, event) else {
+            return WorldAnswer::Unsent;
         };
-        let node = usize::from(node);
-        WorldAnswer::Node(step::alone(
+        let place = place_of(&self.settings, aim.from, aim.to);
+        let node = usize::from(aim.node);
+        let happening = Happening {
             handlers,
-            &mut self.endpoints[node],
-            &mut self.most[node],
             now,
-            &event,
-        ))
-    }
-
-    /// A tick of a node.
-    fn tick<H: Handlers>(&mut self, handlers: &H, now: u64, node: u16) -> WorldAnswer
-        requires { node < self.old.settings.nodes }
-        ensures settings { self.new.settings ≡ self.old.settings }
-        ensures table { self.new.table ≡ self.old.table }
-        ensures steps { Steps (H.meaning handlers.now) self.old now (Ticks node) result self.new }
-    {
-        let node = usize::from(node);
-        WorldAnswer::Node(step::alone(
-            handlers,
-            &mut self.endpoints[node],
-            &mut self.most[node],
-            now,
-            &Event::Tick,
-        ))
-    }
-
-    /// A request that was sent is delivered.
-    fn deliver_request<H: Handlers>(
-        &mut self,
-        handlers: &H,
-        now: u64,
-        from: u16,
-        to: u16,
-        number: u64,
-    ) -> WorldAnswer
-        requires from { from < self.old.settings.nodes }
-        requires to { to < self.old.settings.nodes }
-        requires other { from ≢ to }
-        ensures settings { self.new.settings ≡ self.old.settings }
-        ensures table { self.new.table ≡ self.old.table }
-        ensures steps { Steps (H.meaning handlers.now) self.old now (RequestComes from to number) result self.new }
-    {
-        let place = place_of(&self.settings, from, to);
-        let node = usize::from(to);
-        step::deliver_request(
-            handlers,
-            &mut self.endpoints[node],
-            &mut self.archive,
+            event,
+        };
+        happen(
+            happening,
+            &mut self.endpoints,
             &mut self.exchanges[place],
             &mut self.most[node],
-            now,
-            number,
-        )
-    }
-
-    /// A reply that was sent is delivered.
-    fn deliver_reply<H: Handlers>(
-        &mut self,
-        handlers: &H,
-        now: u64,
-        from: u16,
-        to: u16,
-        number: u64,
-    ) -> WorldAnswer
-        requires from { from < self.old.settings.nodes }
-        requires to { to < self.old.settings.nodes }
-        requires other { from ≢ to }
-        ensures settings { self.new.settings ≡ self.old.settings }
-        ensures table { self.new.table ≡ self.old.table }
-        ensures steps { Steps (H.meaning handlers.now) self.old now (ReplyComes from to number) result self.new }
-    {
-        let place = place_of(&self.settings, from, to);
-        let node = usize::from(from);
-        step::deliver_reply(
-            handlers,
-            &mut self.endpoints[node],
-            &self.archive,
-            &mut self.exchanges[place],
-            &mut self.most[node],
-            now,
-            number,
         )
     }
 }

@@ -1,28 +1,18 @@
-use Rattle.std.proofs.Common.{sym, ap, ◌∙◌, subst}
-use Rattle.std.specs.Prelude.{Result, Ok, Err}
-use Rattle.handler_rules.specs.Runs.{untouched}
-use Rattle.handler_rules.specs.declared.rules.Forbidden.{Forbidden}
-use Rattle.am_core.specs.Locals.{Meaning}
-use Rattle.gas_world.specs.Endpoints.{EndpointState, Judged}
+use Rattle.std.proofs.Common.{◌≡◌, ap, sym, subst, ◌∙◌}
+use Rattle.gas_world.specs.Endpoints.{EndpointState, JudgedCall, Judged}
 use Rattle.gas_world.specs.declared.event.Answer.{Answer}
-use Rattle.gas_world.specs.declared.event.Answer.TheVariants as answers
+use Rattle.gas_world.proofs.Calls.{by_judgement, judged_told}
 use Rattle.gas_world.proofs.endpoint.Endpoint.judged.Goals as goal
 use Rattle.gas_world.proofs.endpoint.Endpoint.judged.Goals.{in-Ok, in-Err}
 
--- a meaning under which no handler does anything
-nothing_runs : Meaning
-nothing_runs handler scene start = untouched start
-
--- the answer, by how the table judges
-abbrev by_judgement : Answer → Result (Unit {0}) Forbidden → Answer
-by_judgement allowed r = elim r [ Ok t ↦ allowed | Err forbidden ↦ answers.Forbidden forbidden ]
-
 pub returns : goal.returns
-returns c = subst (λ (e : EndpointState). Judged e c.args.thread c.args.call c.args.allowed c.match-check.result (record { core = c.check.new.self })) c.self.view_is (record {
-  same = (c.check.ensures.checks nothing_runs).same;
-  answer = elim c.match-check.branch [
-    | in-Ok w ↦ w.result-is ∙ ap (by_judgement c.args.allowed) (sym w.in-Ok.is ∙ c.check.ensures.judged)
-    | in-Err w ↦ w.result-is ∙ ap (by_judgement c.args.allowed) (sym w.in-Err.is ∙ c.check.ensures.judged)
-  ];
-  stands = λ meaning r S. (c.check.ensures.checks meaning).steps r S;
-})
+returns c =
+    let call : JudgedCall = record { thread = c.args.thread; kind = c.args.call; allowed = c.args.allowed } in
+    let old : EndpointState = record { core = c.self.inside.core } in
+    let new : EndpointState = record { core = c.check.new.self } in
+    let is : c.match-check.result ≡ by_judgement c.args.allowed c.check.result = elim c.match-check.branch [
+      | in-Ok w ↦ w.result-is ∙ ap (by_judgement c.args.allowed) (sym w.in-Ok.is)
+      | in-Err w ↦ w.result-is ∙ ap (by_judgement c.args.allowed) (sym w.in-Err.is)
+    ] in
+    subst (λ (e : EndpointState). Judged e call c.match-check.result new) c.self.view_is
+    (subst (λ (a : Answer). Judged old call a new) (sym is) (judged_told old call c.check.result new c.check.ensures))

@@ -1,8 +1,10 @@
 use Rattle.std.proofs.Common.{suc, ap, sym, ◌∙◌}
-use Rattle.std.specs.Prelude.{is_ok}
 use Rattle.gas_world.specs.State.{front_back}
-use Rattle.gas_world.proofs.Fronts.{front_pushed}
+use Rattle.gas_world.proofs.Fronts.{front_added}
 use Rattle.gas_world.proofs.exchanges.Exchanges.add.Goals as goal
 
 pub invariant_of-self : goal.invariant_of-self
-invariant_of-self c = c.self.invariant ∙ sym (ap suc (ap front_back c.push.ensures.items ∙ front_pushed (is_ok c.push.result) c.self.inside.list.items c.args.request))
+invariant_of-self c =
+    c.self.invariant ∙ sym
+    (ap suc (ap front_back c.push_reserved.ensures.items
+    ∙ front_added c.self.inside.list.items c.args.slot))

@@ -8,22 +8,26 @@ pub invariant_of-result : goal.invariant_of-result
 invariant_of-result c =
     let s = c.args.settings.now in
     let endpoints = c.in_ok-opening_endpoints.field-0.items in
-    let zeros : c.in_ok-vec.field-0.items ≡ replicate s.nodes 0 = c.in_ok-vec.ensures.items_if_clones_equal (λ y h. h) ∙ search rules in
+    let zeros : c.in_ok-vec.field-0.items ≡ replicate s.nodes 0 = c.in_ok-vec.ensures.items_if_clones_equal (λ y h. h)
+    ∙ search rules in
     let pairs : length c.in_ok-no_exchanges.field-0.items ≡ s.nodes * s.nodes = search rules in
     let copied : c.in_ok-copy.field-0 ≡ c.args.table.now = search rules in
-    let open_ = subst (λ t. AreOpening s t endpoints) (sym copied) c.in_ok-opening_endpoints.ensures.1 in
-    sized_opening s c.in_ok-copy.field-0 endpoints c.in_ok-no_exchanges.field-0.items c.in_ok-vec.field-0.items c.in_ok-opening_endpoints.ensures.0 open_ pairs zeros
+    let open_ = subst (λ t. AreOpening s t endpoints) (sym copied) c.in_ok-opening_endpoints.ensures.each in
+    sized_opening s c.in_ok-copy.field-0 endpoints c.in_ok-no_exchanges.field-0.items c.in_ok-vec.field-0.items
+    c.in_ok-opening_endpoints.ensures.count open_ pairs zeros
 
 pub returns-clause-stands : goal.returns-clause-stands
 returns-clause-stands c =
     let s = c.args.settings.now in
     let endpoints = c.in_ok-opening_endpoints.field-0.items in
-    let zeros : c.in_ok-vec.field-0.items ≡ replicate s.nodes 0 = c.in_ok-vec.ensures.items_if_clones_equal (λ y h. h) ∙ search rules in
+    let zeros : c.in_ok-vec.field-0.items ≡ replicate s.nodes 0 = c.in_ok-vec.ensures.items_if_clones_equal (λ y h. h)
+    ∙ search rules in
     let pairs : length c.in_ok-no_exchanges.field-0.items ≡ s.nodes * s.nodes = search rules in
     let copied : c.in_ok-copy.field-0 ≡ c.args.table.now = search rules in
-    let open_ = subst (λ t. AreOpening s t endpoints) (sym copied) c.in_ok-opening_endpoints.ensures.1 in
-    stands_opening s c.in_ok-copy.field-0 endpoints c.new.result c.in_ok-no_exchanges.field-0.items c.in_ok-vec.field-0.items c.nodes-nodes.ensures.range
-    c.in_ok-opening_endpoints.ensures.0 open_ pairs c.in_ok-no_exchanges.ensures.1 zeros
+    let open_ = subst (λ t. AreOpening s t endpoints) (sym copied) c.in_ok-opening_endpoints.ensures.each in
+    stands_opening s c.in_ok-copy.field-0 endpoints c.in_ok-no_exchanges.field-0.items
+    c.in_ok-vec.field-0.items c.nodes-nodes.ensures.range
+    c.in_ok-opening_endpoints.ensures.count open_ pairs c.in_ok-no_exchanges.ensures.1 zeros
 
 pub returns-clause-headline : goal.returns-clause-headline
 returns-clause-headline c = headline c.args.settings.now c.in_ok-copy.field-0

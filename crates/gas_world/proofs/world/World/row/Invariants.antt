@@ -1,0 +1,8 @@
+use Rattle.gas_world.specs.Settling.{turn_events}
+use Rattle.gas_world.proofs.Moving.{Turns}
+use Rattle.gas_world.proofs.world.World.row.Given as goal
+
+abbrev pub invariant-loop-to : goal.invariant-loop-to
+invariant-loop-to g l =
+    Turns (g.H.Handlers.meaning l.handlers) l.initial.self
+    (λ job to world. turn_events l.now l.from to ((world l.from).asked to)) l.to l.self

@@ -1,0 +1,145 @@
+//! Rounds of ticks and deliveries.
+
+ghost use Rattle.std.specs.Prelude.{◌≡◌, ◌<◌, ◌∷◌, [], OnOk};
+ghost use Rattle.plain_world.specs.World.{IsAmong};
+ghost use Rattle.gas_world.specs.CallRules.{timed};
+ghost use Rattle.gas_world.specs.Events.{event_of, job_in};
+ghost use Rattle.gas_world.specs.Settling.{Moves, turn_events, row_events, pair_events};
+ghost use Rattle.gas_world.specs.Settling.{tick_events, round_events, settle_events};
+
+use crate::event::{WorldAnswer, WorldEvent};
+use crate::world::World;
+use handler_rules::Handlers;
+use std::alloc::AllocError;
+
+impl World {
+    /// So many rounds, all at the time `now`. In a round each node ticks, in rising order; then
+    /// each pair of nodes has its turn, in rising order of the first node and then of the other
+    /// one: each request of the pair that isn't back is delivered, in rising order of numbers, and
+    /// then its reply, where it was sent.
+    ///
+    /// Want of memory is its one error: it ends at the event that met it. Where it is Ok, its
+    /// events are those of `settle_events`, each by `step`. After an error nothing is said of the
+    /// world but its settings and its table; no event of a round accepts a request so far, which is
+    /// all for which `step` wants memory.
+    pub fn settle<H: Handlers>(
+        &mut self,
+        handlers: &H,
+        now: u64,
+        rounds: u32,
+    ) -> Result<(), AllocError>
+        ensures settings { self.new.settings ≡ self.old.settings }
+        ensures table { self.new.table ≡ self.old.table }
+        ensures moves { OnOk result (Moves (job_in (H.meaning handlers.now) self.old)
+            (settle_events (job_in (H.meaning handlers.now) self.old) now rounds)
+            self.old self.new) }
+    {
+        for turn in 0..rounds {
+            let _ = turn;
+            self.round(handlers, now)?;
+        }
+        Ok(())
+    }
+
+    /// A round: the ticks, and then the turns of all pairs.
+    fn round<H: Handlers>(&mut self, handlers: &H, now: u64) -> Result<(), AllocError>
+        ensures settings { self.new.settings ≡ self.old.settings }
+        ensures table { self.new.table ≡ self.old.table }
+        ensures moves { OnOk result (Moves (job_in (H.meaning handlers.now) self.old)
+            (round_events (job_in (H.meaning handlers.now) self.old) now) self.old self.new) }
+    {
+        self.ticks(handlers, now)?;
+        self.pairs(handlers, now)
+    }
+
+    /// Each node ticks, in rising order.
+    fn ticks<H: Handlers>(&mut self, handlers: &H, now: u64) -> Result<(), AllocError>
+        ensures settings { self.new.settings ≡ self.old.settings }
+        ensures table { self.new.table ≡ self.old.table }
+        ensures moves { OnOk result (Moves (job_in (H.meaning handlers.now) self.old)
+            (tick_events (job_in (H.meaning handlers.now) self.old) now) self.old self.new) }
+    {
+        for node in 0..self.nodes() {
+            self.happens(handlers, now, &WorldEvent::Tick { node })?;
+        }
+        Ok(())
+    }
+
+    /// The turns of all pairs, in rising order of the first node and then of the other one.
+    fn pairs<H: Handlers>(&mut self, handlers: &H, now: u64) -> Result<(), AllocError>
+        ensures settings { self.new.settings ≡ self.old.settings }
+        ensures table { self.new.table ≡ self.old.table }
+        ensures moves { OnOk result (Moves (job_in (H.meaning handlers.now) self.old)
+            (pair_events (job_in (H.meaning handlers.now) self.old) now) self.old self.new) }
+    {
+        for from in 0..self.nodes() {
+            self.row(handlers, now, from)?;
+        }
+        Ok(())
+    }
+
+    /// The turns of the pairs of one node, in rising order of the other one.
+    fn row<H: Handlers>(&mut self, handlers: &H, now: u64, from: u16) -> Result<(), AllocError>
+        requires { from < self.old.settings.nodes }
+        ensures settings { self.new.settings ≡ self.old.settings }
+        ensures table { self.new.table ≡ self.old.table }
+        ensures moves { OnOk result (Moves (job_in (H.meaning handlers.now) self.old)
+            (row_events (job_in (H.meaning handlers.now) self.old) now from) self.old self.new) }
+    {
+        for to in 0..self.nodes() {
+            self.turn(handlers, now, from, to)?;
+        }
+        Ok(())
+    }
+
+    /// The turn of a pair: each of its requests that isn't back is delivered, in rising order of
+    /// numbers, and then its reply.
+    fn turn<H: Handlers>(
+        &mut self,
+        handlers: &H,
+        now: u64,
+        from: u16,
+        to: u16,
+    ) -> Result<(), AllocError>
+        requires from { from < self.old.settings.nodes }
+        requires to { to < self.old.settings.nodes }
+        ensures settings { self.new.settings ≡ self.old.settings }
+        ensures table { self.new.table ≡ self.old.table }
+        ensures moves { OnOk result (Moves (job_in (H.meaning handlers.now) self.old)
+            (λ world. turn_events now from to ((world from).asked to)) self.old self.new) }
+    {
+        if from == to {
+            return Ok(());
+        }
+        let first = self.first_out(from, to);
+        let accepted = self.accepted(from, to);
+        for place in first - 1..accepted {
+            let number = place + 1;
+            if self.returned(from, to, number) {
+                continue;
+            }
+            self.happens(handlers, now, &WorldEvent::Request { from, to, number })?;
+            self.happens(handlers, now, &WorldEvent::Reply { from, to, number })?;
+        }
+        Ok(())
+    }
+
+    /// An event whose answer nobody asks for.
+    fn happens<H: Handlers>(
+        &mut self,
+        handlers: &H,
+        now: u64,
+        event: &WorldEvent<'_>,
+    ) -> Result<(), AllocError>
+        requires { IsAmong self.old.settings (event_of event.now) }
+        ensures settings { self.new.settings ≡ self.old.settings }
+        ensures table { self.new.table ≡ self.old.table }
+        ensures moves { OnOk result (Moves (job_in (H.meaning handlers.now) self.old)
+            (λ world. timed now (event_of event.now) ∷ []) self.old self.new) }
+    {
+        match self.step(handlers, now, event) {
+            WorldAnswer::NoMemory => Err(AllocError),
+            _ => Ok(()),
+        }
+    }
+}
