@@ -1,0 +1,613 @@
+-- The text of a job is read as that job.
+use Rattle.std.proofs.Common.{◌≡◌, ◌≢◌, inl, inr, ℕ, suc, ◌+◌, ◌*◌, ◌-◌, ◌%◌, ◌<◌, ◌≤◌, ◌^◌, ◌⊎◌, ◌||◌, ◌&&◌, Bool}
+use Rattle.std.proofs.Common.{true, false, not, eqb, leb, cond, List, [], ◌∷◌, ◌++◌, length, map, take, Option, Some}
+use Rattle.std.proofs.Common.{None, Ok, refl, sym, ap, subst, ◌∙◌, arith, append_assoc, append-nil, length-append}
+use Rattle.std.specs.List.{AllByRecursion, flat_map}
+use Rattle.std.proofs.lemmas.Bool.{eqb-true, le-leb, lt-leb, lt-ltb, le-ltb, and_from, ne_eqb, eq-eqb}
+use Rattle.std.proofs.lemmas.List.{map-append}
+use Rattle.std.proofs.Math.Nat.{mul-le-mul_right}
+use Rattle.handler_rules.specs.declared.rules.Role.{Role}
+use Rattle.datagram_grammar.specs.Message.{is_version}
+use Rattle.datagram_grammar.specs.Parameters.{Parameters, IsPair, ArePairs, own_credits, credits_in_all}
+use Rattle.datagram_grammar.specs.declared.pairs.PairCredits.{PairCredits}
+use Rattle.datagram_grammar.proofs.Credits.{even_sum, last_pair}
+use Rattle.job_text.specs.Bodies.{action_text, IsAction}
+use Rattle.job_text.specs.Events.{IsTimed}
+use Rattle.job_text.specs.Places.{Setting, Version, Nodes, Credits, Threads, Segment, Last, Resend, Patience}
+use Rattle.job_text.specs.Places as places
+use Rattle.job_text.specs.Places.{Place, AtSetting, AtSieve, AtPairs, AtHandlers, AtBody, AtSchedule, AtDone, Over}
+use Rattle.job_text.specs.Places.{Item, item_text, IsItem, OfPair, OfSection, least, greatest, setting_fits, in_place}
+use Rattle.job_text.specs.Places.{pair_fits}
+use Rattle.job_text.specs.JobReading.{State, least_job, start, with_number, behind_setting, with_handler}
+use Rattle.job_text.specs.JobReading.{total_rounds, next, has_index, has_pair, rounds_of, is_full, read}
+use Rattle.job_text.specs.JobText.{Line, spell, setting_line, sieve_line, pair_line, handler_lines, timed_lines}
+use Rattle.job_text.specs.JobText.{schedule_lines, head_lines, lines_with_pairs, job_lines, job_text, IsHandler}
+use Rattle.job_text.specs.JobText.{IsScheduleOrNone, with_first_pairs, IsJob}
+use Rattle.job_text.specs.declared.job.Action.{Action}
+use Rattle.job_text.specs.declared.job.HandlerText.{HandlerText}
+use Rattle.job_text.specs.declared.job.Job.{Job}
+use Rattle.job_text.specs.declared.job.TimedEvent.{TimedEvent}
+use Rattle.job_text.specs.declared.sections.Section.TheVariants as section
+use Rattle.job_text.proofs.Freshness.{AreFresh, AreNew, apart_fresh, fresh_to}
+use Rattle.job_text.proofs.LineRuns.{line_again, read_on, over_good}
+use Rattle.job_text.proofs.Ranges.{AreNumbers, sum_beside}
+use Rattle.job_text.proofs.StateLaws.{done_line, end_line}
+
+-- ---- lines that lead from one state to another
+
+pub record Leads (P : State → Type 0) (state : State) (line : Line) : Type 0 where
+  pub item : Item state.place
+  pub to : State
+  pub text : line ≡ item_text state.place state.job.settings item
+  pub is : IsItem state.place state.job.settings item
+  pub goes : next state.place state.job item ≡ Ok to
+  pub behind : P to
+
+abbrev pub Reaches : State → List Line → State → Type 0
+Reaches state [] end = state ≡ end
+Reaches state (line ∷ lines) end = Leads (λ to. Reaches to lines end) state line
+
+reach_join : (a b c : State) (xs ys : List Line) → Reaches a xs b → Reaches b ys c → Reaches a (xs ++ ys) c
+reach_join a b c [] ys h k = subst (λ (s : State). Reaches s ys c) (sym h) k
+reach_join a b c (x ∷ xs) ys h k = record {
+  item = h.item;
+  to = h.to;
+  text = h.text;
+  is = h.is;
+  goes = h.goes;
+  behind = reach_join h.to b c xs ys h.behind k;
+}
+
+-- they are read so
+pub reach_read : (lines : List Line) (state end : State) (line : ℕ) (more : List ℕ) → Reaches state lines end
+    → read state line (spell lines ++ more) ≡ read end (line + length lines) more
+reach_read [] state end line more h = ap (λ (s : State). read s line more) h ∙ ap (λ (n : ℕ). read end n more)
+    (omega arith)
+reach_read (x ∷ lines) state end line more h =
+    let text : spell (x ∷ lines) ++ more ≡ item_text state.place state.job.settings h.item ++ 10 ∷ (spell lines
+    ++ more) =
+    append_assoc (x ++ 10 ∷ []) (spell lines) more ∙ append_assoc x (10 ∷ []) (spell lines ++ more) ∙ ap
+    (λ (l : List ℕ). l ++ 10 ∷ (spell lines ++ more)) h.text in
+    ap (read state line) text
+    ∙ read_on state.place state.job line (item_text state.place state.job.settings h.item ++ 10 ∷ (spell lines
+    ++ more)) (spell lines ++ more) h.item h.to (line_again state.place state.job.settings h.item (spell lines
+    ++ more) h.is) h.goes
+    ∙ reach_read lines h.to end (line + 1) more h.behind
+    ∙ ap (λ (n : ℕ). read end n more) (omega arith)
+
+-- ---- the head
+
+-- the numbers of a job
+version_by : (first second : Bool) (version : ℕ) → eqb version 1 ≡ first → eqb version 2 ≡ second → (first || second)
+    ≡ true → (version ≡ 1) ⊎ (version ≡ 2)
+version_by true second version e f h = inl (eqb-true version 1 e)
+version_by false true version e f h = inr (eqb-true version 2 f)
+version_by false false version e f h = absurd (cc)
+
+versions : (version : ℕ) → is_version version ≡ true → (version ≡ 1) ⊎ (version ≡ 2)
+versions version h = version_by (eqb version 1) (eqb version 2) version refl refl h
+
+version_low : (version : ℕ) → (version ≡ 1) ⊎ (version ≡ 2) → 1 ≤ version
+version_low version (inl e) = omega arith
+version_low version (inr e) = omega arith
+
+version_high : (version : ℕ) → (version ≡ 1) ⊎ (version ≡ 2) → version ≤ 2
+version_high version (inl e) = omega arith
+version_high version (inr e) = omega arith
+
+or_true : (b : Bool) → (b || true) ≡ true
+or_true true = refl
+or_true false = refl
+
+nodes_fit : (version nodes : ℕ) → (version ≡ 1) ⊎ (version ≡ 2) → (version ≡ 1 → nodes ≤ 64) → (leb nodes 64
+    || eqb version 2) ≡ true
+nodes_fit version nodes (inl e) f = rw (le-leb nodes 64 (f e)) refl
+nodes_fit version nodes (inr e) f = rw (eq-eqb version 2 e) (or_true (leb nodes 64))
+
+no_pairs_first : (pairs : List PairCredits) → take 0 pairs ≡ []
+no_pairs_first [] = refl
+no_pairs_first (pair ∷ pairs) = refl
+
+job_numbers : (job : Job) → IsJob job → AreNumbers job
+job_numbers job is Version = let v = versions job.settings.version is.settings.version in record {
+  low = version_low
+      job.settings.version v;
+  high = version_high job.settings.version v;
+  fits = refl;
+}
+job_numbers job is places.Job = record { low = omega arith; high = (let lt = is.job_fits in omega arith); fits = refl }
+job_numbers job is Nodes = record {
+  low = is.settings.some_node;
+  high = is.settings.nodes;
+  fits = nodes_fit job.settings.version job.settings.nodes
+      (versions job.settings.version is.settings.version) is.settings.nodes_at_first;
+}
+job_numbers job is Credits = record {
+  low = is.settings.some_credit;
+  high = is.settings.credits;
+  fits = le-leb
+      (job.settings.nodes * (job.settings.nodes - 1) * job.settings.credits) 65536 (subst (λ (n : ℕ). n ≤ 65536)
+      (even_sum (with_first_pairs 0 job.settings) (no_pairs_first job.settings.pairs)) (is.sums 0));
+}
+job_numbers job is Threads = record { low = is.settings.some_thread; high = is.settings.threads; fits = refl }
+job_numbers job is Segment = record {
+  low = is.settings.some_page;
+  high = is.settings.segment;
+  fits = and_from _ _
+      (eq-eqb (job.settings.segment % 4096) 0 is.settings.pages) (le-leb
+      (job.settings.nodes * job.settings.segment) 268435456 is.settings.segments);
+}
+job_numbers job is Last = record { low = is.settings.last; high = (let lt = is.last_fits in omega arith); fits = refl }
+job_numbers job is Resend = record { low = is.settings.some_time; high = is.settings.resend; fits = refl }
+job_numbers job is Patience = record { low = is.some_patience; high = is.patience; fits = refl }
+
+-- the greatest numbers have 64 bits
+greatest_fits : (setting : Setting) → greatest setting < 2 ^ 64
+greatest_fits Version = omega arith
+greatest_fits places.Job = omega arith
+greatest_fits Nodes = omega arith
+greatest_fits Credits = omega arith
+greatest_fits Threads = omega arith
+greatest_fits Segment = omega arith
+greatest_fits Last = omega arith
+greatest_fits Resend = omega arith
+greatest_fits Patience = omega arith
+
+setting_item : (setting : Setting) (settings : Parameters) (number : ℕ) → least setting ≤ number
+    → number ≤ greatest setting → setting_fits setting settings number ≡ true → IsItem
+    (AtSetting setting) settings number
+setting_item setting settings number low high fits = (
+  ((low, high, let g = greatest_fits setting in omega arith), tt),
+  fits,
+)
+
+-- the job of the head of another
+abbrev pub of_head : Job → List PairCredits → Job
+of_head job pairs = record {
+  settings = record job.settings { pairs = pairs };
+  patience = job.patience;
+  sieve = job.sieve;
+  handlers = [];
+  schedule = None;
+}
+
+setting_lead : (setting : Setting) (job : Job) (number : ℕ) (lines : List Line) (end : State)
+    → least setting ≤ number → number ≤ greatest setting → setting_fits setting job.settings number ≡ true → Reaches
+    (record { place = behind_setting setting; job = with_number setting number job }) lines end
+    → Reaches (record { place = AtSetting setting; job = job }) (item_text
+    (AtSetting setting) job.settings number ∷ lines) end
+setting_lead setting job number lines end low high fits on = record {
+  item = number;
+  to = record { place = behind_setting setting; job = with_number setting number job };
+  text = refl;
+  is = setting_item setting job.settings number low high fits;
+  goes = refl;
+  behind = on;
+}
+
+head_reach : (job : Job) → IsJob job → Reaches start (head_lines job) (record { place = AtPairs; job = of_head job [] })
+head_reach job is =
+    let all = job_numbers job is in
+    let s = job.settings in
+    let j1 : Job = with_number Version s.version least_job in
+    let j2 : Job = with_number places.Job s.job j1 in
+    let j3 : Job = with_number Nodes s.nodes j2 in
+    let j4 : Job = with_number Credits s.credits j3 in
+    let j5 : Job = with_number Threads s.threads j4 in
+    let j6 : Job = with_number Segment s.segment j5 in
+    let j7 : Job = with_number Last s.last j6 in
+    let j8 : Job = with_number Resend s.resend j7 in
+    let j9 : Job = with_number Patience job.patience j8 in
+    let end : State = record { place = AtPairs; job = of_head job [] } in
+    let l10 : List Line = sieve_line job.sieve ∷ [] in
+    let l9 = setting_line job Patience ∷ l10 in
+    let l8 = setting_line job Resend ∷ l9 in
+    let l7 = setting_line job Last ∷ l8 in
+    let l6 = setting_line job Segment ∷ l7 in
+    let l5 = setting_line job Threads ∷ l6 in
+    let l4 = setting_line job Credits ∷ l5 in
+    let l3 = setting_line job Nodes ∷ l4 in
+    let l2 = setting_line job places.Job ∷ l3 in
+    let sieve : Reaches (record { place = AtSieve; job = j9 }) l10 end = record {
+      item = job.sieve;
+      to = end;
+      text = refl;
+      is = (
+        (
+          (omega arith, is.sieve.lose, (let a = is.sieve.lose in omega arith)),
+          (
+            (omega arith, is.sieve.repeat, (let a = is.sieve.repeat in omega arith)),
+            ((omega arith, is.sieve.swap, (let a = is.sieve.swap in omega arith)), tt),
+          ),
+        ),
+        refl,
+      );
+      goes = refl;
+      behind = refl;
+    } in
+    setting_lead Version least_job s.version l2 end (all Version).low (all Version).high refl
+    (setting_lead places.Job j1 s.job l3 end (all places.Job).low (all places.Job).high refl
+    (setting_lead Nodes j2 s.nodes l4 end (all Nodes).low (all Nodes).high (all Nodes).fits
+    (setting_lead Credits j3 s.credits l5 end (all Credits).low (all Credits).high (all Credits).fits
+    (setting_lead Threads j4 s.threads l6 end (all Threads).low (all Threads).high refl
+    (setting_lead Segment j5 s.segment l7 end (all Segment).low (all Segment).high (all Segment).fits
+    (setting_lead Last j6 s.last l8 end (all Last).low (all Last).high refl
+    (setting_lead Resend j7 s.resend l9 end (all Resend).low (all Resend).high refl
+    (setting_lead Patience j8 job.patience l10 end (all Patience).low (all Patience).high refl sieve))))))))
+
+-- ---- pairs
+
+-- pairs of which the first ones are these
+are_first : (nodes : ℕ) (front pairs : List PairCredits) → ArePairs nodes (front ++ pairs) → ArePairs nodes front
+are_first nodes [] pairs are = tt
+are_first nodes (pair ∷ front) pairs are = (
+  are.0,
+  own_first front pairs pair.from pair.to are.1,
+  are_first nodes front pairs are.2,
+)
+  where
+    own_first : (xs ys : List PairCredits) (from to : ℕ) → own_credits (xs ++ ys) from to ≡ None
+        → own_credits xs from to ≡ None
+    own_first [] ys from to e = refl
+    own_first (x ∷ xs) ys from to e = own_by (eqb x.from from && eqb x.to to) x.credits (own_credits
+        (xs ++ ys) from to) (own_credits xs from to) (own_first xs ys from to) e
+      where
+        own_by : (t : Bool) (c : ℕ) (a b : Option ℕ) → (a ≡ None → b ≡ None) → cond t (Some c) a ≡ None → cond t
+            (Some c) b ≡ None
+        own_by true c a b f h = absurd (cc)
+        own_by false c a b f h = f h
+
+-- what has no credits of its own isn't among them
+not_among : (pairs : List PairCredits) (pair : PairCredits) → own_credits pairs pair.from pair.to ≡ None
+    → has_pair pairs pair ≡ false
+not_among [] pair e = refl
+not_among (x ∷ xs) pair e = among_by (eqb x.from pair.from && eqb x.to pair.to) x.credits
+    (own_credits xs pair.from pair.to) (has_pair xs pair) (not_among xs pair) e
+  where
+    among_by : (t : Bool) (c : ℕ) (o : Option ℕ) (b : Bool) → (o ≡ None → b ≡ false) → cond t (Some c) o ≡ None → (t
+        || b) ≡ false
+    among_by true c o b f h = absurd (cc)
+    among_by false c o b f h = f h
+
+-- the first so many of them
+take_front : (front : List PairCredits) (pair : PairCredits) (pairs : List PairCredits) → take (length front + 1)
+    (front ++ pair ∷ pairs) ≡ front ++ pair ∷ []
+take_front [] pair [] = refl
+take_front [] pair (x ∷ xs) = refl
+take_front (x ∷ front) pair pairs = ap (λ (n : ℕ). take n (x ∷ (front ++ pair ∷ pairs))) (let e : suc
+    (length front) + 1 ≡ suc (length front + 1) = omega arith in e) ∙ ap (λ (ys : List PairCredits). x ∷ ys)
+    (take_front front pair pairs)
+
+not_same : (a b : ℕ) → a ≢ b → not (eqb a b) ≡ true
+not_same a b h = rw (ne_eqb a b h) refl
+
+-- the settings with other pairs
+abbrev pub with_pairs : Parameters → List PairCredits → Parameters
+with_pairs settings pairs = record settings { pairs = pairs }
+
+-- a pair that may stand behind others
+pub record IsNext (settings : Parameters) (front : List PairCredits) (pair : PairCredits) : Type 0 where
+  pub is : IsPair settings.nodes pair
+  pub nodes : settings.nodes ≤ 256
+  pub none : own_credits front pair.from pair.to ≡ None
+  pub sum : credits_in_all (with_pairs settings (front ++ pair ∷ [])) ≤ 65536
+  pub few : length front < 64
+
+pair_item : (settings : Parameters) (front : List PairCredits) (pair : PairCredits) → IsNext settings front pair
+    → IsItem AtPairs (with_pairs settings front) (OfPair pair)
+pair_item settings front pair n =
+    let i = n.is in
+    let sum : credits_in_all (in_place (with_pairs settings front) pair) ≤ 65536 = rw (← sum_beside
+    (with_pairs settings front) pair i n.none) n.sum in
+    let from = i.from in
+    let to = i.to in
+    let nodes = n.nodes in
+    let some = i.some_credit in
+    let few = i.credits in (
+      (
+        (omega arith, omega arith, omega arith),
+        (
+          (omega arith, omega arith, omega arith),
+          (
+            (some, few, omega arith),
+            tt,
+          ),
+        ),
+      ),
+      and_from _ _ (lt-ltb pair.from settings.nodes from) (and_from _ _ (lt-ltb pair.to settings.nodes to)
+          (and_from _ _ (not_same pair.from pair.to i.apart) (le-leb
+          (credits_in_all (in_place (with_pairs settings front) pair)) 65536 sum))),
+    )
+
+next_pair : (job : Job) → IsJob job → (front : List PairCredits) (pair : PairCredits) (rest : List PairCredits)
+    → front ++ pair ∷ rest ≡ job.settings.pairs → IsNext job.settings front pair
+next_pair job is front pair rest e =
+    let are : ArePairs job.settings.nodes ((front ++ pair ∷ []) ++ rest) = subst (λ
+    (ps : List PairCredits). ArePairs job.settings.nodes ps) (sym
+    (append_assoc front (pair ∷ []) rest ∙ e)) is.settings.pairs in
+    let last = last_pair job.settings.nodes front pair (are_first job.settings.nodes (front ++ pair ∷ []) rest are) in
+    let first : take (length front + 1) job.settings.pairs ≡ front ++ pair ∷ [] = ap (take (length front + 1))
+    (sym e) ∙ take_front front pair rest in
+    let all : length (front ++ pair ∷ rest) ≤ 64 = subst (λ (ps : List PairCredits). length ps ≤ 64)
+    (sym e) is.settings.few_pairs in
+    let many : length (front ++ pair ∷ rest) ≡ length front + suc (length rest) = simp length-append in
+    record {
+      is = last.is;
+      nodes = is.settings.nodes;
+      none = last.none;
+      sum = subst (λ (ps : List PairCredits). credits_in_all (with_pairs job.settings ps) ≤ 65536) first (is.sums
+          (length front + 1));
+      few = omega (arith, all, many);
+    }
+
+pairs_reach : (job : Job) → IsJob job → (front rest : List PairCredits) → front ++ rest ≡ job.settings.pairs
+    → Reaches (record { place = AtPairs; job = of_head job front }) (map pair_line rest)
+    (record { place = AtPairs; job = of_head job (front ++ rest) })
+pairs_reach job is front [] e = ap (λ (ps : List PairCredits). record { place = AtPairs; job = of_head job ps }) (sym
+    (append-nil front))
+pairs_reach job is front (pair ∷ rest) e =
+    let n = next_pair job is front pair rest e in
+    record {
+      item = OfPair pair;
+      to = record { place = AtPairs; job = of_head job (front ++ pair ∷ []) };
+      text = refl;
+      is = pair_item job.settings front pair n;
+      goes = rw (not_among front pair n.none, lt-leb 64 (length front) n.few) refl;
+      behind = subst (λ (ps : List PairCredits). Reaches (record {
+        place = AtPairs;
+        job = of_head job (front
+            ++ pair ∷ []);
+      }) (map pair_line rest) (record { place = AtPairs; job = of_head job ps }))
+          (append_assoc front (pair ∷ []) rest)
+          (pairs_reach job is (front ++ pair ∷ []) rest (append_assoc front (pair ∷ []) rest ∙ e));
+    }
+
+-- ---- handlers
+
+body_reach : (index : ℕ) (role : Role) (front rest : List Action) (job : Job) → AllByRecursion IsAction rest → length
+    (front ++ rest) ≤ 64
+    → Reaches (record { place = AtBody (record { index = index; role = role; body = front }); job = job })
+    (map action_text rest ++ end_line ∷ []) (record {
+      place = AtHandlers;
+      job = with_handler
+          (record { index = index; role = role; body = front ++ rest }) job;
+    })
+body_reach index role front [] job all le = record {
+  item = None;
+  to = record { place = AtHandlers; job = with_handler (record { index = index; role = role; body = front }) job };
+  text = refl;
+  is = tt;
+  goes = refl;
+  behind = ap (λ (body : List Action). record {
+    place = AtHandlers;
+    job = with_handler
+        (record { index = index; role = role; body = body }) job;
+  }) (sym (append-nil front));
+}
+body_reach index role front (a ∷ rest) job all le =
+    let many : length (front ++ a ∷ rest) ≡ length front + suc (length rest) = simp length-append in
+    record {
+      item = Some a;
+      to = record { place = AtBody (record { index = index; role = role; body = front ++ a ∷ [] }); job = job };
+      text = refl;
+      is = all.0;
+      goes = rw (lt-leb 64 (length front) (omega (arith, many))) refl;
+      behind = subst (λ (body : List Action). Reaches (record {
+        place = AtBody
+            (record { index = index; role = role; body = front ++ a ∷ [] });
+        job = job;
+      }) (map action_text rest
+          ++ end_line ∷ []) (record {
+            place = AtHandlers;
+            job = with_handler
+                (record { index = index; role = role; body = body }) job;
+          })) (append_assoc front (a ∷ []) rest)
+          (body_reach index role (front ++ a ∷ []) rest job all.1 (subst (λ (body : List Action). length body ≤ 64)
+          (sym (append_assoc front (a ∷ []) rest)) le));
+    }
+
+-- the test of an index
+index_test : (index : ℕ) → (index ≡ 0) ⊎ ((128 ≤ index) × (index < 256)) → (eqb index 0 || leb 128 index) ≡ true
+index_test index (inl e) = rw (eq-eqb index 0 e) refl
+index_test index (inr h) = rw (le-leb 128 index h.0) (or_true (eqb index 0))
+
+index_high : (index : ℕ) → (index ≡ 0) ⊎ ((128 ≤ index) × (index < 256)) → index ≤ 255
+index_high index (inl e) = omega arith
+index_high index (inr h) = let lt = h.1 in omega arith
+
+handler_reach : (h : HandlerText) (job : Job) → IsHandler h → has_index job.handlers h.index ≡ false
+    → length job.handlers < 128 → Reaches (record { place = AtHandlers; job = job }) (handler_lines h)
+    (record { place = AtHandlers; job = with_handler h job })
+handler_reach h job is new few =
+    let high = index_high h.index is.index in
+    record {
+      item = section.Handler h.index h.role;
+      to = record { place = AtBody (record { index = h.index; role = h.role; body = [] }); job = job };
+      text = refl;
+      is = (((omega arith, high, omega arith), (tt, tt)), index_test h.index is.index);
+      goes = rw (new, lt-leb 128 (length job.handlers) few) refl;
+      behind = body_reach h.index h.role [] h.body job is.actions is.count;
+    }
+
+abbrev pub with_handlers : Job → List HandlerText → Job
+with_handlers job handlers = record job { handlers = handlers }
+
+handlers_reach : (job : Job) (front rest : List HandlerText) → AllByRecursion IsHandler rest → AreFresh
+    (map (λ (x : HandlerText). x.index) front) rest → length (front ++ rest) ≤ 128
+    → Reaches (record { place = AtHandlers; job = with_handlers job front }) (flat_map handler_lines rest)
+    (record { place = AtHandlers; job = with_handlers job (front ++ rest) })
+handlers_reach job front [] all fresh le = ap (λ (hs : List HandlerText). record {
+  place = AtHandlers;
+  job = with_handlers job hs;
+}) (sym (append-nil front))
+handlers_reach job front (h ∷ rest) all fresh le =
+    let many : length (front ++ h ∷ rest) ≡ length front + suc (length rest) = simp length-append in
+    let one = handler_reach h (with_handlers job front) all.0 (fresh_to front h.index fresh.0) (omega (arith, many)) in
+    let indexes : map (λ (x : HandlerText). x.index) (front ++ h ∷ []) ≡ map (λ (x : HandlerText). x.index) front
+    ++ h.index ∷ [] = map-append (λ (x : HandlerText). x.index) front (h ∷ []) in
+    let others = handlers_reach job (front ++ h ∷ []) rest all.1 (subst (λ (t : List ℕ). AreFresh t rest)
+    (sym indexes) fresh.1) (subst (λ (hs : List HandlerText). length hs ≤ 128) (sym
+    (append_assoc front (h ∷ []) rest)) le) in
+    reach_join (record { place = AtHandlers; job = with_handlers job front })
+    (record { place = AtHandlers; job = with_handlers job (front ++ h ∷ []) })
+    (record { place = AtHandlers; job = with_handlers job (front ++ h ∷ rest) }) (handler_lines h)
+    (flat_map handler_lines rest) one
+    (subst (λ (hs : List HandlerText). Reaches (record {
+      place = AtHandlers;
+      job = with_handlers job (front
+          ++ h ∷ []);
+    }) (flat_map handler_lines rest) (record { place = AtHandlers; job = with_handlers job hs }))
+    (append_assoc front (h ∷ []) rest) others)
+
+-- what may come behind handlers may come behind pairs
+behind_pairs : (job : Job) (line : Line) (lines : List Line) (end : State) → Reaches
+    (record { place = AtHandlers; job = job }) (line ∷ lines) end → Reaches (record { place = AtPairs; job = job })
+    (line ∷ lines) end
+behind_pairs job line lines end h = record {
+  item = OfSection h.item;
+  to = h.to;
+  text = h.text;
+  is = h.is;
+  goes = h.goes;
+  behind = h.behind;
+}
+
+-- ---- the schedule
+
+rounds_join : (front rest : List TimedEvent) → total_rounds (front ++ rest) ≡ total_rounds front + total_rounds rest
+rounds_join [] rest = omega arith
+rounds_join (t ∷ front) rest = let e = rounds_join front rest in omega arith
+
+abbrev pub with_schedule : Job → List TimedEvent → Job
+with_schedule job lines = record job { schedule = Some lines }
+
+-- there is room
+not_full : (nodes lines rounds : ℕ) (t : TimedEvent) → lines < 65536 → rounds + rounds_of t.event ≤ 4096 →
+    (rounds + rounds_of t.event) * nodes ≤ 262144 → is_full nodes lines rounds t.event ≡ false
+not_full nodes lines rounds t a b c = rw (
+  lt-leb 65536 lines a,
+  le-ltb 4096 (rounds + rounds_of t.event) b,
+  le-ltb 262144 ((rounds + rounds_of t.event) * nodes) c,
+) refl
+
+fewer : (a b n limit : ℕ) → a ≤ b → b * n ≤ limit → a * n ≤ limit
+fewer a b n limit h k = let m : a * n ≤ b * n = mul-le-mul_right n h in omega (arith, m, k)
+
+schedule_reach : (job : Job) (front rest : List TimedEvent) → AllByRecursion
+    (IsTimed job.settings.nodes job.settings.threads) rest → length (front ++ rest) ≤ 65536 → total_rounds (front
+    ++ rest) ≤ 4096 → total_rounds (front ++ rest) * job.settings.nodes ≤ 262144
+    → Reaches (record { place = AtSchedule; job = with_schedule job front }) (timed_lines job.settings rest
+    ++ end_line ∷ []) (record { place = AtDone; job = with_schedule job (front ++ rest) })
+schedule_reach job front [] all a b c = record {
+  item = None;
+  to = record { place = AtDone; job = with_schedule job front };
+  text = refl;
+  is = tt;
+  goes = refl;
+  behind = ap (λ (lines : List TimedEvent). record { place = AtDone; job = with_schedule job lines }) (sym
+      (append-nil front));
+}
+schedule_reach job front (t ∷ rest) all a b c =
+    let many : length (front ++ t ∷ rest) ≡ length front + suc (length rest) = simp length-append in
+    let sum = rounds_join front (t ∷ rest) in
+    let less : total_rounds front + rounds_of t.event ≤ total_rounds (front ++ t ∷ rest) = omega (arith, sum) in
+    record {
+      item = Some t;
+      to = record { place = AtSchedule; job = with_schedule job (front ++ t ∷ []) };
+      text = refl;
+      is = all.0;
+      goes = rw (not_full job.settings.nodes (length front) (total_rounds front) t (omega (arith, many)) (omega
+          (arith, less)) (fewer (total_rounds front + rounds_of t.event) (total_rounds
+          (front ++ t ∷ rest)) job.settings.nodes 262144 less c)) refl;
+      behind = subst (λ (lines : List TimedEvent). Reaches (record {
+        place = AtSchedule;
+        job = with_schedule job
+            (front ++ t ∷ []);
+      }) (timed_lines job.settings rest ++ end_line ∷ [])
+          (record { place = AtDone; job = with_schedule job lines })) (append_assoc front (t ∷ []) rest)
+          (schedule_reach job (front ++ t ∷ []) rest all.1 (subst (λ (lines : List TimedEvent). length lines ≤ 65536)
+          (sym (append_assoc front (t ∷ []) rest)) a)
+          (subst (λ (lines : List TimedEvent). total_rounds lines ≤ 4096) (sym (append_assoc front (t ∷ []) rest)) b)
+          (subst (λ (lines : List TimedEvent). total_rounds lines * job.settings.nodes ≤ 262144) (sym
+          (append_assoc front (t ∷ []) rest)) c));
+    }
+
+-- ---- the whole text
+
+done_reach : (job : Job) → Reaches (record { place = AtDone; job = job }) (done_line ∷ [])
+    (record { place = Over; job = job })
+done_reach job = record {
+  item = tt;
+  to = record { place = Over; job = job };
+  text = refl;
+  is = tt;
+  goes = refl;
+  behind = refl;
+}
+
+tail_reach : (job : Job) (schedule : Option (List TimedEvent)) → job.schedule ≡ None
+    → IsScheduleOrNone job.settings schedule
+    → Reaches (record { place = AtHandlers; job = job }) (schedule_lines job.settings schedule ++ done_line ∷ [])
+    (record { place = Over; job = record job { schedule = schedule } })
+tail_reach job None e is = record {
+  item = section.Done;
+  to = record { place = Over; job = job };
+  text = refl;
+  is = (tt, refl);
+  goes = refl;
+  behind = ap (λ (s : Option (List TimedEvent)). record { place = Over; job = record job { schedule = s } }) e;
+}
+tail_reach job (Some lines) e is = record {
+  item = section.Schedule;
+  to = record { place = AtSchedule; job = with_schedule job [] };
+  text = refl;
+  is = (tt, refl);
+  goes = refl;
+  behind = reach_join (record { place = AtSchedule; job = with_schedule job [] })
+      (record { place = AtDone; job = with_schedule job lines })
+      (record { place = Over; job = with_schedule job lines }) (timed_lines job.settings lines ++ end_line ∷ [])
+      (done_line ∷ [])
+      (schedule_reach job [] lines is.events_are is.count is.rounds is.rounds_of_nodes) (done_reach
+      (with_schedule job lines));
+}
+
+-- some lines
+some_lines : (a b : List Line) (last : Line) → a ++ (b ++ last ∷ []) ≡ [] → ⊥
+some_lines [] [] last h = cc
+some_lines [] (x ∷ b) last h = cc
+some_lines (x ∷ a) b last h = cc
+
+pairs_then : (job : Job) (lines : List Line) (end : State) → (lines ≡ [] → ⊥) → Reaches
+    (record { place = AtHandlers; job = job }) lines end → Reaches (record { place = AtPairs; job = job }) lines end
+pairs_then job [] end some h = absurd (some refl)
+pairs_then job (line ∷ lines) end some h = behind_pairs job line lines end h
+
+fresh_all : (hs : List HandlerText) → AreNew [] hs
+fresh_all hs k h e n = refl
+
+pub whole_reach : (job : Job) → IsJob job → Reaches start (job_lines job) (record { place = Over; job = job })
+whole_reach job is =
+    let first = of_head job job.settings.pairs in
+    let last = schedule_lines job.settings job.schedule ++ done_line ∷ [] in
+    let over : State = record { place = Over; job = job } in
+    let handlers = handlers_reach first [] job.handlers is.handlers (apart_fresh [] job.handlers is.apart
+    (fresh_all job.handlers)) is.few_handlers in
+    let tail = tail_reach (with_handlers first job.handlers) job.schedule refl is.schedule in
+    let later = reach_join (record { place = AtHandlers; job = first })
+    (record { place = AtHandlers; job = with_handlers first job.handlers }) over
+    (flat_map handler_lines job.handlers) last handlers tail in
+    let behind = pairs_then first (flat_map handler_lines job.handlers ++ last) over (some_lines
+    (flat_map handler_lines job.handlers) (schedule_lines job.settings job.schedule) done_line) later in
+    let head = reach_join start (record { place = AtPairs; job = of_head job [] })
+    (record { place = AtPairs; job = first }) (head_lines job) (map pair_line job.settings.pairs)
+    (head_reach job is) (pairs_reach job is [] job.settings.pairs refl) in
+    subst (λ (ls : List Line). Reaches start ls over) (sym (append_assoc (lines_with_pairs job)
+    (flat_map handler_lines job.handlers) last))
+    (reach_join start (record { place = AtPairs; job = first }) over (lines_with_pairs job)
+    (flat_map handler_lines job.handlers ++ last) head behind)
+
+-- the text of a job is read as that job
+pub job_read : (job : Job) → IsJob job → read start 1 (job_text job) ≡ Ok job
+job_read job is =
+    ap (read start 1) (sym (append-nil (job_text job))) ∙ reach_read (job_lines job) start
+    (record { place = Over; job = job }) 1 [] (whole_reach job is) ∙ over_good job (1 + length (job_lines job))

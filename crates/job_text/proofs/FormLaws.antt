@@ -1,0 +1,360 @@
+-- Reading by a table of forms is the inverse of writing.
+use Rattle.std.proofs.Common.{◌≡◌, ℕ, zero, suc, ◌≤◌, List, [], ◌∷◌, ◌++◌, length, Bool, true, false, cond, eqb}
+use Rattle.std.proofs.Common.{Option, Some, refl, ap, sym, subst, ◌∙◌, arith, append_assoc}
+use Rattle.std.specs.List.{AllByRecursion, flat_map}
+use Rattle.std.specs.Str.{bytes_eq}
+use Rattle.std.proofs.lemmas.Bool.{leb-true, le-leb, eqb-true, or_parts}
+use Rattle.job_text.specs.Lines.{Word, is_stop, front, back, spaced, ended}
+use Rattle.job_text.specs.Forms.{Part, Meaning, word_text, IsSaid, word_at, part_at, has_space, parts_at, many_at}
+use Rattle.job_text.specs.Forms.{Shape, End, ◌▸◌, Many, Inner, Values, made, values_at, values_text, AreSaid}
+use Rattle.job_text.specs.Forms.{Row, Entry, row_at, named_at, table_at, entry_text, IsEntry, IsOf, none_at}
+use Rattle.job_text.specs.Forms.{none_text, none_fits}
+use Rattle.job_text.proofs.Fronts.{cond_yes, cond_no}
+use Rattle.job_text.proofs.Takes.{Takes, takes_some, takes_none, takes_then, takes_if, takes_weaker}
+use Rattle.job_text.proofs.WordLaws.{IsRun, same_word, word_takes, word_again, word_run}
+
+-- ---- where words end
+
+-- a word ends here
+abbrev pub is_end : List ℕ → Bool
+is_end [] = true
+is_end (b ∷ bs) = is_stop b
+
+-- the front and the back are the whole
+pub whole_by : (t : Bool) (b : ℕ) (bs : List ℕ) → bs ≡ front bs ++ back bs → ◌≡◌ {A = List ℕ} (b ∷ bs)
+    (cond t [] (b ∷ front bs) ++ cond t (b ∷ bs) (back bs))
+whole_by true b bs e = refl
+whole_by false b bs e = ap (λ w. b ∷ w) e
+
+pub whole : (bs : List ℕ) → bs ≡ front bs ++ back bs
+whole [] = refl
+whole (b ∷ bs) = whole_by (is_stop b) b bs (whole bs)
+
+-- a word and what follows it
+pub front_seam : (w rest : List ℕ) → IsRun w → is_end rest ≡ true → front (w ++ rest) ≡ w
+front_seam [] [] h e = refl
+front_seam [] (b ∷ bs) h e = cond_yes _ _ _ e
+front_seam (b ∷ w) rest h e = cond_no _ _ _ h.0 ∙ ap (λ v. b ∷ v) (front_seam w rest h.1 e)
+
+pub back_seam : (w rest : List ℕ) → IsRun w → is_end rest ≡ true → back (w ++ rest) ≡ rest
+back_seam [] [] h e = refl
+back_seam [] (b ∷ bs) h e = cond_yes _ _ _ e
+back_seam (b ∷ w) rest h e = cond_no _ _ _ h.0 ∙ back_seam w rest h.1 e
+
+-- ---- a word
+
+-- the bytes are the word of what was read, and the bytes after it
+abbrev pub IsWordOf : (p : Part) → List ℕ → Meaning p × List ℕ → Type 0
+IsWordOf p bytes x = (bytes ≡ word_text p x.0 ++ x.1) × IsSaid p x.0
+
+pub word_at_takes : (p : Part) (bytes : List ℕ) → Takes (IsWordOf p bytes) (word_at p bytes)
+unfolding word_at
+word_at_takes p bytes =
+    takes_then (λ x. (front bytes ≡ word_text p x) × IsSaid p x) (word_takes p (front bytes)) (λ x h. takes_some
+    (whole bytes ∙ ap (λ (w : Word). w ++ back bytes) h.0, h.1))
+
+pub word_at_again : (p : Part) (x : Meaning p) (rest : List ℕ) → IsSaid p x → is_end rest ≡ true → word_at p
+    (word_text p x ++ rest) ≡ Some (x, rest)
+unfolding word_at
+word_at_again p x rest h e =
+    let run = word_run p x h in
+    rw (front_seam (word_text p x) rest run e, back_seam (word_text p x) rest run e, word_again p x h) refl
+
+-- a space, and the bytes after it
+pub spaced_takes : (bytes : List ℕ) → Takes (λ rest. bytes ≡ 32 ∷ rest) (spaced bytes)
+spaced_takes [] = takes_none
+spaced_takes (b ∷ bs) = takes_if (λ t. takes_some (ap (λ (c : ℕ). c ∷ bs) (eqb-true b 32 t))) (λ t. takes_none)
+
+-- the end of a line, and the bytes after it
+pub ended_takes : (bytes : List ℕ) → Takes (λ rest. bytes ≡ 10 ∷ rest) (ended bytes)
+ended_takes [] = takes_none
+ended_takes (b ∷ bs) = takes_if (λ t. takes_some (ap (λ (c : ℕ). c ∷ bs) (eqb-true b 10 t))) (λ t. takes_none)
+
+-- the same behind a space
+abbrev pub IsPartOf : (p : Part) → List ℕ → Meaning p × List ℕ → Type 0
+IsPartOf p bytes x = (bytes ≡ 32 ∷ (word_text p x.0 ++ x.1)) × IsSaid p x.0
+
+pub part_at_takes : (p : Part) (bytes : List ℕ) → Takes (IsPartOf p bytes) (part_at p bytes)
+unfolding part_at
+part_at_takes p bytes =
+    takes_then (λ rest. bytes ≡ 32 ∷ rest) (spaced_takes bytes) (λ rest e.
+    takes_weaker (IsWordOf p rest) (word_at_takes p rest) (λ x h. (e ∙ ap (λ (r : List ℕ). 32 ∷ r) h.0, h.1)))
+
+pub part_at_again : (p : Part) (x : Meaning p) (rest : List ℕ) → IsSaid p x → is_end rest ≡ true → part_at p
+    (32 ∷ (word_text p x ++ rest)) ≡ Some (x, rest)
+unfolding part_at
+part_at_again p x rest h e = word_at_again p x rest h e
+
+-- ---- lists of words
+
+-- the text of a list of words
+abbrev pub parts_text : (p : Part) → List (Meaning p) → List ℕ
+parts_text p xs = flat_map (λ x. 32 ∷ word_text p x) xs
+
+abbrev pub ArePartsOf : (p : Part) → (most : ℕ) → List ℕ → List (Meaning p) × List ℕ → Type 0
+ArePartsOf p most bytes xs = (bytes ≡ parts_text p xs.0 ++ xs.1) × (length xs.0 ≤ most) × AllByRecursion (IsSaid p) xs.0
+
+pub parts_at_takes : (p : Part) (most : ℕ) (bytes : List ℕ) → Takes (ArePartsOf p most bytes) (parts_at p most bytes)
+unfolding parts_at
+parts_at_takes p zero bytes = takes_some (refl, omega arith, tt)
+parts_at_takes p (suc most) bytes =
+    takes_if {b = has_space bytes}
+    (λ t. takes_then (IsPartOf p bytes) (part_at_takes p bytes) (λ x h.
+    takes_then (ArePartsOf p most x.1) (parts_at_takes p most x.1) (λ xs k.
+    takes_some (
+      h.0 ∙ ap (λ (r : List ℕ). 32 ∷ (word_text p x.0 ++ r)) k.0 ∙ ap (λ (r : List ℕ). 32 ∷ r)
+          (sym (append_assoc (word_text p x.0) (parts_text p xs.0) xs.1)),
+      (let le = k.1 in omega arith),
+      (h.1, k.2),
+    ))))
+    (λ t. takes_some (refl, omega arith, tt))
+
+-- a list of words ends where a word ends
+parts_end : (p : Part) (xs : List (Meaning p)) (rest : List ℕ) → is_end (parts_text p xs ++ 10 ∷ rest) ≡ true
+parts_end p [] rest = refl
+parts_end p (x ∷ xs) rest = refl
+
+pub parts_at_again : (p : Part) (most : ℕ) (xs : List (Meaning p)) (rest : List ℕ) → length xs ≤ most
+    → AllByRecursion (IsSaid p) xs → parts_at p most (parts_text p xs ++ 10 ∷ rest) ≡ Some (xs, 10 ∷ rest)
+unfolding parts_at
+parts_at_again p zero [] rest le h = refl
+parts_at_again p zero (x ∷ xs) rest le h = absurd (omega arith)
+parts_at_again p (suc most) [] rest le h = refl
+parts_at_again p (suc most) (x ∷ xs) rest le h =
+    rw (
+      append_assoc (word_text p x) (parts_text p xs) (10 ∷ rest),
+      part_at_again p x (parts_text p xs
+          ++ 10 ∷ rest) h.0 (parts_end p xs rest),
+      parts_at_again p most xs rest (omega arith) h.1,
+    ) refl
+
+-- ---- what follows a name
+
+-- no line ends within the bytes
+abbrev pub IsFlat : List ℕ → Type 0
+IsFlat bytes = AllByRecursion (λ b. eqb b 10 ≡ false) bytes
+
+-- where no word ends, no line does
+run_flat : (word : Word) → IsRun word → IsFlat word
+run_flat [] h = tt
+run_flat (b ∷ word) h = ((or_parts (eqb b 32) (eqb b 10) h.0).1, run_flat word h.1)
+
+-- what ends no line, joined
+pub flat_join : (a b : List ℕ) → IsFlat a → IsFlat b → IsFlat (a ++ b)
+flat_join [] b h k = k
+flat_join (x ∷ a) b h k = (h.0, flat_join a b h.1 k)
+
+-- a word ends no line
+pub word_flat : (p : Part) (x : Meaning p) → IsSaid p x → IsFlat (word_text p x)
+word_flat p x h = run_flat (word_text p x) (word_run p x h)
+
+-- nor does a list of words
+parts_flat : (p : Part) (xs : List (Meaning p)) → AllByRecursion (IsSaid p) xs → IsFlat (parts_text p xs)
+parts_flat p [] h = tt
+parts_flat p (x ∷ xs) h = (refl, flat_join (word_text p x) (parts_text p xs) (word_flat p x h.0) (parts_flat p xs h.1))
+
+-- what reads and writes the lines of another table
+pub record IsExact {X : Type 0} (at : List ℕ → Option (X × List ℕ)) (text : X → List ℕ) (fits : X
+    → Type 0) : Type 0 where
+  pub takes : (bytes : List ℕ) → Takes (λ x. (bytes ≡ text x.0 ++ x.1) × fits x.0) (at bytes)
+  pub again : (x : X) (rest : List ℕ) → fits x → at (text x ++ 10 ∷ rest) ≡ Some (x, 10 ∷ rest)
+  pub flat : (x : X) → fits x → IsFlat (text x)
+
+-- the bytes are the text of the values that were read, and the bytes after it
+abbrev pub AreValuesOf : {X : Type 0} → (X → List ℕ) → (X → Type 0) → (s : Shape) → List ℕ → Values X s × List ℕ
+    → Type 0
+AreValuesOf text fits s bytes v = (bytes ≡ values_text text s v.0 ++ v.1) × AreSaid fits s v.0
+
+pub values_takes : {X : Type 0} (at : List ℕ → Option (X × List ℕ)) (text : X → List ℕ) (fits : X → Type 0)
+    → IsExact at text fits → (s : Shape) (bytes : List ℕ) → Takes (AreValuesOf text fits s bytes)
+    (values_at at s bytes)
+unfolding many_at
+values_takes at text fits exact End bytes = takes_some (refl, tt)
+values_takes {X} at text fits exact (p ▸ s) bytes =
+    takes_then (IsPartOf p bytes) (part_at_takes p bytes) (λ x h.
+    takes_then (AreValuesOf text fits s x.1) (values_takes at text fits exact s x.1) (λ v k.
+    takes_some {P = AreValuesOf text fits (p ▸ s) bytes} (
+      h.0 ∙ ap (λ (r : List ℕ). 32 ∷ (word_text p x.0 ++ r)) k.0
+          ∙ ap (λ (r : List ℕ). 32 ∷ r) (sym (append_assoc (word_text p x.0) (values_text text s v.0) v.1)),
+      (
+        h.1,
+        k.1,
+      ),
+    )))
+values_takes at text fits exact (Many least most p) bytes =
+    takes_then (ArePartsOf p most bytes) (parts_at_takes p most bytes) (λ xs h.
+    takes_if (λ t. takes_some (h.0, (leb-true least (length xs.0) t, h.1, h.2))) (λ t. takes_none))
+values_takes {X} at text fits exact Inner bytes =
+    takes_then (λ rest. bytes ≡ 32 ∷ rest) (spaced_takes bytes) (λ rest e.
+    takes_weaker (λ (x : X × List ℕ). (rest ≡ text x.0 ++ x.1) × fits x.0) (exact.takes rest) (λ x h.
+    (e ∙ ap (λ (r : List ℕ). 32 ∷ r) h.0, h.1)))
+
+-- the values of a line end where a word ends
+values_end : {X : Type 0} (text : X → List ℕ) (s : Shape) (v : Values X s) (rest : List ℕ) → is_end
+    (values_text text s v ++ 10 ∷ rest) ≡ true
+values_end text End v rest = refl
+values_end text (p ▸ s) v rest = refl
+values_end text (Many least most p) v rest = parts_end p v rest
+values_end text Inner v rest = refl
+
+pub values_again : {X : Type 0} (at : List ℕ → Option (X × List ℕ)) (text : X → List ℕ) (fits : X → Type 0)
+    → IsExact at text fits → (s : Shape) (v : Values X s) (rest : List ℕ) → AreSaid fits s v → values_at at s
+    (values_text text s v ++ 10 ∷ rest) ≡ Some (v, 10 ∷ rest)
+unfolding many_at
+values_again at text fits exact End v rest h = refl
+values_again at text fits exact (p ▸ s) v rest h =
+    rw (
+      append_assoc (word_text p v.0) (values_text text s v.1) (10 ∷ rest),
+      part_at_again p v.0
+          (values_text text s v.1 ++ 10 ∷ rest) h.0 (values_end text s v.1 rest),
+      values_again at text fits exact s v.1 rest h.1,
+    ) refl
+values_again at text fits exact (Many least most p) v rest h =
+    rw (parts_at_again p most v rest h.1 h.2, le-leb least (length v) h.0) refl
+values_again at text fits exact Inner v rest h = exact.again v rest h
+
+-- the values of a line end no line
+values_flat : {X : Type 0} (at : List ℕ → Option (X × List ℕ)) (text : X → List ℕ) (fits : X → Type 0)
+    → IsExact at text fits → (s : Shape) (v : Values X s) → AreSaid fits s v → IsFlat (values_text text s v)
+values_flat at text fits exact End v h = tt
+values_flat at text fits exact (p ▸ s) v h = (
+  refl,
+  flat_join (word_text p v.0) (values_text text s v.1) (word_flat p v.0 h.0)
+      (values_flat at text fits exact s v.1 h.1),
+)
+values_flat at text fits exact (Many least most p) v h = parts_flat p v h.2
+values_flat at text fits exact Inner v h = (refl, exact.flat v h)
+
+-- ---- tables
+
+-- each row makes a value whose entry it is
+abbrev pub AreMade : {X A : Type 0} → (A → Entry X A) → List (Row X A) → Type 0
+AreMade {X} {A} entry rows = AllByRecursion (λ (row : Row X A). (v : Values X row.shape) → entry
+    (made X row.shape row.make v) ≡ record { row = row; values = v }) rows
+
+-- whether a row of this name is among the rows
+abbrev pub has_row : {X A : Type 0} → Word → List (Row X A) → Bool
+has_row name [] = false
+has_row name (row ∷ rows) = cond (bytes_eq name row.name) true (has_row name rows)
+
+-- the row is the first of its name
+abbrev pub IsRowOf : {X A : Type 0} → Row X A → List (Row X A) → Type 0
+IsRowOf row [] = ⊥
+IsRowOf row (r ∷ rows) = cond (bytes_eq row.name r.name) (row ≡ r) (IsRowOf row rows)
+
+-- the bytes are the text of what a table made, and the bytes after it
+abbrev pub IsMadeOf : {X A : Type 0} → (X → List ℕ) → (X → Type 0) → (A → Entry X A) → List ℕ → A × List ℕ → Type 0
+IsMadeOf text fits entry bytes x = (bytes ≡ entry_text text (entry x.0) ++ x.1) × IsEntry fits (entry x.0)
+
+-- what a row made
+row_takes : {X A : Type 0} (at : List ℕ → Option (X × List ℕ)) (text : X → List ℕ) (fits : X → Type 0) (entry : A
+    → Entry X A) → IsExact at text fits → (row : Row X A) → ((v : Values X row.shape) → entry
+    (made X row.shape row.make v) ≡ record { row = row; values = v }) → (name bytes : List ℕ) → name ≡ row.name
+    → Takes (IsMadeOf text fits entry (name ++ bytes)) (row_at at row bytes)
+row_takes {X} {A} at text fits entry exact row is name bytes same =
+    takes_then (AreValuesOf text fits row.shape bytes) (values_takes at text fits exact row.shape bytes) (λ v h.
+    takes_some {P = IsMadeOf text fits entry (name ++ bytes)} (subst
+    (λ (e : Entry X A). (name ++ bytes ≡ entry_text text e ++ v.1) × IsEntry fits e) (sym (is v.0)) (
+      ap (λ (n : Word). n ++ bytes) same ∙ ap (λ (r : List ℕ). row.name ++ r) h.0 ∙ sym
+          (append_assoc row.name (values_text text row.shape v.0) v.1),
+      h.1,
+    )))
+
+-- what one of the rows made
+named_takes : {X A : Type 0} (at : List ℕ → Option (X × List ℕ)) (text : X → List ℕ) (fits : X → Type 0) (entry : A
+    → Entry X A) → IsExact at text fits → (rows : List (Row X A)) → AreMade entry rows → (name bytes : List ℕ)
+    → Takes (IsMadeOf text fits entry (name ++ bytes)) (named_at at rows name bytes)
+named_takes at text fits entry exact [] are name bytes = takes_none
+named_takes at text fits entry exact (row ∷ rows) are name bytes =
+    takes_if {b = bytes_eq name row.name} (λ b. row_takes at text fits entry exact row are.0 name bytes
+    (same_word name row.name b))
+    (λ b. named_takes at text fits entry exact rows are.1 name bytes)
+
+-- the same, by the test of the first row
+named_by : {X A : Type 0} (at : List ℕ → Option (X × List ℕ)) (row r : Row X A) (rows : List (Row X A))
+    (bytes : List ℕ) (t : Bool) → cond t (row ≡ r) (IsRowOf row rows) → (IsRowOf row rows
+    → named_at at rows row.name bytes ≡ row_at at row bytes) → cond t (row_at at r bytes)
+    (named_at at rows row.name bytes) ≡ row_at at row bytes
+named_by at row r rows bytes true h more = ap (λ q. row_at at q bytes) (sym h)
+named_by at row r rows bytes false h more = more h
+
+-- the row at a name is what is made there
+named_is : {X A : Type 0} (at : List ℕ → Option (X × List ℕ)) (row : Row X A) (rows : List (Row X A))
+    (bytes : List ℕ) → IsRowOf row rows → named_at at rows row.name bytes ≡ row_at at row bytes
+named_is at row [] bytes h = absurd h
+named_is at row (r ∷ rows) bytes h = named_by at row r rows bytes (bytes_eq row.name r.name) h
+    (named_is at row rows bytes)
+
+-- whether no word ends within the bytes
+abbrev pub is_run : Word → Bool
+is_run [] = true
+is_run (b ∷ word) = cond (is_stop b) false (is_run word)
+
+-- the same as a fact
+run_by : (t : Bool) (b : ℕ) (word : Word) → is_stop b ≡ t → cond t false (is_run word) ≡ true → (is_run word ≡ true
+    → IsRun word) → IsRun (b ∷ word)
+run_by true b word e h more = absurd (cc)
+run_by false b word e h more = (e, more h)
+
+pub run_from : (word : Word) → is_run word ≡ true → IsRun word
+run_from [] h = tt
+run_from (b ∷ word) h = run_by (is_stop b) b word refl h (run_from word)
+
+-- an entry makes its value, and its row is the first of its name
+pub record IsEntryOf {X A : Type 0} (rows : List (Row X A)) (entry : A → Entry X A) (a : A) : Type 0 where
+  pub makes : made X (entry a).row.shape (entry a).row.make (entry a).values ≡ a
+  pub first : IsRowOf (entry a).row rows
+  pub runs : is_run (entry a).row.name ≡ true
+
+-- the same by its parts
+pub entry_of : {X A : Type 0} {rows : List (Row X A)} {entry : A → Entry X A} {a : A} → made X (entry a).row.shape
+    (entry a).row.make (entry a).values ≡ a → IsRowOf (entry a).row rows → is_run (entry a).row.name ≡ true
+    → IsEntryOf rows entry a
+entry_of m f r = record { makes = m; first = f; runs = r }
+
+-- a table whose rows make what the entries say, and have an entry for all that passes the test
+pub record IsTable {X A : Type 0} (rows : List (Row X A)) (entry : A → Entry X A) (test : A → Bool) : Type 0 where
+  pub makes : AreMade entry rows
+  pub again : (a : A) → test a ≡ true → IsEntryOf rows entry a
+
+-- what a table makes, by the first word and the bytes after it
+table_by : {X A : Type 0} (at : List ℕ → Option (X × List ℕ)) (rows : List (Row X A)) (test : A → Bool)
+    (row : Row X A) (tail : List ℕ) (a : A) (rest : List ℕ) → front (row.name ++ tail) ≡ row.name → back (row.name
+    ++ tail) ≡ tail → named_at at rows row.name tail ≡ Some (a, rest) → test a ≡ true → table_at at rows test
+    (row.name ++ tail) ≡ Some (a, rest)
+table_by at rows test row tail a rest f b n t = rw (f, b, n) (cond_yes _ _ _ t)
+
+-- reading by a table is the inverse of writing
+pub table_exact : {X A : Type 0} (at : List ℕ → Option (X × List ℕ)) (text : X → List ℕ) (fits : X → Type 0)
+    (rows : List (Row X A)) (entry : A → Entry X A) (test : A → Bool) → IsExact at text fits
+    → IsTable rows entry test → IsExact (table_at at rows test) (λ a. entry_text text (entry a))
+    (IsOf fits entry test)
+table_exact {X} {A} at text fits rows entry test exact table = record {
+  takes = λ bytes. takes_then (IsMadeOf text fits entry bytes)
+      (takes_weaker (IsMadeOf text fits entry (front bytes ++ back bytes))
+      (named_takes at text fits entry exact rows table.makes (front bytes) (back bytes)) (λ x h.
+      (whole bytes ∙ h.0, h.1)))
+      (λ x h. takes_if {b = test x.0} (λ t. takes_some (h.0, (h.1, t))) (λ t. takes_none));
+  again = λ a rest h.
+      let e = entry a in
+      let one = table.again a h.1 in
+      let run = run_from e.row.name one.runs in
+      let tail = values_text text e.row.shape e.values ++ 10 ∷ rest in
+      let ends : is_end tail ≡ true = values_end text e.row.shape e.values rest in
+      ap (table_at at rows test) (append_assoc e.row.name (values_text text e.row.shape e.values) (10 ∷ rest))
+      ∙ table_by at rows test e.row tail a (10 ∷ rest) (front_seam e.row.name tail run ends)
+      (back_seam e.row.name tail run ends)
+      (named_is at e.row rows tail one.first ∙ rw (
+        values_again at text fits exact e.row.shape e.values rest h.0,
+        one.makes,
+      ) refl) h.1;
+  flat = λ a h.
+      let e = entry a in
+      flat_join e.row.name (values_text text e.row.shape e.values) (run_flat e.row.name
+      (run_from e.row.name (table.again a h.1).runs))
+      (values_flat at text fits exact e.row.shape e.values h.0);
+}
+
+-- no line of a table in it
+pub none_exact : IsExact none_at none_text none_fits
+none_exact = record { takes = λ bytes. takes_none; again = λ x rest h. absurd h; flat = λ x h. absurd h }

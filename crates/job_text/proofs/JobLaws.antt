@@ -1,0 +1,299 @@
+-- What was read so far is in range.
+use Rattle.std.proofs.Common.{◌≡◌, ℕ, zero, suc, ◌*◌, ◌-◌, ◌%◌, ◌<◌, ◌≤◌, ◌^◌, ◌&&◌, Bool, true, false, eqb, leb}
+use Rattle.std.proofs.Common.{cond, List, [], ◌∷◌, ◌++◌, length, take, Option, Some, None, refl, ap, ◌∙◌, arith}
+use Rattle.std.proofs.Common.{length-append}
+use Rattle.std.specs.List.{AllByRecursion}
+use Rattle.std.proofs.lemmas.Bool.{leb-true, le-leb, leb-false}
+use Rattle.std.proofs.lemmas.List.{take-append-le}
+use Rattle.datagram_grammar.specs.Parameters.{Parameters, AreInRange, credits_in_all, with_pair}
+use Rattle.datagram_grammar.specs.declared.pairs.PairCredits.{PairCredits}
+use Rattle.datagram_grammar.proofs.Credits.{even_sum}
+use Rattle.job_text.specs.Events.{IsTimed}
+use Rattle.job_text.specs.Places.{Setting, Version, Nodes, Credits, Threads, Segment, Last, Resend, Patience}
+use Rattle.job_text.specs.Places as places
+use Rattle.job_text.specs.Places.{Place, AtSetting, AtSieve, AtPairs, AtHandlers, AtBody, AtSchedule, AtDone, Over}
+use Rattle.job_text.specs.Places.{Item, IsItem, OfPair, OfSection, PairOrSection, setting_fits, pair_fits}
+use Rattle.job_text.specs.JobReading.{with_number, with_own, with_handler, with_line, lines_of, total_rounds}
+use Rattle.job_text.specs.JobReading.{has_index, has_pair, line_why, is_full}
+use Rattle.job_text.specs.JobText.{IsHandler, IsSchedule, IsScheduleOrNone, IsSieve, with_first_pairs, IsJob}
+use Rattle.job_text.specs.declared.fault.JobWhy.{JobWhy}
+use Rattle.job_text.specs.declared.job.HandlerText.{HandlerText}
+use Rattle.job_text.specs.declared.job.Job.{Job}
+use Rattle.job_text.specs.declared.job.TimedEvent.{TimedEvent}
+use Rattle.job_text.proofs.Freshness.{AreFresh, fresh_apart, fresh_more, fresh_from}
+use Rattle.job_text.proofs.HandlerRuns.{few_full, rounds_more}
+use Rattle.job_text.proofs.Ranges.{IsNumber, AreNumbers, settings_range, fitting, is_pair, pair_range}
+
+-- ---- the head
+
+-- the settings behind one are as small as can be, where it bears on them
+abbrev pub AreLeast : Setting → Parameters → Type 0
+AreLeast Version settings = (settings.nodes ≡ 1) × (settings.credits ≡ 1) × (settings.segment ≡ 4096)
+AreLeast places.Job settings = (settings.nodes ≡ 1) × (settings.credits ≡ 1) × (settings.segment ≡ 4096)
+AreLeast Nodes settings = (settings.nodes ≡ 1) × (settings.credits ≡ 1) × (settings.segment ≡ 4096)
+AreLeast setting settings = Unit {0}
+
+-- few credits
+few_credits : (nodes credits : ℕ) → 1 ≤ nodes → nodes ≤ 256 → credits ≡ 1 → leb (nodes * (nodes - 1) * credits) 65536
+    ≡ true
+few_credits nodes credits low high one = le-leb (nodes * (nodes - 1) * credits) 65536 (few_of nodes low high one)
+  where
+    few_of : (n : ℕ) → 1 ≤ n → n ≤ 256 → credits ≡ 1 → n * (n - 1) * credits ≤ 65536
+    few_of n l h e = grind arith
+
+few_bytes : (nodes segment : ℕ) → nodes ≤ 256 → segment ≡ 4096 → (eqb (segment % 4096) 0
+    && leb (nodes * segment) 268435456) ≡ true
+few_bytes nodes segment high e = rw e (le-leb (nodes * 4096) 268435456 (omega arith))
+
+-- the numbers with one more
+pub numbers_more : (setting : Setting) (number : ℕ) (job : Job) → AreNumbers job → AreLeast setting job.settings
+    → IsNumber setting job.settings number → AreNumbers (with_number setting number job)
+numbers_more Version number job all least is Version = record { low = is.low; high = is.high; fits = refl }
+numbers_more Version number job all least is Nodes = record {
+  low = (all Nodes).low;
+  high = (all Nodes).high;
+  fits = rw least.0 refl;
+}
+numbers_more Version number job all least is x = record { low = (all x).low; high = (all x).high; fits = (all x).fits }
+numbers_more places.Job number job all least is places.Job = record { low = is.low; high = is.high; fits = refl }
+numbers_more places.Job number job all least is x = record {
+  low = (all x).low;
+  high = (all x).high;
+  fits =
+      (all x).fits;
+}
+numbers_more Nodes number job all least is Nodes = record { low = is.low; high = is.high; fits = is.fits }
+numbers_more Nodes number job all least is Credits = record {
+  low = (all Credits).low;
+  high = (all Credits).high;
+  fits = few_credits number job.settings.credits is.low is.high least.1;
+}
+numbers_more Nodes number job all least is Segment = record {
+  low = (all Segment).low;
+  high = (all Segment).high;
+  fits = few_bytes number job.settings.segment is.high least.2;
+}
+numbers_more Nodes number job all least is x = record { low = (all x).low; high = (all x).high; fits = (all x).fits }
+numbers_more Credits number job all least is Credits = record { low = is.low; high = is.high; fits = is.fits }
+numbers_more Credits number job all least is x = record { low = (all x).low; high = (all x).high; fits = (all x).fits }
+numbers_more Threads number job all least is Threads = record { low = is.low; high = is.high; fits = refl }
+numbers_more Threads number job all least is x = record { low = (all x).low; high = (all x).high; fits = (all x).fits }
+numbers_more Segment number job all least is Segment = record { low = is.low; high = is.high; fits = is.fits }
+numbers_more Segment number job all least is x = record { low = (all x).low; high = (all x).high; fits = (all x).fits }
+numbers_more Last number job all least is Last = record { low = is.low; high = is.high; fits = refl }
+numbers_more Last number job all least is x = record { low = (all x).low; high = (all x).high; fits = (all x).fits }
+numbers_more Resend number job all least is Resend = record { low = is.low; high = is.high; fits = refl }
+numbers_more Resend number job all least is x = record { low = (all x).low; high = (all x).high; fits = (all x).fits }
+numbers_more Patience number job all least is Patience = record { low = is.low; high = is.high; fits = refl }
+numbers_more Patience number job all least is x = record { low = (all x).low; high = (all x).high; fits = (all x).fits }
+
+-- a head so far
+pub record IsHead (job : Job) : Type 0 where
+  pub numbers : AreNumbers job
+  pub sieve : IsSieve job.sieve
+  pub pairs : job.settings.pairs ≡ []
+  pub handlers : job.handlers ≡ []
+  pub schedule : job.schedule ≡ None
+
+-- no pair, none of the first ones
+no_first : (count : ℕ) (pairs : List PairCredits) → pairs ≡ [] → take count pairs ≡ []
+no_first count pairs e = ap (take count) e ∙ take_nil count
+  where
+    take_nil : (n : ℕ) → take {A = PairCredits} n [] ≡ []
+    take_nil zero = refl
+    take_nil (suc n) = refl
+
+-- no handler
+no_handler : (hs : List HandlerText) → hs ≡ [] → (length hs ≤ 128) × AllByRecursion IsHandler hs × AreFresh [] hs
+no_handler [] e = (omega arith, tt, tt)
+no_handler (h ∷ hs) e = absurd (cc)
+
+none_is : (settings : Parameters) (schedule : Option (List TimedEvent)) → schedule ≡ None
+    → IsScheduleOrNone settings schedule
+none_is settings None e = tt
+none_is settings (Some lines) e = absurd (cc)
+
+-- a job so far, whose handlers have each a fresh index
+pub record IsSound (job : Job) : Type 0 where
+  pub settings : AreInRange job.settings
+  pub job_fits : job.settings.job < 2 ^ 64
+  pub last_fits : job.settings.last < 2 ^ 64
+  pub sums : (count : ℕ) → credits_in_all (with_first_pairs count job.settings) ≤ 65536
+  pub some_patience : 1 ≤ job.patience
+  pub patience : job.patience ≤ 1000000
+  pub sieve : IsSieve job.sieve
+  pub few_handlers : length job.handlers ≤ 128
+  pub handlers : AllByRecursion IsHandler job.handlers
+  pub fresh : AreFresh [] job.handlers
+  pub schedule : IsScheduleOrNone job.settings job.schedule
+
+-- it is a job
+pub sound_job : (job : Job) → IsSound job → IsJob job
+sound_job job is = record {
+  settings = is.settings;
+  job_fits = is.job_fits;
+  last_fits = is.last_fits;
+  sums = is.sums;
+  some_patience = is.some_patience;
+  patience = is.patience;
+  sieve = is.sieve;
+  few_handlers = is.few_handlers;
+  handlers = is.handlers;
+  apart = fresh_apart [] job.handlers is.fresh;
+  schedule = is.schedule;
+}
+
+-- a head is a job
+pub head_sound : (job : Job) → IsHead job → IsSound job
+head_sound job is =
+    let all = is.numbers in
+    let none = no_handler job.handlers is.handlers in
+    record {
+      settings = settings_range job is.pairs all;
+      job_fits = (let high = (all places.Job).high in omega arith);
+      last_fits = (let high = (all Last).high in omega arith);
+      sums = λ count. rw (even_sum (with_first_pairs count job.settings)
+          (no_first count job.settings.pairs is.pairs)) (leb-true (job.settings.nodes *
+          (job.settings.nodes - 1) * job.settings.credits) 65536 (all Credits).fits);
+      some_patience = (all Patience).low;
+      patience = (all Patience).high;
+      sieve = is.sieve;
+      few_handlers = none.0;
+      handlers = none.1;
+      fresh = none.2;
+      schedule = none_is job.settings job.schedule is.schedule;
+    }
+
+-- ---- pairs
+
+-- the first so many of some and one more
+sums_by : (settings : Parameters) (pair : PairCredits) (count : ℕ) (t : Bool) → leb count (length settings.pairs) ≡ t
+    → ((k : ℕ) → credits_in_all (with_first_pairs k settings) ≤ 65536) → credits_in_all
+    (with_pair settings pair) ≤ 65536
+    → credits_in_all (with_first_pairs count (with_pair settings pair)) ≤ 65536
+sums_by settings pair count true e old new =
+    rw (take-append-le count settings.pairs (pair ∷ []) (leb-true count (length settings.pairs) e)) (old count)
+sums_by settings pair count false e old new =
+    let gt = leb-false count (length settings.pairs) e in
+    rw (take_all count (settings.pairs ++ pair ∷ []) (simp length-append (omega arith))) new
+  where
+    take_all : (n : ℕ) (xs : List PairCredits) → length xs ≤ n → take n xs ≡ xs
+    take_all zero [] le = refl
+    take_all zero (x ∷ xs) le = absurd (omega arith)
+    take_all (suc n) [] le = refl
+    take_all (suc n) (x ∷ xs) le = ap (λ (ys : List PairCredits). x ∷ ys) (take_all n xs (omega arith))
+
+-- no reason against a pair
+pub pair_free_by : (t u : Bool) (a b : JobWhy) → cond t (Some a) (cond u (Some b) None) ≡ None → (t ≡ false) × (u
+    ≡ false)
+pair_free_by true u a b h = absurd (cc)
+pair_free_by false true a b h = absurd (cc)
+pair_free_by false false a b h = (refl, refl)
+
+-- one more pair
+pub pair_sound : (job : Job) (pair : PairCredits) → IsSound job → pair_fits job.settings pair ≡ true
+    → 1 ≤ pair.credits → pair.credits ≤ 32 → has_pair job.settings.pairs pair ≡ false
+    → length job.settings.pairs < 64 → job.schedule ≡ None → IsSound (with_own pair job)
+pair_sound job pair is fits low high new few none =
+    let s = job.settings in
+    let fit = fitting s pair fits in
+    let one = is_pair s pair fit low high in
+    let range = pair_range s pair is.settings fit one new few in
+    record {
+      settings = range;
+      job_fits = is.job_fits;
+      last_fits = is.last_fits;
+      sums = λ count. sums_by s pair count (leb count (length s.pairs)) refl is.sums range.credits_in_all;
+      some_patience = is.some_patience;
+      patience = is.patience;
+      sieve = is.sieve;
+      few_handlers = is.few_handlers;
+      handlers = is.handlers;
+      fresh = is.fresh;
+      schedule = none_is (with_pair s pair) job.schedule none;
+    }
+
+-- ---- handlers
+
+-- all of some and one more
+pub all_more : {A : Type 0} (P : A → Type 0) (xs : List A) (x : A) → AllByRecursion P xs → P x → AllByRecursion P (xs
+    ++ x ∷ [])
+all_more P [] x h p = (p, tt)
+all_more P (y ∷ ys) x h p = (h.0, all_more P ys x h.1 p)
+
+pub handler_sound : (job : Job) (handler : HandlerText) → IsSound job → IsHandler handler
+    → has_index job.handlers handler.index ≡ false → length job.handlers < 128 → IsSound (with_handler handler job)
+handler_sound job handler is one new few = record {
+  settings = is.settings;
+  job_fits = is.job_fits;
+  last_fits = is.last_fits;
+  sums = is.sums;
+  some_patience = is.some_patience;
+  patience = is.patience;
+  sieve = is.sieve;
+  few_handlers = simp length-append (omega arith);
+  handlers = all_more IsHandler job.handlers handler is.handlers one;
+  fresh = fresh_more [] job.handlers handler is.fresh (fresh_from job.handlers handler.index new);
+  schedule = is.schedule;
+}
+
+-- ---- the schedule
+
+-- a schedule of no line
+pub empty_sound : (job : Job) → IsSound job → IsSound (record job { schedule = Some [] })
+empty_sound job is = record {
+  settings = is.settings;
+  job_fits = is.job_fits;
+  last_fits = is.last_fits;
+  sums = is.sums;
+  some_patience = is.some_patience;
+  patience = is.patience;
+  sieve = is.sieve;
+  few_handlers = is.few_handlers;
+  handlers = is.handlers;
+  fresh = is.fresh;
+  schedule = record { count = omega arith; rounds = omega arith; rounds_of_nodes = omega arith; events_are = tt };
+}
+
+-- one more line
+schedule_more : (settings : Parameters) (lines : List TimedEvent) (t : TimedEvent) → IsSchedule settings lines
+    → IsTimed settings.nodes settings.threads t → is_full settings.nodes (length lines) (total_rounds lines) t.event
+    ≡ false → IsSchedule settings (lines ++ t ∷ [])
+schedule_more settings lines t is one room =
+    let few = few_full settings.nodes (length lines) (total_rounds lines) t room in
+    let more = rounds_more lines t in
+    record {
+      count = simp length-append (omega (arith, few.0));
+      rounds = rw more few.1;
+      rounds_of_nodes = rw more few.2;
+      events_are = all_more (IsTimed settings.nodes settings.threads) lines t is.events_are one;
+    }
+
+some_is : (settings : Parameters) (schedule : Option (List TimedEvent)) → (lines : List TimedEvent) × (schedule
+    ≡ Some lines) → IsScheduleOrNone settings schedule → IsSchedule settings (lines_of schedule)
+some_is settings None some is = absurd (cc)
+some_is settings (Some lines) some is = is
+
+full_by : (b : Bool) (w : JobWhy) → cond b (Some w) None ≡ None → b ≡ false
+full_by true w h = absurd (cc)
+full_by false w h = refl
+
+pub line_sound : (job : Job) (t : TimedEvent) → IsSound job → (lines : List TimedEvent) × (job.schedule ≡ Some lines)
+    → IsTimed job.settings.nodes job.settings.threads t → line_why job.settings.nodes (lines_of job.schedule) t
+    ≡ None → IsSound (with_line t job)
+line_sound job t is some one free = record {
+  settings = is.settings;
+  job_fits = is.job_fits;
+  last_fits = is.last_fits;
+  sums = is.sums;
+  some_patience = is.some_patience;
+  patience = is.patience;
+  sieve = is.sieve;
+  few_handlers = is.few_handlers;
+  handlers = is.handlers;
+  fresh = is.fresh;
+  schedule = schedule_more job.settings (lines_of job.schedule) t
+      (some_is job.settings job.schedule some is.schedule) one (full_by
+      (is_full job.settings.nodes (length (lines_of job.schedule)) (total_rounds
+      (lines_of job.schedule)) t.event) _ free);
+}

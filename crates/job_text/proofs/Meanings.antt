@@ -1,0 +1,460 @@
+-- What a refusal means.
+use Rattle.std.proofs.Common.{◌≡◌, inl, inr, ℕ, zero, suc, ◌+◌, ◌-◌, ◌⊎◌, List, [], ◌∷◌, ◌++◌, length, Option, Some}
+use Rattle.std.proofs.Common.{None, Result, Ok, Err, Bool, eqb, cond, not, ◌&&◌, ltb, leb, false, true, refl, sym, ap}
+use Rattle.std.proofs.Common.{subst, ◌∙◌, arith, append_assoc}
+use Rattle.std.proofs.lemmas.Bool.{eqb-true, eqb-false, leb-true, ltb-true, le-ltb, ne_eqb, and_parts}
+use Rattle.std.specs.Prelude.{IfOk, IfErr}
+use Rattle.job_text.specs.Reasons.{is_text, is_plain, goes_on_as_text, reason}
+use Rattle.job_text.specs.Places.{Place, AtSetting, AtSieve, AtPairs, AtHandlers, AtBody, AtSchedule, AtDone, Over}
+use Rattle.job_text.specs.Places.{Item, item_text, item_form, OfPair, OfSection}
+use Rattle.job_text.specs.JobReading.{State, BadLine, start, limit, line_at, why_at, next, onward, stepped, step}
+use Rattle.job_text.specs.JobReading.{over_or, unless, opened, has_index, has_pair, handler_why, pair_why, action_why}
+use Rattle.job_text.specs.JobReading.{line_why, is_full, total_rounds, lines_of, read, job_of}
+use Rattle.job_text.specs.JobText.{spell, job_text, IsJob, JobText}
+use Rattle.job_text.specs.Reading.{GivesAt}
+use Rattle.job_text.specs.Refusals.{first_lines, after_lines, IsNoFront, EndsEarly, HasNoText, IsWrong, Means}
+use Rattle.job_text.specs.Refusals.{Says, IsTaken, IsFull, IsAtFault}
+use Rattle.job_text.specs.Places.{PairOrSection}
+use Rattle.job_text.specs.JobReading.{paired}
+use Rattle.job_text.specs.Refusals.{IsMeant, IsNoMemory}
+use Rattle.job_text.specs.declared.fault.JobFault.{JobFault}
+use Rattle.job_text.specs.declared.fault.JobFault.TheVariants as faults
+use Rattle.job_text.specs.declared.fault.JobWhy.{JobWhy}
+use Rattle.job_text.specs.declared.fault.JobWhy.TheVariants.{Size, Early, Text, Form, Value as BadValue, Entry, Count}
+use Rattle.job_text.specs.declared.fault.JobWhy.TheVariants.{After}
+use Rattle.job_text.specs.declared.job.Job.{Job}
+use Rattle.job_text.specs.declared.sections.Section.{Section}
+use Rattle.job_text.specs.declared.sections.Section.TheVariants as section
+use Rattle.job_text.proofs.Fronts.{cond_yes, cond_no}
+use Rattle.job_text.proofs.FormLaws.{IsFlat}
+use Rattle.job_text.proofs.PlaceLaws.{place_exact}
+use Rattle.job_text.proofs.LineRuns.{line_takes, line_again, read_on, whole_bad}
+use Rattle.job_text.proofs.States.{IsState}
+use Rattle.job_text.proofs.Walks.{step_of, step_keeps, Walks, EndsAs, Ends, Fails, read_outcome}
+use Rattle.job_text.proofs.Refusing.{first_flat, first_none, first_spelled, after_spelled, IsWalk, walk_of, front_of}
+use Rattle.job_text.proofs.Completeness.{job_read}
+
+-- ---- a walk is read
+
+walk_read : (count : ℕ) (state : State) (line : ℕ) (bytes : List ℕ) (end : State) (rest : List ℕ)
+    → Walks count state bytes end rest → read state line bytes ≡ read end (line + count) rest
+walk_read zero state line bytes end rest w = ap (λ (s : State). read s line bytes) w.0 ∙ ap (read end line) w.1 ∙ ap
+    (λ (n : ℕ). read end n rest) (omega arith)
+walk_read (suc count) state line bytes end rest w =
+    let one = step_of state bytes (w.to, w.rest) w.is in
+    read_on state.place state.job line bytes w.rest one.item w.to one.found one.goes ∙ walk_read count w.to
+    (line + 1) w.rest end rest w.behind ∙ ap (λ (n : ℕ). read end n rest) (omega arith)
+
+-- ---- a line that isn't read, by the reason
+
+-- a line that is one, whatever its reason
+pub record IsWhole (rest : List ℕ) : Type 0 where
+  pub line : List ℕ
+  pub more : List ℕ
+  pub flat : IsFlat line
+  pub text : rest ≡ line ++ 10 ∷ more
+
+pub data Kind (place : Place) (job : Job) (rest : List ℕ) (why : JobWhy) : Type 0 where
+  IsAfter : place ≡ Over → why ≡ After → Kind place job rest why
+  IsText : is_text rest ≡ false → why ≡ Text → Kind place job rest why
+  IsLine : IsWhole rest → (why ≡ Form) ⊎ ((why ≡ BadValue) ⊎ ((why ≡ Entry) ⊎ (why ≡ Count)))
+      → IsAtFault why place job rest → Kind place job rest why
+
+-- words and an ending byte
+text_by : (b : ℕ) (bytes : List ℕ) (ten space : Bool) (begins : Bool) → eqb b 10 ≡ ten → eqb b 32 ≡ space → cond ten
+    (not begins) (cond space (not begins && goes_on_as_text true bytes) (is_plain b && goes_on_as_text false bytes))
+    ≡ true
+    → ((begins : Bool) → goes_on_as_text begins bytes ≡ true → IsWhole bytes) → IsWhole (b ∷ bytes)
+text_by b bytes true space begins e f h more = record {
+  line = [];
+  more = bytes;
+  flat = tt;
+  text = ap
+      (λ (c : ℕ). c ∷ bytes) (eqb-true b 10 e);
+}
+text_by b bytes false true begins e f h more =
+    let w = more true (and_parts (not begins) (goes_on_as_text true bytes) h).1 in
+    record { line = b ∷ w.line; more = w.more; flat = (e, w.flat); text = ap (λ (r : List ℕ). b ∷ r) w.text }
+text_by b bytes false false begins e f h more =
+    let w = more false (and_parts (is_plain b) (goes_on_as_text false bytes) h).1 in
+    record { line = b ∷ w.line; more = w.more; flat = (e, w.flat); text = ap (λ (r : List ℕ). b ∷ r) w.text }
+
+whole_text : (begins : Bool) (bytes : List ℕ) → goes_on_as_text begins bytes ≡ true → IsWhole bytes
+whole_text begins [] h = absurd (cc)
+whole_text begins (b ∷ bytes) h = text_by b bytes (eqb b 10) (eqb b 32) begins refl refl h (λ t k. whole_text t bytes k)
+
+text_whole : (bytes : List ℕ) → is_text bytes ≡ true → IsWhole bytes
+unfolding is_text
+text_whole bytes h = whole_text true bytes h
+
+-- a line that isn't read says nothing
+none_some : {A : Type 0} {o : Option A} {x : A} → o ≡ None → o ≡ Some x → ⊥
+none_some h k = cc
+
+says_none : (place : Place) (job : Job) (rest : List ℕ) → line_at place job.settings rest ≡ None → (item : Item place)
+    → Says place job.settings rest item → ⊥
+says_none place job rest none item says =
+    none_some none (ap (line_at place job.settings) says.1.1 ∙ line_again place job.settings item says.1.0 says.0)
+
+-- the reason of a line that isn't empty
+reason_by : (place : Place) (job : Job) (form text : Bool) (b : ℕ) (rest : List ℕ) (why : JobWhy)
+    → item_form place job.settings (b ∷ rest) ≡ form → is_text (b ∷ rest) ≡ text
+    → line_at place job.settings (b ∷ rest) ≡ None → cond text (cond form BadValue Form) Text ≡ why → Kind place job
+    (b ∷ rest) why
+reason_by place job true true b rest why f e none h =
+    IsLine (text_whole (b ∷ rest) e) (inr (inl (sym h)))
+    (subst (λ (w : JobWhy). IsAtFault w place job (b ∷ rest)) h (f, says_none place job (b ∷ rest) none))
+reason_by place job false true b rest why f e none h =
+    IsLine (text_whole (b ∷ rest) e) (inl (sym h)) (subst (λ (w : JobWhy). IsAtFault w place job (b ∷ rest)) h f)
+reason_by place job form false b rest why f e none h = IsText e (sym h)
+
+reason_kind : (place : Place) (job : Job) (rest : List ℕ) (why : JobWhy) → (rest ≡ [] → ⊥)
+    → line_at place job.settings rest ≡ None → reason (item_form place job.settings) rest ≡ why
+    → Kind place job rest why
+reason_kind place job [] why some none h = absurd (some refl)
+reason_kind place job (b ∷ rest) why some none h =
+    reason_by place job (item_form place job.settings (b ∷ rest)) (is_text (b ∷ rest)) b rest why refl refl none
+    (sym (cond_no (eqb (length (b ∷ rest)) 0) Early _ (ne_eqb (length (b ∷ rest)) 0 (λ e. omega arith))) ∙ h)
+
+-- the reason of a line that has words, by its place
+why_kind : (place : Place) (job : Job) (rest : List ℕ) (why : JobWhy) → (rest ≡ [] → ⊥)
+    → line_at place job.settings rest ≡ None → why_at place job.settings rest ≡ why → Kind place job rest why
+why_kind (AtSetting setting) job rest why some none h = reason_kind (AtSetting setting) job rest why some none h
+why_kind AtSieve job rest why some none h = reason_kind AtSieve job rest why some none h
+why_kind AtPairs job rest why some none h = reason_kind AtPairs job rest why some none h
+why_kind AtHandlers job rest why some none h = reason_kind AtHandlers job rest why some none h
+why_kind (AtBody handler) job rest why some none h = reason_kind (AtBody handler) job rest why some none h
+why_kind AtSchedule job rest why some none h = reason_kind AtSchedule job rest why some none h
+why_kind AtDone job rest why some none h = reason_kind AtDone job rest why some none h
+why_kind Over job rest why some none h = IsAfter refl (sym h)
+
+-- a line that may not stand there
+abbrev pub IsCounted : (place : Place) → Job → Item place → JobWhy → Type 0
+IsCounted place job item why = ((why ≡ Entry) × IsTaken place job item) ⊎ ((why ≡ Count) × IsFull place job item)
+
+unless_err : (o : Option JobWhy) (state : State) (why : JobWhy) → unless o state ≡ Err why → o ≡ Some why
+unless_err None state why h = absurd (cc)
+unless_err (Some w) state why h = cc
+
+two_by : (t u : Bool) (why : JobWhy) → cond t (Some Entry) (cond u (Some Count) None) ≡ Some why
+    → ((why ≡ Entry) × (t ≡ true)) ⊎ ((why ≡ Count) × (u ≡ true))
+two_by true u why h = inl (cc, refl)
+two_by false true why h = inr (cc, refl)
+two_by false false why h = absurd (cc)
+
+one_by : (t : Bool) (why : JobWhy) → cond t (Some Count) None ≡ Some why → (why ≡ Count) × (t ≡ true)
+one_by true why h = (cc, refl)
+one_by false why h = absurd (cc)
+
+-- one or the other, in other words
+either : {A B C D : Type 0} → A ⊎ B → (A → C) → (B → D) → C ⊎ D
+either (inl a) f g = inl (f a)
+either (inr b) f g = inr (g b)
+
+opened_kind : (job : Job) (s : Section) (why : JobWhy) → opened job s ≡ Err why → IsCounted AtHandlers job s why
+opened_kind job (section.Handler index role) why h =
+    either (two_by (has_index job.handlers index) (leb 128 (length job.handlers)) why
+    (unless_err (handler_why job.handlers index) _ why h)) (λ t. t) (λ u. (u.0, leb-true 128 (length job.handlers) u.1))
+opened_kind job section.Schedule why h = absurd (cc)
+opened_kind job section.Done why h = absurd (cc)
+
+paired_kind : (job : Job) (item : PairOrSection) (why : JobWhy) → paired job item ≡ Err why
+    → IsCounted AtPairs job item why
+paired_kind job (OfPair pair) why h =
+    either (two_by (has_pair job.settings.pairs pair) (leb 64 (length job.settings.pairs)) why
+    (unless_err (pair_why job.settings.pairs pair) _ why h)) (λ t. t) (λ u.
+    (u.0, leb-true 64 (length job.settings.pairs) u.1))
+paired_kind job (OfSection (section.Handler index role)) why h = opened_kind job (section.Handler index role) why h
+paired_kind job (OfSection section.Schedule) why h = absurd (cc)
+paired_kind job (OfSection section.Done) why h = absurd (cc)
+
+next_kind : (place : Place) (job : Job) (item : Item place) (why : JobWhy) → next place job item ≡ Err why
+    → IsCounted place job item why
+next_kind (AtSetting setting) job item why h = absurd (cc)
+next_kind AtSieve job item why h = absurd (cc)
+next_kind AtPairs job item why h = paired_kind job item why h
+next_kind AtHandlers job s why h = opened_kind job s why h
+next_kind (AtBody handler) job None why h = absurd (cc)
+next_kind (AtBody handler) job (Some a) why h =
+    let o = one_by (leb 64 (length handler.body)) why (unless_err (action_why handler.body) _ why h) in
+    inr (o.0, leb-true 64 (length handler.body) o.1)
+next_kind AtSchedule job None why h = absurd (cc)
+next_kind AtSchedule job (Some t) why h =
+    inr (one_by (is_full job.settings.nodes (length (lines_of job.schedule)) (total_rounds
+    (lines_of job.schedule)) t.event) why
+    (unless_err (line_why job.settings.nodes (lines_of job.schedule) t) _ why h))
+next_kind AtDone job item why h = absurd (cc)
+next_kind Over job item why h = absurd item
+
+counted_line : (place : Place) (job : Job) (rest : List ℕ) (why : JobWhy) (item : Item place) → IsWhole rest
+    → Says place job.settings rest item → IsCounted place job item why → Kind place job rest why
+counted_line place job rest why item w says (inl e) =
+    IsLine w (inr (inr (inl e.0))) (subst (λ (x : JobWhy). IsAtFault x place job rest) (sym e.0) (item, (says, e.1)))
+counted_line place job rest why item w says (inr e) =
+    IsLine w (inr (inr (inr e.0))) (subst (λ (x : JobWhy). IsAtFault x place job rest) (sym e.0) (item, (says, e.1)))
+
+onward_err : (rest : List ℕ) (r : Result State JobWhy) (why : JobWhy) → onward rest r ≡ Err why → r ≡ Err why
+onward_err rest (Ok state) why h = absurd (cc)
+onward_err rest (Err w) why h = cc
+
+kind_by : (state : State) (rest : List ℕ) (why : JobWhy) (o : Option (Item state.place × List ℕ))
+    → line_at state.place state.job.settings rest ≡ o → (rest ≡ [] → ⊥)
+    → stepped state.place state.job (why_at state.place state.job.settings rest) o ≡ Err why
+    → Kind state.place state.job rest why
+kind_by state rest why None e some h = why_kind state.place state.job rest why some e (cc)
+kind_by state rest why (Some y) e some h =
+    let said = (line_takes state.place state.job.settings rest).so y e in
+    let whole : IsWhole rest = record {
+      line = item_text state.place state.job.settings y.0;
+      more = y.1;
+      flat = (place_exact state.place state.job.settings).flat y.0 said.1;
+      text = said.0;
+    } in
+    counted_line state.place state.job rest why y.0 whole (said.1, (y.1, said.0))
+    (next_kind state.place state.job y.0 why (onward_err y.1 (next state.place state.job y.0) why h))
+
+fail_kind : (state : State) (rest : List ℕ) (why : JobWhy) → (rest ≡ [] → ⊥) → step state rest ≡ Err why
+    → Kind state.place state.job rest why
+unfolding step
+fail_kind state rest why some h = kind_by state rest why (line_at state.place state.job.settings rest) refl some h
+
+-- ---- no job's text goes on with that line
+
+err_ok : {A B : Type 0} {a : A} {b : B} {r : Result A B} → r ≡ Err b → r ≡ Ok a → ⊥
+err_ok h k = cc
+
+-- a text that is read has a first step
+step_some : (count : ℕ) (state : State) (line : ℕ) (bytes : List ℕ) (end : State) (rest : List ℕ) (job : Job)
+    (result : Result Job BadLine) → Walks count state bytes end rest → EndsAs end rest line result → result ≡ Ok job
+    → (bytes ≡ [] → ⊥) → (to : State × List ℕ) × (step state bytes ≡ Ok to)
+step_some zero state line bytes end rest job result w (Ends e r) h some = absurd (some (w.1 ∙ e))
+step_some zero state line bytes end rest job result w (Fails why s f r) h some = absurd (err_ok r h)
+step_some (suc count) state line bytes end rest job result w ends h some = ((w.to, w.rest), w.is)
+
+-- lines that end at the same place
+flat_same : (a b x y : List ℕ) → IsFlat a → IsFlat b → a ++ 10 ∷ x ≡ b ++ 10 ∷ y → a ≡ b
+flat_same [] [] x y h k e = refl
+flat_same [] (c ∷ b) x y h k e = absurd (ten_not c k.0 (cc))
+  where
+    ten_not : (c : ℕ) → eqb c 10 ≡ false → 10 ≡ c → ⊥
+    ten_not c e same = eqb-false c 10 e (sym same)
+flat_same (c ∷ a) [] x y h k e = absurd (ten_not c h.0 (cc))
+  where
+    ten_not : (c : ℕ) → eqb c 10 ≡ false → c ≡ 10 → ⊥
+    ten_not c e same = eqb-false c 10 e same
+flat_same (c ∷ a) (d ∷ b) x y h k e = cons_same c d a b (cc) (flat_same a b x y h.1 k.1 (cc))
+  where
+    cons_same : (c d : ℕ) (a b : List ℕ) → c ≡ d → a ≡ b → ◌≡◌ {A = List ℕ} (c ∷ a) (d ∷ b)
+    cons_same c d a b p q = cc
+
+some_bytes : (line more : List ℕ) → line ++ 10 ∷ more ≡ [] → ⊥
+some_bytes [] more h = cc
+some_bytes (b ∷ line) more h = cc
+
+-- a whole line that isn't read
+wrong_line : (state : State) (number : ℕ) (rest : List ℕ) (why : JobWhy) (w : IsWhole rest) (more : List ℕ)
+    (job : Job) → IsState state.place state.job → step state rest ≡ Err why → read state number (w.line ++ 10 ∷ more)
+    ≡ Ok job → ⊥
+wrong_line state number rest why w more job is f h =
+    let bytes = w.line ++ 10 ∷ more in
+    let o = read_outcome state number bytes in
+    let s = step_some o.count state (number + o.count) bytes o.end o.rest job
+    (read state number bytes) o.walks o.ends h (some_bytes w.line more) in
+    let one = step_keeps state bytes s.0.0 s.0.1 is (step_of state bytes s.0 s.1) in
+    let same : w.line ≡ one.line = flat_same w.line one.line more s.0.1 w.flat one.flat one.text in
+    err_ok f (ap (step state) (w.text ∙ ap (λ (l : List ℕ). l ++ 10 ∷ w.more) same) ∙ one.again w.more)
+
+first_some : (rest : List ℕ) → (rest ≡ [] → ⊥) → length (first_lines 1 rest) ≡ 0 → ⊥
+first_some [] some h = some refl
+first_some (b ∷ rest) some h = absurd (omega arith)
+
+-- a byte behind the end
+wrong_byte : (state : State) (number : ℕ) (bytes : List ℕ) (job : Job) → state.place ≡ Over → (length bytes ≡ 0 → ⊥)
+    → read state number bytes ≡ Ok job → ⊥
+wrong_byte state number bytes job over some h =
+    err_ok (ap (λ (p : Place). read (record { place = p; job = state.job }) number bytes) over
+    ∙ whole_bad state.job number bytes some) h
+
+front_first : (count : ℕ) (bytes : List ℕ) (end : State) (rest : List ℕ) (w : IsWalk count bytes end rest)
+    → first_lines (count + 1) bytes ≡ spell w.walked.between ++ first_lines 1 rest
+front_first count bytes end rest w =
+    let k = w.walked in
+    ap (first_lines (count + 1)) k.text ∙ ap (λ (n : ℕ). first_lines (n + 1) (spell k.between ++ rest)) (sym k.many)
+    ∙ first_spelled k.between rest 1 k.flat
+
+-- what a job's text would be read as behind the walk
+read_behind : (count : ℕ) (bytes : List ℕ) (end : State) (rest : List ℕ) (w : IsWalk count bytes end rest)
+    (job : Job) (more : List ℕ) → IsJob job → job_text job ≡ first_lines (count + 1) bytes ++ more → read end
+    (1 + count) (first_lines 1 rest ++ more) ≡ Ok job
+read_behind count bytes end rest w job more is e =
+    let k = w.walked in
+    let x = first_lines 1 rest ++ more in
+    let text : job_text job ≡ spell k.between ++ x = e ∙ ap (λ (f : List ℕ). f ++ more)
+    (front_first count bytes end rest w) ∙ append_assoc (spell k.between) (first_lines 1 rest) more in
+    sym (walk_read count start 1 (spell k.between ++ x) end x (k.again x)) ∙ ap (read start 1) (sym text)
+    ∙ job_read job is
+
+length_join : (a b : List ℕ) → (length a ≡ 0 → ⊥) → length (a ++ b) ≡ 0 → ⊥
+length_join [] b some h = some refl
+length_join (x ∷ a) b some h = absurd (omega arith)
+
+no_front_over : (count : ℕ) (bytes : List ℕ) (end : State) (rest : List ℕ) → IsWalk count bytes end rest → end.place
+    ≡ Over → (rest ≡ [] → ⊥) → IsNoFront (first_lines (count + 1) bytes)
+no_front_over count bytes end rest w over some job more is e =
+    wrong_byte end (1 + count) (first_lines 1 rest ++ more) job over (length_join (first_lines 1 rest) more
+    (first_some rest some)) (read_behind count bytes end rest w job more is e)
+
+no_front_line : (count : ℕ) (bytes : List ℕ) (end : State) (rest : List ℕ) → IsWalk count bytes end rest →
+    (why : JobWhy) → step end rest ≡ Err why → IsWhole rest → IsNoFront (first_lines (count + 1) bytes)
+no_front_line count bytes end rest w why f whole job more is e =
+    let first : first_lines 1 rest ≡ whole.line ++ 10 ∷ [] = ap (first_lines 1) whole.text
+    ∙ first_flat whole.line whole.more 0 whole.flat ∙ ap (λ (r : List ℕ). whole.line ++ 10 ∷ r)
+    (first_none whole.more) in
+    let text : first_lines 1 rest ++ more ≡ whole.line ++ 10 ∷ more = ap (λ (x : List ℕ). x ++ more) first
+    ∙ append_assoc whole.line (10 ∷ []) more in
+    wrong_line end (1 + count) rest why whole more job w.walked.is f (ap (read end (1 + count)) (sym text)
+    ∙ read_behind count bytes end rest w job more is e)
+
+-- ---- each reason
+
+-- the bytes behind the lines that were read
+after_of : (count line : ℕ) (bytes : List ℕ) (end : State) (rest : List ℕ) → IsWalk count bytes end rest → line
+    ≡ 1 + count
+    → after_lines (line - 1) bytes ≡ rest
+after_of count line bytes end rest w e =
+    let k = w.walked in
+    ap (λ (n : ℕ). after_lines n bytes) (omega (arith, e, k.many)) ∙ ap (after_lines (length k.between)) k.text
+    ∙ after_spelled k.between rest k.flat
+
+wrong : (count line : ℕ) (bytes : List ℕ) (end : State) (rest : List ℕ) (why : JobWhy) → IsWalk count bytes end rest
+    → line ≡ 1 + count → IsNoFront (first_lines (count + 1) bytes) → IsAtFault why end.place end.job rest
+    → IsWrong bytes line why
+wrong count line bytes end rest why w e none fault = record {
+  front = front_of count bytes end rest w (first_lines (line - 1) bytes) (ap (λ (n : ℕ). first_lines n bytes)
+      (omega (arith, e)));
+  none = subst (λ (n : ℕ). IsNoFront (first_lines n bytes)) (omega (arith, e)) none;
+  place = end.place;
+  before = end.job;
+  came = refl;
+  fault = subst (λ (r : List ℕ). IsAtFault why end.place end.job r) (sym
+      (after_of count line bytes end rest w e)) fault;
+}
+
+-- a whole line that isn't read
+wrong_found : (found : JobWhy) (count line : ℕ) (bytes : List ℕ) (end : State) (rest : List ℕ) (why : JobWhy)
+    → IsWalk count bytes end rest → line ≡ 1 + count → step end rest ≡ Err why → IsWhole rest → why ≡ found
+    → IsAtFault why end.place end.job rest → IsWrong bytes line found
+wrong_found found count line bytes end rest why w e f whole is fault =
+    wrong count line bytes end rest found w e (no_front_line count bytes end rest w why f whole)
+    (subst (λ (x : JobWhy). IsAtFault x end.place end.job rest) is fault)
+
+means_by : (count line : ℕ) (bytes : List ℕ) (end : State) (rest : List ℕ) (why : JobWhy) → IsWalk count bytes end rest
+    → line ≡ 1 + count → (rest ≡ [] → ⊥) → step end rest ≡ Err why → Kind end.place end.job rest why
+    → Means bytes line why
+means_by count line bytes end rest why w e some f (IsAfter over is) =
+    subst (λ (x : JobWhy). Means bytes line x) (sym is)
+    (wrong count line bytes end rest After w e (no_front_over count bytes end rest w over some) tt)
+means_by count line bytes end rest why w e some f (IsText bad is) =
+    let after = after_of count line bytes end rest w e in
+    let found : HasNoText bytes line = record {
+      front = front_of count bytes end rest w (first_lines (line - 1) bytes) (ap (λ (n : ℕ). first_lines n bytes)
+          (omega (arith, e)));
+      some = λ none. some (sym after ∙ none);
+      no_text = ap is_text after ∙ bad;
+    } in
+    subst (λ (x : JobWhy). Means bytes line x) (sym is) found
+means_by count line bytes end rest why w e some f (IsLine whole (inl is) fault) =
+    subst (λ (x : JobWhy). Means bytes line x) (sym is) (wrong_found Form count line bytes end rest why w e f whole
+    is fault)
+means_by count line bytes end rest why w e some f (IsLine whole (inr (inl is)) fault) =
+    subst (λ (x : JobWhy). Means bytes line x) (sym is) (wrong_found BadValue count line bytes end rest why w e f
+    whole is fault)
+means_by count line bytes end rest why w e some f (IsLine whole (inr (inr (inl is))) fault) =
+    subst (λ (x : JobWhy). Means bytes line x) (sym is) (wrong_found Entry count line bytes end rest why w e f whole
+    is fault)
+means_by count line bytes end rest why w e some f (IsLine whole (inr (inr (inr is))) fault) =
+    subst (λ (x : JobWhy). Means bytes line x) (sym is) (wrong_found Count count line bytes end rest why w e f whole
+    is fault)
+
+-- ---- the text ends too early
+
+over_err : (place : Place) (job : Job) (bad found : BadLine) → over_or place job bad ≡ Err found →
+    (over_or place job (record { line = 0; why = Early }) ≡ Err (record { line = 0; why = Early })) × (bad ≡ found)
+over_err (AtSetting setting) job bad found h = (refl, cc)
+over_err AtSieve job bad found h = (refl, cc)
+over_err AtPairs job bad found h = (refl, cc)
+over_err AtHandlers job bad found h = (refl, cc)
+over_err (AtBody handler) job bad found h = (refl, cc)
+over_err AtSchedule job bad found h = (refl, cc)
+over_err AtDone job bad found h = (refl, cc)
+over_err Over job bad found h = absurd (cc)
+
+early : (count line : ℕ) (bytes : List ℕ) (end : State) (rest : List ℕ) → IsWalk count bytes end rest → line
+    ≡ 1 + count → rest ≡ [] → over_or end.place end.job (record { line = 0; why = Early }) ≡ Err
+    (record { line = 0; why = Early }) → EndsEarly bytes line
+early count line bytes end rest w e none o =
+    let k = w.walked in
+    let all : bytes ≡ first_lines count bytes =
+    k.text ∙ ap (λ (r : List ℕ). spell k.between ++ r) (none ∙ sym (first_none rest)) ∙ sym
+    (first_spelled k.between rest 0 k.flat) ∙ ap (λ (n : ℕ). first_lines n (spell k.between ++ rest)) (omega
+    (arith, k.many)) ∙ ap (first_lines count) (sym k.text) in
+    record {
+      all = all ∙ ap (λ (n : ℕ). first_lines n bytes) (omega (arith, e));
+      front = front_of count bytes end rest w bytes all;
+      proper = w.part.some o;
+    }
+
+-- ---- what is told
+
+bad_same : {A : Type 0} (bad found : BadLine) → ◌≡◌ {A = Result A BadLine} (Err bad) (Err found) → bad ≡ found
+bad_same bad found h = cc
+
+ends_mean : (bytes : List ℕ) (found : BadLine) (count : ℕ) (end : State) (rest : List ℕ)
+    (result : Result Job BadLine) → Walks count start bytes end rest → EndsAs end rest (1 + count) result → result
+    ≡ Err found → Means bytes found.line found.why
+ends_mean bytes found count end rest result w (Ends none r) h =
+    let o = over_err end.place end.job _ found (sym r ∙ h) in
+    subst (λ (b : BadLine). Means bytes b.line b.why) o.1 (early count (1 + count) bytes end rest
+    (walk_of count bytes end rest w) refl none o.0)
+ends_mean bytes found count end rest result w (Fails why some f r) h =
+    subst (λ (b : BadLine). Means bytes b.line b.why) (bad_same (record { line = 1 + count; why = why }) found (sym r
+    ∙ h))
+    (means_by count (1 + count) bytes end rest why (walk_of count bytes end rest w) refl some f
+    (fail_kind end rest why some f))
+
+means_of : (bytes : List ℕ) (found : BadLine) (t : Bool) → ltb limit (length bytes) ≡ t → job_of bytes ≡ Err found
+    → Means bytes found.line found.why
+unfolding job_of
+means_of bytes found true e h =
+    subst (λ (b : BadLine). Means bytes b.line b.why) (bad_same (record { line = 0; why = Size }) found (sym
+    (cond_yes _ _ _ e) ∙ h)) (refl, ltb-true limit (length bytes) e)
+means_of bytes found false e h =
+    let o = read_outcome start 1 bytes in
+    ends_mean bytes found o.count o.end o.rest (read start 1 bytes) o.walks o.ends (sym (cond_no _ _ _ e) ∙ h)
+
+-- the one job of a text
+text_read : (bytes : List ℕ) (job : Job) → JobText job bytes → job_of bytes ≡ Ok job
+unfolding job_of
+text_read bytes job is = cond_no _ _ _ (le-ltb limit (length bytes) is.within) ∙ ap (read start 1) is.text
+    ∙ job_read job is.is_job
+
+ok_same : {a b : Job} → ◌≡◌ {A = Result Job BadLine} (Ok a) (Ok b) → a ≡ b
+ok_same h = cc
+
+pub gives_one : (r : Result Job JobFault) (bytes : List ℕ) → GivesAt (λ (j : Job). j) r (job_of bytes) → IfOk r
+    (λ job. (other : Job) → JobText other bytes → other ≡ job)
+gives_one (Ok job) bytes h = λ other is. ok_same (sym (text_read bytes other is) ∙ h)
+gives_one (Err fault) bytes h = tt
+
+pub gives_meant : (r : Result Job JobFault) (bytes : List ℕ) → GivesAt (λ (j : Job). j) r (job_of bytes) → IfErr r
+    (λ fault. IsMeant bytes fault)
+gives_meant (Ok job) bytes h = tt
+gives_meant (Err faults.NoMemory) bytes h = tt
+gives_meant (Err (faults.Bad line why)) bytes h = means_of bytes (record { line = line; why = why }) (ltb limit
+    (length bytes)) refl h
+
+pub gives_none : (r : Result Job JobFault) (bytes : List ℕ) → GivesAt (λ (j : Job). j) r (job_of bytes) → IfErr r
+    (λ fault. IsNoMemory fault ⊎ ((job : Job) → JobText job bytes → ⊥))
+gives_none (Ok job) bytes h = tt
+gives_none (Err faults.NoMemory) bytes h = inl tt
+gives_none (Err (faults.Bad line why)) bytes h = inr (λ job is. err_ok h (text_read bytes job is))

@@ -1,0 +1,255 @@
+-- What was read, and what a refusal means.
+use Rattle.std.proofs.Common.{◌≡◌, ℕ, suc, ◌+◌, List, [], ◌∷◌, ◌++◌, length, map, ltb, Result, Ok, Err, Bool, false}
+use Rattle.std.proofs.Common.{true, refl, sym, ap, subst, ◌∙◌, arith, append_assoc, append-nil}
+use Rattle.std.specs.List.{AllByRecursion, flat_map}
+use Rattle.std.proofs.lemmas.List.Concat.{flat_map-append}
+use Rattle.std.proofs.lemmas.Bool.{ltb-false}
+use Rattle.job_text.specs.Places.{Setting, Nodes, Credits, Threads, Segment, Last, Resend, Patience}
+use Rattle.job_text.specs.Places as places
+use Rattle.job_text.specs.Places.{Place, AtSetting, AtSieve, AtPairs, AtHandlers, AtBody, AtSchedule, AtDone, Over}
+use Rattle.job_text.specs.Places.{Version}
+use Rattle.job_text.specs.JobReading.{State, BadLine, start, limit, over_or, read, job_of}
+use Rattle.job_text.specs.JobText.{Line, spell, setting_line, sieve_line, pair_line, handler_lines, schedule_lines}
+use Rattle.job_text.specs.JobText.{lines_with_pairs, lines_with_handlers, job_lines, job_text, IsJob, JobText}
+use Rattle.job_text.specs.Refusals.{first_lines, after_lines, IsFront}
+use Rattle.job_text.specs.Reading.{GivesAt}
+use Rattle.std.specs.Prelude.{IfOk}
+use Rattle.job_text.specs.declared.fault.JobFault.{JobFault}
+use Rattle.job_text.specs.declared.fault.JobWhy.TheVariants.{Early}
+use Rattle.job_text.specs.declared.job.Job.{Job}
+use Rattle.job_text.proofs.Fronts.{cond_yes, cond_no}
+use Rattle.job_text.proofs.FormLaws.{IsFlat}
+use Rattle.job_text.specs.Refusals.{completed}
+use Rattle.job_text.proofs.StateLaws.{so_far, from_on, IsUnread, done_line, end_line, handler_more}
+use Rattle.job_text.proofs.StateLaws.{end_schedule}
+use Rattle.job_text.proofs.JobLaws.{sound_job}
+use Rattle.job_text.proofs.States.{unread, start_is, sound_completed}
+use Rattle.job_text.proofs.Walks.{Walks, Walked, walk_keeps, Outcome, EndsAs, Ends, Fails, read_outcome}
+
+-- ---- first lines
+
+pub first_flat : (line rest : List ℕ) (count : ℕ) → IsFlat line → first_lines (suc count) (line ++ 10 ∷ rest) ≡ line
+    ++ 10 ∷ first_lines count rest
+first_flat [] rest count h = refl
+first_flat (b ∷ line) rest count h = ap (λ (x : List ℕ). b ∷ x) (cond_no _ _ _ h.0 ∙ first_flat line rest count h.1)
+
+after_flat : (line rest : List ℕ) (count : ℕ) → IsFlat line → after_lines (suc count) (line ++ 10 ∷ rest)
+    ≡ after_lines count rest
+after_flat [] rest count h = refl
+after_flat (b ∷ line) rest count h = cond_no _ _ _ h.0 ∙ after_flat line rest count h.1
+
+pub first_none : (rest : List ℕ) → first_lines 0 rest ≡ []
+first_none [] = refl
+first_none (b ∷ rest) = refl
+
+after_none : (rest : List ℕ) → after_lines 0 rest ≡ rest
+after_none [] = refl
+after_none (b ∷ rest) = refl
+
+spelled_one : (line : Line) (lines : List Line) (rest : List ℕ) → spell (line ∷ lines) ++ rest ≡ line ++ 10 ∷
+    (spell lines ++ rest)
+spelled_one line lines rest = append_assoc (line ++ 10 ∷ []) (spell lines) rest ∙ append_assoc line (10 ∷ [])
+    (spell lines ++ rest)
+
+pub first_spelled : (lines : List Line) (rest : List ℕ) (more : ℕ) → AllByRecursion IsFlat lines → first_lines
+    (length lines + more) (spell lines ++ rest) ≡ spell lines ++ first_lines more rest
+first_spelled [] rest more h = ap (λ (n : ℕ). first_lines n rest) (omega arith)
+first_spelled (line ∷ lines) rest more h =
+    let n : suc (length lines) + more ≡ suc (length lines + more) = omega arith in
+    ap (λ (k : ℕ). first_lines k (spell (line ∷ lines) ++ rest)) n ∙ ap (first_lines (suc (length lines + more)))
+    (spelled_one line lines rest)
+    ∙ first_flat line (spell lines ++ rest) (length lines + more) h.0
+    ∙ ap (λ (x : List ℕ). line ++ 10 ∷ x) (first_spelled lines rest more h.1) ∙ sym
+    (spelled_one line lines (first_lines more rest))
+
+pub after_spelled : (lines : List Line) (rest : List ℕ) → AllByRecursion IsFlat lines → after_lines (length lines)
+    (spell lines ++ rest) ≡ rest
+after_spelled [] rest h = after_none rest
+after_spelled (line ∷ lines) rest h =
+    ap (after_lines (suc (length lines))) (spelled_one line lines rest) ∙ after_flat line (spell lines ++ rest)
+    (length lines) h.0 ∙ after_spelled lines rest h.1
+
+-- ---- what is left
+
+-- the lines behind the pairs, and behind the handlers
+abbrev pub last_lines : Job → List Line
+last_lines job = schedule_lines job.settings job.schedule ++ done_line ∷ []
+
+abbrev pub later_lines : Job → List Line
+later_lines job = (map pair_line job.settings.pairs ++ flat_map handler_lines job.handlers) ++ last_lines job
+
+-- the lines that were read and others are all
+pub record IsPart (place : Place) (job : Job) : Type 0 where
+  pub others : List Line
+  pub all : job_lines (completed place job) ≡ so_far place job ++ others
+  pub some : over_or place job (record { line = 0; why = Early }) ≡ Err (record { line = 0; why = Early })
+      → spell others ≡ [] → ⊥
+
+some_line : (line : Line) (lines : List Line) → spell (line ∷ lines) ≡ [] → ⊥
+some_line [] lines h = cc
+some_line (b ∷ line) lines h = cc
+
+some_last : (front lines : List Line) → spell (front ++ (lines ++ done_line ∷ [])) ≡ [] → ⊥
+some_last [] [] h = some_line done_line [] h
+some_last [] (line ∷ lines) h = some_line line (lines ++ done_line ∷ []) h
+some_last (line ∷ front) lines h = some_line line (front ++ (lines ++ done_line ∷ [])) h
+
+setting_part : (setting : Setting) (job : Job) → job_lines job ≡ so_far (AtSetting setting) job ++
+    (map (setting_line job) (from_on setting) ++ (sieve_line job.sieve ∷ later_lines job))
+setting_part Version job = refl
+setting_part places.Job job = refl
+setting_part Nodes job = refl
+setting_part Credits job = refl
+setting_part Threads job = refl
+setting_part Segment job = refl
+setting_part Last job = refl
+setting_part Resend job = refl
+setting_part Patience job = refl
+
+some_between : (front : List Line) (line : Line) (lines : List Line) → spell (front ++ line ∷ lines) ≡ [] → ⊥
+some_between [] line lines h = some_line line lines h
+some_between (first ∷ front) line lines h = some_line first (front ++ line ∷ lines) h
+
+pub part_of : (place : Place) (job : Job) → IsUnread place job → IsPart place job
+part_of (AtSetting setting) job u = record {
+  others = map (setting_line job) (from_on setting) ++
+      (sieve_line job.sieve ∷ later_lines job);
+  all = setting_part setting job;
+  some = λ o. some_between
+      (map (setting_line job) (from_on setting)) (sieve_line job.sieve) (later_lines job);
+}
+part_of AtSieve job u = record {
+  others = sieve_line job.sieve ∷ later_lines job;
+  all = refl;
+  some = λ o. some_line
+      (sieve_line job.sieve) (later_lines job);
+}
+part_of AtPairs job u = record {
+  others = flat_map handler_lines job.handlers ++ last_lines job;
+  all = append_assoc (lines_with_pairs job) (flat_map handler_lines job.handlers) (last_lines job);
+  some = λ o. some_last (flat_map handler_lines job.handlers) (schedule_lines job.settings job.schedule);
+}
+part_of AtHandlers job u = record {
+  others = last_lines job;
+  all = refl;
+  some = λ o. some_last []
+      (schedule_lines job.settings job.schedule);
+}
+part_of (AtBody handler) job u = record {
+  others = end_line ∷ last_lines job;
+  all = ap (λ (ls : List Line). ls ++ last_lines job) (handler_more job.handlers handler (lines_with_pairs job))
+      ∙ append_assoc (so_far (AtBody handler) job) (end_line ∷ []) (last_lines job);
+  some = λ o. some_line end_line (last_lines job);
+}
+part_of AtSchedule job u = record {
+  others = end_line ∷ done_line ∷ [];
+  all = sym (append_assoc (lines_with_handlers job) (schedule_lines job.settings job.schedule) (done_line ∷ []))
+      ∙ ap (λ (ls : List Line). ls ++ done_line ∷ []) (end_schedule job.settings job.schedule
+      (lines_with_handlers job) u)
+      ∙ append_assoc (so_far AtSchedule job) (end_line ∷ []) (done_line ∷ []);
+  some = λ o. some_line end_line (done_line ∷ []);
+}
+part_of AtDone job u = record {
+  others = done_line ∷ [];
+  all = sym (append_assoc (lines_with_handlers job) (schedule_lines job.settings job.schedule) (done_line ∷ []));
+  some = λ o. some_line done_line [];
+}
+part_of Over job u = record { others = []; all = sym (append-nil (job_lines job)); some = λ o. absurd (cc) }
+
+-- ---- fronts
+
+-- the walk from the first line on
+pub record IsWalk (count : ℕ) (bytes : List ℕ) (end : State) (rest : List ℕ) : Type 0 where
+  pub walked : Walked count start bytes end rest
+  pub part : IsPart end.place end.job
+
+pub walk_of : (count : ℕ) (bytes : List ℕ) (end : State) (rest : List ℕ) → Walks count start bytes end rest
+    → IsWalk count bytes end rest
+walk_of count bytes end rest w =
+    let walked = walk_keeps count start bytes end rest start_is w in
+    record { walked = walked; part = part_of end.place end.job (unread end.place end.job walked.is) }
+
+-- the text of the job so far
+pub text_of : (count : ℕ) (bytes : List ℕ) (end : State) (rest : List ℕ) (w : IsWalk count bytes end rest) → job_text
+    (completed end.place end.job) ≡ spell w.walked.between ++ spell w.part.others
+text_of count bytes end rest w =
+    ap spell w.part.all ∙ flat_map-append (λ (line : Line). line ++ 10 ∷ []) (so_far end.place end.job) w.part.others
+    ∙ ap (λ (ls : List Line). spell ls ++ spell w.part.others) w.walked.lines
+
+-- what was read is the front of a job's text
+abbrev pub front_of : (count : ℕ) (bytes : List ℕ) (end : State) (rest : List ℕ) → IsWalk count bytes end rest →
+    (front : List ℕ) → front ≡ first_lines count bytes → IsFront front
+front_of count bytes end rest w front e =
+    let k = w.walked in
+    let first : first_lines count bytes ≡ spell k.between =
+    ap (first_lines count) k.text ∙ ap (λ (n : ℕ). first_lines n (spell k.between ++ rest)) (sym k.many ∙ omega arith)
+    ∙ first_spelled k.between rest 0 k.flat ∙ ap (λ (r : List ℕ). spell k.between ++ r) (first_none rest)
+    ∙ append-nil (spell k.between) in
+    record {
+      job = completed end.place end.job;
+      more = spell w.part.others;
+      is = sound_job (completed end.place end.job) (sound_completed end.place end.job k.is);
+      text = text_of count bytes end rest w ∙ ap (λ (b : List ℕ). b ++ spell w.part.others) (sym (e ∙ first));
+    }
+
+-- ---- a job that was read
+
+over_is : (place : Place) (job found : Job) (bad : BadLine) → over_or place job bad ≡ Ok found → (place ≡ Over) ×
+    (job ≡ found)
+over_is (AtSetting setting) job found bad h = absurd (cc)
+over_is AtSieve job found bad h = absurd (cc)
+over_is AtPairs job found bad h = absurd (cc)
+over_is AtHandlers job found bad h = absurd (cc)
+over_is (AtBody handler) job found bad h = absurd (cc)
+over_is AtSchedule job found bad h = absurd (cc)
+over_is AtDone job found bad h = absurd (cc)
+over_is Over job found bad h = (refl, cc)
+
+-- the lines of a job that is over
+over_text : (count : ℕ) (bytes : List ℕ) (place : Place) (job : Job) (rest : List ℕ) → Walked count start bytes
+    (record { place = place; job = job }) rest → place ≡ Over → rest ≡ [] → IsJob job × (bytes ≡ job_text job)
+over_text count bytes (AtSetting setting) job rest w o e = absurd (cc)
+over_text count bytes AtSieve job rest w o e = absurd (cc)
+over_text count bytes AtPairs job rest w o e = absurd (cc)
+over_text count bytes AtHandlers job rest w o e = absurd (cc)
+over_text count bytes (AtBody handler) job rest w o e = absurd (cc)
+over_text count bytes AtSchedule job rest w o e = absurd (cc)
+over_text count bytes AtDone job rest w o e = absurd (cc)
+over_text count bytes Over job rest w o e = (
+  sound_job job w.is,
+  w.text ∙ ap (λ (r : List ℕ). spell w.between ++ r) e
+      ∙ append-nil (spell w.between) ∙ ap spell (sym w.lines),
+)
+
+read_by : (bytes : List ℕ) (job : Job) (o : Outcome start 1 bytes (read start 1 bytes)) → EndsAs o.end o.rest
+    (1 + o.count) (read start 1 bytes) → read start 1 bytes ≡ Ok job → IsJob job × (bytes ≡ job_text job)
+read_by bytes job o (Ends e r) h =
+    let p = over_is o.end.place o.end.job job _ (sym r ∙ h) in
+    let q = over_text o.count bytes o.end.place o.end.job o.rest
+    (walk_keeps o.count start bytes o.end o.rest start_is o.walks) p.0 e in
+    subst (λ (j : Job). IsJob j × (bytes ≡ job_text j)) p.1 q
+read_by bytes job o (Fails why s f r) h = absurd (cc)
+
+-- what was read has these bytes as its text
+pub read_text : (bytes : List ℕ) (job : Job) → read start 1 bytes ≡ Ok job → IsJob job × (bytes ≡ job_text job)
+read_text bytes job h = let o = read_outcome start 1 bytes in read_by bytes job o o.ends h
+
+long_by : (bytes : List ℕ) (job : Job) (t : Bool) → ltb limit (length bytes) ≡ t → job_of bytes ≡ Ok job
+    → JobText job bytes
+unfolding job_of
+long_by bytes job true e h = absurd (err_ok (sym (cond_yes _ _ _ e) ∙ h))
+  where
+    err_ok : {bad : BadLine} {j : Job} → ◌≡◌ {A = Result Job BadLine} (Err bad) (Ok j) → ⊥
+    err_ok h = cc
+long_by bytes job false e h =
+    let p = read_text bytes job (sym (cond_no _ _ _ e) ∙ h) in
+    record { is_job = p.0; text = p.1; within = ltb-false limit (length bytes) e }
+
+pub job_text_of : (bytes : List ℕ) (job : Job) → job_of bytes ≡ Ok job → JobText job bytes
+job_text_of bytes job h = long_by bytes job (ltb limit (length bytes)) refl h
+
+-- what a reader returned
+pub gives_found : (r : Result Job JobFault) (bytes : List ℕ) → GivesAt (λ (j : Job). j) r (job_of bytes) → IfOk r
+    (λ job. JobText job bytes)
+gives_found (Ok job) bytes h = job_text_of bytes job h
+gives_found (Err fault) bytes h = tt

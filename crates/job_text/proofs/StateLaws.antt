@@ -1,0 +1,230 @@
+-- What was read so far is the front of a job's text.
+use Rattle.std.proofs.Common.{◌≡◌, ℕ, List, [], ◌∷◌, ◌++◌, map, Option, Some, None, Result, Ok, refl, sym, ap, subst}
+use Rattle.std.proofs.Common.{◌∙◌, codes, append_assoc, append-nil}
+use Rattle.std.specs.List.{flat_map}
+use Rattle.std.proofs.lemmas.List.Concat.{flat_map-append}
+use Rattle.std.proofs.lemmas.List.{map-append}
+use Rattle.datagram_grammar.specs.Parameters.{Parameters}
+use Rattle.job_text.specs.Bodies.{action_text}
+use Rattle.job_text.specs.Events.{timed_text}
+use Rattle.job_text.specs.Places.{Setting, Version, Nodes, Credits, Threads, Segment, Last, Resend, Patience}
+use Rattle.job_text.specs.Places as places
+use Rattle.job_text.specs.Places.{Place, AtSetting, AtSieve, AtPairs, AtHandlers, AtBody, AtSchedule, AtDone, Over}
+use Rattle.job_text.specs.Places.{Item, item_text, IsItem, OfPair, OfSection, PairOrSection}
+use Rattle.job_text.specs.JobReading.{State, with_number, behind_setting, lines_of, unless, next}
+use Rattle.job_text.specs.JobReading.{opened, paired, acted, scheduled, pair_why, handler_why, action_why, line_why}
+use Rattle.job_text.specs.JobText.{Line, setting_line, all_settings, sieve_line, pair_line, header_line}
+use Rattle.job_text.specs.JobText.{handler_lines, timed_lines, schedule_lines, head_lines, lines_with_pairs}
+use Rattle.job_text.specs.JobText.{lines_with_handlers, job_lines}
+use Rattle.job_text.specs.declared.fault.JobWhy.{JobWhy}
+use Rattle.job_text.specs.declared.job.Action.{Action}
+use Rattle.job_text.specs.declared.job.HandlerText.{HandlerText}
+use Rattle.job_text.specs.declared.job.Job.{Job}
+use Rattle.job_text.specs.declared.job.TimedEvent.{TimedEvent}
+use Rattle.job_text.specs.declared.sections.Section.{Section}
+use Rattle.job_text.specs.declared.sections.Section.TheVariants as section
+
+-- ---- the lines so far, and those that are left
+
+-- the settings before one, and from it on
+abbrev pub before : Setting → List Setting
+before Version = []
+before places.Job = Version ∷ []
+before Nodes = Version ∷ places.Job ∷ []
+before Credits = Version ∷ places.Job ∷ Nodes ∷ []
+before Threads = Version ∷ places.Job ∷ Nodes ∷ Credits ∷ []
+before Segment = Version ∷ places.Job ∷ Nodes ∷ Credits ∷ Threads ∷ []
+before Last = Version ∷ places.Job ∷ Nodes ∷ Credits ∷ Threads ∷ Segment ∷ []
+before Resend = Version ∷ places.Job ∷ Nodes ∷ Credits ∷ Threads ∷ Segment ∷ Last ∷ []
+before Patience = Version ∷ places.Job ∷ Nodes ∷ Credits ∷ Threads ∷ Segment ∷ Last ∷ Resend ∷ []
+
+abbrev pub from_on : Setting → List Setting
+from_on Version = all_settings
+from_on places.Job = places.Job ∷ Nodes ∷ Credits ∷ Threads ∷ Segment ∷ Last ∷ Resend ∷ Patience ∷ []
+from_on Nodes = Nodes ∷ Credits ∷ Threads ∷ Segment ∷ Last ∷ Resend ∷ Patience ∷ []
+from_on Credits = Credits ∷ Threads ∷ Segment ∷ Last ∷ Resend ∷ Patience ∷ []
+from_on Threads = Threads ∷ Segment ∷ Last ∷ Resend ∷ Patience ∷ []
+from_on Segment = Segment ∷ Last ∷ Resend ∷ Patience ∷ []
+from_on Last = Last ∷ Resend ∷ Patience ∷ []
+from_on Resend = Resend ∷ Patience ∷ []
+from_on Patience = Patience ∷ []
+
+-- the line that ends a handler, and that which ends the text
+abbrev pub end_line : Line
+end_line = codes "end"
+
+abbrev pub done_line : Line
+done_line = codes "done"
+
+-- the lines that were read
+abbrev pub so_far : Place → Job → List Line
+so_far (AtSetting setting) job = map (setting_line job) (before setting)
+so_far AtSieve job = map (setting_line job) all_settings
+so_far AtPairs job = lines_with_pairs job
+so_far AtHandlers job = lines_with_handlers job
+so_far (AtBody handler) job = lines_with_handlers job ++ (header_line handler ∷ map action_text handler.body)
+so_far AtSchedule job = lines_with_handlers job ++ (codes "schedule" ∷ timed_lines job.settings (lines_of job.schedule))
+so_far AtDone job = lines_with_handlers job ++ schedule_lines job.settings job.schedule
+so_far Over job = job_lines job
+
+-- what is left of its lines
+abbrev pub left : Place → Job → List Line
+left (AtSetting setting) job = map (setting_line job) (from_on setting) ++ (sieve_line job.sieve ∷ done_line ∷ [])
+left AtSieve job = sieve_line job.sieve ∷ done_line ∷ []
+left (AtBody handler) job = end_line ∷ done_line ∷ []
+left AtSchedule job = end_line ∷ done_line ∷ []
+left Over job = []
+left place job = done_line ∷ []
+
+-- what isn't read yet stands as it began
+abbrev pub IsUnread : Place → Job → Type 0
+IsUnread (AtSetting setting) job = (job.settings.pairs ≡ []) × (job.handlers ≡ []) × (job.schedule ≡ None)
+IsUnread AtSieve job = (job.settings.pairs ≡ []) × (job.handlers ≡ []) × (job.schedule ≡ None)
+IsUnread AtPairs job = (job.handlers ≡ []) × (job.schedule ≡ None)
+IsUnread AtHandlers job = job.schedule ≡ None
+IsUnread (AtBody handler) job = job.schedule ≡ None
+IsUnread AtSchedule job = (lines : List TimedEvent) × (job.schedule ≡ Some lines)
+IsUnread AtDone job = (lines : List TimedEvent) × (job.schedule ≡ Some lines)
+IsUnread Over job = Unit {0}
+
+-- ---- one line more
+
+-- no lines
+pub no_lines : {A : Type 0} (f : A → Line) (xs : List A) (front : List Line) → xs ≡ [] → front ++ map f xs ≡ front
+no_lines f [] front e = append-nil front
+no_lines f (x ∷ xs) front e = absurd (cc)
+
+pub no_handlers : (hs : List HandlerText) (front : List Line) → hs ≡ [] → front ++ flat_map handler_lines hs ≡ front
+no_handlers [] front e = append-nil front
+no_handlers (h ∷ hs) front e = absurd (cc)
+
+-- a line at the end of some
+one_more : {A : Type 0} (f : A → Line) (xs : List A) (x : A) (front : List Line) → front ++ map f (xs ++ x ∷ []) ≡
+    (front ++ map f xs) ++ f x ∷ []
+one_more f xs x front = ap (λ (ls : List Line). front ++ ls) (map-append f xs (x ∷ [])) ∙ sym
+    (append_assoc front (map f xs) (f x ∷ []))
+
+one_behind : {A : Type 0} (f : A → Line) (xs : List A) (x : A) (first : Line) (front : List Line) → front ++
+    (first ∷ map f (xs ++ x ∷ [])) ≡ (front ++ (first ∷ map f xs)) ++ f x ∷ []
+one_behind f xs x first front = ap (λ (ls : List Line). front ++ (first ∷ ls)) (map-append f xs (x ∷ [])) ∙ sym
+    (append_assoc front (first ∷ map f xs) (f x ∷ []))
+
+pub handler_more : (hs : List HandlerText) (h : HandlerText) (front : List Line) → front ++ flat_map handler_lines
+    (hs ++ h ∷ []) ≡ ((front ++ flat_map handler_lines hs) ++ (header_line h ∷ map action_text h.body))
+    ++ end_line ∷ []
+handler_more hs h front =
+    ap (λ (ls : List Line). front ++ ls) (flat_map-append handler_lines hs (h ∷ []) ∙ ap
+    (λ (ls : List Line). flat_map handler_lines hs ++ ls) (append-nil (handler_lines h)))
+    ∙ sym (append_assoc front (flat_map handler_lines hs) (handler_lines h))
+    ∙ sym (append_assoc (front ++ flat_map handler_lines hs) (header_line h ∷ map action_text h.body) (end_line ∷ []))
+
+-- the lines with what a line says
+abbrev pub SaysMore : (place : Place) → Job → Item place → State → Type 0
+SaysMore place job item state = (so_far state.place state.job ≡ so_far place job
+    ++ item_text place job.settings item ∷ []) × IsUnread state.place state.job
+
+setting_more : (setting : Setting) (number : ℕ) (job : Job) → IsUnread (AtSetting setting) job → SaysMore
+    (AtSetting setting) job number (record { place = behind_setting setting; job = with_number setting number job })
+setting_more Version number job u = (refl, u)
+setting_more places.Job number job u = (refl, u)
+setting_more Nodes number job u = (refl, u)
+setting_more Credits number job u = (refl, u)
+setting_more Threads number job u = (refl, u)
+setting_more Segment number job u = (refl, u)
+setting_more Last number job u = (refl, u)
+setting_more Resend number job u = (refl, u)
+setting_more Patience number job u = (refl, u)
+
+-- equal results
+pub ok_same : {a b : State} → ◌≡◌ {A = Result State JobWhy} (Ok a) (Ok b) → a ≡ b
+ok_same h = cc
+
+-- what stands behind a test
+pub unless_ok : (why : Option JobWhy) (state found : State) → unless why state ≡ Ok found → (why ≡ None) × (state
+    ≡ found)
+unless_ok None state found h = (refl, cc)
+unless_ok (Some why) state found h = absurd (cc)
+
+-- the schedule is none
+pub none_schedule : (settings : Parameters) (schedule : Option (List TimedEvent)) (front : List Line) → schedule
+    ≡ None → front ++ (schedule_lines settings schedule ++ done_line ∷ []) ≡ front ++ done_line ∷ []
+none_schedule settings None front e = refl
+none_schedule settings (Some lines) front e = absurd (cc)
+
+opened_more : (job : Job) (s : Section) (state : State) → IsUnread AtHandlers job → opened job s ≡ Ok state
+    → SaysMore AtHandlers job s state
+opened_more job (section.Handler index role) state u h =
+    let p = unless_ok (handler_why job.handlers index) _ state h in
+    subst (λ (x : State). SaysMore AtHandlers job (section.Handler index role) x) p.1 (refl, u)
+opened_more job section.Schedule state u h = subst (λ (x : State). SaysMore AtHandlers job section.Schedule x)
+    (ok_same h) (refl, ([], refl))
+opened_more job section.Done state u h = subst (λ (x : State). SaysMore AtHandlers job section.Done x) (ok_same h)
+    (none_schedule job.settings job.schedule (lines_with_handlers job) u, tt)
+
+-- what has these lines has them by another place
+paired_more : (job : Job) (item : PairOrSection) (state : State) → IsUnread AtPairs job → paired job item ≡ Ok state
+    → SaysMore AtPairs job item state
+paired_more job (OfPair pair) state u h =
+    let p = unless_ok (pair_why job.settings.pairs pair) _ state h in
+    subst (λ (x : State). SaysMore AtPairs job (OfPair pair) x) p.1 (
+      one_more pair_line job.settings.pairs pair
+          (head_lines job),
+      u,
+    )
+paired_more job (OfSection s) state u h =
+    let m = opened_more job s state u.1 h in (
+      m.0 ∙ ap (λ (ls : List Line). ls ++ item_text AtHandlers job.settings s ∷ []) (no_handlers job.handlers
+          (lines_with_pairs job) u.0),
+      m.1,
+    )
+
+acted_more : (handler : HandlerText) (job : Job) (item : Option Action) (state : State) → IsUnread
+    (AtBody handler) job → acted handler job item ≡ Ok state → SaysMore (AtBody handler) job item state
+acted_more handler job None state u h = subst (λ (x : State). SaysMore (AtBody handler) job None x) (ok_same h)
+    (handler_more job.handlers handler (lines_with_pairs job), u)
+acted_more handler job (Some a) state u h =
+    let p = unless_ok (action_why handler.body) _ state h in
+    subst (λ (x : State). SaysMore (AtBody handler) job (Some a) x) p.1 (
+      one_behind action_text handler.body a
+          (header_line handler) (lines_with_handlers job),
+      u,
+    )
+
+-- the end of a schedule
+pub end_schedule : (settings : Parameters) (schedule : Option (List TimedEvent)) (front : List Line) →
+    (lines : List TimedEvent) × (schedule ≡ Some lines) → front ++ schedule_lines settings schedule ≡ (front
+    ++ (codes "schedule" ∷ timed_lines settings (lines_of schedule))) ++ end_line ∷ []
+end_schedule settings None front e = absurd (cc)
+end_schedule settings (Some lines) front e = sym (append_assoc front (codes "schedule" ∷ timed_lines settings lines)
+    (end_line ∷ []))
+
+scheduled_more : (job : Job) (item : Option TimedEvent) (state : State) → IsUnread AtSchedule job
+    → scheduled job item ≡ Ok state → SaysMore AtSchedule job item state
+scheduled_more job None state u h = subst (λ (x : State). SaysMore AtSchedule job None x) (ok_same h)
+    (end_schedule job.settings job.schedule (lines_with_handlers job) u, u)
+scheduled_more job (Some t) state u h =
+    let p = unless_ok (line_why job.settings.nodes (lines_of job.schedule) t) _ state h in
+    subst (λ (x : State). SaysMore AtSchedule job (Some t) x) p.1 (
+      one_behind
+          (timed_text job.settings.nodes job.settings.threads) (lines_of job.schedule) t (codes "schedule")
+          (lines_with_handlers job),
+      (lines_of job.schedule ++ t ∷ [], refl),
+    )
+
+-- a line that was read is the next one
+pub says_more : (place : Place) (job : Job) (item : Item place) (state : State) → IsUnread place job
+    → next place job item ≡ Ok state → SaysMore place job item state
+says_more (AtSetting setting) job number state u h = subst (λ (x : State). SaysMore (AtSetting setting) job number x)
+    (ok_same h) (setting_more setting number job u)
+says_more AtSieve job rule state u h = subst (λ (x : State). SaysMore AtSieve job rule x) (ok_same h)
+    (no_lines pair_line job.settings.pairs (head_lines (record job { sieve = rule })) u.0, (u.1, u.2))
+says_more AtPairs job item state u h = paired_more job item state u h
+says_more AtHandlers job item state u h = opened_more job item state u h
+says_more (AtBody handler) job item state u h = acted_more handler job item state u h
+says_more AtSchedule job item state u h = scheduled_more job item state u h
+says_more AtDone job item state u h = subst (λ (x : State). SaysMore AtDone job item x) (ok_same h) (
+  sym
+      (append_assoc (lines_with_handlers job) (schedule_lines job.settings job.schedule) (done_line ∷ [])),
+  tt,
+)
+says_more Over job item state u h = absurd item

@@ -1,0 +1,242 @@
+-- What is known wherever a text was read up to.
+use Rattle.std.proofs.Common.{◌≡◌, inl, inr, ℕ, ◌<◌, ◌≤◌, ◌⊎◌, ◌||◌, Bool, true, false, eqb, leb, cond, List, [], ◌∷◌}
+use Rattle.std.proofs.Common.{◌++◌, length, Option, Some, None, Ok, refl, subst, arith, length-append}
+use Rattle.std.proofs.lemmas.Bool.{eqb-true, leb-true, leb-false}
+use Rattle.job_text.specs.Bodies.{IsAction}
+use Rattle.job_text.specs.Places.{Setting, Version, Nodes, Credits, Threads, Segment, Last, Resend, Patience}
+use Rattle.job_text.specs.Places as places
+use Rattle.job_text.specs.Places.{Place, AtSetting, AtSieve, AtPairs, AtHandlers, AtBody, AtSchedule, AtDone, Over}
+use Rattle.job_text.specs.Places.{Item, IsItem, OfPair, OfSection, PairOrSection}
+use Rattle.job_text.specs.JobReading.{State, least_job, with_number, behind_setting, with_action, lines_of, next}
+use Rattle.job_text.specs.JobReading.{opened, paired, acted, scheduled, has_index, has_pair, pair_why, handler_why}
+use Rattle.job_text.specs.JobReading.{action_why, line_why}
+use Rattle.job_text.specs.JobText.{IsHandler, IsSieve}
+use Rattle.job_text.specs.declared.fault.JobWhy.TheVariants.{Entry, Count}
+use Rattle.job_text.specs.declared.job.Action.{Action}
+use Rattle.job_text.specs.declared.job.HandlerText.{HandlerText}
+use Rattle.job_text.specs.declared.job.Job.{Job}
+use Rattle.job_text.specs.declared.job.SieveRule.{SieveRule}
+use Rattle.job_text.specs.declared.job.TimedEvent.{TimedEvent}
+use Rattle.job_text.specs.declared.sections.Section.{Section}
+use Rattle.job_text.specs.declared.sections.Section.TheVariants as section
+use Rattle.job_text.proofs.Ranges.{IsNumber, AreNumbers}
+use Rattle.job_text.proofs.JobLaws.{AreLeast, numbers_more, IsHead, head_sound, IsSound, pair_sound, pair_free_by}
+use Rattle.job_text.proofs.JobLaws.{handler_sound, all_more, empty_sound, line_sound}
+use Rattle.job_text.specs.Refusals.{completed}
+use Rattle.job_text.proofs.StateLaws.{IsUnread, unless_ok, ok_same}
+
+-- a handler so far
+pub record IsBegun (handler : HandlerText) (job : Job) : Type 0 where
+  pub is : IsHandler handler
+  pub new : has_index job.handlers handler.index ≡ false
+  pub few : length job.handlers < 128
+
+abbrev pub IsState : Place → Job → Type 0
+IsState (AtSetting setting) job = IsHead job × AreLeast setting job.settings
+IsState AtSieve job = IsHead job
+IsState AtPairs job = IsSound job × (job.handlers ≡ []) × (job.schedule ≡ None)
+IsState AtHandlers job = IsSound job × (job.schedule ≡ None)
+IsState (AtBody handler) job = IsSound job × (job.schedule ≡ None) × IsBegun handler job
+IsState AtSchedule job = IsSound job × ((lines : List TimedEvent) × (job.schedule ≡ Some lines))
+IsState AtDone job = IsSound job × ((lines : List TimedEvent) × (job.schedule ≡ Some lines))
+IsState Over job = IsSound job
+
+pub unread : (place : Place) (job : Job) → IsState place job → IsUnread place job
+unread (AtSetting setting) job is = (is.0.pairs, is.0.handlers, is.0.schedule)
+unread AtSieve job is = (is.pairs, is.handlers, is.schedule)
+unread AtPairs job is = (is.1, is.2)
+unread AtHandlers job is = is.1
+unread (AtBody handler) job is = is.1
+unread AtSchedule job is = is.1
+unread AtDone job is = is.1
+unread Over job is = tt
+
+-- with what is left it is a job
+pub sound_completed : (place : Place) (job : Job) → IsState place job → IsSound (completed place job)
+sound_completed (AtSetting setting) job is = head_sound job is.0
+sound_completed AtSieve job is = head_sound job is
+sound_completed AtPairs job is = is.0
+sound_completed AtHandlers job is = is.0
+sound_completed (AtBody handler) job is = handler_sound job handler is.0 is.2.is is.2.new is.2.few
+sound_completed AtSchedule job is = is.0
+sound_completed AtDone job is = is.0
+sound_completed Over job is = is
+
+-- before the first line
+least_numbers : AreNumbers least_job
+least_numbers Version = record { low = omega arith; high = omega arith; fits = refl }
+least_numbers places.Job = record { low = omega arith; high = omega arith; fits = refl }
+least_numbers Nodes = record { low = omega arith; high = omega arith; fits = refl }
+least_numbers Credits = record { low = omega arith; high = omega arith; fits = refl }
+least_numbers Threads = record { low = omega arith; high = omega arith; fits = refl }
+least_numbers Segment = record { low = omega arith; high = omega arith; fits = refl }
+least_numbers Last = record { low = omega arith; high = omega arith; fits = refl }
+least_numbers Resend = record { low = omega arith; high = omega arith; fits = refl }
+least_numbers Patience = record { low = omega arith; high = omega arith; fits = refl }
+
+pub start_is : IsState (AtSetting Version) least_job
+start_is = (
+  record {
+    numbers = least_numbers;
+    sieve = record { lose = omega arith; repeat = omega arith; swap = omega arith };
+    pairs = refl;
+    handlers = refl;
+    schedule = refl;
+  },
+  (refl, refl, refl),
+)
+
+-- ---- one line more
+
+-- a number changes nothing else
+head_more : (setting : Setting) (number : ℕ) (job : Job) → IsHead job → AreNumbers (with_number setting number job)
+    → IsHead (with_number setting number job)
+head_more Version number job is all = record {
+  numbers = all;
+  sieve = is.sieve;
+  pairs = is.pairs;
+  handlers = is.handlers;
+  schedule = is.schedule;
+}
+head_more Patience number job is all = record {
+  numbers = all;
+  sieve = is.sieve;
+  pairs = is.pairs;
+  handlers = is.handlers;
+  schedule = is.schedule;
+}
+head_more setting number job is all = record {
+  numbers = all;
+  sieve = is.sieve;
+  pairs = is.pairs;
+  handlers = is.handlers;
+  schedule = is.schedule;
+}
+
+setting_state : (setting : Setting) (number : ℕ) (job : Job) → IsState (AtSetting setting) job → IsHead
+    (with_number setting number job) → IsState (behind_setting setting) (with_number setting number job)
+setting_state Version number job is head = (head, is.1)
+setting_state places.Job number job is head = (head, is.1)
+setting_state Nodes number job is head = (head, tt)
+setting_state Credits number job is head = (head, tt)
+setting_state Threads number job is head = (head, tt)
+setting_state Segment number job is head = (head, tt)
+setting_state Last number job is head = (head, tt)
+setting_state Resend number job is head = (head, tt)
+setting_state Patience number job is head = head
+
+-- the numbers beside a sieve
+numbers_sieve : (job : Job) (rule : SieveRule) → AreNumbers job → AreNumbers (record job { sieve = rule })
+numbers_sieve job rule all Version = all Version
+numbers_sieve job rule all setting = all setting
+
+sieve_head : (job : Job) (rule : SieveRule) → IsHead job → IsSieve rule → IsHead (record job { sieve = rule })
+sieve_head job rule is one = record {
+  numbers = numbers_sieve job rule is.numbers;
+  sieve = one;
+  pairs = is.pairs;
+  handlers = is.handlers;
+  schedule = is.schedule;
+}
+
+-- the index of a handler
+index_by : (zero client : Bool) (index : ℕ) → eqb index 0 ≡ zero → leb 128 index ≡ client → (zero || client) ≡ true
+    → index ≤ 255 → (index ≡ 0) ⊎ ((128 ≤ index) × (index < 256))
+index_by true client index e f h high = inl (eqb-true index 0 e)
+index_by false true index e f h high = inr (leb-true 128 index f, omega arith)
+index_by false false index e f h high = absurd (cc)
+
+-- no reason against an action
+action_free : (handler : HandlerText) → action_why handler.body ≡ None → length handler.body < 64
+action_free handler h = leb-false 64 (length handler.body) (free_by (leb 64 (length handler.body)) h)
+  where
+    free_by : (b : Bool) → cond b (Some Count) None ≡ None → b ≡ false
+    free_by true h = absurd (cc)
+    free_by false h = refl
+
+opened_state : (job : Job) (s : Section) (state : State) → IsState AtHandlers job → IsItem AtHandlers job.settings s
+    → opened job s ≡ Ok state → IsState state.place state.job
+opened_state job (section.Handler index role) state is item h =
+    let p = unless_ok (handler_why job.handlers index) _ state h in
+    let free = pair_free_by (has_index job.handlers index) (leb 128 (length job.handlers)) Entry Count p.0 in
+    let begun : HandlerText = record { index = index; role = role; body = [] } in
+    let one : IsBegun begun job = record {
+      is = record {
+        index = index_by (eqb index 0) (leb 128 index) index refl refl item.1 item.0.0.1;
+        count = omega arith;
+        actions = tt;
+      };
+      new = free.0;
+      few = leb-false 128 (length job.handlers) free.1;
+    } in
+    subst (λ (x : State). IsState x.place x.job) p.1 (is.0, is.1, one)
+opened_state job section.Schedule state is item h = subst (λ (x : State). IsState x.place x.job) (ok_same h)
+    (empty_sound job is.0, ([], refl))
+opened_state job section.Done state is item h = subst (λ (x : State). IsState x.place x.job) (ok_same h) is.0
+
+paired_state : (job : Job) (item : PairOrSection) (state : State) → IsState AtPairs job
+    → IsItem AtPairs job.settings item → paired job item ≡ Ok state → IsState state.place state.job
+paired_state job (OfPair pair) state is item h =
+    let p = unless_ok (pair_why job.settings.pairs pair) _ state h in
+    let free = pair_free_by (has_pair job.settings.pairs pair) (leb 64 (length job.settings.pairs)) Entry Count p.0 in
+    subst (λ (x : State). IsState x.place x.job) p.1 (
+      pair_sound job pair is.0 item.1 item.0.1.1.0.0 item.0.1.1.0.1
+          free.0 (leb-false 64 (length job.settings.pairs) free.1) is.2,
+      is.1,
+      is.2,
+    )
+paired_state job (OfSection s) state is item h = opened_state job s state (is.0, is.2) item h
+
+acted_state : (handler : HandlerText) (job : Job) (item : Option Action) (state : State) → IsState
+    (AtBody handler) job → IsItem (AtBody handler) job.settings item → acted handler job item ≡ Ok state
+    → IsState state.place state.job
+acted_state handler job None state is item h = subst (λ (x : State). IsState x.place x.job) (ok_same h)
+    (handler_sound job handler is.0 is.2.is is.2.new is.2.few, is.1)
+acted_state handler job (Some a) state is item h =
+    let p = unless_ok (action_why handler.body) _ state h in
+    let lt = action_free handler p.0 in
+    let one : IsBegun (with_action a handler) job = record {
+      is = record {
+        index = is.2.is.index;
+        count = simp length-append (omega arith);
+        actions = all_more IsAction handler.body a is.2.is.actions item;
+      };
+      new = is.2.new;
+      few = is.2.few;
+    } in
+    subst (λ (x : State). IsState x.place x.job) p.1 (is.0, is.1, one)
+
+scheduled_state : (job : Job) (item : Option TimedEvent) (state : State) → IsState AtSchedule job
+    → IsItem AtSchedule job.settings item → scheduled job item ≡ Ok state → IsState state.place state.job
+scheduled_state job None state is item h = subst (λ (x : State). IsState x.place x.job) (ok_same h) is
+scheduled_state job (Some t) state is item h =
+    let p = unless_ok (line_why job.settings.nodes (lines_of job.schedule) t) _ state h in
+    subst (λ (x : State). IsState x.place x.job) p.1 (
+      line_sound job t is.0 is.1 item p.0,
+      (
+        lines_of job.schedule
+            ++ t ∷ [],
+        refl,
+      ),
+    )
+
+pub state_more : (place : Place) (job : Job) (item : Item place) (state : State) → IsState place job
+    → IsItem place job.settings item → next place job item ≡ Ok state → IsState state.place state.job
+state_more (AtSetting setting) job number state is item h =
+    let one : IsNumber setting job.settings number = record { low = item.0.0.0; high = item.0.0.1; fits = item.1 } in
+    subst (λ (x : State). IsState x.place x.job) (ok_same h) (setting_state setting number job is
+    (head_more setting number job is.0 (numbers_more setting number job is.0.numbers is.1 one)))
+state_more AtSieve job rule state is item h =
+    let one : IsSieve rule = record { lose = item.0.0.1; repeat = item.0.1.0.1; swap = item.0.1.1.0.1 } in
+    let head = sieve_head job rule is one in
+    subst (λ (x : State). IsState x.place x.job) (ok_same h) (
+      head_sound (record job { sieve = rule }) head,
+      is.handlers,
+      is.schedule,
+    )
+state_more AtPairs job item state is one h = paired_state job item state is one h
+state_more AtHandlers job item state is one h = opened_state job item state is one h
+state_more (AtBody handler) job item state is one h = acted_state handler job item state is one h
+state_more AtSchedule job item state is one h = scheduled_state job item state is one h
+state_more AtDone job item state is one h = subst (λ (x : State). IsState x.place x.job) (ok_same h) is.0
+state_more Over job item state is one h = absurd item

@@ -1,0 +1,215 @@
+-- Reading as a walk from line to line.
+use Rattle.std.proofs.Common.{◌≡◌, ℕ, zero, suc, ◌+◌, List, [], ◌∷◌, ◌++◌, length, Option, Some, None, Result, Ok}
+use Rattle.std.proofs.Common.{Err, refl, sym, ap, subst, ◌∙◌, arith, append_assoc, append-nil}
+use Rattle.std.specs.List.{AllByRecursion}
+use Rattle.job_text.specs.Places.{Item, item_text}
+use Rattle.job_text.specs.JobReading.{State, BadLine, line_at, why_at, next, onward, stepped, step, from_lines}
+use Rattle.job_text.specs.JobReading.{at_end, after_step, run, read}
+use Rattle.job_text.specs.JobText.{Line, spell}
+use Rattle.job_text.specs.declared.fault.JobWhy.{JobWhy}
+use Rattle.job_text.specs.declared.job.Job.{Job}
+use Rattle.job_text.proofs.FormLaws.{IsFlat}
+use Rattle.job_text.proofs.PlaceLaws.{place_exact}
+use Rattle.job_text.proofs.LineRuns.{line_takes, line_again, lines_after}
+use Rattle.job_text.proofs.StateLaws.{so_far, says_more}
+use Rattle.job_text.proofs.States.{IsState, unread, state_more}
+
+-- ---- a step
+
+-- what a step is made of
+pub record IsStepOf (state : State) (bytes : List ℕ) (to : State) (rest : List ℕ) : Type 0 where
+  pub item : Item state.place
+  pub found : line_at state.place state.job.settings bytes ≡ Some (item, rest)
+  pub goes : next state.place state.job item ≡ Ok to
+
+step_on : (state : State) (bytes : List ℕ) (x : State × List ℕ) (y : Item state.place × List ℕ)
+    (r : Result State JobWhy) → line_at state.place state.job.settings bytes ≡ Some y
+    → next state.place state.job y.0 ≡ r → onward y.1 r ≡ Ok x → IsStepOf state bytes x.0 x.1
+step_on state bytes x y (Ok to) e n h =
+    let same : ◌≡◌ {A = State × List ℕ} (to, y.1) x = cc in
+    subst (λ (z : State × List ℕ). IsStepOf state bytes z.0 z.1) same (record { item = y.0; found = e; goes = n })
+step_on state bytes x y (Err why) e n h = absurd (cc)
+
+step_by : (state : State) (bytes : List ℕ) (x : State × List ℕ) (o : Option (Item state.place × List ℕ))
+    → line_at state.place state.job.settings bytes ≡ o → stepped state.place state.job
+    (why_at state.place state.job.settings bytes) o ≡ Ok x → IsStepOf state bytes x.0 x.1
+step_by state bytes x None e h = absurd (cc)
+step_by state bytes x (Some y) e h = step_on state bytes x y (next state.place state.job y.0) e refl h
+
+pub step_of : (state : State) (bytes : List ℕ) (x : State × List ℕ) → step state bytes ≡ Ok x
+    → IsStepOf state bytes x.0 x.1
+unfolding step
+step_of state bytes x h = step_by state bytes x (line_at state.place state.job.settings bytes) refl h
+
+-- and back
+pub step_is : (state : State) (bytes : List ℕ) (to : State) (rest : List ℕ) → IsStepOf state bytes to rest
+    → step state bytes ≡ Ok (to, rest)
+unfolding step
+step_is state bytes to rest is = rw (is.found, is.goes) refl
+
+-- what a step makes of a state
+pub record IsMore (state : State) (bytes : List ℕ) (to : State) (rest : List ℕ) : Type 0 where
+  pub line : Line
+  pub flat : IsFlat line
+  pub text : bytes ≡ line ++ 10 ∷ rest
+  pub lines : so_far to.place to.job ≡ so_far state.place state.job ++ line ∷ []
+  pub is : IsState to.place to.job
+  pub again : (more : List ℕ) → step state (line ++ 10 ∷ more) ≡ Ok (to, more)
+
+pub step_keeps : (state : State) (bytes : List ℕ) (to : State) (rest : List ℕ) → IsState state.place state.job
+    → IsStepOf state bytes to rest → IsMore state bytes to rest
+step_keeps state bytes to rest is one =
+    let said = (line_takes state.place state.job.settings bytes).so (one.item, rest) one.found in
+    let more = says_more state.place state.job one.item to (unread state.place state.job is) one.goes in
+    record {
+      line = item_text state.place state.job.settings one.item;
+      flat = (place_exact state.place state.job.settings).flat one.item said.1;
+      text = said.0;
+      lines = more.0;
+      is = state_more state.place state.job one.item to is said.1 one.goes;
+      again = λ rest. step_is state (item_text state.place state.job.settings one.item ++ 10 ∷ rest) to rest
+          (record {
+            item = one.item;
+            found = line_again state.place state.job.settings one.item rest said.1;
+            goes = one.goes;
+          });
+    }
+
+-- ---- many steps
+
+-- a step to where something is so
+pub record Steps (P : State → List ℕ → Type 0) (state : State) (bytes : List ℕ) : Type 0 where
+  pub to : State
+  pub rest : List ℕ
+  pub is : step state bytes ≡ Ok (to, rest)
+  pub behind : P to rest
+
+-- so many lines lead from one state to another, and from these bytes to those
+abbrev pub Walks : ℕ → State → List ℕ → State → List ℕ → Type 0
+Walks zero state bytes end rest = (state ≡ end) × (bytes ≡ rest)
+Walks (suc count) state bytes end rest = Steps (λ to more. Walks count to more end rest) state bytes
+
+-- what lines make of a state
+pub record Walked (count : ℕ) (state : State) (bytes : List ℕ) (end : State) (rest : List ℕ) : Type 0 where
+  pub between : List Line
+  pub many : length between ≡ count
+  pub flat : AllByRecursion IsFlat between
+  pub text : bytes ≡ spell between ++ rest
+  pub lines : so_far end.place end.job ≡ so_far state.place state.job ++ between
+  pub is : IsState end.place end.job
+  pub again : (more : List ℕ) → Walks count state (spell between ++ more) end more
+
+pub walk_keeps : (count : ℕ) (state : State) (bytes : List ℕ) (end : State) (rest : List ℕ)
+    → IsState state.place state.job → Walks count state bytes end rest → Walked count state bytes end rest
+walk_keeps zero state bytes end rest is w = record {
+  between = [];
+  many = refl;
+  flat = tt;
+  text = w.1;
+  lines = ap (λ (s : State). so_far s.place s.job) (sym w.0) ∙ sym (append-nil (so_far state.place state.job));
+  is = subst (λ (s : State). IsState s.place s.job) w.0 is;
+  again = λ more. (w.0, refl);
+}
+walk_keeps (suc count) state bytes end rest is w =
+    let one = step_keeps state bytes w.to w.rest is (step_of state bytes (w.to, w.rest) w.is) in
+    let others = walk_keeps count w.to w.rest end rest one.is w.behind in
+    let spelled : (more : List ℕ) → spell (one.line ∷ others.between) ++ more ≡ one.line ++ 10 ∷
+    (spell others.between ++ more) =
+    λ more. append_assoc (one.line ++ 10 ∷ []) (spell others.between) more ∙ append_assoc one.line (10 ∷ [])
+    (spell others.between ++ more) in
+    record {
+      between = one.line ∷ others.between;
+      many = ap suc others.many;
+      flat = (one.flat, others.flat);
+      text = one.text ∙ ap (λ (r : List ℕ). one.line ++ 10 ∷ r) others.text ∙ sym (spelled rest);
+      lines = others.lines ∙ ap (λ (ls : List Line). ls ++ others.between) one.lines ∙ append_assoc
+          (so_far state.place state.job) (one.line ∷ []) others.between;
+      is = others.is;
+      again = λ more. record {
+        to = w.to;
+        rest = spell others.between ++ more;
+        is = ap (λ (b : List ℕ). step state b) (spelled more) ∙ one.again (spell others.between ++ more);
+        behind = others.again more;
+      };
+    }
+
+-- ---- reading walks
+
+-- the end of the text, or a line that isn't read
+pub data EndsAs (end : State) (rest : List ℕ) (line : ℕ) (result : Result Job BadLine) : Type 0 where
+  Ends : rest ≡ [] → result ≡ at_end end line → EndsAs end rest line result
+  Fails : (why : JobWhy) → (rest ≡ [] → ⊥) → step end rest ≡ Err why → result ≡ Err
+      (record { line = line; why = why }) → EndsAs end rest line result
+
+-- how a reading comes to its end
+pub record Outcome (state : State) (line : ℕ) (bytes : List ℕ) (result : Result Job BadLine) : Type 0 where
+  pub count : ℕ
+  pub end : State
+  pub rest : List ℕ
+  pub walks : Walks count state bytes end rest
+  pub ends : EndsAs end rest (line + count) result
+
+-- one step before
+one_before : (state : State) (line : ℕ) (bytes : List ℕ) (to : State) (more : List ℕ) (result : Result Job BadLine)
+    → step state bytes ≡ Ok (to, more) → Outcome to (line + 1) more result → Outcome state line bytes result
+one_before state line bytes to more result h o = record {
+  count = suc o.count;
+  end = o.end;
+  rest = o.rest;
+  walks = record { to = to; rest = more; is = h; behind = o.walks };
+  ends = subst (λ (n : ℕ). EndsAs o.end o.rest n result) (omega arith) o.ends;
+}
+
+-- no line
+empty_lines : (bytes : List ℕ) → from_lines bytes ≡ [] → bytes ≡ []
+unfolding from_lines
+empty_lines [] e = refl
+empty_lines (b ∷ bytes) e = absurd (cc)
+
+-- the first line
+first_of : (bytes first : List ℕ) (later : List (List ℕ)) → from_lines bytes ≡ first ∷ later → (bytes ≡ first) ×
+    (bytes ≡ [] → ⊥)
+unfolding from_lines
+first_of [] first later e = absurd (cc)
+first_of (b ∷ bytes) first later e = (cc, λ h. absurd (cc))
+
+run_by : (later : List (List ℕ)) (state : State) (line : ℕ) (bytes : List ℕ) (r : Result (State × List ℕ) JobWhy)
+    → step state bytes ≡ r → (bytes ≡ [] → ⊥) → ((to : State) (more : List ℕ) → step state bytes ≡ Ok (to, more)
+    → Outcome to (line + 1) more (run to (line + 1) later))
+    → Outcome state line bytes (after_step line (λ to. run to (line + 1) later) r)
+run_by later state line bytes (Err why) h some on = record {
+  count = 0;
+  end = state;
+  rest = bytes;
+  walks = (refl, refl);
+  ends = Fails why some h (ap (λ (n : ℕ). Err (record { line = n; why = why })) (omega arith));
+}
+run_by later state line bytes (Ok x) h some on = one_before state line bytes x.0 x.1 (run x.0 (line + 1) later) h
+    (on x.0 x.1 h)
+
+run_outcome : (lines : List (List ℕ)) (state : State) (line : ℕ) (bytes : List ℕ) → from_lines bytes ≡ lines
+    → Outcome state line bytes (run state line lines)
+unfolding run
+run_outcome [] state line bytes e = record {
+  count = 0;
+  end = state;
+  rest = bytes;
+  walks = (refl, refl);
+  ends = Ends (empty_lines bytes e) (ap (λ (n : ℕ). at_end state n) (omega arith));
+}
+run_outcome (first ∷ later) state line bytes e =
+    let f = first_of bytes first later e in
+    subst (λ (b : List ℕ). Outcome state line bytes (after_step line (λ to. run to (line + 1) later) (step state b)))
+    f.0
+    (run_by later state line bytes (step state bytes) refl f.1 (λ to more h.
+    let one = step_of state bytes (to, more) h in
+    let lines : from_lines bytes ≡ bytes ∷ from_lines more = lines_after state.place state.job.settings bytes
+    (one.item, more) one.found in
+    run_outcome later to (line + 1) more (tail_same (sym lines ∙ e))))
+  where
+    tail_same : {a b : List ℕ} {xs ys : List (List ℕ)} → ◌≡◌ {A = List (List ℕ)} (a ∷ xs) (b ∷ ys) → xs ≡ ys
+    tail_same h = cc
+
+pub read_outcome : (state : State) (line : ℕ) (bytes : List ℕ) → Outcome state line bytes (read state line bytes)
+unfolding read
+read_outcome state line bytes = run_outcome (from_lines bytes) state line bytes refl

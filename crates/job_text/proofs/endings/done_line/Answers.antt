@@ -1,0 +1,13 @@
+use Rattle.std.proofs.Common.{refl}
+use Rattle.job_text.specs.Places.{AtDone, Over}
+use Rattle.job_text.proofs.LineRuns.{read_on, done_bad}
+use Rattle.job_text.proofs.HandlerRuns.{told_by}
+use Rattle.job_text.proofs.endings.done_line.Goals as goal
+
+pub returns-in-Ok : goal.returns-in-Ok
+returns-in-Ok c = λ job. read_on AtDone job c.args.line c.args.bytes.now c.in-Ok.rest.now tt
+    (record { place = Over; job = job }) c.in-Ok.ensures refl
+
+pub returns-in-Err : goal.returns-in-Err
+returns-in-Err c = λ job. told_by _ c.args.line _ c.reason_of-why.result
+    (done_bad job c.args.line c.args.bytes.now c.in-Err.ensures) c.reason_of-why.ensures

@@ -1,0 +1,91 @@
+-- The forms of actions in a handler's body.
+use Rattle.std.specs.Prelude.{ℕ, List, [], ◌∷◌, Option, Bool, true, false, codes}
+use Rattle.job_text.specs.Lines.{Word}
+use Rattle.job_text.specs.Forms.{BodyValue, Kind, Shape, End, ◌▸◌, Many, Inner, Maker, Values, Row, Entry}
+use Rattle.job_text.specs.Forms.{table_at, entry_text, IsOf, none_at, none_text, none_fits, U8}
+use Rattle.job_text.specs.Reasons.{table_form}
+use Rattle.job_text.specs.declared.job.ReplyAction.{ReplyAction}
+use Rattle.job_text.specs.declared.job.ReplyAction.TheVariants as reply
+use Rattle.job_text.specs.declared.job.Action.{Action}
+use Rattle.job_text.specs.declared.job.Action.TheVariants as action
+
+-- ---- what follows `reply`
+
+abbrev pub short_reply : Row ⊥ ReplyAction
+short_reply = record { name = codes "short"; shape = U8 ▸ Many 0 17 BodyValue; make = reply.Short }
+
+-- the forms of replies
+abbrev pub replies : List (Row ⊥ ReplyAction)
+replies = short_reply ∷ []
+
+-- how a reply is written
+abbrev pub reply_entry : ReplyAction → Entry ⊥ ReplyAction
+reply_entry (reply.Short handler operands) = record { row = short_reply; values = (handler, operands) }
+
+-- what reads a reply
+unfoldable pub reply_at : List ℕ → Option (ReplyAction × List ℕ)
+reply_at bytes = table_at none_at replies (λ reply. true) bytes
+
+-- whether bytes have the form of a reply
+unfoldable pub reply_form : List ℕ → Bool
+reply_form bytes = table_form (λ bytes. false) replies bytes
+
+-- the text of a reply
+abbrev pub reply_text : ReplyAction → List ℕ
+reply_text reply = entry_text none_text (reply_entry reply)
+
+-- a reply whose words can be said
+abbrev pub IsReply : ReplyAction → Type 0
+IsReply reply = IsOf none_fits reply_entry (λ reply. true) reply
+
+-- ---- actions
+
+abbrev pub form : Word → (shape : Shape) → Maker ReplyAction shape Action → Row ReplyAction Action
+form name shape make = record { name = name; shape = shape; make = make }
+
+abbrev pub add_row : Row ReplyAction Action
+add_row = form (codes "add") (U8 ▸ BodyValue ▸ End) action.Add
+
+abbrev pub set_cell_row : Row ReplyAction Action
+set_cell_row = form (codes "set-cell") (U8 ▸ BodyValue ▸ End) action.SetCell
+
+abbrev pub source_row : Row ReplyAction Action
+source_row = form (codes "source") (U8 ▸ End) action.Source
+
+abbrev pub attempt_row : Row ReplyAction Action
+attempt_row = form (codes "attempt") (Kind ▸ End) action.Attempt
+
+abbrev pub reply_row : Row ReplyAction Action
+reply_row = form (codes "reply") Inner action.Reply
+
+-- the forms of actions
+abbrev pub actions : List (Row ReplyAction Action)
+actions = add_row ∷ set_cell_row ∷ source_row ∷ attempt_row ∷ reply_row ∷ []
+
+-- the words of an action
+abbrev pub words : (row : Row ReplyAction Action) → Values ReplyAction row.shape → Entry ReplyAction Action
+words row values = record { row = row; values = values }
+
+-- how an action is written
+abbrev pub action_entry : Action → Entry ReplyAction Action
+action_entry (action.Add cell operand) = words add_row (cell, (operand, tt))
+action_entry (action.SetCell cell operand) = words set_cell_row (cell, (operand, tt))
+action_entry (action.Source cell) = words source_row (cell, tt)
+action_entry (action.Attempt kind) = words attempt_row (kind, tt)
+action_entry (action.Reply reply) = words reply_row reply
+
+-- what reads an action
+unfoldable pub action_at : List ℕ → Option (Action × List ℕ)
+action_at bytes = table_at reply_at actions (λ action. true) bytes
+
+-- whether bytes have the form of an action
+unfoldable pub action_form : List ℕ → Bool
+action_form bytes = table_form reply_form actions bytes
+
+-- the text of an action
+abbrev pub action_text : Action → List ℕ
+action_text action = entry_text reply_text (action_entry action)
+
+-- an action whose words can be said
+abbrev pub IsAction : Action → Type 0
+IsAction action = IsOf IsReply action_entry (λ action. true) action

@@ -1,0 +1,218 @@
+-- The forms of lines, as data: which words follow a name, and what value they make.
+use Rattle.std.specs.Prelude.{◌≡◌, ℕ, zero, suc, ◌<◌, ◌≤◌, ◌-◌, ◌^◌, List, [], ◌∷◌, ◌++◌, length, Option, Some, None}
+use Rattle.std.specs.Prelude.{Bool, true, false, ◌&&◌, nat_le, ◌==◌, nat_lt, slice_index, if◌then◌else◌, decimal}
+use Rattle.std.specs.Prelude.{drop}
+use Rattle.std.specs.List.{AllByRecursion, flat_map}
+use Rattle.std.specs.Str.{bytes_eq}
+use Rattle.job_text.specs.Lines.{Word, ◌>>=◌, front, back, spaced}
+use Rattle.job_text.specs.Words.{integer_read, number_in, schedule_operand, body_operand, operand_word}
+use Rattle.job_text.specs.Words.{IsScheduleOperand, IsBodyOperand, kind_of, kind_word, IsNamed, role_of, role_word}
+use Rattle.job_text.specs.declared.job.Operand.{Operand}
+use Rattle.job_text.specs.declared.job.Operand.TheVariants as operand
+use Rattle.handler_rules.specs.declared.rules.CallKind.{CallKind}
+use Rattle.handler_rules.specs.declared.rules.Role.{Role as HandlerRole}
+
+-- ---- words
+
+-- what a word of a line may be
+pub data Part : Type 0 where
+  Number : (low high : ℕ) → Part  -- a number of a range
+  Value : Part  -- a number of a schedule: itself, or `cN`
+  BodyValue : Part  -- a number of a handler's body: also `aN`
+  Kind : Part  -- a kind of call
+  Role : Part  -- a handler's role
+
+-- what such a word says
+abbrev pub Meaning : Part → Type 0
+Meaning (Number low high) = ℕ
+Meaning Value = Operand
+Meaning BodyValue = Operand
+Meaning Kind = CallKind
+Meaning Role = HandlerRole
+
+-- the word that says it
+abbrev pub word_text : (p : Part) → Meaning p → Word
+word_text (Number low high) n = decimal n
+word_text Value v = operand_word v
+word_text BodyValue v = operand_word v
+word_text Kind k = kind_word k
+word_text Role r = role_word r
+
+-- what can be said so
+abbrev pub IsSaid : (p : Part) → Meaning p → Type 0
+IsSaid (Number low high) n = (low ≤ n) × (n ≤ high) × (n < 2 ^ 64)
+IsSaid Value v = IsScheduleOperand v
+IsSaid BodyValue v = IsBodyOperand v
+IsSaid Kind k = IsNamed k
+IsSaid Role r = Unit {0}
+
+-- what a word says
+abbrev pub word_says : (p : Part) → Word → Option (Meaning p)
+word_says (Number low high) word = number_in low high word
+word_says Value word = schedule_operand word
+word_says BodyValue word = body_operand word
+word_says Kind word = kind_of word
+word_says Role word = role_of word
+
+-- what the first word says, and the bytes after it
+unfoldable pub word_at : (p : Part) → List ℕ → Option (Meaning p × List ℕ)
+word_at p bytes = word_says p (front bytes) >>= λ x. Some (x, back bytes)
+
+-- the same behind a space
+unfoldable pub part_at : (p : Part) → List ℕ → Option (Meaning p × List ℕ)
+part_at p bytes = spaced bytes >>= word_at p
+
+-- what the first word says as a number of a schedule, by the first byte
+unfoldable pub value_read : List ℕ → Option (Operand × List ℕ)
+value_read bytes = if slice_index bytes 0 == 99 then (word_at (Number 0 255) (drop 1 bytes) >>= λ x. Some
+    (operand.Cell x.0, x.1)) else (integer_read bytes >>= λ x. Some (operand.Number x.0, x.1))
+
+-- the same as a number of a handler's body
+unfoldable pub body_value_read : List ℕ → Option (Operand × List ℕ)
+body_value_read bytes = if slice_index bytes 0 == 97 then (word_at (Number 0 15) (drop 1 bytes) >>= λ x. Some
+    (operand.Argument x.0, x.1)) else value_read bytes
+
+-- whether a space comes next
+abbrev pub has_space : List ℕ → Bool
+has_space [] = false
+has_space (b ∷ bs) = b == 32
+
+-- as many such words behind spaces as there are, up to a number
+unfoldable pub parts_at : (p : Part) → (most : ℕ) → List ℕ → Option (List (Meaning p) × List ℕ)
+parts_at p zero bytes = Some ([], bytes)
+parts_at p (suc most) bytes =
+    if has_space bytes then (part_at p bytes >>= λ x. parts_at p most x.1 >>= λ xs. Some (
+      x.0 ∷ xs.0,
+      xs.1,
+    )) else Some ([], bytes)
+
+-- whether another word of a list follows
+abbrev pub has_more : (count most : ℕ) → List ℕ → Bool
+has_more count most bytes = nat_lt count most && has_space bytes
+
+-- a number of them
+unfoldable pub many_at : (least most : ℕ) → (p : Part) → List ℕ → Option (List (Meaning p) × List ℕ)
+many_at least most p bytes = parts_at p most bytes >>= λ xs. if nat_le least (length xs.0) then Some xs else None
+
+-- ---- what follows a name
+
+-- the words that follow a name
+infixr 5 ◌▸◌
+pub data Shape : Type 0 where
+  End : Shape  -- nothing
+  ◌▸◌ : Part → Shape → Shape  -- a word, and more
+  Many : (least most : ℕ) → Part → Shape  -- such words to the end of the line
+  Inner : Shape  -- a line of another table
+
+-- what they say together, where X is what the other table says
+abbrev pub Values : Type 0 → Shape → Type 0
+Values X End = Unit {0}
+Values X (p ▸ s) = Meaning p × Values X s
+Values X (Many least most p) = List (Meaning p)
+Values X Inner = X
+
+-- what makes an A of them
+abbrev pub Maker : Type 0 → Shape → Type 0 → Type 0
+Maker X End A = A
+Maker X (p ▸ s) A = Meaning p → Maker X s A
+Maker X (Many least most p) A = List (Meaning p) → A
+Maker X Inner A = X → A
+
+-- the A that it makes
+abbrev pub made : (X : Type 0) → {A : Type 0} → (s : Shape) → Maker X s A → Values X s → A
+made X End make v = make
+made X (p ▸ s) make v = made X s (make v.0) v.1
+made X (Many least most p) make v = make v
+made X Inner make v = make v
+
+-- what the bytes say, and the bytes after them, where at reads a line of the other table
+abbrev pub values_at : {X : Type 0} → (at : List ℕ → Option (X × List ℕ)) → (s : Shape) → List ℕ → Option (Values X s
+    × List ℕ)
+values_at at End bytes = Some (tt, bytes)
+values_at at (p ▸ s) bytes = part_at p bytes >>= λ x. values_at at s x.1 >>= λ xs. Some ((x.0, xs.0), xs.1)
+values_at at (Many least most p) bytes = many_at least most p bytes
+values_at at Inner bytes = spaced bytes >>= at
+
+-- the bytes that say it, where text writes a line of the other table
+abbrev pub values_text : {X : Type 0} → (text : X → List ℕ) → (s : Shape) → Values X s → List ℕ
+values_text text End v = []
+values_text text (p ▸ s) v = 32 ∷ (word_text p v.0 ++ values_text text s v.1)
+values_text text (Many least most p) v = flat_map (λ x. 32 ∷ word_text p x) v
+values_text text Inner v = 32 ∷ text v
+
+-- what can be said so
+abbrev pub AreSaid : {X : Type 0} → (fits : X → Type 0) → (s : Shape) → Values X s → Type 0
+AreSaid fits End v = Unit {0}
+AreSaid fits (p ▸ s) v = IsSaid p v.0 × AreSaid fits s v.1
+AreSaid fits (Many least most p) v = (least ≤ length v) × (length v ≤ most) × AllByRecursion (IsSaid p) v
+AreSaid fits Inner v = fits v
+
+-- ---- tables
+
+-- a form of line: its name, the words after it, and what they make
+pub record Row (X A : Type 0) : Type 0 where
+  pub name : Word
+  pub shape : Shape
+  pub make : Maker X shape A
+
+-- a row, and what the words of a line say
+pub record Entry (X A : Type 0) : Type 0 where
+  pub row : Row X A
+  pub values : Values X row.shape
+
+-- what a row makes of the bytes after its name
+abbrev pub row_at : {X A : Type 0} → (at : List ℕ → Option (X × List ℕ)) → Row X A → List ℕ → Option (A × List ℕ)
+row_at {X} at row bytes = values_at at row.shape bytes >>= λ v. Some (made X row.shape row.make v.0, v.1)
+
+-- what the row of this name makes of the bytes after it
+abbrev pub named_at : {X A : Type 0} → (at : List ℕ → Option (X × List ℕ)) → List (Row X A) → (name : Word) → List ℕ
+    → Option (A × List ℕ)
+named_at at [] name bytes = None
+named_at at (row ∷ rows) name bytes = if bytes_eq name row.name then row_at at row bytes else named_at at rows name
+    bytes
+
+-- what passes a test
+abbrev pub passed : {A : Type 0} → (A → Bool) → A × List ℕ → Option (A × List ℕ)
+passed test x = if test x.0 then Some x else None
+
+-- what a table makes of bytes, and the bytes after them
+abbrev pub table_at : {X A : Type 0} → (at : List ℕ → Option (X × List ℕ)) → List (Row X A) → (A → Bool) → List ℕ
+    → Option (A × List ℕ)
+table_at at rows test bytes = named_at at rows (front bytes) (back bytes) >>= passed test
+
+-- the bytes of an entry
+abbrev pub entry_text : {X A : Type 0} → (text : X → List ℕ) → Entry X A → List ℕ
+entry_text text e = e.row.name ++ values_text text e.row.shape e.values
+
+-- an entry whose words can be said
+abbrev pub IsEntry : {X A : Type 0} → (fits : X → Type 0) → Entry X A → Type 0
+IsEntry fits e = AreSaid fits e.row.shape e.values
+
+-- what can be said by a table
+abbrev pub IsOf : {X A : Type 0} → (X → Type 0) → (A → Entry X A) → (A → Bool) → A → Type 0
+IsOf fits entry test a = IsEntry fits (entry a) × (test a ≡ true)
+
+-- ---- what tables share
+
+-- a table with no other table in it
+abbrev pub none_at : List ℕ → Option (⊥ × List ℕ)
+none_at bytes = None
+
+abbrev pub none_text : ⊥ → List ℕ
+none_text x = absurd x
+
+abbrev pub none_fits : ⊥ → Type 0
+none_fits x = ⊥
+
+-- a number of 64, of 16, and of 8 bits, and one below a count
+abbrev pub U64 : Part
+U64 = Number 0 (2 ^ 64 - 1)
+
+abbrev pub U16 : Part
+U16 = Number 0 65535
+
+abbrev pub U8 : Part
+U8 = Number 0 255
+
+abbrev pub Below : ℕ → Part
+Below count = Number 0 (count - 1)

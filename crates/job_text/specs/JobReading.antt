@@ -1,0 +1,295 @@
+-- Reading a job line by line: the first bad line, and the first reason that applies to it.
+use Rattle.std.specs.Prelude.{ℕ, ◌+◌, ◌*◌, List, [], ◌∷◌, ◌++◌, length, map, Option, Some, None, Result, Ok, Err}
+use Rattle.std.specs.Prelude.{Bool, true, false}
+use Rattle.std.specs.Prelude.{not, ◌&&◌, ◌||◌, nat_le, nat_lt, ◌==◌, if◌then◌else◌}
+use Rattle.std.specs.List.{list_any}
+use Rattle.datagram_grammar.specs.Parameters.{Parameters, with_pair}
+use Rattle.datagram_grammar.specs.declared.pairs.PairCredits.{PairCredits}
+use Rattle.job_text.specs.Lines.{◌>>=◌, ended}
+use Rattle.job_text.specs.Reasons.{reason}
+use Rattle.job_text.specs.Places.{Setting, Version, Nodes, Credits, Threads, Segment, Last, Resend, Patience}
+use Rattle.job_text.specs.Places.{Place, AtSetting, AtSieve, AtPairs, AtHandlers, AtBody, AtSchedule, AtDone, Over}
+use Rattle.job_text.specs.Places.{PairOrSection, OfPair, OfSection, Item, item_at, item_form}
+use Rattle.job_text.specs.Places as places
+use Rattle.job_text.specs.declared.fault.JobWhy.{JobWhy}
+use Rattle.job_text.specs.declared.fault.JobWhy.TheVariants.{Size, Early, Entry, Count, After}
+use Rattle.job_text.specs.declared.job.Action.{Action}
+use Rattle.job_text.specs.declared.job.HandlerText.{HandlerText}
+use Rattle.job_text.specs.declared.job.Head.{Head}
+use Rattle.job_text.specs.declared.job.Job.{Job}
+use Rattle.job_text.specs.declared.job.ScheduledEvent.{ScheduledEvent}
+use Rattle.job_text.specs.declared.job.ScheduledEvent.TheVariants as event
+use Rattle.job_text.specs.declared.job.TimedEvent.{TimedEvent}
+use Rattle.job_text.specs.declared.sections.Section.{Section}
+use Rattle.job_text.specs.declared.sections.Section.TheVariants as section
+
+-- ---- what was read so far
+
+-- the next line's place, and the job that the lines before it say, in which all else is as small as it can be
+pub record State : Type 0 where
+  pub place : Place
+  pub job : Job
+
+-- a job of which no line was read
+abbrev pub least_job : Job
+least_job = record {
+  settings = record {
+    version = 1;
+    job = 0;
+    nodes = 1;
+    credits = 1;
+    pairs = [];
+    threads = 1;
+    segment = 4096;
+    last = 1;
+    resend = 1;
+  };
+  patience = 1;
+  sieve = record { lose = 0; repeat = 0; swap = 0 };
+  handlers = [];
+  schedule = None;
+}
+
+-- the job of a head alone
+abbrev pub job_of_head : Head → Job
+job_of_head head = record {
+  settings = head.settings;
+  patience = head.patience;
+  sieve = head.sieve;
+  handlers = [];
+  schedule = None;
+}
+
+-- before the first line
+abbrev pub start : State
+start = record { place = AtSetting Version; job = least_job }
+
+-- ---- what a line adds
+
+-- the number of a setting
+abbrev pub with_number : Setting → ℕ → Job → Job
+with_number Version number job = record job { settings = record job.settings { version = number } }
+with_number places.Job number job = record job { settings = record job.settings { job = number } }
+with_number Nodes number job = record job { settings = record job.settings { nodes = number } }
+with_number Credits number job = record job { settings = record job.settings { credits = number } }
+with_number Threads number job = record job { settings = record job.settings { threads = number } }
+with_number Segment number job = record job { settings = record job.settings { segment = number } }
+with_number Last number job = record job { settings = record job.settings { last = number } }
+with_number Resend number job = record job { settings = record job.settings { resend = number } }
+with_number Patience number job = record job { patience = number }
+
+-- the place behind a setting
+abbrev pub behind_setting : Setting → Place
+behind_setting Version = AtSetting places.Job
+behind_setting places.Job = AtSetting Nodes
+behind_setting Nodes = AtSetting Credits
+behind_setting Credits = AtSetting Threads
+behind_setting Threads = AtSetting Segment
+behind_setting Segment = AtSetting Last
+behind_setting Last = AtSetting Resend
+behind_setting Resend = AtSetting Patience
+behind_setting Patience = AtSieve
+
+-- a pair
+abbrev pub with_own : PairCredits → Job → Job
+with_own pair job = record job { settings = with_pair job.settings pair }
+
+-- an action
+abbrev pub with_action : Action → HandlerText → HandlerText
+with_action action handler = record handler { body = handler.body ++ action ∷ [] }
+
+-- a handler
+abbrev pub with_handler : HandlerText → Job → Job
+with_handler handler job = record job { handlers = job.handlers ++ handler ∷ [] }
+
+-- the lines of the schedule, none where there is none
+abbrev pub lines_of : Option (List TimedEvent) → List TimedEvent
+lines_of None = []
+lines_of (Some lines) = lines
+
+-- a line of the schedule
+abbrev pub with_line : TimedEvent → Job → Job
+with_line timed job = record job { schedule = Some (lines_of job.schedule ++ timed ∷ []) }
+
+-- ---- entries and counts
+
+-- whether a pair of nodes, or a handler's index, stood in a line before
+abbrev pub has_pair : List PairCredits → PairCredits → Bool
+has_pair pairs pair = list_any (λ other. (other.from == pair.from) && (other.to == pair.to)) pairs
+
+abbrev pub has_index : List HandlerText → ℕ → Bool
+has_index handlers index = not (index == 0) && list_any (λ other. other == index) (map
+    (λ handler. handler.index) handlers)
+
+-- the rounds of a line
+abbrev pub rounds_of : ScheduledEvent → ℕ
+rounds_of (event.Settle rounds) = rounds
+rounds_of other = 0
+
+-- the rounds of all lines
+abbrev pub total_rounds : List TimedEvent → ℕ
+total_rounds [] = 0
+total_rounds (timed ∷ others) = rounds_of timed.event + total_rounds others
+
+-- whether rounds of that many nodes are too many in all
+abbrev pub are_too_many : (nodes rounds : ℕ) → Bool
+are_too_many nodes rounds = nat_lt 4096 rounds || nat_lt 262144 (rounds * nodes)
+
+-- whether there is no room for the event behind so many lines and rounds
+abbrev pub is_full : (nodes lines rounds : ℕ) → ScheduledEvent → Bool
+is_full nodes lines rounds event = nat_le 65536 lines || are_too_many nodes (rounds + rounds_of event)
+
+-- the line where there is room for it
+abbrev pub admitted : (nodes lines rounds : ℕ) → TimedEvent → Option TimedEvent
+admitted nodes lines rounds timed = if is_full nodes lines rounds timed.event then None else Some timed
+
+-- why a handler with this index may not stand behind these
+abbrev pub handler_why : List HandlerText → (index : ℕ) → Option JobWhy
+handler_why handlers index =
+    if has_index handlers index then Some Entry else (if nat_le 128 (length handlers) then Some Count else None)
+
+-- why a pair may not
+abbrev pub pair_why : List PairCredits → PairCredits → Option JobWhy
+pair_why pairs pair = if has_pair pairs pair then Some Entry else (if nat_le 64
+    (length pairs) then Some Count else None)
+
+-- why an action may not
+abbrev pub action_why : List Action → Option JobWhy
+action_why actions = if nat_le 64 (length actions) then Some Count else None
+
+-- why a line of the schedule may not
+abbrev pub line_why : (nodes : ℕ) → List TimedEvent → TimedEvent → Option JobWhy
+line_why nodes lines timed = if is_full nodes (length lines) (total_rounds lines) timed.event then Some Count else None
+
+-- ---- a line
+
+-- what is read then, unless there is a reason against it
+abbrev pub unless : Option JobWhy → State → Result State JobWhy
+unless None state = Ok state
+unless (Some why) state = Err why
+
+-- behind the handlers, where a schedule comes or none
+abbrev pub behind_handlers : (schedule : Bool) → Job → State
+behind_handlers true job = record { place = AtSchedule; job = record job { schedule = Some [] } }
+behind_handlers false job = record { place = Over; job = job }
+
+-- behind a line that begins a part
+abbrev pub opened : Job → Section → Result State JobWhy
+opened job (section.Handler index role) =
+    unless (handler_why job.handlers index)
+    (record { place = AtBody (record { index = index; role = role; body = [] }); job = job })
+opened job section.Schedule = Ok (behind_handlers true job)
+opened job section.Done = Ok (behind_handlers false job)
+
+-- behind a pair, or such a line
+abbrev pub paired : Job → PairOrSection → Result State JobWhy
+paired job (OfPair pair) = unless (pair_why job.settings.pairs pair)
+    (record { place = AtPairs; job = with_own pair job })
+paired job (OfSection section) = opened job section
+
+-- behind an action, or the line `end`
+abbrev pub acted : HandlerText → Job → Option Action → Result State JobWhy
+acted handler job None = Ok (record { place = AtHandlers; job = with_handler handler job })
+acted handler job (Some action) =
+    unless (action_why handler.body) (record { place = AtBody (with_action action handler); job = job })
+
+-- behind a line of the schedule, or the line `end`
+abbrev pub scheduled : Job → Option TimedEvent → Result State JobWhy
+scheduled job None = Ok (record { place = AtDone; job = job })
+scheduled job (Some timed) =
+    unless (line_why job.settings.nodes (lines_of job.schedule) timed)
+    (record { place = AtSchedule; job = with_line timed job })
+
+-- what a line says adds to what was read
+abbrev pub next : (place : Place) → Job → Item place → Result State JobWhy
+next (AtSetting setting) job number = Ok (record {
+  place = behind_setting setting;
+  job = with_number setting number job;
+})
+next AtSieve job rule = Ok (record { place = AtPairs; job = record job { sieve = rule } })
+next AtPairs job item = paired job item
+next AtHandlers job section = opened job section
+next (AtBody handler) job item = acted handler job item
+next AtSchedule job item = scheduled job item
+next AtDone job item = Ok (record { place = Over; job = job })
+next Over job item = absurd item
+
+-- what the first line says, where `at` reads its words, and the bytes after the line
+abbrev pub lined : {A : Type 0} → (at : List ℕ → Option (A × List ℕ)) → List ℕ → Option (A × List ℕ)
+lined at bytes = at bytes >>= λ item. ended item.1 >>= λ rest. Some (item.0, rest)
+
+abbrev pub line_at : (place : Place) → Parameters → List ℕ → Option (Item place × List ℕ)
+line_at place settings bytes = lined (item_at place settings) bytes
+
+-- why it says nothing
+abbrev pub why_at : (place : Place) → Parameters → List ℕ → JobWhy
+why_at Over settings bytes = After
+why_at place settings bytes = reason (item_form place settings) bytes
+
+-- what was read, with the bytes after it
+abbrev pub onward : List ℕ → Result State JobWhy → Result (State × List ℕ) JobWhy
+onward rest (Err why) = Err why
+onward rest (Ok state) = Ok (state, rest)
+
+abbrev pub stepped : (place : Place) → Job → JobWhy → Option (Item place × List ℕ) → Result (State × List ℕ) JobWhy
+stepped place job why None = Err why
+stepped place job why (Some item) = onward item.1 (next place job item.0)
+
+-- what was read with the first line, and the bytes after it; or the first reason that applies to that line
+unfoldable pub step : State → List ℕ → Result (State × List ℕ) JobWhy
+step state bytes =
+    stepped state.place state.job (why_at state.place state.job.settings bytes)
+    (line_at state.place state.job.settings bytes)
+
+-- ---- line by line
+
+-- the first bad line, counted from 1, and its reason
+pub record BadLine : Type 0 where
+  pub line : ℕ
+  pub why : JobWhy
+
+-- behind the end of a line: the bytes from the next line on, if there is one, before those from the later lines on
+abbrev pub also_from : List ℕ → List (List ℕ) → List (List ℕ)
+also_from [] later = later
+also_from (b ∷ bytes) later = (b ∷ bytes) ∷ later
+
+-- for each line but the first one, the bytes from it on
+abbrev pub from_later_lines : List ℕ → List (List ℕ)
+from_later_lines [] = []
+from_later_lines (b ∷ bytes) =
+    if b == 10 then also_from bytes (from_later_lines bytes) else from_later_lines bytes
+
+-- for each line, the bytes from it on
+unfoldable pub from_lines : List ℕ → List (List ℕ)
+from_lines bytes = also_from bytes (from_later_lines bytes)
+
+-- the job behind its last line
+abbrev pub over_or : Place → Job → BadLine → Result Job BadLine
+over_or Over job bad = Ok job
+over_or place job bad = Err bad
+
+-- the text ends there
+abbrev pub at_end : State → (line : ℕ) → Result Job BadLine
+at_end state line = over_or state.place state.job (record { line = line; why = Early })
+
+-- a line was read, or not
+abbrev pub after_step : (line : ℕ) → (State → Result Job BadLine) → Result (State × List ℕ) JobWhy → Result Job BadLine
+after_step line more (Err why) = Err (record { line = line; why = why })
+after_step line more (Ok x) = more x.0
+
+-- the lines from these places on
+unfoldable pub run : State → (line : ℕ) → List (List ℕ) → Result Job BadLine
+run state line [] = at_end state line
+run state line (bytes ∷ later) = after_step line (λ then_state. run then_state (line + 1) later) (step state bytes)
+
+-- the bytes from a line on
+unfoldable pub read : State → (line : ℕ) → List ℕ → Result Job BadLine
+read state line bytes = run state line (from_lines bytes)
+
+-- the most bytes of a job's text
+abbrev pub limit : ℕ
+limit = 4194304
+
+-- what a text is read as
+unfoldable pub job_of : List ℕ → Result Job BadLine
+job_of bytes = if nat_lt limit (length bytes) then Err (record { line = 0; why = Size }) else read start 1 bytes

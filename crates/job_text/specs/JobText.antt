@@ -1,0 +1,142 @@
+-- The one text of a job.
+use Rattle.std.specs.Prelude.{◌≡◌, ◌≢◌, ℕ, ◌<◌, ◌≤◌, ◌*◌, ◌^◌, ◌⊎◌, ◌++◌, List, [], ◌∷◌, length, map, take, codes}
+use Rattle.std.specs.Prelude.{Option, Some, None, slice_get}
+use Rattle.std.specs.List.{AllByRecursion, flat_map}
+use Rattle.datagram_grammar.specs.Parameters.{Parameters, AreInRange, credits_in_all}
+use Rattle.datagram_grammar.specs.declared.pairs.PairCredits.{PairCredits}
+use Rattle.job_text.specs.Forms.{none_text, entry_text}
+use Rattle.job_text.specs.Bodies.{action_text, IsAction}
+use Rattle.job_text.specs.Events.{timed_text, IsTimed}
+use Rattle.job_text.specs.Places.{Setting, Version, Nodes, Credits, Threads, Segment, Last, Resend, Patience}
+use Rattle.job_text.specs.Places as places
+use Rattle.job_text.specs.Places.{setting_entry, sieve_entry, pair_entry, section_entry}
+use Rattle.job_text.specs.JobReading.{total_rounds, limit}
+use Rattle.job_text.specs.declared.job.HandlerText.{HandlerText}
+use Rattle.job_text.specs.declared.job.Job.{Job}
+use Rattle.job_text.specs.declared.job.SieveRule.{SieveRule}
+use Rattle.job_text.specs.declared.job.TimedEvent.{TimedEvent}
+use Rattle.job_text.specs.declared.sections.Section.TheVariants as section
+
+-- ---- lines
+
+-- the bytes of a line, without its ending byte
+abbrev pub Line : Type 0
+Line = List ℕ
+
+-- lines, each with its ending byte
+abbrev pub spell : List Line → List ℕ
+spell lines = flat_map (λ line. line ++ 10 ∷ []) lines
+
+-- the number of a setting
+abbrev pub number_of : Setting → Job → ℕ
+number_of Version job = job.settings.version
+number_of places.Job job = job.settings.job
+number_of Nodes job = job.settings.nodes
+number_of Credits job = job.settings.credits
+number_of Threads job = job.settings.threads
+number_of Segment job = job.settings.segment
+number_of Last job = job.settings.last
+number_of Resend job = job.settings.resend
+number_of Patience job = job.patience
+
+abbrev pub setting_line : Job → Setting → Line
+setting_line job setting = entry_text none_text (setting_entry setting (number_of setting job))
+
+abbrev pub all_settings : List Setting
+all_settings = Version ∷ places.Job ∷ Nodes ∷ Credits ∷ Threads ∷ Segment ∷ Last ∷ Resend ∷ Patience ∷ []
+
+abbrev pub sieve_line : SieveRule → Line
+sieve_line rule = entry_text none_text (sieve_entry rule)
+
+abbrev pub pair_line : PairCredits → Line
+pair_line pair = entry_text none_text (pair_entry pair)
+
+abbrev pub header_line : HandlerText → Line
+header_line handler = entry_text none_text (section_entry (section.Handler handler.index handler.role))
+
+-- the lines of a handler
+abbrev pub handler_lines : HandlerText → List Line
+handler_lines handler = header_line handler ∷ (map action_text handler.body ++ codes "end" ∷ [])
+
+-- the lines of a schedule
+abbrev pub timed_lines : Parameters → List TimedEvent → List Line
+timed_lines settings events = map (timed_text settings.nodes settings.threads) events
+
+-- the lines of the schedule, where there is one
+abbrev pub schedule_lines : Parameters → Option (List TimedEvent) → List Line
+schedule_lines settings None = []
+schedule_lines settings (Some events) = codes "schedule" ∷ (timed_lines settings events ++ codes "end" ∷ [])
+
+-- the lines before the pairs, before the handlers, and before the schedule
+abbrev pub head_lines : Job → List Line
+head_lines job = map (setting_line job) all_settings ++ sieve_line job.sieve ∷ []
+
+abbrev pub lines_with_pairs : Job → List Line
+lines_with_pairs job = head_lines job ++ map pair_line job.settings.pairs
+
+abbrev pub lines_with_handlers : Job → List Line
+lines_with_handlers job = lines_with_pairs job ++ flat_map handler_lines job.handlers
+
+-- the lines of a job
+abbrev pub job_lines : Job → List Line
+job_lines job = lines_with_handlers job ++ (schedule_lines job.settings job.schedule ++ codes "done" ∷ [])
+
+-- ---- ranges
+
+-- a handler whose index is 0 or a client's, with at most 64 actions
+pub record IsHandler (handler : HandlerText) : Type 0 where
+  pub index : (handler.index ≡ 0) ⊎ ((128 ≤ handler.index) × (handler.index < 256))
+  pub count : length handler.body ≤ 64
+  pub actions : AllByRecursion IsAction handler.body
+
+-- no index but 0 stands twice
+abbrev pub AreApart : List HandlerText → Type 0
+AreApart handlers =
+    (k l : ℕ) (one other : HandlerText) → slice_get handlers k ≡ Some one → slice_get handlers l ≡ Some other
+    → one.index ≢ 0 → one.index ≡ other.index → k ≡ l
+
+-- a schedule: at most 65,536 lines, and at most 4,096 rounds in all, which times the nodes are at most 262,144
+pub record IsSchedule (settings : Parameters) (events : List TimedEvent) : Type 0 where
+  pub count : length events ≤ 65536
+  pub rounds : total_rounds events ≤ 4096
+  pub rounds_of_nodes : total_rounds events * settings.nodes ≤ 262144
+  pub events_are : AllByRecursion (IsTimed settings.nodes settings.threads) events
+
+-- a schedule, where there is one
+abbrev pub IsScheduleOrNone : Parameters → Option (List TimedEvent) → Type 0
+IsScheduleOrNone settings None = Unit {0}
+IsScheduleOrNone settings (Some events) = IsSchedule settings events
+
+-- the three numbers of the sieve are in range
+pub record IsSieve (rule : SieveRule) : Type 0 where
+  pub lose : rule.lose ≤ 65535
+  pub repeat : rule.repeat ≤ 65535
+  pub swap : rule.swap ≤ 65535
+
+-- the settings with the first so many pairs
+abbrev pub with_first_pairs : ℕ → Parameters → Parameters
+with_first_pairs count settings = record settings { pairs = take count settings.pairs }
+
+-- a job whose words are in range; behind the line of each pair the sum of all credits is
+pub record IsJob (job : Job) : Type 0 where
+  pub settings : AreInRange job.settings
+  pub job_fits : job.settings.job < 2 ^ 64
+  pub last_fits : job.settings.last < 2 ^ 64
+  pub sums : (count : ℕ) → credits_in_all (with_first_pairs count job.settings) ≤ 65536
+  pub some_patience : 1 ≤ job.patience
+  pub patience : job.patience ≤ 1000000
+  pub sieve : IsSieve job.sieve
+  pub few_handlers : length job.handlers ≤ 128
+  pub handlers : AllByRecursion IsHandler job.handlers
+  pub apart : AreApart job.handlers
+  pub schedule : IsScheduleOrNone job.settings job.schedule
+
+-- the text of a job
+abbrev pub job_text : Job → List ℕ
+job_text job = spell (job_lines job)
+
+-- these bytes are the text of the job
+pub record JobText (job : Job) (bytes : List ℕ) : Type 0 where
+  pub is_job : IsJob job
+  pub text : bytes ≡ job_text job
+  pub within : length bytes ≤ limit

@@ -1,0 +1,13 @@
+pub mod Lines
+pub mod Words
+pub mod Forms
+pub mod Reasons
+pub mod Calls
+pub mod Events
+pub mod Bodies
+pub mod Reading
+pub mod Places
+pub mod JobReading
+pub mod HeadReading
+pub mod JobText
+pub mod Refusals

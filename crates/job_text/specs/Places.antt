@@ -1,0 +1,264 @@
+-- What may stand at each place of a job's text.
+use Rattle.std.specs.Prelude.{ℕ, ◌-◌, ◌*◌, ◌%◌, ◌^◌, List, [], ◌∷◌, Option, Some, None, Bool, true, false}
+use Rattle.std.specs.Prelude.{not, ◌&&◌, ◌||◌, nat_le, nat_lt, ◌==◌, if◌then◌else◌, codes}
+use Rattle.std.specs.Str.{bytes_eq}
+use Rattle.datagram_grammar.specs.Parameters.{Parameters, credits_in_all}
+use Rattle.datagram_grammar.specs.declared.pairs.PairCredits.{PairCredits}
+use Rattle.job_text.specs.Lines.{Word, ◌>>=◌, front, back}
+use Rattle.job_text.specs.Forms.{Number, Role, Shape, End, ◌▸◌, Maker, Row, Entry}
+use Rattle.job_text.specs.Forms.{table_at, entry_text, IsOf, none_at, none_text, none_fits, U8}
+use Rattle.job_text.specs.Reasons.{table_form, words_left}
+use Rattle.job_text.specs.Bodies.{action_at, action_form, action_text, IsAction}
+use Rattle.job_text.specs.Events.{timed_at, timed_form, timed_text, IsTimed}
+use Rattle.job_text.specs.declared.job.Action.{Action}
+use Rattle.job_text.specs.declared.job.HandlerText.{HandlerText}
+use Rattle.job_text.specs.declared.job.SieveRule.{SieveRule}
+use Rattle.job_text.specs.declared.job.TimedEvent.{TimedEvent}
+use Rattle.job_text.specs.declared.sections.Section.{Section}
+use Rattle.job_text.specs.declared.sections.Section.TheVariants as section
+
+-- ---- places
+
+-- the lines of a name and a number, in their order
+pub data Setting : Type 0 where
+  Version : Setting
+  Job : Setting
+  Nodes : Setting
+  Credits : Setting
+  Threads : Setting
+  Segment : Setting
+  Last : Setting
+  Resend : Setting
+  Patience : Setting
+
+-- what line comes next
+pub data Place : Type 0 where
+  AtSetting : Setting → Place
+  AtSieve : Place
+  AtPairs : Place  -- a pair, or what may stand instead
+  AtHandlers : Place  -- a handler, the schedule, or the end of the text
+  AtBody : HandlerText → Place  -- an action of this handler, whose former actions it has, or its end
+  AtSchedule : Place  -- a line of the schedule, or its end
+  AtDone : Place
+  Over : Place  -- none
+
+-- a line of a pair, or one that begins a part
+pub data PairOrSection : Type 0 where
+  OfPair : PairCredits → PairOrSection
+  OfSection : Section → PairOrSection
+
+-- what a line there says; none for the line `end`
+abbrev pub Item : Place → Type 0
+Item (AtSetting setting) = ℕ
+Item AtSieve = SieveRule
+Item AtPairs = PairOrSection
+Item AtHandlers = Section
+Item (AtBody handler) = Option Action
+Item AtSchedule = Option TimedEvent
+Item AtDone = Unit {0}
+Item Over = ⊥
+
+-- ---- lines of a name and a number
+
+abbrev pub setting_name : Setting → Word
+setting_name Version = codes "gasnet"
+setting_name Job = codes "job"
+setting_name Nodes = codes "nodes"
+setting_name Credits = codes "credits"
+setting_name Threads = codes "threads"
+setting_name Segment = codes "segment"
+setting_name Last = codes "last"
+setting_name Resend = codes "resend"
+setting_name Patience = codes "patience"
+
+-- the number is from `least` to `greatest`
+abbrev pub least : Setting → ℕ
+least Job = 0
+least Segment = 4096
+least setting = 1
+
+abbrev pub greatest : Setting → ℕ
+greatest Version = 2
+greatest Job = 2 ^ 64 - 1
+greatest Nodes = 256
+greatest Credits = 32
+greatest Threads = 16
+greatest Segment = 67108864
+greatest Last = 2 ^ 64 - 1
+greatest Resend = 1000000
+greatest Patience = 1000000
+
+-- and fits the settings before it
+abbrev pub setting_fits : Setting → Parameters → ℕ → Bool
+setting_fits Nodes settings number = nat_le number 64 || (settings.version == 2)
+setting_fits Credits settings number = nat_le (settings.nodes * (settings.nodes - 1) * number) 65536
+setting_fits Segment settings number = (number % 4096 == 0) && nat_le (settings.nodes * number) 268435456
+setting_fits setting settings number = true
+
+abbrev pub number_row : Word → (low high : ℕ) → Row ⊥ ℕ
+number_row name low high = record { name = name; shape = Number low high ▸ End; make = λ number. number }
+
+abbrev pub setting_row : Setting → Row ⊥ ℕ
+setting_row setting = number_row (setting_name setting) (least setting) (greatest setting)
+
+abbrev pub setting_entry : Setting → ℕ → Entry ⊥ ℕ
+setting_entry setting number = record { row = setting_row setting; values = (number, tt) }
+
+-- ---- the sieve
+
+abbrev pub sieve_row : Row ⊥ SieveRule
+sieve_row = record {
+  name = codes "sieve";
+  shape = Number 0 65535 ▸ Number 0 65535 ▸ Number 0 65535 ▸ End;
+  make = λ lose repeat swap. record { lose = lose; repeat = repeat; swap = swap };
+}
+
+abbrev pub sieve_entry : SieveRule → Entry ⊥ SieveRule
+sieve_entry rule = record { row = sieve_row; values = (rule.lose, (rule.repeat, (rule.swap, tt))) }
+
+-- ---- pairs
+
+abbrev pub pair_row : Row ⊥ PairCredits
+pair_row = record {
+  name = codes "pair";
+  shape = Number 0 255 ▸ Number 0 255 ▸ Number 1 32 ▸ End;
+  make = λ from to credits. record { from = from; to = to; credits = credits };
+}
+
+abbrev pub pair_entry : PairCredits → Entry ⊥ PairCredits
+pair_entry pair = record { row = pair_row; values = (pair.from, (pair.to, (pair.credits, tt))) }
+
+-- the settings where this pair has such credits, in place of those that it had
+abbrev pub in_place : Parameters → PairCredits → Parameters
+in_place settings pair = record settings { pairs = pair ∷ settings.pairs }
+
+-- two nodes that are there and differ, and credits with which all pairs have at most 65,536
+abbrev pub pair_fits : Parameters → PairCredits → Bool
+pair_fits settings pair =
+    nat_lt pair.from settings.nodes && (nat_lt pair.to settings.nodes && (not (pair.from == pair.to)
+    && nat_le (credits_in_all (in_place settings pair)) 65536))
+
+-- ---- lines that begin a part
+
+abbrev pub form : Word → (shape : Shape) → Maker ⊥ shape Section → Row ⊥ Section
+form name shape make = record { name = name; shape = shape; make = make }
+
+abbrev pub handler_row : Row ⊥ Section
+handler_row = form (codes "handler") (U8 ▸ Role ▸ End) section.Handler
+
+abbrev pub schedule_row : Row ⊥ Section
+schedule_row = form (codes "schedule") End section.Schedule
+
+abbrev pub done_row : Row ⊥ Section
+done_row = form (codes "done") End section.Done
+
+abbrev pub sections : List (Row ⊥ Section)
+sections = handler_row ∷ schedule_row ∷ done_row ∷ []
+
+-- how such a line is written
+abbrev pub section_entry : Section → Entry ⊥ Section
+section_entry (section.Handler index role) = record { row = handler_row; values = (index, (role, tt)) }
+section_entry section.Schedule = record { row = schedule_row; values = tt }
+section_entry section.Done = record { row = done_row; values = tt }
+
+-- the index of a handler is 0, or one of a client's
+abbrev pub section_fits : Section → Bool
+section_fits (section.Handler index role) = (index == 0) || nat_le 128 index
+section_fits other = true
+
+-- what reads such a line
+unfoldable pub section_at : List ℕ → Option (Section × List ℕ)
+section_at bytes = table_at none_at sections section_fits bytes
+
+unfoldable pub section_form : List ℕ → Bool
+section_form bytes = table_form (λ b. false) sections bytes
+
+-- ---- lines up to the line `end`
+
+-- the line `end`, or what reads another
+abbrev pub end_or : {A : Type 0} → (List ℕ → Option (A × List ℕ)) → List ℕ → Option (Option A × List ℕ)
+end_or at bytes =
+    if bytes_eq (front bytes) (codes "end") then Some (None, back bytes) else (at bytes >>= λ x. Some (Some x.0, x.1))
+
+-- its text
+abbrev pub end_or_text : {A : Type 0} → (A → List ℕ) → Option A → List ℕ
+end_or_text text None = codes "end"
+end_or_text text (Some item) = text item
+
+-- what can be said so
+abbrev pub end_or_fits : {A : Type 0} → (A → Type 0) → Option A → Type 0
+end_or_fits fits None = Unit {0}
+end_or_fits fits (Some item) = fits item
+
+-- ---- a line by its place
+
+-- a pair, or what begins a part
+unfoldable pub pair_at : Parameters → List ℕ → Option (PairCredits × List ℕ)
+pair_at settings bytes = table_at none_at (pair_row ∷ []) (pair_fits settings) bytes
+
+abbrev pub pair_or_section_at : Parameters → List ℕ → Option (PairOrSection × List ℕ)
+pair_or_section_at settings bytes =
+    if bytes_eq (front bytes) (codes "pair") then (pair_at settings bytes >>= λ x. Some (OfPair x.0, x.1))
+    else (section_at bytes >>= λ x. Some (OfSection x.0, x.1))
+
+abbrev pub pair_or_section_form : List ℕ → Bool
+pair_or_section_form bytes =
+    if bytes_eq (front bytes) (codes "pair") then words_left (back bytes) == 3 else section_form bytes
+
+abbrev pub pair_or_section_text : PairOrSection → List ℕ
+pair_or_section_text (OfPair pair) = entry_text none_text (pair_entry pair)
+pair_or_section_text (OfSection section) = entry_text none_text (section_entry section)
+
+abbrev pub IsPairOrSection : Parameters → PairOrSection → Type 0
+IsPairOrSection settings (OfPair pair) = IsOf none_fits pair_entry (pair_fits settings) pair
+IsPairOrSection settings (OfSection section) = IsOf none_fits section_entry section_fits section
+
+-- the line `done`
+abbrev pub done_at : List ℕ → Option (Unit {0} × List ℕ)
+done_at bytes = if bytes_eq (front bytes) (codes "done") then Some (tt, back bytes) else None
+
+-- what reads the words of a line
+abbrev pub item_at : (place : Place) → Parameters → List ℕ → Option (Item place × List ℕ)
+item_at (AtSetting setting) settings bytes =
+    table_at none_at (setting_row setting ∷ []) (setting_fits setting settings) bytes
+item_at AtSieve settings bytes = table_at none_at (sieve_row ∷ []) (λ rule. true) bytes
+item_at AtPairs settings bytes = pair_or_section_at settings bytes
+item_at AtHandlers settings bytes = section_at bytes
+item_at (AtBody handler) settings bytes = end_or action_at bytes
+item_at AtSchedule settings bytes = end_or (timed_at settings.nodes settings.threads) bytes
+item_at AtDone settings bytes = done_at bytes
+item_at Over settings bytes = None
+
+-- whether a line has a form that may stand there, where it isn't the line `end`
+abbrev pub item_form : (place : Place) → Parameters → List ℕ → Bool
+item_form (AtSetting setting) settings bytes = table_form (λ b. false) (setting_row setting ∷ []) bytes
+item_form AtSieve settings bytes = table_form (λ b. false) (sieve_row ∷ []) bytes
+item_form AtPairs settings bytes = pair_or_section_form bytes
+item_form AtHandlers settings bytes = section_form bytes
+item_form (AtBody handler) settings bytes = action_form bytes
+item_form AtSchedule settings bytes = timed_form settings.nodes settings.threads bytes
+item_form AtDone settings bytes = false
+item_form Over settings bytes = false
+
+-- the words of a line
+abbrev pub item_text : (place : Place) → Parameters → Item place → List ℕ
+item_text (AtSetting setting) settings number = entry_text none_text (setting_entry setting number)
+item_text AtSieve settings rule = entry_text none_text (sieve_entry rule)
+item_text AtPairs settings item = pair_or_section_text item
+item_text AtHandlers settings section = entry_text none_text (section_entry section)
+item_text (AtBody handler) settings item = end_or_text action_text item
+item_text AtSchedule settings item = end_or_text (timed_text settings.nodes settings.threads) item
+item_text AtDone settings item = codes "done"
+item_text Over settings item = absurd item
+
+-- what can be said there
+abbrev pub IsItem : (place : Place) → Parameters → Item place → Type 0
+IsItem (AtSetting setting) settings number =
+    IsOf none_fits (setting_entry setting) (setting_fits setting settings) number
+IsItem AtSieve settings rule = IsOf none_fits sieve_entry (λ r. true) rule
+IsItem AtPairs settings item = IsPairOrSection settings item
+IsItem AtHandlers settings section = IsOf none_fits section_entry section_fits section
+IsItem (AtBody handler) settings item = end_or_fits IsAction item
+IsItem AtSchedule settings item = end_or_fits (IsTimed settings.nodes settings.threads) item
+IsItem AtDone settings item = Unit {0}
+IsItem Over settings item = ⊥

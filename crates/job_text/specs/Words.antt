@@ -1,0 +1,138 @@
+-- What a word says, and the word that says it.
+use Rattle.std.specs.Prelude.{◌≡◌, ℕ, ℤ, pos, neg_ℤ, ◌<◌, ◌^◌, List, [], ◌∷◌, length, Option, Some, None, false, ◌&&◌}
+use Rattle.std.specs.Prelude.{nat_lt, nat_le, ◌==◌, if◌then◌else◌, codes, decimal, slice_index, drop}
+use Rattle.std.specs.Int.{w32}
+use Rattle.std.specs.Int.RustNames.{FitsSigned}
+use Rattle.std.specs.Fmt.{signed_decimal}
+use Rattle.std.specs.Str.{bytes_eq}
+use Rattle.std.specs.Str.Parse.{digits_value}
+use Rattle.std.specs.Int.{IsInRange}
+use Rattle.job_text.specs.Lines.{Word, ◌>>=◌, is_stop, front, back}
+use Rattle.job_text.specs.declared.job.Operand.{Operand}
+use Rattle.job_text.specs.declared.job.Operand.TheVariants as operand
+use Rattle.handler_rules.specs.declared.rules.CallKind.{CallKind}
+use Rattle.handler_rules.specs.declared.rules.CallKind.TheVariants as kind
+use Rattle.handler_rules.specs.declared.rules.Role.{Role}
+use Rattle.handler_rules.specs.declared.rules.Role.TheVariants as role
+
+-- the number below 2 ^ 64 whose decimal text, without leading zero, the word is
+unfoldable pub number_of : Word → Option ℕ
+number_of word = if bytes_eq word (decimal (digits_value 10 word)) && nat_lt (digits_value 10 word)
+    (2 ^ 64) then Some (digits_value 10 word) else None
+
+-- the number that the first word is, and the bytes after it
+unfoldable pub number_read : List ℕ → Option (ℕ × List ℕ)
+number_read bytes = number_of (front bytes) >>= λ n. Some (n, back bytes)
+
+-- a digit stands at a place
+abbrev pub HasDigit : List ℕ → ℕ → Type 0
+HasDigit bytes i = (i < length bytes) × IsInRange 48 57 (slice_index bytes i)
+
+-- a number of 64 bits
+abbrev pub fitting : ℕ → Option ℕ
+fitting n = if nat_lt n (2 ^ 64) then Some n else None
+
+-- a digit follows a zero at the front
+abbrev pub IsPadded : List ℕ → ℕ → Type 0
+IsPadded bytes end = (slice_index bytes 0 ≡ 48) × (1 < end)
+
+-- the word goes on at a place
+abbrev pub GoesOn : List ℕ → ℕ → Type 0
+GoesOn bytes i = (i < length bytes) × (is_stop (slice_index bytes i) ≡ false)
+
+-- a number of a range
+abbrev pub within : (low high : ℕ) → ℕ → Option ℕ
+within low high n = if nat_le low n && nat_le n high then Some n else None
+
+-- a word that is a number of the range
+unfoldable pub number_in : (low high : ℕ) → Word → Option ℕ
+number_in low high word = number_of word >>= within low high
+
+-- a number below 2 ^ 31
+abbrev pub plain : ℕ → Option ℤ
+plain n = if nat_lt n (2 ^ 31) then Some (pos n) else None
+
+-- a number from 1 to 2 ^ 31, negated
+abbrev pub negated : ℕ → Option ℤ
+negated n = if nat_le 1 n && nat_le n (2 ^ 31) then Some (neg_ℤ (pos n)) else None
+
+-- the number of 32 bits whose decimal text the word is
+unfoldable pub integer_of : Word → Option ℤ
+integer_of word = if slice_index word 0 == 45 then (number_of (drop 1 word) >>= negated) else (number_of word >>= plain)
+
+-- the same of the first word, and the bytes after it
+unfoldable pub integer_read : List ℕ → Option (ℤ × List ℕ)
+integer_read bytes = if slice_index bytes 0 == 45 then (number_read (drop 1 bytes) >>= λ x. negated x.0 >>= λ z. Some
+    (z, x.1)) else (number_read bytes >>= λ x. plain x.0 >>= λ z. Some (z, x.1))
+
+-- a number of a schedule: itself, or `cN`
+unfoldable pub schedule_operand : Word → Option Operand
+schedule_operand word = if slice_index word 0 == 99 then (number_in 0 255 (drop 1 word) >>= λ n. Some
+    (operand.Cell n)) else (integer_of word >>= λ z. Some (operand.Number z))
+
+-- a number of a handler's body: also `aN`
+unfoldable pub body_operand : Word → Option Operand
+body_operand word = if slice_index word 0 == 97 then (number_in 0 15 (drop 1 word) >>= λ n. Some
+    (operand.Argument n)) else schedule_operand word
+
+-- the word of a number of an action
+abbrev pub operand_word : Operand → Word
+operand_word (operand.Number n) = signed_decimal n
+operand_word (operand.Cell cell) = 99 ∷ decimal cell
+operand_word (operand.Argument place) = 97 ∷ decimal place
+
+-- a number of a handler's body
+abbrev pub IsBodyOperand : Operand → Type 0
+IsBodyOperand (operand.Number n) = FitsSigned w32 n
+IsBodyOperand (operand.Cell cell) = cell < 256
+IsBodyOperand (operand.Argument place) = place < 16
+
+-- a number of a schedule
+abbrev pub IsScheduleOperand : Operand → Type 0
+IsScheduleOperand (operand.Number n) = FitsSigned w32 n
+IsScheduleOperand (operand.Cell cell) = cell < 256
+IsScheduleOperand (operand.Argument place) = ⊥
+
+-- the word of a kind of call; the last three have none in a text
+abbrev pub kind_word : CallKind → Word
+kind_word kind.Request = codes "request"
+kind_word kind.Reply = codes "reply"
+kind_word kind.Poll = codes "poll"
+kind_word kind.Transfer = codes "transfer"
+kind_word kind.Sync = codes "sync"
+kind_word kind.Region = codes "region"
+kind_word kind.Barrier = codes "barrier"
+kind_word kind.Source = codes "source"
+kind_word kind.Lock = []
+kind_word kind.Unlock = []
+kind_word kind.Return = []
+
+-- the kinds of calls that have a word
+abbrev pub IsNamed : CallKind → Type 0
+IsNamed kind.Lock = ⊥
+IsNamed kind.Unlock = ⊥
+IsNamed kind.Return = ⊥
+IsNamed k = Unit {0}
+
+-- a kind of call that has a word
+unfoldable pub kind_of : Word → Option CallKind
+kind_of word =
+    if bytes_eq word (codes "request") then Some kind.Request else (
+    if bytes_eq word (codes "reply") then Some kind.Reply else (
+    if bytes_eq word (codes "poll") then Some kind.Poll else (
+    if bytes_eq word (codes "transfer") then Some kind.Transfer else (
+    if bytes_eq word (codes "sync") then Some kind.Sync else (
+    if bytes_eq word (codes "region") then Some kind.Region else (
+    if bytes_eq word (codes "barrier") then Some kind.Barrier else (
+    if bytes_eq word (codes "source") then Some kind.Source else None)))))))
+
+-- the word of a role
+abbrev pub role_word : Role → Word
+role_word role.Request = codes "request"
+role_word role.Reply = codes "reply"
+
+-- a role by its word
+unfoldable pub role_of : Word → Option Role
+role_of word =
+    if bytes_eq word (codes "request") then Some role.Request else (
+    if bytes_eq word (codes "reply") then Some role.Reply else None)

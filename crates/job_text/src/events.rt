@@ -1,0 +1,127 @@
+//! Reading lines of a schedule.
+
+ghost use Rattle.std.specs.Prelude.{◌≡◌, ◌-◌};
+ghost use Rattle.job_text.specs.Events.{event_at, timed_at, event_form, timed_form};
+ghost use Rattle.job_text.specs.Forms.{Number, part_at};
+ghost use Rattle.job_text.specs.Reading.{Finds, Reads};
+
+use crate::calls::{call_at, call_form};
+use crate::fault::{Miss, Other};
+use crate::job::{ScheduledEvent, TimedEvent};
+use crate::numbers::{number_at, number_here, short_at};
+use crate::reasons::{skipped, words_left};
+use crate::words::{is_name, name_of, spaced};
+use std::alloc::Global;
+
+/// A number below a count behind a space; 0 alone where there is none below it.
+fn index_at(bytes: &[u8], count: u16) -> Result<(u16, &[u8]), Other>
+    ensures { Finds (λ x. (x.0, x.1.now)) result (part_at (Number 0 (count - 1)) bytes.now) }
+{
+    short_at(bytes, count.saturating_sub(1))
+}
+
+/// The event that a line says, and the bytes after it.
+#[tactic(auto, unfolding(crate::specs::Events::event_at))]
+fn event_at(
+    alloc: Global,
+    nodes: u16,
+    threads: u16,
+    bytes: &[u8],
+) -> Result<(ScheduledEvent, &[u8]), Miss>
+    ensures { Reads (λ x. (x.0, x.1.now)) result (event_at nodes threads bytes.now) }
+{
+    let (name, rest) = name_of(bytes);
+    if is_name(name, b"call") {
+        let (node, rest) = index_at(rest, nodes)?;
+        let (thread, rest) = index_at(rest, threads)?;
+        let (call, rest) = call_at(alloc, spaced(rest)?)?;
+        return Ok((ScheduledEvent::Call { node, thread, call }, rest));
+    }
+    if is_name(name, b"request") {
+        let (from, rest) = index_at(rest, nodes)?;
+        let (to, rest) = index_at(rest, nodes)?;
+        let (number, rest) = number_at(rest, 1, u64::MAX)?;
+        if from == to {
+            return Err(Miss::Unlike);
+        }
+        return Ok((ScheduledEvent::Request { from, to, number }, rest));
+    }
+    if is_name(name, b"reply") {
+        let (from, rest) = index_at(rest, nodes)?;
+        let (to, rest) = index_at(rest, nodes)?;
+        let (number, rest) = number_at(rest, 1, u64::MAX)?;
+        if from == to {
+            return Err(Miss::Unlike);
+        }
+        return Ok((ScheduledEvent::Reply { from, to, number }, rest));
+    }
+    if is_name(name, b"tick") {
+        let (node, rest) = index_at(rest, nodes)?;
+        return Ok((ScheduledEvent::Tick { node }, rest));
+    }
+    if is_name(name, b"settle") {
+        let (rounds, rest) = number_at(rest, 1, 4_096)?;
+        return Ok((
+            ScheduledEvent::Settle {
+                rounds: rounds as u32,
+            },
+            rest,
+        ));
+    }
+    Err(Miss::Unlike)
+}
+
+/// The line of a schedule that bytes begin with, and the bytes after it.
+#[tactic(auto, unfolding(crate::specs::Events::timed_at))]
+pub fn timed_at(
+    alloc: Global,
+    nodes: u16,
+    threads: u16,
+    bytes: &[u8],
+) -> Result<(TimedEvent, &[u8]), Miss>
+    ensures { Reads (λ x. (x.0, x.1.now)) result (timed_at nodes threads bytes.now) }
+{
+    let (time, rest) = number_here(bytes, 0, u64::MAX)?;
+    let (event, rest) = event_at(alloc, nodes, threads, spaced(rest)?)?;
+    Ok((TimedEvent { time, event }, rest))
+}
+
+/// Whether bytes have the form of an event.
+#[tactic(auto, unfolding(crate::specs::Events::event_form))]
+fn event_form(nodes: u16, threads: u16, bytes: &[u8]) -> bool
+    ensures { result ≡ event_form nodes threads bytes.now }
+{
+    let (name, rest) = name_of(bytes);
+    if is_name(name, b"call") {
+        return match spaced(skipped(skipped(rest))) {
+            Ok(line) => call_form(line),
+            Err(_) => false,
+        };
+    }
+    let count = words_left(rest);
+    if is_name(name, b"request") {
+        return count == 3;
+    }
+    if is_name(name, b"reply") {
+        return count == 3;
+    }
+    if is_name(name, b"tick") {
+        return count == 1;
+    }
+    if is_name(name, b"settle") {
+        return count == 1;
+    }
+    false
+}
+
+/// Whether bytes have the form of a line of a schedule.
+#[tactic(auto, unfolding(crate::specs::Events::timed_form))]
+pub fn timed_form(nodes: u16, threads: u16, bytes: &[u8]) -> bool
+    ensures { result ≡ timed_form nodes threads bytes.now }
+{
+    let (_, rest) = name_of(bytes);
+    match spaced(rest) {
+        Ok(line) => event_form(nodes, threads, line),
+        Err(_) => false,
+    }
+}

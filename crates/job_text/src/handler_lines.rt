@@ -1,0 +1,160 @@
+//! Reading the handlers of a job.
+
+ghost use Rattle.std.specs.Prelude.{◌≡◌, ◌+◌, ◌≤◌, ◌==◌, [], length, map, IfOk};
+ghost use Rattle.job_text.specs.Places.{AtHandlers, AtBody, end_or};
+ghost use Rattle.job_text.specs.Bodies.{action_at};
+ghost use Rattle.job_text.specs.JobReading.{State, lined, has_index, job_of_head, with_handler, handler_why, read};
+ghost use Rattle.job_text.specs.Lines.{front};
+ghost use Rattle.job_text.specs.Reading.{Reads, Continues, GivesAt};
+ghost use Rattle.job_text.specs.declared.job.Job.{Job as JobState};
+ghost use Rattle.std.specs.List.{list_any};
+ghost use Rattle.std.specs.Str.{bytes_eq};
+ghost use Rattle.std.specs.Prelude.{codes};
+
+use crate::bodies::{action_at, action_form};
+use crate::endings::{job_with, tail_at};
+use crate::fault::{JobFault, JobWhy, Miss, Other};
+use crate::job::{Action, Body, HandlerText, Head, Job};
+use crate::operands::starts;
+use crate::reasons::reason_of;
+use crate::sections::{Section, section_form, section_line};
+use crate::words::{ended, is_name, name_of};
+use handler_rules::Role;
+use std::alloc::Global;
+
+/// The most handlers of a job.
+const HANDLERS: usize = 128;
+/// The most actions of a handler.
+const ACTIONS: usize = 64;
+
+/// Whether bytes begin with the word `end`. A line that begins with another byte is told by it.
+#[tactic(auto, using(crate::proofs::PlaceLaws::no_end))]
+pub fn is_end(bytes: &[u8]) -> bool
+    ensures { result ≡ bytes_eq (front bytes.now) (codes "end") }
+{
+    if !starts(bytes, b'e') {
+        return false;
+    }
+    let (word, _) = name_of(bytes);
+    is_name(word, b"end")
+}
+
+/// The action of the next line, or none at the line `end`, and the bytes after it.
+fn next_action(alloc: Global, bytes: &[u8]) -> Result<(Option<Action>, &[u8]), Miss>
+    ensures { Reads (λ x. (x.0, x.1.now)) result (lined (end_or action_at) bytes.now) }
+{
+    if is_end(bytes) {
+        let (_, rest) = name_of(bytes);
+        let rest = ended(rest)?;
+        return Ok((None, rest));
+    }
+    let (action, rest) = action_at(alloc, bytes)?;
+    let rest = ended(rest)?;
+    Ok((Some(action), rest))
+}
+
+/// The actions of a handler up to the line `end`, with the next line's number and the bytes after it.
+fn body_at(
+    alloc: Global,
+    index: u8,
+    role: Role,
+    first: u32,
+    bytes: &[u8],
+) -> Result<(Body, u32, &[u8]), JobFault>
+    requires { first ≤ 1000000 }
+    ensures value { (job : JobState) →
+        Continues (λ x. read (record { place = AtHandlers; job = with_handler (record { index = index; role = role; body = x.0 }) job }) x.1 x.2.now)
+        result (read (record { place = AtBody (record { index = index; role = role; body = [] }); job = job }) first bytes.now) }
+    ensures later { IfOk result (λ x. x.1 ≤ first + 65) }
+{
+    let mut actions = Vec::new(alloc);
+    let mut rest = bytes;
+    let mut line = first;
+    loop {
+        let (next, after) = match next_action(alloc, rest) {
+            Ok(read) => read,
+            Err(Miss::NoMemory) => return Err(JobFault::NoMemory),
+            Err(Miss::Unlike) => {
+                let why = reason_of(action_form(rest), rest);
+                return Err(JobFault::Bad { line, why });
+            }
+        };
+        let Some(action) = next else {
+            return Ok((Body { actions }, line + 1, after));
+        };
+        if actions.len() >= ACTIONS {
+            let why = JobWhy::Count;
+            return Err(JobFault::Bad { line, why });
+        }
+        actions.push(action)?;
+        rest = after;
+        line += 1;
+    }
+}
+
+/// Whether a handler has this index.
+fn is_taken(handlers: &[HandlerText], index: u8) -> bool
+    ensures { result ≡ list_any (λ t. t == index) (map (λ h. h.index) handlers.now) }
+{
+    handlers.iter().any(|handler| handler.index == index)
+}
+
+/// Whether a handler has this index, and it isn't 0.
+fn has_index(handlers: &[HandlerText], index: u8) -> bool
+    ensures { result ≡ has_index handlers.now index }
+{
+    index != 0 && is_taken(handlers, index)
+}
+
+/// Why a handler with this index may not stand behind these.
+fn why_not(handlers: &[HandlerText], index: u8) -> Option<JobWhy>
+    ensures { result ≡ handler_why handlers.now index }
+{
+    if has_index(handlers, index) {
+        return Some(JobWhy::Entry);
+    }
+    if handlers.len() >= HANDLERS {
+        return Some(JobWhy::Count);
+    }
+    None
+}
+
+/// The job of a head, of the handlers that come next, and of what comes behind them.
+pub fn handlers_at(alloc: Global, head: Head, first: u32, bytes: &[u8]) -> Result<Job, JobFault>
+    requires { first ≤ 1000 }
+    ensures { GivesAt (λ j. j) result (read (record { place = AtHandlers; job = job_of_head head })
+        first bytes.now) }
+{
+    let mut texts = Vec::new(alloc);
+    let mut rest = bytes;
+    let mut line = first;
+    loop {
+        let (section, after) = match section_line(rest) {
+            Ok(read) => read,
+            Err(Other) => {
+                let why = reason_of(section_form(rest), rest);
+                return Err(JobFault::Bad { line, why });
+            }
+        };
+        match section {
+            Section::Handler { index, role } => {
+                if let Some(why) = why_not(&texts, index) {
+                    return Err(JobFault::Bad { line, why });
+                }
+                let (body, later, after) = match body_at(alloc, index, role, line + 1, after) {
+                    Ok(read) => read,
+                    Err(fault) => return Err(fault),
+                };
+                texts.push(HandlerText { index, role, body })?;
+                rest = after;
+                line = later;
+            }
+            Section::Schedule => {
+                return tail_at(alloc, job_with(head, texts), true, line + 1, after);
+            }
+            Section::Done => {
+                return tail_at(alloc, job_with(head, texts), false, line + 1, after);
+            }
+        }
+    }
+}

@@ -1,0 +1,266 @@
+//! What the text of a job says, as values.
+
+ghost use Rattle.std.specs.Prelude.{◌≡◌, ◌≤◌, length};
+ghost use Rattle.job_text.specs.JobReading.{lines_of};
+
+use datagram_grammar::Settings;
+use handler_rules::{CallKind, Role};
+use std::marker::Model;
+
+/// A number as an action has it.
+#[derive(Clone, Copy, Debug, PartialEq, Eq)]
+pub enum Operand {
+    /// The number itself.
+    Number(i32),
+    /// What the cell holds as the action begins.
+    Cell(u8),
+    /// An argument of the message that a handler runs for, or 0 where there is none; 0 to 15 where the job was read.
+    Argument(u8),
+}
+
+/// A list of at most 17 operands.
+#[derive(Debug, Drop)]
+pub struct Operands {
+    pub(crate) items: Vec<Operand>,
+}
+
+impl Model for Operands {
+    ghost use Rattle.std.specs.Prelude.{◌≤◌, List, length};
+    ghost use Rattle.job_text.specs.declared.job.Operand.{Operand};
+
+    ghost Value = { List Operand };
+
+    ghost view = { λ v. v.items.items };
+
+    ghost invariant = { λ v. length v.items.items ≤ 17 };
+}
+
+/// What a handler's body does; each action in its turn.
+#[derive(Debug, Drop)]
+pub enum Action {
+    /// The cell rises by the number, wrapping.
+    Add { cell: u8, operand: Operand },
+    /// The cell becomes the number.
+    SetCell { cell: u8, operand: Operand },
+    /// The cell becomes the number of the node that sent the message.
+    Source { cell: u8 },
+    /// A call that does nothing but be judged.
+    Attempt { call: CallKind },
+    /// A reply.
+    Reply { reply: ReplyAction },
+}
+
+/// A reply of a handler's body.
+#[derive(Debug, Drop)]
+pub enum ReplyAction {
+    /// A Short one.
+    Short { handler: u8, operands: Operands },
+}
+
+/// A call of a thread in a schedule.
+#[derive(Debug, Drop)]
+pub enum ScheduledCall {
+    /// A Short request.
+    Short {
+        to: u16,
+        handler: u8,
+        operands: Operands,
+    },
+    /// A poll.
+    Poll,
+    /// A call that is judged alone.
+    Attempt {
+        call: CallKind,
+    },
+    /// The number in a cell.
+    Cell {
+        cell: u8,
+    },
+    /// Puts a number into a cell.
+    SetCell {
+        cell: u8,
+        operand: Operand,
+    },
+}
+
+/// What a line of the schedule asks for.
+#[derive(Debug, Drop)]
+pub enum ScheduledEvent {
+    /// A thread of a node makes a call.
+    Call {
+        node: u16,
+        thread: u16,
+        call: ScheduledCall,
+    },
+    /// The delivery of a request.
+    Request {
+        from: u16,
+        to: u16,
+        number: u64,
+    },
+    /// The delivery of the reply to a request.
+    Reply {
+        from: u16,
+        to: u16,
+        number: u64,
+    },
+    /// A tick of a node.
+    Tick {
+        node: u16,
+    },
+    /// Rounds of ticks and deliveries.
+    Settle {
+        rounds: u32,
+    },
+}
+
+/// A line of the schedule.
+#[derive(Debug, Drop)]
+pub struct TimedEvent {
+    /// The time, in milliseconds.
+    pub time: u64,
+    /// What happens then.
+    pub event: ScheduledEvent,
+}
+
+/// The actions of a handler, at most 64 where the job was read.
+#[derive(Debug, Drop)]
+pub struct Body {
+    pub(crate) actions: Vec<Action>,
+}
+
+impl Model for Body {
+    ghost use Rattle.std.specs.Prelude.{List};
+    ghost use Rattle.job_text.specs.declared.job.Action.{Action};
+
+    ghost Value = { List Action };
+
+    ghost view = { λ b. b.actions.items };
+}
+
+/// A handler, as the text names it: index 0 asks for the lowest free one.
+#[derive(Debug, Drop)]
+pub struct HandlerText {
+    /// 0, or 128 to 255 where the job was read.
+    pub index: u8,
+    /// Whether it runs for requests or for replies.
+    pub role: Role,
+    /// What it does.
+    pub body: Body,
+}
+
+/// The handlers of a job, at most 128 where it was read.
+#[derive(Debug, Drop)]
+pub struct HandlerTexts {
+    pub(crate) texts: Vec<HandlerText>,
+}
+
+impl Model for HandlerTexts {
+    ghost use Rattle.std.specs.Prelude.{List};
+    ghost use Rattle.job_text.specs.declared.job.HandlerText.{HandlerText};
+
+    ghost Value = { List HandlerText };
+
+    ghost view = { λ h. h.texts.items };
+}
+
+/// The lines of a schedule, at most 65,536 where the job was read.
+#[derive(Debug, Drop)]
+pub struct Schedule {
+    pub(crate) lines: Vec<TimedEvent>,
+}
+
+impl Model for Schedule {
+    ghost use Rattle.std.specs.Prelude.{List};
+    ghost use Rattle.job_text.specs.declared.job.TimedEvent.{TimedEvent};
+
+    ghost Value = { List TimedEvent };
+
+    ghost view = { λ s. s.lines.items };
+}
+
+/// Which datagrams a link's sieve loses, repeats and swaps, each number 0 to 65,535 where the job was read.
+#[derive(Clone, Copy, Debug, PartialEq, Eq)]
+pub struct SieveRule {
+    /// Every so-manyth datagram is lost; none for 0.
+    pub lose: u32,
+    /// Every so-manyth datagram is sent twice; none for 0.
+    pub repeat: u32,
+    /// Every so-manyth datagram is held back until after the next one; none for 0.
+    pub swap: u32,
+}
+
+/// A job: the settings of all nodes, its handlers, and its schedule.
+#[derive(Drop)]
+pub struct Job {
+    /// The numbers that all nodes know.
+    pub settings: Settings,
+    /// After how many quiet turns a node stops waiting, 1 to 1,000,000 where the job was read.
+    pub patience: u32,
+    /// What a link's sieve does.
+    pub sieve: SieveRule,
+    /// The handlers, in the order in which they stand in the text.
+    pub handlers: HandlerTexts,
+    /// The lines of the schedule, where the text has one.
+    pub schedule: Option<Schedule>,
+}
+
+/// The head of a job.
+#[derive(Clone, Copy)]
+pub(crate) struct Head {
+    /// The numbers that all nodes know.
+    pub settings: Settings,
+    /// After how many quiet turns a node stops waiting.
+    pub patience: u32,
+    /// What a link's sieve does.
+    pub sieve: SieveRule,
+}
+
+impl Operands {
+    /// The operands, at most 17.
+    pub fn items(&self) -> &[Operand]
+        ensures items { result.now ≡ self.now }
+        ensures few { length result.now ≤ 17 }
+    {
+        &self.items
+    }
+}
+
+impl Body {
+    /// The actions, in their order.
+    pub fn actions(&self) -> &[Action]
+        ensures { result.now ≡ self.now }
+    {
+        &self.actions
+    }
+}
+
+impl HandlerTexts {
+    /// The handlers, in the order in which they stand in the text.
+    pub fn texts(&self) -> &[HandlerText]
+        ensures { result.now ≡ self.now }
+    {
+        &self.texts
+    }
+}
+
+impl Schedule {
+    /// The lines, in their order.
+    pub fn lines(&self) -> &[TimedEvent]
+        ensures { result.now ≡ self.now }
+    {
+        &self.lines
+    }
+}
+
+impl Job {
+    /// The number of lines of the schedule, 0 where there is none.
+    pub fn lines(&self) -> usize
+        ensures { result ≡ length (lines_of self.now.schedule) }
+    {
+        match &self.schedule {
+            Some(schedule) => schedule.lines.len(),
+            None => 0,
+        }
+    }
+}

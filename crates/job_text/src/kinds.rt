@@ -1,0 +1,82 @@
+//! Kinds of calls and roles, as words of a line.
+
+ghost use Rattle.std.specs.Prelude.{◌≡◌};
+ghost use Rattle.job_text.specs.Words.{kind_of, role_of};
+ghost use Rattle.job_text.specs.Forms.{Kind, Role as RolePart, part_at};
+ghost use Rattle.job_text.specs.Reading.{Finds};
+
+use crate::fault::Other;
+use crate::words::{is_name, name_of, spaced};
+use handler_rules::{CallKind, Role};
+
+/// The kind of calls that a word names.
+#[tactic(auto, unfolding(crate::specs::Words::kind_of))]
+fn kind_of(word: &[u8]) -> Option<CallKind>
+    ensures { result ≡ kind_of word.now }
+{
+    if is_name(word, b"request") {
+        return Some(CallKind::Request);
+    }
+    if is_name(word, b"reply") {
+        return Some(CallKind::Reply);
+    }
+    if is_name(word, b"poll") {
+        return Some(CallKind::Poll);
+    }
+    if is_name(word, b"transfer") {
+        return Some(CallKind::Transfer);
+    }
+    if is_name(word, b"sync") {
+        return Some(CallKind::Sync);
+    }
+    if is_name(word, b"region") {
+        return Some(CallKind::Region);
+    }
+    if is_name(word, b"barrier") {
+        return Some(CallKind::Barrier);
+    }
+    if is_name(word, b"source") {
+        return Some(CallKind::Source);
+    }
+    None
+}
+
+/// A kind of calls behind a space.
+#[tactic(auto, unfolding(crate::specs::Forms::part_at, crate::specs::Forms::word_at))]
+pub fn kind_at(bytes: &[u8]) -> Result<(CallKind, &[u8]), Other>
+    ensures { Finds (λ x. (x.0, x.1.now)) result (part_at Kind bytes.now) }
+{
+    let bytes = spaced(bytes)?;
+    let (word, rest) = name_of(bytes);
+    let Some(kind) = kind_of(word) else {
+        return Err(Other);
+    };
+    Ok((kind, rest))
+}
+
+/// The role that a word names.
+#[tactic(auto, unfolding(crate::specs::Words::role_of))]
+fn role_of(word: &[u8]) -> Option<Role>
+    ensures { result ≡ role_of word.now }
+{
+    if is_name(word, b"request") {
+        return Some(Role::Request);
+    }
+    if is_name(word, b"reply") {
+        return Some(Role::Reply);
+    }
+    None
+}
+
+/// A role behind a space.
+#[tactic(auto, unfolding(crate::specs::Forms::part_at, crate::specs::Forms::word_at))]
+pub fn role_at(bytes: &[u8]) -> Result<(Role, &[u8]), Other>
+    ensures { Finds (λ x. (x.0, x.1.now)) result (part_at RolePart bytes.now) }
+{
+    let bytes = spaced(bytes)?;
+    let (word, rest) = name_of(bytes);
+    let Some(role) = role_of(word) else {
+        return Err(Other);
+    };
+    Ok((role, rest))
+}

@@ -1,0 +1,122 @@
+//! Reading the schedule of a job.
+
+ghost use Rattle.std.specs.Prelude.{◌≡◌, ◌+◌, ◌*◌, ◌≤◌, [], length, Some, IfOk};
+ghost use Rattle.job_text.specs.Places.{AtSchedule, AtDone, end_or};
+ghost use Rattle.job_text.specs.Events.{timed_at};
+ghost use Rattle.job_text.specs.JobReading.{State, lined, rounds_of, are_too_many, is_full, admitted, read};
+ghost use Rattle.job_text.specs.Reading.{Reads, Continues};
+
+use crate::events::{timed_at, timed_form};
+use crate::fault::{JobFault, JobWhy, Miss};
+use crate::handler_lines::is_end;
+use crate::job::{Job, Schedule, ScheduledEvent, TimedEvent};
+use crate::reasons::reason_of;
+use crate::words::{ended, name_of};
+use std::alloc::Global;
+
+/// The most lines of a schedule.
+const LINES: usize = 65_536;
+
+/// The line of the schedule, or none at the line `end`, and the bytes after it.
+fn next_timed(
+    alloc: Global,
+    nodes: u16,
+    threads: u16,
+    bytes: &[u8],
+) -> Result<(Option<TimedEvent>, &[u8]), Miss>
+    ensures { Reads (λ x. (x.0, x.1.now)) result (lined (end_or (timed_at nodes threads)) bytes.now) }
+{
+    if is_end(bytes) {
+        let (_, rest) = name_of(bytes);
+        let rest = ended(rest)?;
+        return Ok((None, rest));
+    }
+    let (event, rest) = timed_at(alloc, nodes, threads, bytes)?;
+    let rest = ended(rest)?;
+    Ok((Some(event), rest))
+}
+
+/// The rounds of an event.
+fn rounds_of(event: &ScheduledEvent) -> u32
+    ensures { result ≡ rounds_of event.now }
+{
+    match event {
+        ScheduledEvent::Settle { rounds } => *rounds,
+        _ => 0,
+    }
+}
+
+/// Whether rounds of these nodes are too many in all.
+fn are_too_many(nodes: u16, rounds: u64) -> bool
+    requires { rounds ≤ 8000000000 }
+    ensures { result ≡ are_too_many nodes rounds }
+{
+    4096 < rounds || 262_144 < rounds * u64::from(nodes)
+}
+
+/// Whether there is no room for the event behind so many lines and rounds.
+fn is_full(nodes: u16, lines: usize, rounds: u32, event: &ScheduledEvent) -> bool
+    requires { rounds ≤ 4096 }
+    ensures { result ≡ is_full nodes lines rounds event.now }
+{
+    lines >= LINES || are_too_many(nodes, u64::from(rounds) + u64::from(rounds_of(event)))
+}
+
+/// An event for which there is room.
+fn admitted(nodes: u16, lines: usize, rounds: u32, event: TimedEvent) -> Option<TimedEvent>
+    requires { rounds ≤ 4096 }
+    ensures { result ≡ admitted nodes lines rounds event }
+{
+    if is_full(nodes, lines, rounds, &event.event) {
+        return None;
+    }
+    Some(event)
+}
+
+/// The lines of a job's schedule up to the line `end`, with the next line's number and the bytes after it.
+pub fn schedule_at<'a>(
+    alloc: Global,
+    job: &Job,
+    first: u32,
+    bytes: &'a [u8],
+) -> Result<(Schedule, u32, &'a [u8]), JobFault>
+    requires { first ≤ 1000000 }
+    ensures value { Continues (λ x. read (record {
+      place = AtDone;
+      job = record job.now {
+        schedule = Some x.0;
+      };
+    }) x.1 x.2.now) result (read (record {
+      place = AtSchedule;
+      job = record job.now
+          { schedule = Some [] };
+    }) first bytes.now) }
+    ensures later { IfOk result (λ x. x.1 ≤ first + 65537) }
+{
+    let (nodes, threads) = (job.settings.nodes(), job.settings.threads());
+    let mut lines = Vec::new(alloc);
+    let mut rest = bytes;
+    let mut line = first;
+    let mut rounds: u32 = 0;
+    loop {
+        let (next, after) = match next_timed(alloc, nodes, threads, rest) {
+            Ok(read) => read,
+            Err(Miss::NoMemory) => return Err(JobFault::NoMemory),
+            Err(Miss::Unlike) => {
+                let why = reason_of(timed_form(nodes, threads, rest), rest);
+                return Err(JobFault::Bad { line, why });
+            }
+        };
+        let Some(event) = next else {
+            return Ok((Schedule { lines }, line + 1, after));
+        };
+        let Some(event) = admitted(nodes, lines.len(), rounds, event) else {
+            let why = JobWhy::Count;
+            return Err(JobFault::Bad { line, why });
+        };
+        rounds += rounds_of(&event.event);
+        lines.push(event)?;
+        rest = after;
+        line += 1;
+    }
+}

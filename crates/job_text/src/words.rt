@@ -1,0 +1,85 @@
+//! The parts of a line that are the same in each form.
+
+ghost use Rattle.std.specs.Prelude.{◌≡◌, IsTrue, ◌↔◌};
+ghost use Rattle.std.specs.Str.{bytes_eq};
+ghost use Rattle.job_text.specs.Lines.{is_stop, front, back, spaced, ended};
+ghost use Rattle.job_text.specs.Forms.{has_space, has_more};
+ghost use Rattle.job_text.specs.Words.{GoesOn};
+ghost use Rattle.job_text.specs.Reading.{Finds};
+
+use crate::fault::Other;
+
+/// Whether a word is this one.
+pub fn is_name(word: &[u8], name: &[u8]) -> bool
+    ensures { result ≡ bytes_eq word.now name.now }
+{
+    word == name
+}
+
+/// Whether a word ends at the byte.
+pub fn is_stop(byte: u8) -> bool
+    ensures { result ≡ is_stop byte }
+{
+    byte == b' ' || byte == b'\n'
+}
+
+/// Whether the first word goes on at a place.
+pub fn goes_on(bytes: &[u8], i: usize) -> bool
+    ensures { IsTrue result ↔ GoesOn bytes.now i }
+{
+    i < bytes.len() && !is_stop(bytes[i])
+}
+
+/// The first word, and the bytes after it.
+pub fn name_of(bytes: &[u8]) -> (&[u8], &[u8])
+    ensures name { result.0.now ≡ front bytes.now }
+    ensures rest { result.1.now ≡ back bytes.now }
+{
+    let mut end = 0;
+    while goes_on(bytes, end) {
+        end += 1;
+    }
+    bytes.split_at(end)
+}
+
+/// Whether a space comes next.
+pub fn has_space(bytes: &[u8]) -> bool
+    ensures { result ≡ has_space bytes.now }
+{
+    !bytes.is_empty() && bytes[0] == b' '
+}
+
+/// Whether another word of a list follows.
+pub fn has_more(count: usize, most: usize, bytes: &[u8]) -> bool
+    ensures { result ≡ has_more count most bytes.now }
+{
+    count < most && has_space(bytes)
+}
+
+/// The bytes after a space.
+pub fn spaced(bytes: &[u8]) -> Result<&[u8], Other>
+    ensures { Finds (λ b. b.now) result (spaced bytes.now) }
+{
+    if bytes.is_empty() {
+        return Err(Other);
+    }
+    if bytes[0] != b' ' {
+        return Err(Other);
+    }
+    let (_, rest) = bytes.split_at(1);
+    Ok(rest)
+}
+
+/// The bytes after the end of the line.
+pub fn ended(bytes: &[u8]) -> Result<&[u8], Other>
+    ensures { Finds (λ b. b.now) result (ended bytes.now) }
+{
+    if bytes.is_empty() {
+        return Err(Other);
+    }
+    if bytes[0] != b'\n' {
+        return Err(Other);
+    }
+    let (_, rest) = bytes.split_at(1);
+    Ok(rest)
+}
