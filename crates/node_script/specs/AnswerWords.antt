@@ -1,25 +1,27 @@
 -- The words of an answer.
-use Rattle.std.specs.Prelude.{ℕ, [], ◌∷◌, codes, decimal, Option, None, Some}
+use Rattle.std.specs.Prelude.{ℕ, [], ◌∷◌, codes, decimal, unwrap_or}
 use Rattle.std.specs.Fmt.{signed_decimal}
 use Rattle.handler_rules.specs.declared.message.Which.{Which}
 use Rattle.handler_rules.specs.declared.message.Which.TheVariants as which
 use Rattle.handler_rules.specs.declared.rules.Forbidden.{Forbidden}
 use Rattle.handler_rules.specs.declared.rules.Forbidden.TheVariants as forbidden
-use Rattle.am_core.specs.Record.{Asked, Node}
-use Rattle.am_core.specs.Requests.{open_in}
-use Rattle.am_core.specs.Locals.{Local}
-use Rattle.am_core.specs.declared.answer.Asked.{Asked as AskedAnswer}
-use Rattle.am_core.specs.declared.answer.Asked.TheVariants as asked
-use Rattle.am_core.specs.declared.answer.Delivered.{Delivered}
-use Rattle.am_core.specs.declared.answer.Delivered.TheVariants as delivered
-use Rattle.am_core.specs.declared.answer.Why.{Why}
-use Rattle.am_core.specs.declared.answer.Why.TheVariants as why
+use Rattle.datagram_grammar.specs.Parameters.{Parameters}
+use Rattle.node_record.specs.Record.{Node}
+use Rattle.node_record.specs.SlotMessages.{number_at}
+use Rattle.am_core.specs.Kept.{Local}
+use Rattle.node_record.specs.declared.answer.Asked.{Asked}
+use Rattle.node_record.specs.declared.answer.Asked.TheVariants as asked
+use Rattle.node_record.specs.declared.answer.Delivered.{Delivered}
+use Rattle.node_record.specs.declared.answer.Delivered.TheVariants as delivered
+use Rattle.node_record.specs.declared.answer.Why.{Why}
+use Rattle.node_record.specs.declared.answer.Why.TheVariants as why
+use Rattle.node_record.specs.declared.answer.SlotRef.{SlotRef}
+use Rattle.node_record.specs.declared.answer.Ticked.{Ticked}
+use Rattle.node_record.specs.declared.answer.Ticked.TheVariants as ticked
 use Rattle.gas_world.specs.declared.event.Answer.{Answer}
 use Rattle.gas_world.specs.declared.event.Answer.TheVariants as answers
 use Rattle.gas_world.specs.declared.event.Local.{Local as LocalAnswer}
 use Rattle.gas_world.specs.declared.event.Local.TheVariants as local
-use Rattle.gas_world.specs.declared.event.Ticked.{Ticked}
-use Rattle.gas_world.specs.declared.event.Ticked.TheVariants as ticked
 use Rattle.node_script.specs.Lines.{Word, Line}
 
 -- the word of the part of a call that is bad
@@ -55,11 +57,13 @@ abbrev pub forbidden_words : Forbidden → Line
 forbidden_words rule = codes "forbidden" ∷ rule_word rule ∷ []
 
 -- the words of the answer to a request
-abbrev pub asked_words : AskedAnswer → Line
-asked_words (asked.Accepted to slot number) = codes "accepted" ∷ decimal to ∷ decimal slot ∷ decimal number ∷ []
+abbrev pub asked_words : Asked → Line
+asked_words (asked.Accepted to slot number) =
+    codes "accepted" ∷ decimal to ∷ decimal slot ∷ decimal number ∷ []
 asked_words asked.Ran = codes "ran" ∷ []
 asked_words (asked.BadArg part) = codes "bad-arg" ∷ bad_word part ∷ []
 asked_words (asked.Forbidden rule) = forbidden_words rule
+asked_words (asked.LockBusy lock) = codes "lock-busy" ∷ decimal lock ∷ []
 asked_words asked.WornOut = codes "worn-out" ∷ []
 asked_words asked.NotYet = codes "not-yet" ∷ []
 
@@ -70,6 +74,7 @@ delivered_words (delivered.Again at) = codes "again" ∷ []
 delivered_words delivered.Stale = codes "stale" ∷ []
 delivered_words (delivered.Returned to slot number) = codes "returned" ∷ []
 delivered_words delivered.Late = codes "late" ∷ []
+delivered_words (delivered.Deferred lock) = codes "deferred" ∷ decimal lock ∷ []
 delivered_words (delivered.Refused reason) = codes "refused" ∷ refusal_word reason ∷ []
 
 -- the words of the answer to a call on the node's own cells
@@ -77,22 +82,31 @@ abbrev pub local_words : LocalAnswer → Line
 local_words local.Done = codes "ok" ∷ []
 local_words (local.Cell value) = codes "cell" ∷ signed_decimal value ∷ []
 
--- the number of the request that isn't back in this slot of the node; 0 where there is none
-abbrev pub number_or_zero : Option (ℕ × Asked) → ℕ
-number_or_zero None = 0
-number_or_zero (Some open_) = open_.0
+-- ---- ticks
 
--- the words of the answer to a tick of a node with this record
-abbrev pub ticked_words : Node Local → Ticked → Line
-ticked_words r (ticked.Resend at) = codes "resend" ∷ decimal at.peer ∷ decimal at.slot ∷ decimal (number_or_zero (open_in at.slot (r.asked at.peer))) ∷ []
-ticked_words r ticked.Nothing = codes "nothing" ∷ []
+-- the number of the message at each slot of the node `me`, which has this record; 0 where there is none
+abbrev pub numbers_of : Parameters → (me : ℕ) → Node Local → SlotRef → ℕ
+numbers_of settings me node at = unwrap_or (number_at settings me node at) 0
 
--- the words of the answer of a node that has this record after it
-abbrev pub answer_words : Node Local → Answer → Line
-answer_words r (answers.Asked answer) = asked_words answer
-answer_words r answers.Polled = codes "ok" ∷ []
-answer_words r answers.Allowed = codes "allowed" ∷ []
-answer_words r (answers.Forbidden rule) = forbidden_words rule
-answer_words r (answers.Local answer) = local_words answer
-answer_words r (answers.Delivered answer) = delivered_words answer
-answer_words r (answers.Ticked sent) = ticked_words r sent
+-- this word, and the target, the slot and the number of the request at this slot
+abbrev pub sent_words : Word → SlotRef → (number : ℕ) → Line
+sent_words word at number = word ∷ decimal at.peer ∷ decimal at.slot ∷ decimal number ∷ []
+
+-- the words of the answer to a tick, by the number at each slot
+abbrev pub ticked_words : (SlotRef → ℕ) → Ticked → Line
+ticked_words numbers (ticked.Resend at) = sent_words (codes "resend") at (numbers at)
+ticked_words numbers (ticked.Note at) = sent_words (codes "note") at (numbers at)
+ticked_words numbers (ticked.Chunk at) = sent_words (codes "chunk") at (numbers at)
+ticked_words numbers ticked.Nothing = codes "nothing" ∷ []
+
+-- ---- all answers
+
+-- the words of the answer of a node, by the number at each of its slots after it
+abbrev pub answer_words : (SlotRef → ℕ) → Answer → Line
+answer_words numbers (answers.Asked answer) = asked_words answer
+answer_words numbers answers.Polled = codes "ok" ∷ []
+answer_words numbers answers.Allowed = codes "allowed" ∷ []
+answer_words numbers (answers.Forbidden rule) = forbidden_words rule
+answer_words numbers (answers.Local answer) = local_words answer
+answer_words numbers (answers.Delivered answer) = delivered_words answer
+answer_words numbers (answers.Ticked sent) = ticked_words numbers sent

@@ -6,25 +6,22 @@ ghost use Rattle.gas_outside.specs.Buffered.{GathersAll, outbox};
 ghost use Rattle.gas_outside.specs.Faults.{Rose};
 ghost use Rattle.gas_outside.specs.Whole.{IsWriteFault};
 ghost use Rattle.node_script.specs.Lines.{line_text};
-ghost use Rattle.am_core.specs.Record.{Node};
-ghost use Rattle.am_core.specs.Requests.{open_in};
-ghost use Rattle.am_core.specs.Locals.{Local as Kept};
-ghost use Rattle.gas_world.specs.Endpoints.{EndpointStands};
-ghost use Rattle.gas_world.specs.declared.event.Ticked.TheVariants as ticked;
-ghost use Rattle.node_script.specs.AnswerWords.{answer_words, asked_words, delivered_words, local_words, ticked_words, number_or_zero};
-ghost use Rattle.node_script.specs.Answering.{AsksNodes};
+ghost use Rattle.gas_world.specs.Endpoints.{ForItsRecord};
+ghost use Rattle.node_script.specs.AnswerWords.{answer_words, asked_words, delivered_words, local_words, sent_words};
+ghost use Rattle.node_script.specs.AnswerWords.{ticked_words};
+ghost use Rattle.node_script.specs.EndpointNumbers.{numbers_at};
 
 use crate::answer_words::{bad_word, refusal_word, rule_word};
 use crate::line_writer::write_line;
-use am_core::{Asked, Delivered, Side, SlotRef};
-use datagram_grammar::view;
+use am_core::{Asked, Delivered, SlotRef};
 use gas_outside::{BufferedSink, Sink, Wrote};
 use gas_world::{Answer, Endpoint, Local, Ticked};
 use itoa::Buffer;
 
 /// Writes a line of two words.
 fn write_word<K: Sink>(sink: &mut BufferedSink<K>, first: &[u8], word: &[u8]) -> Wrote
-    ensures bytes { GathersAll (outbox K.taken sink.old) (outbox K.taken sink.new) (line_text (first.now ∷ word.now ∷ [])) result }
+    ensures bytes { GathersAll (outbox K.taken sink.old) (outbox K.taken sink.new)
+        (line_text (first.now ∷ word.now ∷ [])) result }
     ensures later { K.faults sink.old.inner ≤ K.faults sink.new.inner }
     ensures fault { IsWriteFault result → Rose (K.faults sink.old.inner) (K.faults sink.new.inner) }
 {
@@ -38,11 +35,23 @@ fn write_reason<K: Sink>(
     word: &[u8],
     reason: &[u8],
 ) -> Wrote
-    ensures bytes { GathersAll (outbox K.taken sink.old) (outbox K.taken sink.new) (line_text (first.now ∷ word.now ∷ reason.now ∷ [])) result }
+    ensures bytes { GathersAll (outbox K.taken sink.old) (outbox K.taken sink.new)
+        (line_text (first.now ∷ word.now ∷ reason.now ∷ [])) result }
     ensures later { K.faults sink.old.inner ≤ K.faults sink.new.inner }
     ensures fault { IsWriteFault result → Rose (K.faults sink.old.inner) (K.faults sink.new.inner) }
 {
     write_line(sink, first, &[word, reason])
+}
+
+/// Writes the line of an answer that names a lock.
+fn write_lock<K: Sink>(sink: &mut BufferedSink<K>, first: &[u8], word: &[u8], lock: u8) -> Wrote
+    ensures bytes { GathersAll (outbox K.taken sink.old) (outbox K.taken sink.new)
+        (line_text (first.now ∷ word.now ∷ decimal lock ∷ [])) result }
+    ensures later { K.faults sink.old.inner ≤ K.faults sink.new.inner }
+    ensures fault { IsWriteFault result → Rose (K.faults sink.old.inner) (K.faults sink.new.inner) }
+{
+    let mut text = Buffer::new();
+    write_reason(sink, first, word, text.format(lock).as_bytes())
 }
 
 /// Writes the line of a request that was accepted.
@@ -53,7 +62,9 @@ fn write_accepted<K: Sink>(
     slot: u16,
     request: u64,
 ) -> Wrote
-    ensures bytes { GathersAll (outbox K.taken sink.old) (outbox K.taken sink.new) (line_text (first.now ∷ codes "accepted" ∷ decimal to ∷ decimal slot ∷ decimal request ∷ [])) result }
+    ensures bytes { GathersAll (outbox K.taken sink.old) (outbox K.taken sink.new)
+        (line_text (first.now ∷ codes "accepted" ∷ decimal to ∷ decimal slot
+        ∷ decimal request ∷ [])) result }
     ensures later { K.faults sink.old.inner ≤ K.faults sink.new.inner }
     ensures fault { IsWriteFault result → Rose (K.faults sink.old.inner) (K.faults sink.new.inner) }
 {
@@ -74,7 +85,8 @@ fn write_accepted<K: Sink>(
 
 /// Writes the line of the answer to a request.
 fn write_asked<K: Sink>(sink: &mut BufferedSink<K>, first: &[u8], answer: Asked) -> Wrote
-    ensures bytes { GathersAll (outbox K.taken sink.old) (outbox K.taken sink.new) (line_text (first.now ∷ asked_words answer)) result }
+    ensures bytes { GathersAll (outbox K.taken sink.old) (outbox K.taken sink.new)
+        (line_text (first.now ∷ asked_words answer)) result }
     ensures later { K.faults sink.old.inner ≤ K.faults sink.new.inner }
     ensures fault { IsWriteFault result → Rose (K.faults sink.old.inner) (K.faults sink.new.inner) }
 {
@@ -87,6 +99,7 @@ fn write_asked<K: Sink>(sink: &mut BufferedSink<K>, first: &[u8], answer: Asked)
         Asked::Ran => write_word(sink, first, b"ran"),
         Asked::BadArg(part) => write_reason(sink, first, b"bad-arg", bad_word(part)),
         Asked::Forbidden(rule) => write_reason(sink, first, b"forbidden", rule_word(rule)),
+        Asked::LockBusy(lock) => write_lock(sink, first, b"lock-busy", lock),
         Asked::WornOut => write_word(sink, first, b"worn-out"),
         Asked::NotYet => write_word(sink, first, b"not-yet"),
     }
@@ -94,7 +107,8 @@ fn write_asked<K: Sink>(sink: &mut BufferedSink<K>, first: &[u8], answer: Asked)
 
 /// Writes the line of the answer to bytes that were delivered.
 fn write_delivered<K: Sink>(sink: &mut BufferedSink<K>, first: &[u8], answer: Delivered) -> Wrote
-    ensures bytes { GathersAll (outbox K.taken sink.old) (outbox K.taken sink.new) (line_text (first.now ∷ delivered_words answer)) result }
+    ensures bytes { GathersAll (outbox K.taken sink.old) (outbox K.taken sink.new)
+        (line_text (first.now ∷ delivered_words answer)) result }
     ensures later { K.faults sink.old.inner ≤ K.faults sink.new.inner }
     ensures fault { IsWriteFault result → Rose (K.faults sink.old.inner) (K.faults sink.new.inner) }
 {
@@ -104,6 +118,7 @@ fn write_delivered<K: Sink>(sink: &mut BufferedSink<K>, first: &[u8], answer: De
         Delivered::Stale => write_word(sink, first, b"stale"),
         Delivered::Returned { .. } => write_word(sink, first, b"returned"),
         Delivered::Late => write_word(sink, first, b"late"),
+        Delivered::Deferred(lock) => write_lock(sink, first, b"deferred", lock),
         Delivered::Refused(reason) => {
             write_reason(sink, first, b"refused", refusal_word(reason))
         }
@@ -112,7 +127,8 @@ fn write_delivered<K: Sink>(sink: &mut BufferedSink<K>, first: &[u8], answer: De
 
 /// Writes the line of the number in a cell.
 fn write_cell<K: Sink>(sink: &mut BufferedSink<K>, first: &[u8], value: i32) -> Wrote
-    ensures bytes { GathersAll (outbox K.taken sink.old) (outbox K.taken sink.new) (line_text (first.now ∷ codes "cell" ∷ signed_decimal value ∷ [])) result }
+    ensures bytes { GathersAll (outbox K.taken sink.old) (outbox K.taken sink.new)
+        (line_text (first.now ∷ codes "cell" ∷ signed_decimal value ∷ [])) result }
     ensures later { K.faults sink.old.inner ≤ K.faults sink.new.inner }
     ensures fault { IsWriteFault result → Rose (K.faults sink.old.inner) (K.faults sink.new.inner) }
 {
@@ -122,7 +138,8 @@ fn write_cell<K: Sink>(sink: &mut BufferedSink<K>, first: &[u8], value: i32) -> 
 
 /// Writes the line of the answer to a call on the node's own cells.
 fn write_local<K: Sink>(sink: &mut BufferedSink<K>, first: &[u8], answer: Local) -> Wrote
-    ensures bytes { GathersAll (outbox K.taken sink.old) (outbox K.taken sink.new) (line_text (first.now ∷ local_words answer)) result }
+    ensures bytes { GathersAll (outbox K.taken sink.old) (outbox K.taken sink.new)
+        (line_text (first.now ∷ local_words answer)) result }
     ensures later { K.faults sink.old.inner ≤ K.faults sink.new.inner }
     ensures fault { IsWriteFault result → Rose (K.faults sink.old.inner) (K.faults sink.new.inner) }
 {
@@ -132,33 +149,17 @@ fn write_local<K: Sink>(sink: &mut BufferedSink<K>, first: &[u8], answer: Local)
     }
 }
 
-/// The number in the message of the request in this slot; 0 where the slot has none.
-fn number_in(endpoint: &Endpoint, at: SlotRef) -> u64
-    ensures { (r : Node Kept) → EndpointStands endpoint.now r → AsksNodes endpoint.now r → result ≡ number_or_zero (open_in at.slot (r.asked at.peer)) }
-{
-    let request = SlotRef {
-        side: Side::Request,
-        peer: at.peer,
-        slot: at.slot,
-    };
-    let Some(bytes) = endpoint.message(request) else {
-        return 0;
-    };
-    match view(bytes) {
-        Ok(message) => message.number,
-        Err(_) => 0,
-    }
-}
-
-/// Writes the line of a request that was sent again.
-fn write_resend<K: Sink>(
+/// Writes the line of a request that a tick sent from this slot.
+fn write_sent<K: Sink>(
     sink: &mut BufferedSink<K>,
     first: &[u8],
+    word: &[u8],
     at: SlotRef,
     endpoint: &Endpoint,
 ) -> Wrote
-    ensures bytes { (r : Node Kept) → EndpointStands endpoint.now r → AsksNodes endpoint.now r
-        → GathersAll (outbox K.taken sink.old) (outbox K.taken sink.new) (line_text (first.now ∷ ticked_words r (ticked.Resend at))) result }
+    ensures bytes { ForItsRecord endpoint.now (λ node.
+        GathersAll (outbox K.taken sink.old) (outbox K.taken sink.new)
+        (line_text (first.now ∷ sent_words word.now at (numbers_at endpoint.now node at))) result) }
     ensures later { K.faults sink.old.inner ≤ K.faults sink.new.inner }
     ensures fault { IsWriteFault result → Rose (K.faults sink.old.inner) (K.faults sink.new.inner) }
 {
@@ -169,10 +170,12 @@ fn write_resend<K: Sink>(
         sink,
         first,
         &[
-            b"resend".as_slice(),
+            word,
             to_text.format(at.peer).as_bytes(),
             slot_text.format(at.slot).as_bytes(),
-            number_text.format(number_in(endpoint, at)).as_bytes(),
+            number_text
+                .format(endpoint.number(at).unwrap_or(0))
+                .as_bytes(),
         ],
     )
 }
@@ -184,13 +187,16 @@ fn write_ticked<K: Sink>(
     answer: Ticked,
     endpoint: &Endpoint,
 ) -> Wrote
-    ensures bytes { (r : Node Kept) → EndpointStands endpoint.now r → AsksNodes endpoint.now r
-        → GathersAll (outbox K.taken sink.old) (outbox K.taken sink.new) (line_text (first.now ∷ ticked_words r answer)) result }
+    ensures bytes { ForItsRecord endpoint.now (λ node.
+        GathersAll (outbox K.taken sink.old) (outbox K.taken sink.new)
+        (line_text (first.now ∷ ticked_words (numbers_at endpoint.now node) answer)) result) }
     ensures later { K.faults sink.old.inner ≤ K.faults sink.new.inner }
     ensures fault { IsWriteFault result → Rose (K.faults sink.old.inner) (K.faults sink.new.inner) }
 {
     match answer {
-        Ticked::Resend(at) => write_resend(sink, first, at, endpoint),
+        Ticked::Resend(at) => write_sent(sink, first, b"resend", at, endpoint),
+        Ticked::Note(at) => write_sent(sink, first, b"note", at, endpoint),
+        Ticked::Chunk(at) => write_sent(sink, first, b"chunk", at, endpoint),
         Ticked::Nothing => write_word(sink, first, b"nothing"),
     }
 }
@@ -204,8 +210,9 @@ pub fn write_answer<K: Sink>(
     endpoint: &Endpoint,
     sink: &mut BufferedSink<K>,
 ) -> Wrote
-    ensures bytes { (r : Node Kept) → EndpointStands endpoint.now r → AsksNodes endpoint.now r
-        → GathersAll (outbox K.taken sink.old) (outbox K.taken sink.new) (line_text (first.now ∷ answer_words r answer.now)) result }
+    ensures bytes { ForItsRecord endpoint.now (λ node.
+        GathersAll (outbox K.taken sink.old) (outbox K.taken sink.new)
+        (line_text (first.now ∷ answer_words (numbers_at endpoint.now node) answer.now)) result) }
     ensures later { K.faults sink.old.inner ≤ K.faults sink.new.inner }
     ensures fault { IsWriteFault result → Rose (K.faults sink.old.inner) (K.faults sink.new.inner) }
 {

@@ -1,55 +1,34 @@
-//! Handlers of a job as they run: each action once, the calls that are forbidden, a reply that is too long, and who has which index.
+//! Handlers of a job as they run: each action once, the calls that are forbidden, a reply that is too long, and who has
+//! which index.
 
 ghost use Rattle.std.specs.Prelude.{◌≡◌, ◌≤◌, length};
 
 use crate::handlers::ScriptHandlers;
-use crate::job::{Action, Body, HandlerText, Operand, Operands};
 use datagram_grammar::Settings;
 use handler_rules::{
-    CallKind, Cells, Context, Desk, Fault, Forbidden, Handlers, Incoming, Log, Reply, Role, Table,
-    Violation,
+    Cells, Context, Desk, Fault, Forbidden, Handlers, Incoming, Log, Reply, Role, Table, Violation,
 };
+use job_text::read_job;
 use std::alloc::Global;
 use std::test::Fail;
 
 fn settings() -> Result<Settings, &'static str> {
-    Settings::new(7, 2, 1, 1, 4096, 9, 1).ok_or("the settings")
+    Settings::new(1, 7, 2, 1, 1, 4096, 9, 1).ok_or("the settings")
 }
 
-fn handler<const N: usize>(
-    alloc: Global,
-    index: u8,
-    role: Role,
-    actions: [Action; N],
-) -> Result<HandlerText, Fail> {
-    let body = Body {
-        actions: Vec::from_array(alloc, actions)?,
-    };
-    Ok(HandlerText { index, role, body })
-}
+/// The head of a job, before its handlers.
+const HEAD: &str =
+    "gasnet 1\njob 7\nnodes 2\ncredits 1\nthreads 1\nsegment 4096\nlast 9\nresend 1\npatience 1\nsieve 0 0 0\n";
 
-fn reply<const N: usize>(alloc: Global, handler: u8, operands: [Operand; N]) -> Result<Action, Fail>
-    requires { length operands ≤ 17 }
-{
-    let items = Vec::from_array(alloc, operands)?;
-    Ok(Action::ReplyShort {
-        handler,
-        operands: Operands { items },
-    })
-}
-
-// A handler that puts a number into cell 0.
-fn naming(alloc: Global, index: u8, number: i32) -> Result<HandlerText, Fail> {
-    let action = Action::SetCell {
-        cell: 0,
-        operand: Operand::Number(number),
-    };
-    handler(alloc, index, Role::Request, [action])
-}
-
-// A handler of replies that does nothing.
-fn replied(alloc: Global) -> Result<HandlerText, Fail> {
-    handler(alloc, 130, Role::Reply, [])
+// The handlers whose lines these are, and the table in which they are registered.
+fn handlers(alloc: Global, lines: &str) -> Result<(ScriptHandlers, Table), Fail> {
+    let mut text = String::from_str(alloc, HEAD)?;
+    text.push_str(lines)?;
+    text.push_str("done\n")?;
+    match read_job(alloc, text.as_bytes()) {
+        Ok(job) => Ok(ScriptHandlers::new(alloc, job.handlers)?),
+        Err(_) => Err(Fail::new("no job")),
+    }
 }
 
 // A request of node 1 to node 0, in slot 2 with number 3.
@@ -94,45 +73,27 @@ fn noted(forbidden: Forbidden) -> Option<Violation> {
     })
 }
 
-// Adds to cell 0 its first argument, to cell 1 the number 5 and then cell 0, to cell 4 more than it has room for; cell 2 becomes the
-// source, and cell 3 the second argument; the reply has cell 1, the first argument and -2.
-fn busy(alloc: Global) -> Result<HandlerText, Fail> {
-    let operands = [Operand::Cell(1), Operand::Argument(0), Operand::Number(-2)];
-    let actions = [
-        Action::Add {
-            cell: 0,
-            operand: Operand::Argument(0),
-        },
-        Action::Add {
-            cell: 1,
-            operand: Operand::Number(5),
-        },
-        Action::Add {
-            cell: 1,
-            operand: Operand::Cell(0),
-        },
-        Action::Add {
-            cell: 4,
-            operand: Operand::Number(i32::MAX),
-        },
-        Action::Source { cell: 2 },
-        Action::SetCell {
-            cell: 3,
-            operand: Operand::Argument(1),
-        },
-        Action::Attempt {
-            call: CallKind::Source,
-        },
-        reply(alloc, 130, operands)?,
-    ];
-    handler(alloc, 129, Role::Request, actions)
-}
+// Adds to cell 0 its first argument, to cell 1 the number 5 and then cell 0, to cell 4 more than it has room for; cell
+// 2 becomes the source, and cell 3 the second argument; the reply has cell 1, the first argument and -2.
+const BUSY: &str = "\
+handler 129 request
+add 0 a0
+add 1 5
+add 1 c0
+add 4 2147483647
+source 2
+set-cell 3 a1
+attempt source
+reply short 130 c1 a0 -2
+end
+handler 130 reply
+end
+";
 
 #[test]
 fn each_action_once(rt: HostRuntime) -> Result<(), Fail> {
     let alloc = rt.alloc();
-    let texts = Vec::from_array(alloc, [busy(alloc)?, replied(alloc)?])?;
-    let (handlers, table) = ScriptHandlers::new(alloc, texts)?;
+    let (handlers, table) = handlers(alloc, BUSY)?;
     let mut cells = Cells::new();
     let mut log = Log::new(alloc)?;
     cells.set(3, 9);
@@ -147,31 +108,23 @@ fn each_action_once(rt: HostRuntime) -> Result<(), Fail> {
 }
 
 // Replies twice, and makes four calls that no handler may make.
-fn unruly(alloc: Global) -> Result<HandlerText, Fail> {
-    let actions = [
-        reply(alloc, 130, [Operand::Number(1)])?,
-        reply(alloc, 130, [Operand::Number(2)])?,
-        Action::Attempt {
-            call: CallKind::Request,
-        },
-        Action::Attempt {
-            call: CallKind::Transfer,
-        },
-        Action::Attempt {
-            call: CallKind::Poll,
-        },
-        Action::Attempt {
-            call: CallKind::Barrier,
-        },
-    ];
-    handler(alloc, 129, Role::Request, actions)
-}
+const UNRULY: &str = "\
+handler 130 reply
+end
+handler 129 request
+reply short 130 1
+reply short 130 2
+attempt request
+attempt transfer
+attempt poll
+attempt barrier
+end
+";
 
 #[test]
 fn forbidden_calls_are_noted(rt: HostRuntime) -> Result<(), Fail> {
     let alloc = rt.alloc();
-    let texts = Vec::from_array(alloc, [replied(alloc)?, unruly(alloc)?])?;
-    let (handlers, table) = ScriptHandlers::new(alloc, texts)?;
+    let (handlers, table) = handlers(alloc, UNRULY)?;
     let mut cells = Cells::new();
     let mut log = Log::new(alloc)?;
     let sent = run(&handlers, &table, 129, &[], &mut cells, &mut log)?.ok_or("no reply")?;
@@ -183,16 +136,20 @@ fn forbidden_calls_are_noted(rt: HostRuntime) -> Result<(), Fail> {
     Ok(())
 }
 
+// Replies with 17 numbers, and then with 16.
+const LONG: &str = "\
+handler 129 request
+reply short 130 1 1 1 1 1 1 1 1 1 1 1 1 1 1 1 1 1
+reply short 130 2 2 2 2 2 2 2 2 2 2 2 2 2 2 2 2
+end
+handler 130 reply
+end
+";
+
 #[test]
 fn a_reply_of_17_numbers_is_none(rt: HostRuntime) -> Result<(), Fail> {
     let alloc = rt.alloc();
-    let actions = [
-        reply(alloc, 130, [Operand::Number(1); 17])?,
-        reply(alloc, 130, [Operand::Number(2); 16])?,
-    ];
-    let asked = handler(alloc, 129, Role::Request, actions)?;
-    let texts = Vec::from_array(alloc, [asked, replied(alloc)?])?;
-    let (handlers, table) = ScriptHandlers::new(alloc, texts)?;
+    let (handlers, table) = handlers(alloc, LONG)?;
     let mut cells = Cells::new();
     let mut log = Log::new(alloc)?;
     let sent = run(&handlers, &table, 129, &[], &mut cells, &mut log)?.ok_or("no reply")?;
@@ -200,18 +157,26 @@ fn a_reply_of_17_numbers_is_none(rt: HostRuntime) -> Result<(), Fail> {
     Ok(())
 }
 
+// Each puts a number of its own into cell 0.
+const NAMED: &str = "\
+handler 0 request
+set-cell 0 1
+end
+handler 129 request
+set-cell 0 2
+end
+handler 0 request
+set-cell 0 3
+end
+handler 255 request
+set-cell 0 5
+end
+";
+
 #[test]
 fn each_index_has_its_handler(rt: HostRuntime) -> Result<(), Fail> {
     let alloc = rt.alloc();
-    let named = [
-        naming(alloc, 0, 1)?,
-        naming(alloc, 129, 2)?,
-        naming(alloc, 0, 3)?,
-        naming(alloc, 129, 4)?,
-        naming(alloc, 255, 5)?,
-    ];
-    let (first, table) = ScriptHandlers::new(alloc, Vec::from_array(alloc, named)?)?;
-    let handlers = first.copy()?;
+    let (handlers, table) = handlers(alloc, NAMED)?;
     let mut cells = Cells::new();
     let mut log = Log::new(alloc)?;
     for (index, number) in [(128, 1), (129, 2), (130, 3), (131, 0), (255, 5), (64, 0)] {

@@ -1,15 +1,14 @@
 //! The handlers of a job.
 
 ghost use Rattle.std.specs.Prelude.{◌≡◌, IfOk, List, None, Some, length, replicate, slice_get};
-ghost use Rattle.node_script.specs.declared.job.HandlerText.{HandlerText};
+ghost use Rattle.job_text.specs.declared.job.HandlerText.{HandlerText};
 ghost use Rattle.handler_rules.specs.Registered.{no_entries};
-ghost use Rattle.node_script.specs.Registering.{body_for, register, registered};
+ghost use Rattle.node_script.specs.Registration.{body_for, register, registered};
 ghost use Rattle.node_script.specs.Places.{ArePlaced, AtRegistering, body_at, place_at, register_turn};
 
 use crate::body::do_all;
-use crate::copying::copy_texts;
-use crate::job::{Action, HandlerText};
 use handler_rules::{Cells, Desk, Entry, Handlers, Table};
+use job_text::{Action, HandlerText, HandlerTexts};
 use std::alloc::{AllocError, Global};
 use std::marker::Model;
 
@@ -22,58 +21,47 @@ const PLACES: usize = 128;
 /// The handlers of a job, each with the actions of its body.
 #[derive(Drop)]
 pub struct ScriptHandlers {
-    texts: Vec<HandlerText>,
+    texts: HandlerTexts,
     /// For each index from 128 to 255 the place among the texts of the one that is registered for it.
     places: Vec<Option<usize>>,
 }
 
 impl Model for ScriptHandlers {
     ghost use Rattle.std.specs.Prelude.{List};
-    ghost use Rattle.node_script.specs.declared.job.HandlerText.{HandlerText};
+    ghost use Rattle.job_text.specs.declared.job.HandlerText.{HandlerText};
     ghost use Rattle.node_script.specs.Places.{AreBodies};
 
     ghost Value = { List HandlerText };
 
-    ghost view = { λ h. h.texts.items };
+    ghost view = { λ h. h.texts };
 
-    ghost invariant = { λ h. AreBodies h.texts.items h.places.items };
+    ghost invariant = { λ h. AreBodies h.texts h.places.items };
 }
 
 impl ScriptHandlers {
-    /// These handlers, and the table in which they are registered: first those with an index of their own, in order, and then those
-    /// that ask for any. One whose index is refused isn't registered, and never runs.
+    /// These handlers, and the table in which they are registered: first those with an index of their own, in order,
+    /// and then those that ask for any. One whose index is refused isn't registered, and never runs.
     ///
     /// It is refused for want of memory alone.
     pub(crate) fn new(
         alloc: Global,
-        texts: Vec<HandlerText>,
+        texts: HandlerTexts,
     ) -> Result<(ScriptHandlers, Table), AllocError>
-        ensures handlers { IfOk result (λ made. made.0 ≡ texts.items) }
-        ensures table { IfOk result (λ made. made.1 ≡ (registered texts.items).table) }
+        ensures handlers { IfOk result (λ made. made.0 ≡ texts) }
+        ensures table { IfOk result (λ made. made.1 ≡ (registered texts).table) }
     {
         let mut table = Table::new(alloc)?;
         let mut places = [None; PLACES];
-        register_all(&texts, &mut table, &mut places);
+        register_all(texts.texts(), &mut table, &mut places);
         let places = Vec::from_array(alloc, places)?;
         Ok((ScriptHandlers { texts, places }, table))
-    }
-
-    /// The same handlers.
-    ///
-    /// It is refused for want of memory alone.
-    pub fn copy(&self) -> Result<ScriptHandlers, AllocError>
-        ensures { IfOk result (λ copy. copy ≡ self.now) }
-    {
-        let texts = copy_texts(&self.texts)?;
-        let places = self.places.clone()?;
-        Ok(ScriptHandlers { texts, places })
     }
 
     /// The actions of the handler of this index; none where there is no such handler.
     fn actions(&self, index: u8) -> &[Action]
         ensures { result.now ≡ body_for self.now index }
     {
-        actions_at(&self.texts, place_for(&self.places, index))
+        actions_at(self.texts.texts(), place_for(&self.places, index))
     }
 }
 
@@ -96,7 +84,7 @@ fn actions_at(texts: &[HandlerText], place: Option<usize>) -> &[Action]
         return &[];
     };
     match texts.get(place) {
-        Some(text) => &text.body.actions,
+        Some(text) => text.body.actions(),
         None => &[],
     }
 }
@@ -114,7 +102,8 @@ fn register_all(texts: &[HandlerText], table: &mut Table, places: &mut [Option<u
 /// Registers those that ask for any index, or the others, in order.
 fn register_those(texts: &[HandlerText], any: bool, table: &mut Table, places: &mut [Option<usize>])
     requires { length places.old ≡ 128 }
-    ensures at { AtRegistering texts.now (register_turn any texts.now) table.old places.old table.new places.new }
+    ensures at { AtRegistering texts.now (register_turn any texts.now) table.old places.old
+        table.new places.new }
     ensures long { length places.new ≡ 128 }
 {
     for (place, text) in texts.iter().enumerate() {
@@ -127,7 +116,8 @@ fn register_those(texts: &[HandlerText], any: bool, table: &mut Table, places: &
 /// Registers the handler that stands at this place.
 fn register_one(text: &HandlerText, place: usize, table: &mut Table, places: &mut [Option<usize>])
     requires { length places.old ≡ 128 }
-    ensures at { (texts : List HandlerText) → slice_get texts place ≡ Some text.now → AtRegistering texts (λ r. register r text.now) table.old places.old table.new places.new }
+    ensures at { (texts : List HandlerText) → slice_get texts place ≡ Some text.now
+        → AtRegistering texts (λ r. register r text.now) table.old places.old table.new places.new }
     ensures long { length places.new ≡ 128 }
 {
     let entry = Entry {
@@ -142,7 +132,7 @@ fn register_one(text: &HandlerText, place: usize, table: &mut Table, places: &mu
 
 impl Handlers for ScriptHandlers {
     ghost use Rattle.node_script.specs.Bodies.{script_meaning};
-    ghost use Rattle.node_script.specs.Lawful.{IsLawful-script};
+    ghost use Rattle.node_script.specs.LawfulBodies.{IsLawful-script};
 
     ghost meaning = { script_meaning };
 

@@ -2,18 +2,19 @@
 
 ghost use Rattle.std.specs.Prelude.{◌≡◌, ◌<◌, ℕ, IfSome, slice_get};
 ghost use Rattle.datagram_grammar.specs.Parameters.{Parameters};
-ghost use Rattle.gas_world.specs.Events.{called_at};
-ghost use Rattle.gas_world.specs.Nodes.{Records};
-ghost use Rattle.gas_world.specs.Stands.{Stands};
-ghost use Rattle.gas_world.specs.World.{IsAmong};
-ghost use Rattle.node_script.specs.Made.{IsWithin};
-ghost use Rattle.node_script.specs.Public.{IsLine, IsLineOf, NamesNodes};
-ghost use Rattle.node_script.specs.Schedules.{call_event, lines_of};
+ghost use Rattle.gas_world.specs.Events.{called_at, ForItsRecords};
+ghost use Rattle.gas_world.specs.CallRules.{Records};
+ghost use Rattle.plain_world.specs.World.{IsAmong};
+ghost use Rattle.node_script.specs.ScriptInvariant.{IsWithin};
+ghost use Rattle.node_script.specs.ScheduleLine.{IsLine, IsLineOf, NamesNodes};
+ghost use Rattle.node_script.specs.Schedules.{call_event};
+ghost use Rattle.job_text.specs.JobReading.{lines_of};
 
-use crate::job::{ScheduledCall, ScheduledEvent, TimedEvent};
-use crate::reading::Job;
+use crate::body::{value_of, values_of};
+use crate::script::Script;
 use gas_world::{Call, World, WorldEvent};
 use handler_rules::Cells;
+use job_text::{ScheduledCall, ScheduledEvent, TimedEvent};
 
 /// A line of a schedule, as it is run.
 #[derive(Clone, Copy, Debug)]
@@ -34,12 +35,13 @@ pub enum Line<'a> {
     },
 }
 
-impl Job {
-    /// Line `i` of the schedule, counted from 0, by the cells of the nodes in this world; none where there is no such line. The
-    /// arguments of a request are put into `args`.
+impl Script {
+    /// Line `i` of the schedule, counted from 0, by the cells of the nodes in this world; none where there is no such
+    /// line. The arguments of a request are put into `args`.
     pub fn line<'a>(&self, i: usize, world: &World, args: &'a mut [i32; 17]) -> Option<Line<'a>>
         requires { world.now.settings ≡ self.now.settings }
-        ensures line { (w : Records) (most : ℕ → ℕ) → Stands world.now w most → IsLine w (slice_get (lines_of self.now.schedule) i) result }
+        ensures line { ForItsRecords world.now (λ records most.
+            IsLine records (slice_get (lines_of self.now.schedule) i) result) }
         ensures nodes { IfSome result (NamesNodes self.now.settings) }
     {
         match self.timed(i) {
@@ -52,7 +54,7 @@ impl Job {
 /// A line, by the cells of the nodes in this world.
 fn line_of<'a>(timed: &TimedEvent, world: &World, args: &'a mut [i32; 17]) -> Line<'a>
     requires { IsWithin world.now.settings.nodes timed.now.event }
-    ensures line { (w : Records) (most : ℕ → ℕ) → Stands world.now w most → IsLineOf w timed.now result }
+    ensures line { ForItsRecords world.now (λ records most. IsLineOf records timed.now result) }
     ensures nodes { NamesNodes world.now.settings result }
 {
     let now = timed.time;
@@ -85,8 +87,10 @@ fn line_of<'a>(timed: &TimedEvent, world: &World, args: &'a mut [i32; 17]) -> Li
 
 /// A call, by the cells of its node.
 fn call_of<'a>(call: &ScheduledCall, cells: &Cells, args: &'a mut [i32; 17]) -> Call<'a>
-    ensures call { (w : Records) (node thread : ℕ) → cells.now ≡ (w node).local.cells → called_at node thread result ≡ call_event w node thread call.now }
-    ensures nodes { (s : Parameters) (node thread : ℕ) → node < s.nodes → IsAmong s (called_at node thread result) }
+    ensures call { (records : Records) (node thread : ℕ) → cells.now ≡ (records node).local.cells
+        → called_at node thread result ≡ call_event records node thread call.now }
+    ensures nodes { (settings : Parameters) (node thread : ℕ) → node < settings.nodes
+        → IsAmong settings (called_at node thread result) }
 {
     match call {
         ScheduledCall::Short {
@@ -94,7 +98,8 @@ fn call_of<'a>(call: &ScheduledCall, cells: &Cells, args: &'a mut [i32; 17]) -> 
             handler,
             operands,
         } => {
-            *args = operands.values(cells, &[]);
+            let operands = operands.items();
+            *args = values_of(operands, cells, &[]);
             let args: &'a [i32; 17] = args;
             Call::Short {
                 to: *to,
@@ -107,7 +112,7 @@ fn call_of<'a>(call: &ScheduledCall, cells: &Cells, args: &'a mut [i32; 17]) -> 
         ScheduledCall::Cell { cell } => Call::Cell { c: *cell },
         ScheduledCall::SetCell { cell, operand } => Call::SetCell {
             c: *cell,
-            value: operand.value(cells, &[]),
+            value: value_of(*operand, cells, &[]),
         },
     }
 }

@@ -11,7 +11,8 @@ use gas_outside::{BufferedSink, Sink, Wrote};
 
 /// Writes a space and the word, for each of them.
 fn write_spaced<K: Sink>(sink: &mut BufferedSink<K>, words: &[&[u8]]) -> Wrote
-    ensures bytes { GathersAll (outbox K.taken sink.old) (outbox K.taken sink.new) (flat_map spaced (map (λ w. w.now) words.now)) result }
+    ensures bytes { GathersAll (outbox K.taken sink.old) (outbox K.taken sink.new)
+        (flat_map spaced (map (λ w. w.now) words.now)) result }
     ensures later { K.faults sink.old.inner ≤ K.faults sink.new.inner }
     ensures fault { IsWriteFault result → Rose (K.faults sink.old.inner) (K.faults sink.new.inner) }
 {
@@ -30,7 +31,8 @@ fn write_spaced<K: Sink>(sink: &mut BufferedSink<K>, words: &[&[u8]]) -> Wrote
 ///
 /// `Fault` comes only where the sink failed; a front of the line went in then. It takes no memory.
 pub fn write_line<K: Sink>(sink: &mut BufferedSink<K>, first: &[u8], others: &[&[u8]]) -> Wrote
-    ensures bytes { GathersAll (outbox K.taken sink.old) (outbox K.taken sink.new) (line_text (first.now ∷ map (λ w. w.now) others.now)) result }
+    ensures bytes { GathersAll (outbox K.taken sink.old) (outbox K.taken sink.new)
+        (line_text (first.now ∷ map (λ w. w.now) others.now)) result }
     ensures later { K.faults sink.old.inner ≤ K.faults sink.new.inner }
     ensures fault { IsWriteFault result → Rose (K.faults sink.old.inner) (K.faults sink.new.inner) }
 {

@@ -10,7 +10,11 @@ pub returns-in-BadArg-clause-bytes : goal.returns-in-BadArg-clause-bytes
 returns-in-BadArg-clause-bytes g c = rw c.in-BadArg.is (rw c.bad_word.ensures at c.write_reason.ensures.bytes)
 
 pub returns-in-Forbidden-clause-bytes : goal.returns-in-Forbidden-clause-bytes
-returns-in-Forbidden-clause-bytes g c = rw c.in-Forbidden.is (rw c.rule_word.ensures at c.write_reason-in-Forbidden.ensures.bytes)
+returns-in-Forbidden-clause-bytes g c =
+    rw c.in-Forbidden.is (rw c.rule_word.ensures at c.write_reason-in-Forbidden.ensures.bytes)
+
+pub returns-in-LockBusy-clause-bytes : goal.returns-in-LockBusy-clause-bytes
+returns-in-LockBusy-clause-bytes g c = rw c.in-LockBusy.is c.write_lock.ensures.bytes
 
 pub returns-in-WornOut-clause-bytes : goal.returns-in-WornOut-clause-bytes
 returns-in-WornOut-clause-bytes g c = rw c.in-WornOut.is c.write_word-in-WornOut.ensures.bytes

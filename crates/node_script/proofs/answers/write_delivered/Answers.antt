@@ -15,5 +15,8 @@ returns-in-Returned-clause-bytes g c = rw c.in-Returned.is c.write_word-in-Retur
 pub returns-in-Late-clause-bytes : goal.returns-in-Late-clause-bytes
 returns-in-Late-clause-bytes g c = rw c.in-Late.is c.write_word-in-Late.ensures.bytes
 
+pub returns-in-Deferred-clause-bytes : goal.returns-in-Deferred-clause-bytes
+returns-in-Deferred-clause-bytes g c = rw c.in-Deferred.is c.write_lock.ensures.bytes
+
 pub returns-in-Refused-clause-bytes : goal.returns-in-Refused-clause-bytes
 returns-in-Refused-clause-bytes g c = rw c.in-Refused.is (rw c.refusal_word.ensures at c.write_reason.ensures.bytes)

@@ -1,4 +1,4 @@
-use Rattle.std.proofs.Common.{rules, ◌∷◌, [], ℤ, decimal, codes, subst, w32, FitsSigned}
+use Rattle.std.proofs.Common.{rules, ◌∷◌, [], ℤ, codes, subst, w32, FitsSigned}
 use Rattle.std.specs.Fmt.{signed_decimal}
 use Rattle.std.proofs.lemmas.Int.{to_z-of_z}
 use Rattle.gas_outside.specs.Buffered.{GathersAll, outbox}
@@ -12,4 +12,8 @@ pub returns-in-Cell-clause-bytes : goal.returns-in-Cell-clause-bytes
 returns-in-Cell-clause-bytes g c =
     let f : FitsSigned w32 c.in-Cell.value = search rules in
     let same = to_z-of_z w32 c.in-Cell.value f in
-    rw c.in-Cell.is (subst (λ (z : ℤ). GathersAll (outbox g.K.Sink.taken c.args.sink.now) (outbox g.K.Sink.taken c.write_cell.new.sink) (line_text (c.args.first.now ∷ codes "cell" ∷ signed_decimal z ∷ [])) c.write_cell.result) same c.write_cell.ensures.bytes)
+    rw c.in-Cell.is
+    (subst (λ (z : ℤ).
+    GathersAll (outbox g.K.Sink.taken c.args.sink.now) (outbox g.K.Sink.taken c.write_cell.new.sink)
+    (line_text (c.args.first.now ∷ codes "cell" ∷ signed_decimal z ∷ [])) c.write_cell.result) same
+    c.write_cell.ensures.bytes)

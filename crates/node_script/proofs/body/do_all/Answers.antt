@@ -4,12 +4,13 @@ use Rattle.std.proofs.lemmas.List.Sums.{fold_more}
 use Rattle.handler_rules.specs.declared.desk.Desk.{Desk}
 use Rattle.handler_rules.specs.Desks.{At, scene_of, start_of}
 use Rattle.handler_rules.specs.Runs.{Outcome, Scene, untouched}
-use Rattle.node_script.specs.declared.job.Action.{Action}
+use Rattle.job_text.specs.declared.job.Action.{Action}
 use Rattle.node_script.specs.Bodies.{act, acts}
 use Rattle.node_script.proofs.body.do_all.Goals as goal
 
 -- after the actions so far and one more
-acts_more : (d now : Desk) (cells : List ℤ) (s : Scene) (i : ℕ) (actions : List Action) (action : Action) (o : Outcome) →
+acts_more : (d now : Desk) (cells : List ℤ) (s : Scene) (i : ℕ) (actions : List Action) (action : Action) (o : Outcome)
+    →
     i < length actions → action ≡ get_or actions i action →
     At d (act s (acts s o (take i actions)) action) cells now →
     At d (acts s o (take (i + 1) actions)) cells now

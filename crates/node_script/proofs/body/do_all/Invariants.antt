@@ -7,6 +7,8 @@ use Rattle.node_script.proofs.body.do_all.Given as goal
 -- cells and desk are what the actions so far leave
 abbrev pub invariant-loop-action : goal.invariant-loop-action
 invariant-loop-action l = record {
-  at : At l.initial.desk (acts (scene_of l.initial.desk) (untouched (start_of l.initial.cells)) (take l.action-index l.actions)) l.cells l.desk;
+  at : At l.initial.desk
+      (acts (scene_of l.initial.desk) (untouched (start_of l.initial.cells)) (take l.action-index l.actions)) l.cells
+      l.desk;
   ready : IsReadyDesk l.desk;
 }

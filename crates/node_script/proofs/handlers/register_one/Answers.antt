@@ -1,7 +1,7 @@
 use Rattle.std.proofs.Common.{◌≡◌, ◌∙◌, ap, sym, subst, List, Option, Ok, ◌-◌, ◌<◌, ◌^◌, Some, slice_set, arith}
 use Rattle.handler_rules.specs.declared.table.Entry.{Entry}
 use Rattle.handler_rules.specs.Registered.{registering}
-use Rattle.node_script.specs.Registering.{register, entry_of}
+use Rattle.node_script.specs.Registration.{register, entry_of}
 use Rattle.node_script.specs.Places.{ArePlaced}
 use Rattle.node_script.proofs.Placing.{placed_Ok}
 use Rattle.node_script.proofs.handlers.register_one.Goals as goal
@@ -11,5 +11,8 @@ returns-in-Ok-clause-at c texts at r P =
     let low : c.in-Ok.index < 2 ^ 8 = omega (arith, rw c.in-Ok.is at c.register.type_inv) in
     let same : registering c.args.table.now (entry_of c.args.text.now) (Ok c.in-Ok.index) ≡ c.register.new.self =
     sym (c.register.ensures.registered ∙ ap (registering c.args.table.now (entry_of c.args.text.now)) c.in-Ok.is) in
-    subst (λ (t : List (Option Entry)). ArePlaced texts (register r c.args.text.now) t (slice_set c.args.places.now (c.in-Ok.index - 128) (Some c.args.place)))
-    same (placed_Ok texts r c.args.text.now c.args.place c.in-Ok.index c.args.table.now c.args.places.now at P (sym c.register.ensures.index ∙ c.in-Ok.is) low)
+    subst (λ (t : List (Option Entry)).
+    ArePlaced texts (register r c.args.text.now) t
+    (slice_set c.args.places.now (c.in-Ok.index - 128) (Some c.args.place)))
+    same (placed_Ok texts r c.args.text.now c.args.place c.in-Ok.index c.args.table.now c.args.places.now at P
+    (sym c.register.ensures.index ∙ c.in-Ok.is) low)

@@ -8,15 +8,20 @@ loop-place-preserved c = elim c.if-text-any.branch [
   | then-text-any w ↦
       rw (w.table-is, w.places-is)
       (record {
-        at = goes_with c.args.any c.args.texts.now c.loop-place.place c.index-texts-place.result c.args.table.now c.loop-place.table w.register_one.new.table c.args.places.now c.loop-place.places w.register_one.new.places
-            c.loop-place-test.true c.index-texts-place.is (sym (turn_test c.args.any c.index-texts-place.result) ∙ w.if-text-any.true) c.loop-place.invariant.at w.register_one.ensures.at;
+        at = goes_with c.args.any c.args.texts.now c.loop-place.place c.index-texts-place.result c.args.table.now
+            c.loop-place.table w.register_one.new.table c.args.places.now c.loop-place.places w.register_one.new.places
+            c.loop-place-test.true c.index-texts-place.is
+            (sym (turn_test c.args.any c.index-texts-place.result) ∙ w.if-text-any.true) c.loop-place.invariant.at
+            w.register_one.ensures.at;
         long = w.register_one.ensures.long;
       })
   | else-text-any w ↦
       rw (w.table-is, w.places-is)
       (record {
-        at = goes_without c.args.any c.args.texts.now c.loop-place.place c.index-texts-place.result c.args.table.now c.loop-place.table c.args.places.now c.loop-place.places
-            c.loop-place-test.true c.index-texts-place.is (sym (turn_test c.args.any c.index-texts-place.result) ∙ w.if-text-any.false) c.loop-place.invariant.at;
+        at = goes_without c.args.any c.args.texts.now c.loop-place.place c.index-texts-place.result c.args.table.now
+            c.loop-place.table c.args.places.now c.loop-place.places
+            c.loop-place-test.true c.index-texts-place.is
+            (sym (turn_test c.args.any c.index-texts-place.result) ∙ w.if-text-any.false) c.loop-place.invariant.at;
         long = c.loop-place.invariant.long;
       })
 ]

@@ -5,7 +5,8 @@ use Rattle.gas_outside.proofs.Outboxes.{nothing_yet, past_done, past_fault, past
 use Rattle.node_script.proofs.line_writer.write_line.Goals as goal
 
 -- the first word, the others, and byte 10
-parts : (first : List ℕ) (others : List (Bor (List ℕ))) → line_text (first ∷ map (λ w. w.now) others) ≡ first ++ (flat_map spaced (map (λ w. w.now) others) ++ 10 ∷ [])
+parts : (first : List ℕ) (others : List (Bor (List ℕ)))
+    → line_text (first ∷ map (λ w. w.now) others) ≡ first ++ (flat_map spaced (map (λ w. w.now) others) ++ 10 ∷ [])
 parts first others = append_assoc first (flat_map spaced (map (λ w. w.now) others)) (10 ∷ [])
 
 pub returns-in-Fault-clause-bytes : goal.returns-in-Fault-clause-bytes
@@ -14,8 +15,13 @@ returns-in-Fault-clause-bytes g c =
 
 pub returns-in-Fault-write_spaced-clause-bytes : goal.returns-in-Fault-write_spaced-clause-bytes
 returns-in-Fault-write_spaced-clause-bytes g c =
-    past_fault _ _ _ _ _ _ _ refl (past_done _ _ _ _ _ _ _ (parts c.args.first.now c.args.others.now) (nothing_yet _ _) c.in_default.ensures.bytes) c.in-Fault-write_spaced.ensures.bytes
+    past_fault _ _ _ _ _ _ _ refl
+    (past_done _ _ _ _ _ _ _ (parts c.args.first.now c.args.others.now) (nothing_yet _ _)
+    c.in_default.ensures.bytes) c.in-Fault-write_spaced.ensures.bytes
 
 pub returns-clause-bytes : goal.returns-clause-bytes
 returns-clause-bytes g c =
-    past_last _ _ _ _ _ _ (past_done _ _ _ _ _ _ _ refl (past_done _ _ _ _ _ _ _ (parts c.args.first.now c.args.others.now) (nothing_yet _ _) c.in_default.ensures.bytes) c.in_default-write_spaced.ensures.bytes) c.write_all-2.ensures.bytes
+    past_last _ _ _ _ _ _
+    (past_done _ _ _ _ _ _ _ refl
+    (past_done _ _ _ _ _ _ _ (parts c.args.first.now c.args.others.now) (nothing_yet _ _)
+    c.in_default.ensures.bytes) c.in_default-write_spaced.ensures.bytes) c.write_all-2.ensures.bytes

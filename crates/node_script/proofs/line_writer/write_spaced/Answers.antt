@@ -6,19 +6,27 @@ use Rattle.gas_outside.proofs.Outboxes.{past_done, past_fault}
 use Rattle.node_script.proofs.line_writer.write_spaced.Goals as goal
 
 -- what is left begins with a space and the next word
-next_word : (words : List (Bor (List ℕ))) (i : ℕ) (d : Bor (List ℕ)) → i < length words → flat_map spaced (map (λ w. w.now) (drop i words)) ≡ (32 ∷ []) ++ ((get_or words i d).now ++ flat_map spaced (map (λ w. w.now) (drop (i + 1) words)))
+next_word : (words : List (Bor (List ℕ))) (i : ℕ) (d : Bor (List ℕ)) → i < length words
+    → flat_map spaced (map (λ w. w.now) (drop i words))
+    ≡ (32 ∷ []) ++ ((get_or words i d).now ++ flat_map spaced (map (λ w. w.now) (drop (i + 1) words)))
 next_word words i d h = ap (λ xs. flat_map spaced (map (λ w. w.now) xs)) (drop_more words i d h)
 
 pub returns-in-Fault-clause-bytes : goal.returns-in-Fault-clause-bytes
 returns-in-Fault-clause-bytes g c =
-    past_fault _ _ _ _ _ _ _ (next_word c.args.words.now c.loop-word.word-index (record { ref_ptr = (0, 0); now = [] }) c.loop-word-test.true) c.loop-word.invariant.taken c.in-Fault.ensures.bytes
+    past_fault _ _ _ _ _ _ _
+    (next_word c.args.words.now c.loop-word.word-index (record { ref_ptr = (0, 0); now = [] })
+    c.loop-word-test.true) c.loop-word.invariant.taken c.in-Fault.ensures.bytes
 
 pub returns-in-Fault-write_all-clause-bytes : goal.returns-in-Fault-write_all-clause-bytes
 returns-in-Fault-write_all-clause-bytes g c =
-    past_fault _ _ _ _ _ _ _ refl (past_done _ _ _ _ _ _ _ (next_word c.args.words.now c.loop-word.word-index _ c.loop-word-test.true) c.loop-word.invariant.taken c.in_default.ensures.bytes) c.in-Fault-write_all.ensures.bytes
+    past_fault _ _ _ _ _ _ _ refl
+    (past_done _ _ _ _ _ _ _ (next_word c.args.words.now c.loop-word.word-index _ c.loop-word-test.true)
+    c.loop-word.invariant.taken c.in_default.ensures.bytes) c.in-Fault-write_all.ensures.bytes
 
 pub loop-word-preserved : goal.loop-word-preserved
 loop-word-preserved g c = record {
-  taken = past_done _ _ _ _ _ _ _ refl (past_done _ _ _ _ _ _ _ (next_word c.args.words.now c.loop-word.word-index _ c.loop-word-test.true) c.loop-word.invariant.taken c.in_default.ensures.bytes) c.in_default-write_all.ensures.bytes;
+  taken = past_done _ _ _ _ _ _ _ refl
+      (past_done _ _ _ _ _ _ _ (next_word c.args.words.now c.loop-word.word-index _ c.loop-word-test.true)
+      c.loop-word.invariant.taken c.in_default.ensures.bytes) c.in_default-write_all.ensures.bytes;
   later = omega arith;
 }

@@ -1,0 +1,21 @@
+use Rattle.std.proofs.Common.{◌≡◌, ℕ, List, Option, Some, None, Bor, sym, subst, slice_get}
+use Rattle.std.specs.Option.{IfSome, option_map}
+use Rattle.job_text.specs.declared.job.Job.{Job as JobState}
+use Rattle.node_script.specs.ScriptInvariant.{IsWithin, AreWithin}
+use Rattle.job_text.specs.JobReading.{lines_of}
+use Rattle.job_text.specs.declared.job.TimedEvent.{TimedEvent}
+use Rattle.node_script.proofs.script.Script.timed.Goals as goal
+
+-- a line of lines whose calls are within is within
+line_within : (nodes : ℕ) (es : List TimedEvent) (i : ℕ) (r : Option (Bor TimedEvent))
+    → option_map (λ e. e.now) r ≡ slice_get es i → AreWithin nodes es → IfSome r (λ e. IsWithin nodes e.now.event)
+line_within nodes es i None e h = tt
+line_within nodes es i (Some x) e h = h i x.now (sym e)
+
+pub returns-clause-within : goal.returns-clause-within
+returns-clause-within c =
+    let h : AreWithin c.args.self.now.settings.nodes (lines_of c.self.inside.schedule) =
+    subst (λ (j : JobState). AreWithin j.settings.nodes (lines_of c.self.inside.schedule)) c.self.view_is
+    c.self.invariant.within in
+    line_within c.args.self.now.settings.nodes (lines_of c.self.inside.schedule) c.args.i c.line_at.result
+    c.line_at.ensures h

@@ -1,0 +1,135 @@
+//! A job as it is run.
+
+ghost use Rattle.std.specs.Prelude.{◌≡◌, IfOk, IfSome, length, slice_get};
+ghost use Rattle.std.specs.Option.{option_map};
+ghost use Rattle.job_text.specs.JobReading.{lines_of};
+ghost use Rattle.job_text.specs.JobText.{IsJob};
+ghost use Rattle.node_script.specs.Registration.{registered};
+ghost use Rattle.node_script.specs.ScriptInvariant.{IsWithin};
+
+use crate::handlers::ScriptHandlers;
+use datagram_grammar::Settings;
+use handler_rules::Table;
+use job_text::{Job, Schedule, SieveRule, TimedEvent};
+use std::alloc::{AllocError, Global};
+use std::marker::Model;
+
+/// A job whose handlers are registered.
+#[derive(Drop)]
+pub struct Script {
+    settings: Settings,
+    patience: u32,
+    sieve: SieveRule,
+    handlers: ScriptHandlers,
+    /// The table in which the handlers are registered.
+    table: Table,
+    schedule: Option<Schedule>,
+}
+
+impl Model for Script {
+    ghost use Rattle.job_text.specs.declared.job.Job.{Job as JobState};
+    ghost use Rattle.node_script.specs.ScriptInvariant.{IsMade};
+
+    ghost Value = { JobState };
+
+    ghost view = { λ script. record {
+      settings = script.settings;
+      patience = script.patience;
+      sieve = script.sieve;
+      handlers = script.handlers;
+      schedule = script.schedule;
+    } };
+
+    ghost invariant = { λ script.
+        IsMade script.settings script.handlers script.table script.schedule };
+}
+
+impl Script {
+    /// The job, with its handlers registered.
+    ///
+    /// It is refused for want of memory alone.
+    pub fn new(alloc: Global, job: Job) -> Result<Script, AllocError>
+        requires { IsJob job }
+        ensures { IfOk result (λ script. script ≡ job) }
+    {
+        let Job {
+            settings,
+            patience,
+            sieve,
+            handlers,
+            schedule,
+        } = job;
+        let (handlers, table) = ScriptHandlers::new(alloc, handlers)?;
+        Ok(Script {
+            settings,
+            patience,
+            sieve,
+            handlers,
+            table,
+            schedule,
+        })
+    }
+
+    /// The settings of all nodes.
+    pub fn settings(&self) -> &Settings
+        ensures { result.now ≡ self.now.settings }
+    {
+        &self.settings
+    }
+
+    /// After how many quiet turns a node stops waiting.
+    pub fn patience(&self) -> u32
+        ensures { result ≡ self.now.patience }
+    {
+        self.patience
+    }
+
+    /// What a link's sieve does.
+    pub fn sieve(&self) -> SieveRule
+        ensures { result ≡ self.now.sieve }
+    {
+        self.sieve
+    }
+
+    /// The handlers.
+    pub fn handlers(&self) -> &ScriptHandlers
+        ensures { result.now ≡ self.now.handlers }
+    {
+        &self.handlers
+    }
+
+    /// The table in which the handlers are registered.
+    pub fn table(&self) -> &Table
+        ensures { result.now ≡ (registered self.now.handlers).table }
+    {
+        &self.table
+    }
+
+    /// The number of lines of the schedule, 0 where there is none.
+    pub fn lines(&self) -> usize
+        ensures { result ≡ length (lines_of self.now.schedule) }
+    {
+        match &self.schedule {
+            Some(schedule) => schedule.lines().len(),
+            None => 0,
+        }
+    }
+
+    /// What line `i` of the schedule asks for, if there is such a line.
+    pub(crate) fn timed(&self, i: usize) -> Option<&TimedEvent>
+        ensures line { option_map (λ e. e.now) result ≡ slice_get (lines_of self.now.schedule) i }
+        ensures within { IfSome result (λ e. IsWithin self.now.settings.nodes e.now.event) }
+    {
+        line_at(&self.schedule, i)
+    }
+}
+
+/// Line `i` of a schedule, if there is such a line.
+fn line_at(schedule: &Option<Schedule>, i: usize) -> Option<&TimedEvent>
+    ensures { option_map (λ e. e.now) result ≡ slice_get (lines_of schedule.now) i }
+{
+    match schedule {
+        Some(schedule) => schedule.lines().get(i),
+        None => None,
+    }
+}
