@@ -1,5 +1,6 @@
 -- The last violations, from the oldest on, as they are read from the newest back.
-use Rattle.std.proofs.Common.{◌≡◌, ℕ, zero, suc, ◌+◌, ◌-◌, ◌<◌, ◌≤◌, List, [], ◌∷◌, length, drop, None, Some, nat_lt, refl, sym, ap, ◌∙◌, arith, inl, inr}
+use Rattle.std.proofs.Common.{◌≡◌, ℕ, zero, suc, ◌+◌, ◌-◌, ◌<◌, ◌≤◌, List, [], ◌∷◌, length, drop, None, Some, nat_lt}
+use Rattle.std.proofs.Common.{refl, sym, ap, ◌∙◌, arith, inl, inr}
 use Rattle.std.specs.List.{slice_get}
 use Rattle.std.proofs.lemmas.Option.{same_Some}
 use Rattle.std.proofs.lemmas.Bool.{cases_Bool}
@@ -29,19 +30,25 @@ pub left_all : (ys : List Violation) → length ys ≤ 64 → left ys 0 ≡ ys
 left_all ys few = let none : 0 - (64 - length ys) ≡ 0 = omega arith in ap (λ n. drop n ys) none
 
 -- where none is so far from the end, none was passed
-pub left_none : (ys : List Violation) (turn : ℕ) → length ys ≤ 64 → turn < 64 → None ≡ from_end ys (63 - turn) → left ys turn ≡ left ys (turn + 1)
+pub left_none : (ys : List Violation) (turn : ℕ) → length ys ≤ 64 → turn < 64 → None ≡ from_end ys (63 - turn)
+    → left ys turn ≡ left ys (turn + 1)
 left_none ys turn few low h = elim (cases_Bool (nat_lt (63 - turn) (length ys))) [
-  | inl t ↦ (let inside : 63 - turn < length ys = grind (arith, nat_tests) in absurd (there ys (length ys - (63 - turn) - 1) (omega (arith, inside)) (sym (rw t at h))))
-  | inr f ↦ (let outside : length ys ≤ 63 - turn = grind (arith, nat_tests) in let same : turn - (64 - length ys) ≡ turn + 1 - (64 - length ys) = omega (arith, outside, low, few) in ap (λ n. drop n ys) same)
+  | inl t ↦ (let inside : 63 - turn < length ys = grind (arith, nat_tests) in
+      absurd (there ys (length ys - (63 - turn) - 1) (omega (arith, inside)) (sym (rw t at h))))
+  | inr f ↦ (let outside : length ys ≤ 63 - turn = grind (arith, nat_tests) in
+      let same : turn - (64 - length ys) ≡ turn + 1 - (64 - length ys) = omega (arith, outside, low, few) in
+      ap (λ n. drop n ys) same)
 ]
 
 -- one that is so far from the end is the first that is left
-pub left_some : (ys : List Violation) (turn : ℕ) (v : Violation) → length ys ≤ 64 → turn < 64 → Some v ≡ from_end ys (63 - turn) → left ys turn ≡ v ∷ left ys (turn + 1)
+pub left_some : (ys : List Violation) (turn : ℕ) (v : Violation) → length ys ≤ 64 → turn < 64
+    → Some v ≡ from_end ys (63 - turn) → left ys turn ≡ v ∷ left ys (turn + 1)
 left_some ys turn v few low h = elim (cases_Bool (nat_lt (63 - turn) (length ys))) [
   | inl t ↦ (let inside : 63 - turn < length ys = grind (arith, nat_tests) in
       let here : length ys - (63 - turn) - 1 ≡ turn - (64 - length ys) = omega (arith, inside, few, low) in
       let next : suc (turn - (64 - length ys)) ≡ turn + 1 - (64 - length ys) = omega (arith, inside, few, low) in
-      drop_at ys (turn - (64 - length ys)) v (sym (ap (slice_get ys) here) ∙ sym (rw t at h)) ∙ ap (λ n. v ∷ drop n ys) next)
+      drop_at ys (turn - (64 - length ys)) v (sym (ap (slice_get ys) here) ∙ sym (rw t at h))
+      ∙ ap (λ n. v ∷ drop n ys) next)
   | inr f ↦ (let q = rw f at h in absurd (cc))
 ]
 

@@ -1,6 +1,6 @@
-pub mod Says
-pub mod Output
-pub mod Runs
-pub mod Laws
+pub mod LinesWritten
+pub mod RunText
+pub mod ScheduleRun
+pub mod RunLaws
 pub mod TopCall
 pub mod TopParts

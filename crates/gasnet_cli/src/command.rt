@@ -1,10 +1,10 @@
 //! The commands of the program.
 
 ghost use Rattle.std.specs.Prelude.{◌≡◌, ◌≤◌, ◌∷◌, [], ◌↔◌, IsTrue, map, codes, string_bytes};
-ghost use Rattle.gas_outside.specs.Buffered.{outbox};
 ghost use Rattle.gas_outside.specs.Faults.{Rose};
-ghost use Rattle.gasnet_cli.specs.TopCall.{IsWorld};
-ghost use Rattle.gasnet_cli.specs.TopParts.{ReadsOrNot, IsReadFault, Tells};
+ghost use Rattle.gasnet_cli.specs.TopCall.{IsWorld, command_of, input};
+ghost use Rattle.gasnet_cli.specs.TopParts.{ReadsOrNot, IsReadFault, IsReadJob, Tells, buffered};
+ghost use Rattle.job_text.specs.JobText.{IsJob};
 
 use crate::ending::End;
 use crate::run::run_job;
@@ -12,8 +12,9 @@ use crate::said::Said;
 use crate::status::say;
 use gas_outside::{BufferedSink, ReadAll, Sink, Source, read_all};
 use gas_world::World;
-use node_script::{Job, JobFault, JobWhy, read_job};
-use std::alloc::Global;
+use job_text::{Job, JobFault, JobWhy, read_job};
+use node_script::Script;
+use std::alloc::{AllocError, Global};
 
 /// The most bytes of a job's text.
 const LIMIT: usize = 4_194_304;
@@ -22,7 +23,7 @@ const LIMIT: usize = 4_194_304;
 #[derive(Drop)]
 pub enum JobRead {
     /// The job whose text was read.
-    Job(Job),
+    Job(Script),
     /// The bytes are no job's text, or too many.
     NoJob {
         /// The first bad line, counted from 1; 0 where there are too many bytes.
@@ -36,6 +37,17 @@ pub enum JobRead {
     NoMemory,
 }
 
+/// The job, with its handlers registered.
+fn registered(alloc: Global, job: Job) -> JobRead
+    requires { IsJob job }
+    ensures { IsReadJob job result }
+{
+    match Script::new(alloc, job) {
+        Ok(script) => JobRead::Job(script),
+        Err(AllocError) => JobRead::NoMemory,
+    }
+}
+
 /// Reads all, and the job whose text it is.
 fn job_from<S: Source>(alloc: Global, source: &mut S) -> JobRead
     ensures job { ReadsOrNot (S.left source.old) (S.left source.new) result }
@@ -44,7 +56,7 @@ fn job_from<S: Source>(alloc: Global, source: &mut S) -> JobRead
 {
     match read_all(alloc, source, LIMIT) {
         ReadAll::Bytes(bytes) => match read_job(alloc, &bytes) {
-            Ok(job) => JobRead::Job(job),
+            Ok(job) => registered(alloc, job),
             Err(JobFault::Bad { line, why }) => JobRead::NoJob { line, why },
             Err(JobFault::NoMemory) => JobRead::NoMemory,
         },
@@ -63,15 +75,17 @@ fn world_command<S: Source, K: Sink>(
     source: &mut S,
     sink: &mut BufferedSink<K>,
 ) -> (End, Option<World>)
-    ensures tells { Tells (codes "world" ∷ []) (S.left source.old) (S.left source.new) (outbox K.taken sink.old) (outbox K.taken sink.new)
-        (Rose (S.faults source.old) (S.faults source.new)) (Rose (K.faults sink.old.inner) (K.faults sink.new.inner)) result.1 result.0 }
+    ensures tells { Tells (command_of (codes "world" ∷ [])
+        (input S.left S.faults source.old) (input S.left S.faults source.new))
+        (buffered K.taken K.faults sink.old) (buffered K.taken K.faults sink.new)
+        result.1 result.0 }
     ensures later { K.faults sink.old.inner ≤ K.faults sink.new.inner }
 {
     match job_from(alloc, source) {
         JobRead::NoMemory => (say(sink, End::NoMemory), None),
         JobRead::Fault => (say(sink, End::ReadFault), None),
         JobRead::NoJob { line, why } => (say(sink, End::BadJob { line, why }), None),
-        JobRead::Job(job) => match run_job(alloc, &job, sink) {
+        JobRead::Job(script) => match run_job(alloc, &script, sink) {
             (Said::Done, violated, world) => (End::of_run(violated), world),
             (Said::Fault, _, _) => (End::WriteFault, None),
             (Said::NoMemory, _, _) => (say(sink, End::NoMemory), None),
@@ -93,8 +107,10 @@ pub fn command<S: Source, K: Sink>(
     source: &mut S,
     sink: &mut BufferedSink<K>,
 ) -> (End, Option<World>)
-    ensures tells { Tells (map string_bytes words.now) (S.left source.old) (S.left source.new) (outbox K.taken sink.old) (outbox K.taken sink.new)
-        (Rose (S.faults source.old) (S.faults source.new)) (Rose (K.faults sink.old.inner) (K.faults sink.new.inner)) result.1 result.0 }
+    ensures tells { Tells (command_of (map string_bytes words.now)
+        (input S.left S.faults source.old) (input S.left S.faults source.new))
+        (buffered K.taken K.faults sink.old) (buffered K.taken K.faults sink.new)
+        result.1 result.0 }
     ensures later { K.faults sink.old.inner ≤ K.faults sink.new.inner }
 {
     if is_world(words) {

@@ -4,7 +4,7 @@ ghost use Rattle.std.specs.Prelude.{◌≡◌};
 ghost use Rattle.gasnet_cli.specs.TopCall.{code_of, why_word};
 ghost use Rattle.gasnet_cli.specs.TopParts.{end_of};
 
-use node_script::JobWhy;
+use job_text::JobWhy;
 
 /// How a command ends.
 #[derive(Clone, Copy, Debug, PartialEq, Eq)]

@@ -1,17 +1,15 @@
 //! Runs GASNet active messages over lossy datagrams.
 //!
 //! The one command is `world`: it reads a job from standard input, runs its schedule over the endpoints of a world, and
-//! writes one line for each line of the schedule, then those of each node, then `status CODE NAME`. The code is the exit
-//! status. Nothing is written to standard error.
+//! writes one line for each line of the schedule, then those of each node, then `status CODE NAME`. The code is the
+//! exit status. Nothing is written to standard error.
 #![tactic(auto)]
 
 mod command;
 mod ending;
-mod moved;
 mod output;
 mod run;
 mod said;
-mod settling;
 mod standard;
 mod status;
 mod top;

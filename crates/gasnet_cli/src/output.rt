@@ -5,8 +5,9 @@ ghost use Rattle.gas_outside.specs.Buffered.{GathersAll, outbox};
 ghost use Rattle.gas_outside.specs.Faults.{Rose};
 ghost use Rattle.gas_outside.specs.Whole.{IsWriteFault};
 ghost use Rattle.node_script.specs.Lines.{line_text};
-ghost use Rattle.gasnet_cli.specs.Output.{node_line};
-ghost use Rattle.gasnet_cli.specs.Runs.{WritesAnswer, WritesNode, WritesNodes, TellsViolation};
+ghost use Rattle.gasnet_cli.specs.RunText.{node_line};
+ghost use Rattle.gasnet_cli.specs.ScheduleRun.{Writes, answer_text, node_text, nodes_text};
+ghost use Rattle.gasnet_cli.specs.ScheduleRun.{TellsViolation};
 
 use crate::violations::write_violations;
 use gas_outside::{BufferedSink, Sink, Wrote};
@@ -16,7 +17,8 @@ use node_script::{write_answer, write_line};
 
 /// Writes the line of a number and a word.
 pub fn write_numbered<K: Sink>(sink: &mut BufferedSink<K>, number: u64, word: &[u8]) -> Wrote
-    ensures bytes { GathersAll (outbox K.taken sink.old) (outbox K.taken sink.new) (line_text (decimal number ∷ word.now ∷ [])) result }
+    ensures bytes { GathersAll (outbox K.taken sink.old) (outbox K.taken sink.new)
+        (line_text (decimal number ∷ word.now ∷ [])) result }
     ensures later { K.faults sink.old.inner ≤ K.faults sink.new.inner }
     ensures fault { IsWriteFault result → Rose (K.faults sink.old.inner) (K.faults sink.new.inner) }
 {
@@ -24,8 +26,8 @@ pub fn write_numbered<K: Sink>(sink: &mut BufferedSink<K>, number: u64, word: &[
     write_line(sink, first.format(number).as_bytes(), &[word])
 }
 
-/// Writes the line of the answer to an event that fell on this node: its number, and its words. No line of a run is that of
-/// `NoMemory`.
+/// Writes the line of the answer to an event that fell on this node: its number, and its words. No line of a run is
+/// that of `NoMemory`.
 pub fn write_event_answer<K: Sink>(
     world: &World,
     node: u16,
@@ -34,7 +36,8 @@ pub fn write_event_answer<K: Sink>(
     sink: &mut BufferedSink<K>,
 ) -> Wrote
     requires { node < world.now.settings.nodes }
-    ensures bytes { WritesAnswer world.now (outbox K.taken sink.old) (outbox K.taken sink.new) number node answer.now result }
+    ensures bytes { Writes world.now (answer_text world.now.settings number node answer.now)
+        (outbox K.taken sink.old) (outbox K.taken sink.new) result }
     ensures later { K.faults sink.old.inner ≤ K.faults sink.new.inner }
     ensures fault { IsWriteFault result → Rose (K.faults sink.old.inner) (K.faults sink.new.inner) }
 {
@@ -58,7 +61,8 @@ fn write_node_line<K: Sink>(
     most: usize,
     violations: u64,
 ) -> Wrote
-    ensures bytes { GathersAll (outbox K.taken sink.old) (outbox K.taken sink.new) (line_text (node_line node held most violations)) result }
+    ensures bytes { GathersAll (outbox K.taken sink.old) (outbox K.taken sink.new)
+        (line_text (node_line node held most violations)) result }
     ensures later { K.faults sink.old.inner ≤ K.faults sink.new.inner }
     ensures fault { IsWriteFault result → Rose (K.faults sink.old.inner) (K.faults sink.new.inner) }
 {
@@ -84,7 +88,8 @@ fn write_node_line<K: Sink>(
 /// Writes the lines of a node of the world: its own, and one for each of its last violations.
 fn write_node<K: Sink>(world: &World, node: u16, sink: &mut BufferedSink<K>) -> Wrote
     requires { node < world.now.settings.nodes }
-    ensures bytes { WritesNode world.now (outbox K.taken sink.old) (outbox K.taken sink.new) node result }
+    ensures bytes { Writes world.now (node_text world.now node)
+        (outbox K.taken sink.old) (outbox K.taken sink.new) result }
     ensures later { K.faults sink.old.inner ≤ K.faults sink.new.inner }
     ensures fault { IsWriteFault result → Rose (K.faults sink.old.inner) (K.faults sink.new.inner) }
 {
@@ -98,14 +103,14 @@ fn write_node<K: Sink>(world: &World, node: u16, sink: &mut BufferedSink<K>) -> 
     write_violations(log, node, sink)
 }
 
-/// Writes the lines of all nodes of the world, of which there are so many.
-pub fn write_nodes<K: Sink>(world: &World, nodes: u16, sink: &mut BufferedSink<K>) -> Wrote
-    requires { nodes ≡ world.now.settings.nodes }
-    ensures bytes { WritesNodes world.now (outbox K.taken sink.old) (outbox K.taken sink.new) result }
+/// Writes the lines of all nodes of the world.
+pub fn write_nodes<K: Sink>(world: &World, sink: &mut BufferedSink<K>) -> Wrote
+    ensures bytes { Writes world.now (nodes_text world.now)
+        (outbox K.taken sink.old) (outbox K.taken sink.new) result }
     ensures later { K.faults sink.old.inner ≤ K.faults sink.new.inner }
     ensures fault { IsWriteFault result → Rose (K.faults sink.old.inner) (K.faults sink.new.inner) }
 {
-    for node in 0..nodes {
+    for node in 0..world.nodes() {
         if let Wrote::Fault = write_node(world, node, sink) {
             return Wrote::Fault;
         }
@@ -113,12 +118,11 @@ pub fn write_nodes<K: Sink>(world: &World, nodes: u16, sink: &mut BufferedSink<K
     Wrote::Done
 }
 
-/// Whether a node of the world, of which there are so many, noted a violation.
-pub fn any_violation(world: &World, nodes: u16) -> bool
-    requires { nodes ≡ world.now.settings.nodes }
+/// Whether a node of the world noted a violation.
+pub fn any_violation(world: &World) -> bool
     ensures { TellsViolation world.now result }
 {
-    for node in 0..nodes {
+    for node in 0..world.nodes() {
         if world.endpoint(node).log().count() != 0 {
             return true;
         }

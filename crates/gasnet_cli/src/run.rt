@@ -1,34 +1,34 @@
 //! Running a job in a world.
 
-ghost use Rattle.std.specs.Prelude.{◌≡◌, ◌≤◌, ◌<◌, ◌+◌, ◌∷◌, [], codes, length, Some, slice_get};
+ghost use Rattle.std.specs.Prelude.{◌≡◌, ◌≤◌, ◌<◌, ◌+◌, length, Some, slice_get};
 ghost use Rattle.gas_outside.specs.Buffered.{outbox};
 ghost use Rattle.gas_outside.specs.Faults.{Rose};
 ghost use Rattle.gas_outside.specs.Whole.{IsWriteFault};
-ghost use Rattle.gas_world.specs.Events.{event_of, rules_in};
-ghost use Rattle.gas_world.specs.Nodes.{at_the_opening};
+ghost use Rattle.gas_world.specs.CallRules.{at_the_opening, timed};
+ghost use Rattle.gas_world.specs.Events.{event_of, job_in};
 ghost use Rattle.gas_world.specs.Stands.{Stands};
-ghost use Rattle.gas_world.specs.World.{IsAmong};
+ghost use Rattle.plain_world.specs.World.{IsAmong};
 ghost use Rattle.node_script.specs.Bodies.{script_meaning};
-ghost use Rattle.node_script.specs.JobText.{IsJob};
-ghost use Rattle.node_script.specs.Registering.{registered};
-ghost use Rattle.node_script.specs.Schedules.{lines_of, settle_events};
-ghost use Rattle.node_script.specs.declared.job.TimedEvent.{TimedEvent};
-ghost use Rattle.gasnet_cli.specs.Output.{node_of, is_violated, run_lines};
-ghost use Rattle.gasnet_cli.specs.Laws.{RunLaws};
-ghost use Rattle.gasnet_cli.specs.Runs.{Stood, Runs, RunsEvent, RunsLine, RunsTimed, WritesEnd, StandsForRun, TellsViolation};
-ghost use Rattle.gasnet_cli.specs.Says.{Says, IsFault, OnDone};
+ghost use Rattle.job_text.specs.JobText.{IsJob};
+ghost use Rattle.node_script.specs.Registration.{registered};
+ghost use Rattle.job_text.specs.JobReading.{lines_of};
+ghost use Rattle.job_text.specs.declared.job.TimedEvent.{TimedEvent};
+ghost use Rattle.gasnet_cli.specs.RunText.{node_of, is_violated, run_lines};
+ghost use Rattle.gasnet_cli.specs.RunLaws.{RunLaws};
+ghost use Rattle.gasnet_cli.specs.ScheduleRun.{Stood, stage, event_plan, settle_plan, line_plan};
+ghost use Rattle.gasnet_cli.specs.ScheduleRun.{RunsByScript, RunsLines, Writes, end_text};
+ghost use Rattle.gasnet_cli.specs.ScheduleRun.{StandsForRun, TellsViolation};
+ghost use Rattle.gasnet_cli.specs.LinesWritten.{Says, IsFault, OnDone};
 ghost use Rattle.gasnet_cli.specs.TopParts.{WorldIs};
 
 use crate::ending::End;
-use crate::moved::Moved;
 use crate::output::{any_violation, write_event_answer, write_nodes, write_numbered};
 use crate::said::Said;
-use crate::settling::settle;
 use crate::status::write_status;
 use gas_outside::{BufferedSink, Sink, Wrote};
 use gas_world::{World, WorldAnswer, WorldEvent};
-use node_script::{Job, Line};
-use std::alloc::Global;
+use node_script::{Line, Script};
+use std::alloc::{AllocError, Global};
 
 /// The node on which an event falls.
 fn node_of(event: &WorldEvent<'_>) -> u16
@@ -42,93 +42,111 @@ fn node_of(event: &WorldEvent<'_>) -> u16
     }
 }
 
-/// Runs one event, and writes the line of its answer, which has this number.
+/// Where a line of the output stands.
+#[derive(Clone, Copy, Debug)]
+struct Place {
+    /// Its number, from 1.
+    number: u64,
+    /// The time of its events.
+    now: u64,
+}
+
+/// Runs one event, and writes the line of its answer.
 fn run_event<K: Sink>(
     world: &mut World,
-    job: &Job,
-    number: u64,
-    now: u64,
+    script: &Script,
+    at: Place,
     event: &WorldEvent<'_>,
     sink: &mut BufferedSink<K>,
 ) -> Said
     requires { IsAmong world.old.settings (event_of event.now) }
     ensures settings { world.new.settings ≡ world.old.settings }
     ensures table { world.new.table ≡ world.old.table }
-    ensures runs { RunsEvent world.old.settings (rules_in (script_meaning job.now.handlers) world.old) now (event_of event.now) world.old world.new (outbox K.taken sink.old) (outbox K.taken sink.new) number result }
+    ensures runs { RunsByScript script.now (event_plan at.number (timed at.now (event_of event.now)))
+        (stage K.taken world.old sink.old) (stage K.taken world.new sink.new) result }
     ensures later { K.faults sink.old.inner ≤ K.faults sink.new.inner }
     ensures fault { IsFault result → Rose (K.faults sink.old.inner) (K.faults sink.new.inner) }
 {
-    match world.step(job.handlers(), now, event) {
+    match world.step(script.handlers(), at.now, event) {
         WorldAnswer::NoMemory => Said::NoMemory,
         answer => Said::from_wrote(write_event_answer(
             world,
             node_of(event),
-            number,
+            at.number,
             &answer,
             sink,
         )),
     }
 }
 
-/// Runs so many rounds, and writes the line of their answer, which has this number.
+/// Runs so many rounds, and writes the line of their answer.
 fn run_settle<K: Sink>(
     world: &mut World,
-    job: &Job,
-    number: u64,
-    now: u64,
+    script: &Script,
+    at: Place,
     rounds: u32,
     sink: &mut BufferedSink<K>,
 ) -> Said
-    requires { world.old.settings ≡ job.now.settings }
     ensures settings { world.new.settings ≡ world.old.settings }
     ensures table { world.new.table ≡ world.old.table }
-    ensures runs { RunsLine world.old.settings (rules_in (script_meaning job.now.handlers) world.old) (λ w. codes "settled" ∷ []) (settle_events world.old.settings (rules_in (script_meaning job.now.handlers) world.old) now rounds)
-        world.old world.new (outbox K.taken sink.old) (outbox K.taken sink.new) number result }
+    ensures runs { RunsByScript script.now (settle_plan at.number at.now rounds)
+        (stage K.taken world.old sink.old) (stage K.taken world.new sink.new) result }
     ensures later { K.faults sink.old.inner ≤ K.faults sink.new.inner }
     ensures fault { IsFault result → Rose (K.faults sink.old.inner) (K.faults sink.new.inner) }
 {
-    let nodes = job.settings().nodes();
-    match settle(world, job.handlers(), now, rounds, nodes) {
-        Moved::NoMemory => Said::NoMemory,
-        Moved::Done => Said::from_wrote(write_numbered(sink, number, b"settled")),
+    match world.settle(script.handlers(), at.now, rounds) {
+        Err(AllocError) => Said::NoMemory,
+        Ok(()) => Said::from_wrote(write_numbered(sink, at.number, b"settled")),
     }
 }
 
 /// Runs line `place` of the schedule, from 0, and writes its line, whose number is one more.
-fn run_line<K: Sink>(world: &mut World, job: &Job, place: usize, sink: &mut BufferedSink<K>) -> Said
-    requires job { IsJob job.now }
-    requires settings { world.old.settings ≡ job.now.settings }
+fn run_line<K: Sink>(
+    world: &mut World,
+    script: &Script,
+    place: usize,
+    sink: &mut BufferedSink<K>,
+) -> Said
+    requires job { IsJob script.now }
+    requires settings { world.old.settings ≡ script.now.settings }
     requires stood { Stood world.old }
-    requires line { place < length (lines_of job.now.schedule) }
+    requires line { place < length (lines_of script.now.schedule) }
     ensures settings { world.new.settings ≡ world.old.settings }
     ensures table { world.new.table ≡ world.old.table }
-    ensures runs { (e : TimedEvent) → slice_get (lines_of job.now.schedule) place ≡ Some e
-        → RunsTimed world.old.settings (rules_in (script_meaning job.now.handlers) world.old) e world.old world.new (outbox K.taken sink.old) (outbox K.taken sink.new) (place + 1) result }
+    ensures runs { (line : TimedEvent) → slice_get (lines_of script.now.schedule) place ≡ Some line
+        → RunsByScript script.now (line_plan (place + 1) line)
+        (stage K.taken world.old sink.old) (stage K.taken world.new sink.new) result }
     ensures later { K.faults sink.old.inner ≤ K.faults sink.new.inner }
     ensures fault { IsFault result → Rose (K.faults sink.old.inner) (K.faults sink.new.inner) }
 {
     let number = place as u64 + 1;
     let mut args = [0; 17];
-    match job.line(place, world, &mut args) {
-        Some(Line::Event { now, event }) => run_event(world, job, number, now, &event, sink),
-        Some(Line::Settle { now, rounds }) => { run_settle(world, job, number, now, rounds, sink) }
+    match script.line(place, world, &mut args) {
+        Some(Line::Event { now, event }) => {
+            run_event(world, script, Place { number, now }, &event, sink)
+        }
+        Some(Line::Settle { now, rounds }) => {
+            run_settle(world, script, Place { number, now }, rounds, sink)
+        }
         None => Said::Done,
     }
 }
 
 /// Runs the lines of the schedule in order, and writes a line for each, numbered from 1.
-fn run_schedule<K: Sink>(world: &mut World, job: &Job, sink: &mut BufferedSink<K>) -> Said
-    requires job { IsJob job.now }
-    requires settings { world.old.settings ≡ job.now.settings }
+fn run_schedule<K: Sink>(world: &mut World, script: &Script, sink: &mut BufferedSink<K>) -> Said
+    requires job { IsJob script.now }
+    requires settings { world.old.settings ≡ script.now.settings }
     requires stood { Stood world.old }
     ensures settings { world.new.settings ≡ world.old.settings }
     ensures table { world.new.table ≡ world.old.table }
-    ensures runs { Runs world.old.settings (rules_in (script_meaning job.now.handlers) world.old) world.old world.new (outbox K.taken sink.old) (outbox K.taken sink.new) (lines_of job.now.schedule) result }
+    ensures runs { RunsLines (job_in (script_meaning script.now.handlers) world.old)
+        (lines_of script.now.schedule)
+        (stage K.taken world.old sink.old) (stage K.taken world.new sink.new) result }
     ensures later { K.faults sink.old.inner ≤ K.faults sink.new.inner }
     ensures fault { IsFault result → Rose (K.faults sink.old.inner) (K.faults sink.new.inner) }
 {
-    for place in 0..job.lines() {
-        match run_line(world, job, place, sink) {
+    for place in 0..script.lines() {
+        match run_line(world, script, place, sink) {
             Said::Done => {}
             ended => return ended,
         }
@@ -137,65 +155,63 @@ fn run_schedule<K: Sink>(world: &mut World, job: &Job, sink: &mut BufferedSink<K
 }
 
 /// Writes the lines at the end of a run: those of each node, and the last one.
-fn write_end<K: Sink>(
-    world: &World,
-    nodes: u16,
-    violated: bool,
-    sink: &mut BufferedSink<K>,
-) -> Wrote
-    requires nodes { nodes ≡ world.now.settings.nodes }
-    requires violated { TellsViolation world.now violated }
-    ensures bytes { WritesEnd world.now (outbox K.taken sink.old) (outbox K.taken sink.new) result }
+fn write_end<K: Sink>(world: &World, violated: bool, sink: &mut BufferedSink<K>) -> Wrote
+    requires { TellsViolation world.now violated }
+    ensures bytes { Writes world.now (end_text world.now)
+        (outbox K.taken sink.old) (outbox K.taken sink.new) result }
     ensures later { K.faults sink.old.inner ≤ K.faults sink.new.inner }
     ensures fault { IsWriteFault result → Rose (K.faults sink.old.inner) (K.faults sink.new.inner) }
 {
-    if let Wrote::Fault = write_nodes(world, nodes, sink) {
+    if let Wrote::Fault = write_nodes(world, sink) {
         return Wrote::Fault;
     }
     write_status(sink, End::of_run(violated))
 }
 
-/// Runs a job in its world, which is at the opening, and writes its lines; where all were said, whether a node noted a violation.
-fn run_in<K: Sink>(world: &mut World, job: &Job, sink: &mut BufferedSink<K>) -> (Said, bool)
-    requires job { IsJob job.now }
-    requires settings { world.old.settings ≡ job.now.settings }
-    requires table { world.old.table ≡ (registered job.now.handlers).table }
+/// Runs a job in its world, which is at the opening, and writes its lines; where all were said, whether a node noted a
+/// violation.
+fn run_in<K: Sink>(world: &mut World, script: &Script, sink: &mut BufferedSink<K>) -> (Said, bool)
+    requires job { IsJob script.now }
+    requires settings { world.old.settings ≡ script.now.settings }
+    requires table { world.old.table ≡ (registered script.now.handlers).table }
     requires stands { Stands world.old at_the_opening (λ i. 0) }
-    ensures lines { Says (outbox K.taken sink.old) (outbox K.taken sink.new) (run_lines job.now) result.0 }
-    ensures violated { OnDone result.0 (result.1 ≡ is_violated job.now) }
-    ensures world { OnDone result.0 (StandsForRun job.now world.new) }
+    ensures lines { Says (outbox K.taken sink.old) (outbox K.taken sink.new)
+        (run_lines script.now) result.0 }
+    ensures violated { OnDone result.0 (result.1 ≡ is_violated script.now) }
+    ensures world { OnDone result.0 (StandsForRun script.now world.new) }
     ensures later { K.faults sink.old.inner ≤ K.faults sink.new.inner }
     ensures fault { IsFault result.0 → Rose (K.faults sink.old.inner) (K.faults sink.new.inner) }
 {
-    match run_schedule(world, job, sink) {
+    match run_schedule(world, script, sink) {
         Said::Done => {}
         ended => return (ended, false),
     }
-    let nodes = job.settings().nodes();
-    let violated = any_violation(world, nodes);
-    let wrote = write_end(world, nodes, violated, sink);
+    let violated = any_violation(world);
+    let wrote = write_end(world, violated, sink);
     (Said::from_wrote(wrote), violated)
 }
 
-/// Runs a job in a new world, and writes its lines; where all were said, whether a node noted a violation, and the world after the run.
+/// Runs a job in a new world, and writes its lines; where all were said, whether a node noted a violation, and the
+/// world after the run.
 #[tactic(auto, using(crate::proofs::RunLaws::run_laws))]
 pub fn run_job<K: Sink>(
     alloc: Global,
-    job: &Job,
+    script: &Script,
     sink: &mut BufferedSink<K>,
 ) -> (Said, bool, Option<World>)
-    requires { IsJob job.now }
-    ensures lines { Says (outbox K.taken sink.old) (outbox K.taken sink.new) (run_lines job.now) result.0 }
-    ensures violated { OnDone result.0 (result.1 ≡ is_violated job.now) }
-    ensures world { WorldIs job.now result.0 result.2 }
-    ensures laws { RunLaws job.now }
+    requires { IsJob script.now }
+    ensures lines { Says (outbox K.taken sink.old) (outbox K.taken sink.new)
+        (run_lines script.now) result.0 }
+    ensures violated { OnDone result.0 (result.1 ≡ is_violated script.now) }
+    ensures world { WorldIs script.now result.0 result.2 }
+    ensures laws { RunLaws script.now }
     ensures later { K.faults sink.old.inner ≤ K.faults sink.new.inner }
     ensures fault { IsFault result.0 → Rose (K.faults sink.old.inner) (K.faults sink.new.inner) }
 {
-    let Ok(mut world) = World::new(alloc, job.settings(), job.table()) else {
+    let Ok(mut world) = World::new(alloc, script.settings(), script.table()) else {
         return (Said::NoMemory, false, None);
     };
-    let (said, violated) = run_in(&mut world, job, sink);
+    let (said, violated) = run_in(&mut world, script, sink);
     match said {
         Said::Done => (Said::Done, violated, Some(world)),
         ended => (ended, false, None),

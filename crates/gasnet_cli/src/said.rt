@@ -1,7 +1,7 @@
 //! How far the lines of a command were said.
 
 ghost use Rattle.std.specs.Prelude.{◌≡◌};
-ghost use Rattle.gasnet_cli.specs.Says.{said_of};
+ghost use Rattle.gasnet_cli.specs.LinesWritten.{said_of};
 
 use gas_outside::Wrote;
 

@@ -6,7 +6,8 @@ use std::alloc::Global;
 use std::process::Abort;
 use std::test::*;
 
-/// Calls `gasnet` with these words, and answers the code and the bytes taken; one read and one write are to fail, or none for 0.
+/// Calls `gasnet` with these words, and answers the code and the bytes taken; one read and one write are to fail, or
+/// none for 0.
 fn call(
     alloc: Global,
     words: &[&str],

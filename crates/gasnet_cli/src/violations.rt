@@ -5,7 +5,7 @@ ghost use Rattle.gas_outside.specs.Buffered.{GathersAll, outbox};
 ghost use Rattle.gas_outside.specs.Faults.{Rose};
 ghost use Rattle.gas_outside.specs.Whole.{IsWriteFault};
 ghost use Rattle.node_script.specs.Lines.{line_text, spell};
-ghost use Rattle.gasnet_cli.specs.Output.{violation_line, fault_word};
+ghost use Rattle.gasnet_cli.specs.RunText.{violation_line, fault_word};
 
 use gas_outside::{BufferedSink, Sink, Wrote};
 use handler_rules::{Context, Fault, Log, Violation};
@@ -26,7 +26,8 @@ fn fault_word(fault: Fault) -> &'static [u8]
 
 /// Writes the line of a violation of a handler.
 fn write_handler<K: Sink>(sink: &mut BufferedSink<K>, node: u16, who: &[u8], what: &[u8]) -> Wrote
-    ensures bytes { GathersAll (outbox K.taken sink.old) (outbox K.taken sink.new) (line_text (codes "violation" ∷ decimal node ∷ who.now ∷ what.now ∷ [])) result }
+    ensures bytes { GathersAll (outbox K.taken sink.old) (outbox K.taken sink.new)
+        (line_text (codes "violation" ∷ decimal node ∷ who.now ∷ what.now ∷ [])) result }
     ensures later { K.faults sink.old.inner ≤ K.faults sink.new.inner }
     ensures fault { IsWriteFault result → Rose (K.faults sink.old.inner) (K.faults sink.new.inner) }
 {
@@ -40,7 +41,9 @@ fn write_handler<K: Sink>(sink: &mut BufferedSink<K>, node: u16, who: &[u8], wha
 
 /// Writes the line of a violation of a thread.
 fn write_thread<K: Sink>(sink: &mut BufferedSink<K>, node: u16, thread: u16, what: &[u8]) -> Wrote
-    ensures bytes { GathersAll (outbox K.taken sink.old) (outbox K.taken sink.new) (line_text (codes "violation" ∷ decimal node ∷ codes "thread" ∷ decimal thread ∷ what.now ∷ [])) result }
+    ensures bytes { GathersAll (outbox K.taken sink.old) (outbox K.taken sink.new)
+        (line_text (codes "violation" ∷ decimal node ∷ codes "thread" ∷ decimal thread
+        ∷ what.now ∷ [])) result }
     ensures later { K.faults sink.old.inner ≤ K.faults sink.new.inner }
     ensures fault { IsWriteFault result → Rose (K.faults sink.old.inner) (K.faults sink.new.inner) }
 {
@@ -60,7 +63,8 @@ fn write_thread<K: Sink>(sink: &mut BufferedSink<K>, node: u16, thread: u16, wha
 
 /// Writes the line of a violation of a node.
 fn write_violation<K: Sink>(sink: &mut BufferedSink<K>, node: u16, violation: Violation) -> Wrote
-    ensures bytes { GathersAll (outbox K.taken sink.old) (outbox K.taken sink.new) (line_text (violation_line node violation)) result }
+    ensures bytes { GathersAll (outbox K.taken sink.old) (outbox K.taken sink.new)
+        (line_text (violation_line node violation)) result }
     ensures later { K.faults sink.old.inner ≤ K.faults sink.new.inner }
     ensures fault { IsWriteFault result → Rose (K.faults sink.old.inner) (K.faults sink.new.inner) }
 {
@@ -74,7 +78,9 @@ fn write_violation<K: Sink>(sink: &mut BufferedSink<K>, node: u16, violation: Vi
 
 /// Writes the line of each violation that a log of a node keeps, the oldest first.
 pub fn write_violations<K: Sink>(log: &Log, node: u16, sink: &mut BufferedSink<K>) -> Wrote
-    ensures bytes { length log.now.newest ≤ 64 → GathersAll (outbox K.taken sink.old) (outbox K.taken sink.new) (spell (map (violation_line node) log.now.newest)) result }
+    ensures bytes { length log.now.newest ≤ 64
+        → GathersAll (outbox K.taken sink.old) (outbox K.taken sink.new)
+        (spell (map (violation_line node) log.now.newest)) result }
     ensures later { K.faults sink.old.inner ≤ K.faults sink.new.inner }
     ensures fault { IsWriteFault result → Rose (K.faults sink.old.inner) (K.faults sink.new.inner) }
 {

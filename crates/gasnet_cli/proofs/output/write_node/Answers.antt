@@ -3,9 +3,9 @@ use Rattle.datagram_grammar.specs.Parameters.{Parameters}
 use Rattle.gas_outside.specs.Buffered.{GathersAll, outbox}
 use Rattle.gas_outside.proofs.Outboxes.{nothing_yet, past_done, past_fault, past_last}
 use Rattle.handler_rules.specs.Logged.{Logged}
-use Rattle.am_core.specs.Held.{held}
+use Rattle.node_record.specs.Held.{held}
 use Rattle.node_script.specs.Lines.{spell}
-use Rattle.gasnet_cli.specs.Output.{violation_line}
+use Rattle.gasnet_cli.specs.RunText.{violation_line}
 use Rattle.gasnet_cli.proofs.Newest.{few_kept}
 use Rattle.gasnet_cli.proofs.output.write_node.Goals as goal
 
@@ -13,19 +13,37 @@ pub returns-in-Fault-clause-bytes : goal.returns-in-Fault-clause-bytes
 returns-in-Fault-clause-bytes g c = λ w most h.
     let node = c.args.node in
     let stands = c.endpoint-endpoint.ensures.stands w most h in
-    let same : c.endpoint-endpoint.result.now.core.settings ≡ c.args.world.now.settings = c.endpoint-endpoint.ensures.node.settings in
-    let now = c.held-held.ensures (w node) stands ∙ ap (λ (s : Parameters). held s (w node)) same in
+    let same : c.endpoint-endpoint.result.now.core.settings ≡ c.args.world.now.settings =
+    c.endpoint-endpoint.ensures.node.settings in
+    let me : c.endpoint-endpoint.result.now.core.me ≡ node = c.endpoint-endpoint.ensures.node.me_is in
+    let now =
+    c.held-held.ensures (w node) stands
+    ∙ ap (λ (s : Parameters). held s c.endpoint-endpoint.result.now.core.me (w node)) same
+    ∙ ap (λ i. held c.args.world.now.settings i (w node)) me
+    in
     let count = c.count.ensures ∙ ap (λ (log : Logged). log.count) (c.log-log.ensures (w node) stands) in
-    past_fault _ _ _ _ _ _ _ refl (nothing_yet _ _) (rw (now, c.most_held-most.ensures.most w most h, count) at c.in-Fault.ensures.bytes)
+    past_fault _ _ _ _ _ _ _ refl (nothing_yet _ _)
+    (rw (now, c.most_held-most.ensures.most w most h, count) at c.in-Fault.ensures.bytes)
 
 pub returns-clause-bytes : goal.returns-clause-bytes
 returns-clause-bytes g c = λ w most h.
     let node = c.args.node in
     let stands = c.endpoint-endpoint.ensures.stands w most h in
-    let same : c.endpoint-endpoint.result.now.core.settings ≡ c.args.world.now.settings = c.endpoint-endpoint.ensures.node.settings in
-    let now = c.held-held.ensures (w node) stands ∙ ap (λ (s : Parameters). held s (w node)) same in
+    let same : c.endpoint-endpoint.result.now.core.settings ≡ c.args.world.now.settings =
+    c.endpoint-endpoint.ensures.node.settings in
+    let me : c.endpoint-endpoint.result.now.core.me ≡ node = c.endpoint-endpoint.ensures.node.me_is in
+    let now =
+    c.held-held.ensures (w node) stands
+    ∙ ap (λ (s : Parameters). held s c.endpoint-endpoint.result.now.core.me (w node)) same
+    ∙ ap (λ i. held c.args.world.now.settings i (w node)) me
+    in
     let log = c.log-log.ensures (w node) stands in
     let count = c.count.ensures ∙ ap (λ (l : Logged). l.count) log in
     let line = rw (now, c.most_held-most.ensures.most w most h, count) at c.in_default.ensures.bytes in
-    let others = subst (λ (l : Logged). length l.newest ≤ 64 → GathersAll (outbox g.K.Sink.taken c.write_node_line.new.sink) (outbox g.K.Sink.taken c.write_violations.new.sink) (spell (map (violation_line node) l.newest)) c.write_violations.result) log c.write_violations.ensures.bytes in
-    past_last _ _ _ _ _ _ (past_done _ _ _ _ _ _ _ refl (nothing_yet _ _) line) (others (few_kept (w node).local.violations))
+    let others =
+    subst (λ (l : Logged). length l.newest ≤ 64
+    → GathersAll (outbox g.K.Sink.taken c.write_node_line.new.sink)
+    (outbox g.K.Sink.taken c.write_violations.new.sink) (spell (map (violation_line node) l.newest))
+    c.write_violations.result) log c.write_violations.ensures.bytes in
+    past_last _ _ _ _ _ _ (past_done _ _ _ _ _ _ _ refl (nothing_yet _ _) line)
+    (others (few_kept (w node).local.violations))

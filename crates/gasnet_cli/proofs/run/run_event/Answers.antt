@@ -1,26 +1,47 @@
-use Rattle.std.proofs.Common.{[], ◌∷◌}
 use Rattle.gas_outside.specs.Buffered.{outbox}
-use Rattle.gas_world.specs.Events.{event_of, rules_in}
+use Rattle.std.proofs.Common.{List, subst}
+use Rattle.gas_world.specs.CallRules.{timed, transition}
+use Rattle.gas_world.specs.Events.{Steps, event_of, job_in}
 use Rattle.node_script.specs.Bodies.{script_meaning}
-use Rattle.gasnet_cli.specs.Output.{event_words}
-use Rattle.gasnet_cli.proofs.Runs.{event_told, nothing_told}
-use Rattle.gasnet_cli.proofs.Saying.{said_fault}
+use Rattle.job_text.specs.declared.job.HandlerText.{HandlerText}
+use Rattle.datagram_grammar.specs.Parameters.{Parameters}
+use Rattle.gasnet_cli.specs.RunText.{node_of}
+use Rattle.gasnet_cli.specs.ScheduleRun.{stage, event_plan, Writes, answer_text}
+use Rattle.gasnet_cli.proofs.ScheduleRuns.{event_told, nothing_told}
+use Rattle.gasnet_cli.proofs.LinesWritten.{said_fault}
 use Rattle.gasnet_cli.proofs.run.run_event.Goals as goal
 
 pub returns-in-NoMemory-clause-runs : goal.returns-in-NoMemory-clause-runs
 returns-in-NoMemory-clause-runs g c =
     let old = c.args.world.now in
-    let rules = rules_in (script_meaning c.args.job.now.handlers) old in
-    nothing_told old.settings rules (λ w. event_words old.settings rules w c.args.now (event_of c.args.event.now)) (λ w. (c.args.now, event_of c.args.event.now) ∷ []) old c.step.new.self (outbox g.K.Sink.taken c.args.sink.now) c.args.number
+    let plan = event_plan c.args.at.number (timed c.args.at.now (event_of c.args.event.now)) in
+    nothing_told (job_in (script_meaning c.args.script.now.handlers) old) plan old c.step.new.self
+    (outbox g.K.Sink.taken c.args.sink.now)
 
 pub returns-in_default : goal.returns-in_default
 returns-in_default g c =
-    let steps = rw c.handlers.ensures at c.step.ensures.steps in
-    let written = rw c.node_of.ensures at c.write_event_answer.ensures.bytes in
+    let event = event_of c.args.event.now in
+    let steps =
+    subst
+    (λ (texts : List HandlerText). Steps (script_meaning texts) c.args.world.now
+    (transition c.args.at.now event c.step.result) c.step.new.self) c.handlers.ensures c.step.ensures.steps
+    in
+    let written_there = rw c.node_of.ensures at c.write_event_answer.ensures.bytes in
+    let old = stage g.K.Sink.taken c.args.world.now c.args.sink.now in
+    let new = stage g.K.Sink.taken c.step.new.self c.write_event_answer.new.sink in
+    let wrote = c.write_event_answer.result in
+    let written =
+    subst
+    (λ (settings : Parameters). Writes new.world (answer_text settings c.args.at.number (node_of event) c.step.result)
+    old.out new.out wrote) c.step.ensures.settings written_there
+    in
     record {
       settings = c.step.ensures.settings;
       table = c.step.ensures.table;
-      runs = rw c.from_wrote.ensures (event_told (script_meaning c.args.job.now.handlers) c.args.world.now c.step.new.self (outbox g.K.Sink.taken c.args.sink.now) (outbox g.K.Sink.taken c.write_event_answer.new.sink) c.args.number c.args.now (event_of c.args.event.now) c.step.result c.write_event_answer.result c.in_default.not-NoMemory steps written);
+      runs =
+          rw c.from_wrote.ensures
+          (event_told (script_meaning c.args.script.now.handlers) old new c.args.at.number c.args.at.now
+          (event_of c.args.event.now) c.step.result wrote c.in_default.not-NoMemory steps written);
       later = c.write_event_answer.ensures.later;
-      fault = rw c.from_wrote.ensures (said_fault c.write_event_answer.result _ c.write_event_answer.ensures.fault);
+      fault = rw c.from_wrote.ensures (said_fault wrote _ c.write_event_answer.ensures.fault);
     }

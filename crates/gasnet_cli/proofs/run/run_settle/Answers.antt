@@ -1,20 +1,23 @@
-use Rattle.std.proofs.Common.{[], ◌∷◌, codes}
 use Rattle.gas_outside.specs.Buffered.{outbox}
-use Rattle.gas_world.specs.Events.{rules_in}
+use Rattle.gas_world.specs.Events.{job_in}
 use Rattle.node_script.specs.Bodies.{script_meaning}
-use Rattle.node_script.specs.Schedules.{settle_events}
-use Rattle.gasnet_cli.proofs.Runs.{moves_told, nothing_told}
+use Rattle.gasnet_cli.specs.ScheduleRun.{stage, settle_plan}
+use Rattle.gasnet_cli.proofs.ScheduleRuns.{settle_told, nothing_told}
 use Rattle.gasnet_cli.proofs.run.run_settle.Goals as goal
 
-pub returns-in-NoMemory-clause-runs : goal.returns-in-NoMemory-clause-runs
-returns-in-NoMemory-clause-runs g c =
+pub returns-in-Err-clause-runs : goal.returns-in-Err-clause-runs
+returns-in-Err-clause-runs g c =
     let old = c.args.world.now in
-    let rules = rules_in (script_meaning c.args.job.now.handlers) old in
-    nothing_told old.settings rules (λ w. codes "settled" ∷ []) (settle_events old.settings rules c.args.now c.args.rounds) old c.settle.new.world (outbox g.K.Sink.taken c.args.sink.now) c.args.number
+    let plan = settle_plan c.args.at.number c.args.at.now c.args.rounds in
+    nothing_told (job_in (script_meaning c.args.script.now.handlers) old) plan old c.settle.new.self
+    (outbox g.K.Sink.taken c.args.sink.now)
 
-pub returns-in-Done-clause-runs : goal.returns-in-Done-clause-runs
-returns-in-Done-clause-runs g c =
-    let old = c.args.world.now in
-    let rules = rules_in (script_meaning c.args.job.now.handlers) old in
-    let moved = rw c.handlers.ensures at c.in-Done.ensures.moves in
-    rw c.from_wrote.ensures (moves_told old.settings rules (codes "settled" ∷ []) (settle_events old.settings rules c.args.now c.args.rounds) old c.settle.new.world (outbox g.K.Sink.taken c.args.sink.now) (outbox g.K.Sink.taken c.write_numbered.new.sink) c.args.number c.write_numbered.result moved c.write_numbered.ensures.bytes)
+pub returns-in-Ok-clause-runs : goal.returns-in-Ok-clause-runs
+returns-in-Ok-clause-runs g c =
+    let old = stage g.K.Sink.taken c.args.world.now c.args.sink.now in
+    let new = stage g.K.Sink.taken c.settle.new.self c.write_numbered.new.sink in
+    let moved = rw c.handlers.ensures at c.in-Ok.ensures.moves in
+    rw c.from_wrote.ensures
+    (settle_told (job_in (script_meaning c.args.script.now.handlers) c.args.world.now) old new c.args.at.number
+    c.args.at.now
+    c.args.rounds c.write_numbered.result moved c.write_numbered.ensures.bytes)

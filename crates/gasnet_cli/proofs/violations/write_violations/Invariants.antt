@@ -1,12 +1,15 @@
 use Rattle.std.proofs.Common.{◌≤◌, length, map}
 use Rattle.gas_outside.specs.Buffered.{GathersUpTo, outbox}
 use Rattle.node_script.specs.Lines.{spell}
-use Rattle.gasnet_cli.specs.Output.{violation_line}
+use Rattle.gasnet_cli.specs.RunText.{violation_line}
 use Rattle.gasnet_cli.proofs.Newest.{left}
 use Rattle.gasnet_cli.proofs.violations.write_violations.Given as goal
 
 abbrev pub invariant-loop-turn : goal.invariant-loop-turn
 invariant-loop-turn g l = record {
-  taken : length l.log.newest ≤ 64 → GathersUpTo (outbox g.K.Sink.taken l.initial.sink) (outbox g.K.Sink.taken l.sink) (spell (map (violation_line l.node) l.log.newest)) (spell (map (violation_line l.node) (left l.log.newest l.turn)));
+  taken : length l.log.newest ≤ 64
+      → GathersUpTo (outbox g.K.Sink.taken l.initial.sink) (outbox g.K.Sink.taken l.sink)
+      (spell (map (violation_line l.node) l.log.newest))
+      (spell (map (violation_line l.node) (left l.log.newest l.turn)));
   later : g.K.Sink.faults l.initial.sink.inner ≤ g.K.Sink.faults l.sink.inner;
 }

@@ -1,5 +1,6 @@
 -- The lines of the output of a run.
-use Rattle.std.specs.Prelude.{ℕ, zero, suc, ◌+◌, ◌==◌, ◌||◌, Bool, false, not, if◌then◌else◌, List, [], ◌∷◌, ◌++◌, map, Option, None, Some, codes, decimal}
+use Rattle.std.specs.Prelude.{ℕ, zero, suc, ◌+◌, ◌==◌, ◌||◌, Bool, false, not, if◌then◌else◌, List, [], ◌∷◌, ◌++◌, map}
+use Rattle.std.specs.Prelude.{Option, None, Some, codes, decimal}
 use Rattle.datagram_grammar.specs.Parameters.{Parameters}
 use Rattle.handler_rules.specs.Logged.{log_of}
 use Rattle.handler_rules.specs.declared.rules.Context.{Context}
@@ -7,62 +8,61 @@ use Rattle.handler_rules.specs.declared.rules.Context.TheVariants as context
 use Rattle.handler_rules.specs.declared.rules.Fault.{Fault}
 use Rattle.handler_rules.specs.declared.rules.Fault.TheVariants as fault
 use Rattle.handler_rules.specs.declared.rules.Violation.{Violation}
-use Rattle.am_core.specs.Record.{Node}
-use Rattle.am_core.specs.Held.{held}
-use Rattle.am_core.specs.Locals.{Local}
-use Rattle.gas_world.specs.Step.{AllRules}
-use Rattle.gas_world.specs.World.{Event, Requests, Does, RequestComes, ReplyComes, Ticks, world_answer, world_after, run}
-use Rattle.gas_world.specs.Held.{most_after}
-use Rattle.gas_world.specs.Nodes.{Records, at_the_opening}
+use Rattle.node_record.specs.Record.{Node}
+use Rattle.node_record.specs.Held.{held}
+use Rattle.node_record.specs.declared.answer.SlotRef.{SlotRef}
+use Rattle.am_core.specs.Kept.{Local}
+use Rattle.plain_world.specs.World.{Asks, Does, RequestComes, ReplyComes, Ticks, Timed, world_answer, world_after, run}
+use Rattle.plain_world.specs.MostHeld.{most_after}
+use Rattle.gas_world.specs.CallRules.{OtherCall, Records, RecordsEvent, at_the_opening, timed, world_told}
 use Rattle.gas_world.specs.declared.event.WorldAnswer.{WorldAnswer}
 use Rattle.gas_world.specs.declared.event.WorldAnswer.TheVariants as answers
 use Rattle.node_script.specs.Lines.{Word, Line}
-use Rattle.node_script.specs.Jobs.{JobState}
-use Rattle.node_script.specs.AnswerWords.{answer_words, rule_word}
-use Rattle.node_script.specs.Schedules.{job_rules, scheduled_event, line_events, schedule_events, lines_of}
-use Rattle.node_script.specs.declared.job.TimedEvent.{TimedEvent}
+use Rattle.job_text.specs.declared.job.Job.{Job as JobState}
+use Rattle.node_script.specs.AnswerWords.{numbers_of, answer_words, rule_word}
+use Rattle.gas_world.specs.Settling.{WorldJob}
+use Rattle.node_script.specs.Schedules.{world_job, scheduled_event, line_events, schedule_events}
+use Rattle.job_text.specs.JobReading.{lines_of}
+use Rattle.job_text.specs.declared.job.TimedEvent.{TimedEvent}
 
 -- ---- answers
 
 -- the node on which an event falls
-abbrev pub node_of : Event → ℕ
-node_of (Requests node thread to c) = node
+abbrev pub node_of : RecordsEvent → ℕ
+node_of (Asks node ask) = node
 node_of (Does node thread call) = node
 node_of (RequestComes from to number) = to
 node_of (ReplyComes from to number) = from
 node_of (Ticks node) = node
 
--- the words of the answer of a world, where the node on which the event fell has this record after it. The records never answer that memory ran out
-abbrev pub world_words : Node Local → WorldAnswer → Line
-world_words r (answers.Node answer) = answer_words r answer
-world_words r answers.Unsent = codes "unsent" ∷ []
-world_words r answers.NoMemory = codes "no-memory" ∷ []
+-- the words of the answer of a world, by the number at each slot of the node on which the event fell. The records never
+-- answer that memory ran out
+abbrev pub world_words : (SlotRef → ℕ) → WorldAnswer → Line
+world_words numbers (answers.Node answer) = answer_words numbers answer
+world_words numbers answers.Unsent = codes "unsent" ∷ []
+world_words numbers answers.NoMemory = codes "no-memory" ∷ []
 
--- the words of the answer to an event at this time
-abbrev pub event_words : Parameters → AllRules Local → Records → (now : ℕ) → Event → Line
-event_words s u w now e = world_words (world_after s u w now e (node_of e)) (world_answer s u w now e)
+-- the words of the answer to an event
+abbrev pub event_words : WorldJob → Records → Timed OtherCall → Line
+event_words job w e =
+    let node = node_of e.event in
+    world_words (numbers_of job.settings node (world_after job w e node)) (world_told (world_answer job w e))
 
 -- the words of the answer to a line of a schedule, by its one event; a line of rounds has none
-abbrev pub words_by : Parameters → AllRules Local → Records → (now : ℕ) → Option Event → Line
-words_by s u w now None = codes "settled" ∷ []
-words_by s u w now (Some e) = event_words s u w now e
+abbrev pub words_by : WorldJob → Records → (now : ℕ) → Option RecordsEvent → Line
+words_by job w now None = codes "settled" ∷ []
+words_by job w now (Some e) = event_words job w (timed now e)
 
 -- the words of the answer to a line of a schedule
-abbrev pub line_words : Parameters → AllRules Local → Records → TimedEvent → Line
-line_words s u w e = words_by s u w e.time (scheduled_event w e.event)
+abbrev pub line_words : WorldJob → Records → TimedEvent → Line
+line_words job w e = words_by job w e.time (scheduled_event w e.event)
 
 -- a line for each line of a schedule: its number, and the words of its answer
-abbrev pub answer_lines : Parameters → AllRules Local → (number : ℕ) → List TimedEvent → Records → List Line
-answer_lines s u number [] w = []
-answer_lines s u number (e ∷ es) w = (decimal number ∷ line_words s u w e) ∷ answer_lines s u (number + 1) es (run s u (line_events s u w e.time e.event) w)
-
--- the records after a schedule
-abbrev pub records_after : Parameters → AllRules Local → List TimedEvent → Records → Records
-records_after s u es w = run s u (schedule_events s u es w) w
-
--- the greatest number of message buffers that each node held after an event, after a schedule
-abbrev pub most_held : Parameters → AllRules Local → List TimedEvent → Records → (ℕ → ℕ) → ℕ → ℕ
-most_held s u es w most = most_after s u (schedule_events s u es w) w most
+abbrev pub answer_lines : WorldJob → (number : ℕ) → List TimedEvent → Records → List Line
+answer_lines job number [] w = []
+answer_lines job number (e ∷ es) w =
+    (decimal number ∷ line_words job w e)
+    ∷ answer_lines job (number + 1) es (run job (line_events job w e.time e.event) w)
 
 -- ---- nodes
 
@@ -86,20 +86,25 @@ fault_word (fault.Rule rule) = rule_word rule
 
 -- the line of a violation of a node
 abbrev pub violation_line : (node : ℕ) → Violation → Line
-violation_line node v = codes "violation" ∷ decimal node ∷ (context_words v.context ++ fault_word v.fault ∷ [])
+violation_line node v =
+    codes "violation" ∷ decimal node ∷ (context_words v.context ++ fault_word v.fault ∷ [])
 
 -- the line of a node: what it holds, the most that it held, and how many violations it noted
 abbrev pub node_line : (node now most violations : ℕ) → Line
-node_line node now most violations = codes "node" ∷ decimal node ∷ codes "held" ∷ decimal now ∷ codes "most" ∷ decimal most ∷ codes "violations" ∷ decimal violations ∷ []
+node_line node now most violations =
+    codes "node" ∷ decimal node ∷ codes "held" ∷ decimal now ∷ codes "most" ∷ decimal most
+    ∷ codes "violations" ∷ decimal violations ∷ []
 
 -- the lines of a node with this record, which held at most so much: its own, and those of its last violations
 abbrev pub lines_of_node : Parameters → (node most : ℕ) → Node Local → List Line
-lines_of_node s node most r = node_line node (held s r) most (violations r) ∷ map (violation_line node) (last_violations r)
+lines_of_node s node most r =
+    node_line node (held s node r) most (violations r) ∷ map (violation_line node) (last_violations r)
 
 -- the lines of the nodes from this one on, of which there are so many
 abbrev pub node_lines : Parameters → Records → (ℕ → ℕ) → ℕ → ℕ → List Line
 node_lines s w most node zero = []
-node_lines s w most node (suc count) = lines_of_node s node (most node) (w node) ++ node_lines s w most (node + 1) count
+node_lines s w most node (suc count) =
+    lines_of_node s node (most node) (w node) ++ node_lines s w most (node + 1) count
 
 -- one of the nodes from this one on, of which there are so many, noted a violation
 abbrev pub any_violation : Records → ℕ → ℕ → Bool
@@ -125,16 +130,16 @@ abbrev pub end_lines : Parameters → Records → (ℕ → ℕ) → List Line
 end_lines s w most = node_lines s w most 0 s.nodes ++ last_line (any_violation w 0 s.nodes) ∷ []
 
 -- the events of a job's run
-abbrev pub run_events : JobState → List (ℕ × Event)
-run_events j = schedule_events j.settings (job_rules j) (lines_of j.schedule) at_the_opening
+abbrev pub run_events : JobState → List (Timed OtherCall)
+run_events j = schedule_events (world_job j) (lines_of j.schedule) at_the_opening
 
 -- the records at the end of a job's run
 abbrev pub run_records : JobState → Records
-run_records j = records_after j.settings (job_rules j) (lines_of j.schedule) at_the_opening
+run_records j = run (world_job j) (run_events j) at_the_opening
 
 -- the most that each node held in a job's run
 abbrev pub run_most : JobState → ℕ → ℕ
-run_most j = most_held j.settings (job_rules j) (lines_of j.schedule) at_the_opening (λ i. 0)
+run_most j = most_after (world_job j) (run_events j) at_the_opening (λ i. 0)
 
 -- a node noted a violation in a job's run
 abbrev pub is_violated : JobState → Bool
@@ -142,4 +147,6 @@ is_violated j = any_violation (run_records j) 0 j.settings.nodes
 
 -- the lines of a job's run: the answers, and the lines at the end
 abbrev pub run_lines : JobState → List Line
-run_lines j = answer_lines j.settings (job_rules j) 1 (lines_of j.schedule) at_the_opening ++ end_lines j.settings (run_records j) (run_most j)
+run_lines j =
+    answer_lines (world_job j) 1 (lines_of j.schedule) at_the_opening
+    ++ end_lines j.settings (run_records j) (run_most j)

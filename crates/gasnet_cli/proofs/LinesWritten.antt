@@ -8,20 +8,22 @@ use Rattle.gas_outside.proofs.Outboxes.{gathers_none, gathers_more, gathers_firs
 use Rattle.gas_outside.specs.declared.writing.Wrote.{Wrote}
 use Rattle.gas_outside.specs.declared.writing.Wrote.TheVariants as wrote
 use Rattle.node_script.specs.Lines.{Line, spell, line_text}
-use Rattle.gasnet_cli.specs.Says.{LinesUpTo, Says, OnDone, IsFault, said_of}
+use Rattle.gasnet_cli.specs.LinesWritten.{LinesUpTo, Says, OnDone, IsFault, said_of}
 use Rattle.gasnet_cli.specs.declared.said.Said.{Said}
 use Rattle.gasnet_cli.specs.declared.said.Said.TheVariants.{Done, Fault, NoMemory}
 
 -- the text of lines, and of one line more
 pub one_more : (lines : List Line) (line : Line) → spell (lines ++ line ∷ []) ≡ spell lines ++ line_text line
-one_more lines line = flat_map-append line_text lines (line ∷ []) ∙ ap (λ z. spell lines ++ z) (append-nil (line_text line))
+one_more lines line =
+    flat_map-append line_text lines (line ∷ []) ∙ ap (λ z. spell lines ++ z) (append-nil (line_text line))
 
 -- nothing went in yet
 pub no_lines_yet : (a : Outbox) (all : List Line) → LinesUpTo a a all all
 no_lines_yet a all = record { front = []; whole = refl; gathered = gathers_none a }
 
 -- the next lines went in
-pub lines_done : (a b c : Outbox) (all rest x y : List Line) → rest ≡ x ++ y → LinesUpTo a b all rest → Gathers b c (spell x) → LinesUpTo a c all y
+pub lines_done : (a b c : Outbox) (all rest x y : List Line) → rest ≡ x ++ y → LinesUpTo a b all rest
+    → Gathers b c (spell x) → LinesUpTo a c all y
 lines_done a b c all rest x y e h k = record {
   front = h.front ++ x;
   whole = h.whole ∙ ap (λ z. h.front ++ z) e ∙ sym (append_assoc h.front x y);
@@ -30,20 +32,27 @@ lines_done a b c all rest x y e h k = record {
 
 -- no line is left
 pub lines_all : (a b : Outbox) (all rest : List Line) → rest ≡ [] → LinesUpTo a b all rest → Gathers a b (spell all)
-lines_all a b all rest e h = subst (λ z. Gathers a b (spell z)) (sym (h.whole ∙ ap (λ z. h.front ++ z) e ∙ append-nil h.front)) h.gathered
+lines_all a b all rest e h =
+    subst (λ z. Gathers a b (spell z)) (sym (h.whole ∙ ap (λ z. h.front ++ z) e ∙ append-nil h.front)) h.gathered
 
 -- the next lines were said, and not all of them
-pub lines_said : (a b c : Outbox) (all rest x y : List Line) (said : Said) → (said ≡ Done → ⊥) → rest ≡ x ++ y → LinesUpTo a b all rest → Says b c x said → Says a c all said
+pub lines_said : (a b c : Outbox) (all rest x y : List Line) (said : Said) → (said ≡ Done → ⊥) → rest ≡ x ++ y
+    → LinesUpTo a b all rest → Says b c x said → Says a c all said
 lines_said a b c all rest x y Done n e h k = absurd (n refl)
 lines_said a b c all rest x y Fault n e h k =
-    let whole : spell all ≡ spell h.front ++ (spell x ++ spell y) = ap spell (h.whole ∙ ap (λ z. h.front ++ z) e) ∙ flat_map-append line_text h.front (x ++ y) ∙ ap (λ z. spell h.front ++ z) (flat_map-append line_text x y) in
-    rw whole (gathers_then a b c (spell h.front) (spell x ++ spell y) wrote.Fault h.gathered (gathers_first b c (spell x) (spell y) k))
+    let whole : spell all ≡ spell h.front ++ (spell x ++ spell y) =
+    ap spell (h.whole ∙ ap (λ z. h.front ++ z) e) ∙ flat_map-append line_text h.front (x ++ y)
+    ∙ ap (λ z. spell h.front ++ z) (flat_map-append line_text x y) in
+    rw whole (gathers_then a b c (spell h.front) (spell x ++ spell y) wrote.Fault h.gathered
+    (gathers_first b c (spell x) (spell y) k))
 lines_said a b c all rest x y NoMemory n e h k = (
   k.0 ++ y,
   record {
     front = h.front ++ k.1.front;
-    whole = h.whole ∙ ap (λ z. h.front ++ z) (e ∙ ap (λ z. z ++ y) k.1.whole ∙ append_assoc k.1.front k.0 y) ∙ sym (append_assoc h.front k.1.front (k.0 ++ y));
-    gathered = rw (flat_map-append line_text h.front k.1.front) (gathers_more a b c (spell h.front) (spell k.1.front) h.gathered k.1.gathered);
+    whole = h.whole ∙ ap (λ z. h.front ++ z) (e ∙ ap (λ z. z ++ y) k.1.whole ∙ append_assoc k.1.front k.0 y)
+        ∙ sym (append_assoc h.front k.1.front (k.0 ++ y));
+    gathered = rw (flat_map-append line_text h.front k.1.front)
+        (gathers_more a b c (spell h.front) (spell k.1.front) h.gathered k.1.gathered);
   },
 )
 
@@ -54,9 +63,11 @@ not_done Fault P h = tt
 not_done NoMemory P h = tt
 
 -- lines went in, and then the lines after them
-pub both_said : (a b c : Outbox) (x y : List Line) (r : Wrote) → Gathers a b (spell x) → GathersAll b c (spell y) r → Says a c (x ++ y) (said_of r)
+pub both_said : (a b c : Outbox) (x y : List Line) (r : Wrote) → Gathers a b (spell x) → GathersAll b c (spell y) r
+    → Says a c (x ++ y) (said_of r)
 both_said a b c x y wrote.Done h k = rw (flat_map-append line_text x y) (gathers_more a b c (spell x) (spell y) h k)
-both_said a b c x y wrote.Fault h k = rw (flat_map-append line_text x y) (gathers_then a b c (spell x) (spell y) wrote.Fault h k)
+both_said a b c x y wrote.Fault h k =
+    rw (flat_map-append line_text x y) (gathers_then a b c (spell x) (spell y) wrote.Fault h k)
 
 -- a fault of the sink, as one of what was said
 pub said_fault : (r : Wrote) (P : Type 0) → (IsWriteFault r → P) → IsFault (said_of r) → P
@@ -64,7 +75,8 @@ said_fault wrote.Done P f h = absurd h
 said_fault wrote.Fault P f h = f tt
 
 -- one line, as lines that were said
-pub one_line : (a b : Outbox) (line : Line) (r : Wrote) → GathersAll a b (line_text line) r → Says a b (line ∷ []) (said_of r)
+pub one_line : (a b : Outbox) (line : Line) (r : Wrote) → GathersAll a b (line_text line) r
+    → Says a b (line ∷ []) (said_of r)
 one_line a b line wrote.Done h = subst (Gathers a b) (sym (append-nil (line_text line))) h
 one_line a b line wrote.Fault h = (h.0, subst (λ z. GathersUpTo a b z h.0) (sym (append-nil (line_text line))) h.1)
 

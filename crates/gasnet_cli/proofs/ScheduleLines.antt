@@ -1,0 +1,68 @@
+-- A line of a schedule as it was read, and what it stands for.
+use Rattle.std.proofs.Common.{◌≡◌, ℕ, zero, suc, ◌+◌, ◌<◌, List, [], ◌∷◌, length, drop, Option, None, Some, refl, ap}
+use Rattle.std.proofs.Common.{subst, ◌∙◌, arith}
+use Rattle.std.specs.List.{slice_get}
+use Rattle.std.proofs.lemmas.Option.{same_Some}
+use Rattle.gas_world.specs.Events.{event_of}
+use Rattle.gas_world.specs.CallRules.{Records, RecordsEvent, timed}
+use Rattle.gas_world.specs.declared.event.WorldEvent.{WorldEvent}
+use Rattle.node_script.specs.ScheduleLine.{IsLine}
+use Rattle.gas_world.specs.Settling.{WorldJob}
+use Rattle.node_script.specs.Schedules.{scheduled_event, line_events}
+use Rattle.node_script.specs.declared.line.Line.{Line}
+use Rattle.node_script.specs.declared.line.Line.TheVariants as lines
+use Rattle.job_text.specs.declared.job.ScheduledEvent.{ScheduledEvent}
+use Rattle.job_text.specs.declared.job.ScheduledEvent.TheVariants as scheduled
+use Rattle.job_text.specs.declared.job.TimedEvent.{TimedEvent}
+
+-- a place that is there has a line
+pub timed_there : (es : List TimedEvent) (place : ℕ) → place < length es
+    → (e : TimedEvent) × (slice_get es place ≡ Some e)
+timed_there [] place low = absurd (omega (arith, low))
+timed_there (e ∷ es) zero low = (e, refl)
+timed_there (e ∷ es) (suc place) low = timed_there es place (omega (arith, low))
+
+-- it is the first of those from there on
+pub timed_next : (es : List TimedEvent) (place : ℕ) (e : TimedEvent) → slice_get es place ≡ Some e
+    → drop place es ≡ e ∷ drop (place + 1) es
+timed_next es place e h =
+    go es place h ∙ ap (λ n. e ∷ drop n es) (let next : suc place ≡ place + 1 = omega arith in next)
+  where
+    go : (xs : List TimedEvent) (p : ℕ) → slice_get xs p ≡ Some e → drop p xs ≡ e ∷ drop (suc p) xs
+    go [] p h = absurd (cc)
+    go (x ∷ xs) zero h = ap (λ y. y ∷ xs) (same_Some x e h)
+    go (x ∷ xs) (suc p) h = go xs p h
+
+-- what was read of the line at a place
+read_at : (w : Records) (o : Option TimedEvent) (e : TimedEvent) (read : Option Line) (line : Option Line) → o ≡ Some e
+    → read ≡ line → IsLine w o read → IsLine w (Some e) line
+read_at w o e read line at is h = subst (IsLine w (Some e)) is (subst (λ x. IsLine w x read) at h)
+
+-- an event was read
+pub event_line : (w : Records) (o : Option TimedEvent) (e : TimedEvent) (read : Option Line) (line : Line) (now : ℕ)
+    (event : WorldEvent) → o ≡ Some e → read ≡ Some line → line ≡ lines.Event now event → IsLine w o read
+    → (now ≡ e.time) × (scheduled_event w e.event ≡ Some (event_of event))
+event_line w o e read line now event at is line_is h =
+    read_at w o e read (Some (lines.Event now event)) at (is ∙ ap (λ (l : Line). Some l) line_is) h
+
+-- rounds were read
+pub settle_line : (w : Records) (o : Option TimedEvent) (e : TimedEvent) (read : Option Line) (line : Line)
+    (now rounds : ℕ) → o ≡ Some e → read ≡ Some line → line ≡ lines.Settle now rounds → IsLine w o read
+    → (now ≡ e.time) × (e.event ≡ scheduled.Settle rounds)
+settle_line w o e read line now rounds at is line_is h =
+    read_at w o e read (Some (lines.Settle now rounds)) at (is ∙ ap (λ (l : Line). Some l) line_is) h
+
+-- a line that is there is read
+pub never_none : (w : Records) (o : Option TimedEvent) (e : TimedEvent) (read : Option Line) → o ≡ Some e → read ≡ None
+    → IsLine w o read → ⊥
+never_none w o e read at is h = read_at w o e read None at is h
+
+-- the events of a line, by its one event
+pub one_event : (job : WorldJob) (w : Records) (now : ℕ) (e : ScheduledEvent) (x : RecordsEvent)
+    → scheduled_event w e ≡ Some x → line_events job w now e ≡ timed now x ∷ []
+one_event job w now (scheduled.Call node thread c) x h = ap (λ (y : RecordsEvent). timed now y ∷ []) (same_Some _ x h)
+one_event job w now (scheduled.Request from to number) x h =
+    ap (λ (y : RecordsEvent). timed now y ∷ []) (same_Some _ x h)
+one_event job w now (scheduled.Reply from to number) x h = ap (λ (y : RecordsEvent). timed now y ∷ []) (same_Some _ x h)
+one_event job w now (scheduled.Tick node) x h = ap (λ (y : RecordsEvent). timed now y ∷ []) (same_Some _ x h)
+one_event job w now (scheduled.Settle rounds) x h = absurd (cc)
