@@ -1,23 +1,30 @@
 #!/usr/bin/env python3
 """Makes the jobs of the benchmark.
 
-    bench/make_job.py exchanges LINES > big.job
-    bench/make_job.py settled LINES > big.job
+    bench/make_job.py KIND LINES > big.job
 
-LINES is the number of lines of the schedule. In `exchanges`, where it is a multiple of 6 that is at least 36, two nodes send requests to each
-other; each request takes one call, one delivery and one delivery of its reply. In `settled`, where it is a multiple of 17, node 0 sends 16 requests to
-node 1, and then a round of `settle` delivers them and their replies, again and again. The text goes to standard output.
+LINES is the number of lines of the schedule. The text goes to standard output. The kinds:
+
+exchanges   two nodes send requests to each other; each request takes one call, one delivery and one delivery of its reply.
+            LINES is a multiple of 6 that is at least 36.
+settled     node 0 sends 16 requests to node 1, and then a round of `settle` delivers them and their replies, again and again.
+            LINES is a multiple of 17.
+opening     64 nodes with 16 credits, and no schedule: LINES is 0.
+idle-few    ticks of 2 nodes with 1 credit, and nothing out.
+idle-many   ticks of 64 nodes with 16 credits, and nothing out.
+resend-one  one request of 2 nodes with 1 credit is out, and each tick sends it again.
+resend-all  32 requests of 2 nodes with 32 credits are out, and each tick sends one again.
+resend-many the same with 45 nodes.
 """
 import sys
 from dataclasses import dataclass
 
 ARGUMENTS = 4
-HEADER = 40
-NODES = (0, 1)
 CREDITS = 4
 LINES_OF_AN_EXCHANGE = 3
 LEAST_REQUESTS = CREDITS + 2  # with fewer ones no node ever holds all of its message buffers
 REQUESTS_OF_A_ROUND = 16
+RESEND = 10
 
 
 @dataclass
@@ -26,38 +33,36 @@ class Job:
 
     credits: int
     events: list
-    held: tuple
-    most: tuple
-    requests: int
+    held: list
+    most: list
+    requests: int = 0
 
     def text(self):
         """The text of the job."""
         head = f"""\
 gasnet 1
 job 7
-nodes {len(NODES)}
+nodes {len(self.held)}
 credits {self.credits}
 threads 1
 segment 4096
 last 18446744073709551615
-resend 10
+resend {RESEND}
 patience 100
 sieve 0 0 0
 handler 128 request
 end
-schedule
 """
-        return (head + "".join(f"{event}\n" for event, _ in self.events) + "end\ndone\n").encode()
+        schedule = "".join(f"{event}\n" for event, _ in self.events)
+        return (head + (f"schedule\n{schedule}end\n" if schedule else "") + "done\n").encode()
 
     def output(self):
         """The text that a run of it writes."""
         answers = "".join(f"{number} {answer}\n" for number, (_, answer) in enumerate(self.events, 1))
-        ends = "".join(f"node {node} held {self.held[node]} most {self.most[node]} violations 0\n" for node in NODES)
+        ends = "".join(
+            f"node {node} held {held} most {most} violations 0\n" for node, (held, most) in enumerate(zip(self.held, self.most))
+        )
         return (answers + ends + "status 0 ok\n").encode()
-
-    def archived(self):
-        """The bytes of all messages of the run: each request has a header and its arguments, each Ack a header alone."""
-        return self.requests * (HEADER + 4 * ARGUMENTS + HEADER)
 
 
 def call(time, node, slot, number):
@@ -74,7 +79,7 @@ def steps(requests):
     """
     for time in range(1, requests + CREDITS):
         delivered, back = time - 1, time - (CREDITS - 1)
-        for node in NODES:
+        for node in (0, 1):
             peer = 1 - node
             if time <= requests:
                 yield call(time, node, (time - 1) % CREDITS, time)
@@ -86,11 +91,11 @@ def steps(requests):
 
 def exchanges(lines):
     """The job in which each delivery is a line."""
-    requests, rest = divmod(lines, LINES_OF_AN_EXCHANGE * len(NODES))
+    requests, rest = divmod(lines, LINES_OF_AN_EXCHANGE * 2)
     if rest or requests < LEAST_REQUESTS:
-        sys.exit(f"{lines} is no multiple of 6 that is at least {LINES_OF_AN_EXCHANGE * len(NODES) * LEAST_REQUESTS}")
+        sys.exit(f"{lines} is no multiple of 6 that is at least {LINES_OF_AN_EXCHANGE * 2 * LEAST_REQUESTS}")
     # Every request is back; each node keeps one reply for each slot of the other one. Before that, 4 requests were out too.
-    return Job(CREDITS, list(steps(requests)), (CREDITS, CREDITS), (2 * CREDITS, 2 * CREDITS), len(NODES) * requests)
+    return Job(CREDITS, list(steps(requests)), [CREDITS] * 2, [2 * CREDITS] * 2, 2 * requests)
 
 
 def settled(lines):
@@ -103,10 +108,41 @@ def settled(lines):
         events += [call(time, 0, slot, time * REQUESTS_OF_A_ROUND + slot + 1) for slot in range(REQUESTS_OF_A_ROUND)]
         events.append((f"{time} settle 1", "settled"))
     # Every request is back; node 1 keeps a reply for each slot of node 0.
-    return Job(REQUESTS_OF_A_ROUND, events, (0, REQUESTS_OF_A_ROUND), (REQUESTS_OF_A_ROUND, REQUESTS_OF_A_ROUND), rounds * REQUESTS_OF_A_ROUND)
+    return Job(REQUESTS_OF_A_ROUND, events, [0, REQUESTS_OF_A_ROUND], [REQUESTS_OF_A_ROUND] * 2, rounds * REQUESTS_OF_A_ROUND)
 
 
-KINDS = {"exchanges": exchanges, "settled": settled}
+def opening(lines):
+    """The job without a schedule."""
+    if lines:
+        sys.exit(f"an opening has no line of a schedule, and not {lines}")
+    return Job(16, [], [0] * 64, [0] * 64)
+
+
+def idle(nodes, credits, lines):
+    """Ticks of the nodes in turn, where nothing is out."""
+    return Job(credits, [(f"{line} tick {line % nodes}", "nothing") for line in range(lines)], [0] * nodes, [0] * nodes)
+
+
+def resend(nodes, credits, lines):
+    """Node 0 sends a request with each credit towards node 1, and then each of its ticks sends again the one that was sent earliest."""
+    calls = [call(0, 0, slot, slot + 1) for slot in range(credits)]
+    ticks = [
+        (f"{(line + 1) * RESEND} tick 0", f"resend 1 {line % credits} {line % credits + 1}") for line in range(lines - credits)
+    ]
+    held = [credits] + [0] * (nodes - 1)
+    return Job(credits, calls + ticks, held, held, credits)
+
+
+KINDS = {
+    "exchanges": exchanges,
+    "settled": settled,
+    "opening": opening,
+    "idle-few": lambda lines: idle(2, 1, lines),
+    "idle-many": lambda lines: idle(64, 16, lines),
+    "resend-one": lambda lines: resend(2, 1, lines),
+    "resend-all": lambda lines: resend(2, 32, lines),
+    "resend-many": lambda lines: resend(45, 32, lines),
+}
 
 if __name__ == "__main__":
     if len(sys.argv) != 3 or sys.argv[1] not in KINDS or not sys.argv[2].isdigit():
