@@ -1,17 +1,27 @@
 -- Sinks that gather bytes before another sink: one call after the other, and what the sink behind took in the end.
-use Rattle.std.proofs.Common.{refl, ◌≡◌, ℕ, ◌+◌, List, [], ◌++◌, take, drop, Option, Some, None, sym, ap, ◌∙◌, subst, append_assoc, append-nil, drop-drop}
+use Rattle.std.proofs.Common.{refl, ◌≡◌, ◌≤◌, ℕ, arith, ◌+◌, List, [], ◌++◌, take, drop, Option, Some, None, sym, ap, ◌∙◌, subst, append_assoc, append-nil, drop-drop}
 use Rattle.std.proofs.lemmas.List.{take-append-drop}
 use Rattle.std.proofs.Math.Seq.{take-add}
 use Rattle.std.specs.Io.KnownBytes.{Appends, append_known}
 use Rattle.std.proofs.KnownBytes.{Appends-nil, Appends-trans}
-use Rattle.gas_outside.specs.Buffered.{Outbox, Gathers, GathersUpTo, GathersAll, Flushes}
+use Rattle.gas_outside.specs.Buffered.{Outbox, Gathers, GathersUpTo, GathersNone, GathersFront, GathersAll, Flushes}
+use Rattle.gas_outside.specs.Faults.{Rose}
 use Rattle.gas_outside.specs.Whole.{TakesUpTo, WritesAll}
 use Rattle.gas_outside.specs.declared.writing.Wrote.{Wrote}
 use Rattle.gas_outside.specs.declared.writing.Wrote.TheVariants as wrote
 
+-- a count that rose later rose
+pub rose_later : (before mid after : ℕ) → before ≤ mid → Rose mid after → Rose before after
+rose_later before mid after le rose = omega (arith, le, rose)
+
+-- and one that rose earlier
+pub rose_earlier : (before mid after : ℕ) → mid ≤ after → Rose before mid → Rose before after
+rose_earlier before mid after le rose = omega (arith, le, rose)
+
 -- nothing went in, and nothing went on
 pub gathers_none : (a : Outbox) → Gathers a a []
-gathers_none a = record { gone = []; whole = append-nil a.pending; given = Appends-nil a.given }
+gathers_none a =
+    record { gone = []; whole = append-nil a.pending; given = Appends-nil a.given; later = omega arith }
 
 -- bytes went in, and then more
 pub gathers_more : (a b c : Outbox) (first second : List ℕ) → Gathers a b first → Gathers b c second → Gathers a c (first ++ second)
@@ -20,6 +30,7 @@ gathers_more a b c first second h k = record {
   whole = sym (append_assoc a.pending first second) ∙ ap (λ (x : List ℕ). x ++ second) h.whole ∙ append_assoc h.gone b.pending second ∙ ap (λ (x : List ℕ). h.gone ++ x) k.whole
       ∙ sym (append_assoc h.gone k.gone c.pending);
   given = Appends-trans a.given b.given c.given h.gone k.gone h.given k.given;
+  later = omega (arith, h.later, k.later);
 }
 
 -- the first n bytes went in, and then the next m
@@ -29,22 +40,26 @@ gathers_front a b c bytes rest n m e h k =
     subst (Gathers a c) (sym whole) (gathers_more a b c (take n bytes) (take m rest) h k)
 
 -- the first n bytes went in, and then a call failed
-pub gathers_failed : (a b c : Outbox) (bytes : List ℕ) (n : ℕ) → Gathers a b (take n bytes) → Gathers b c [] → (rest : List ℕ) × GathersUpTo a c bytes rest
-gathers_failed a b c bytes n h k = (
-  drop n bytes,
-  record {
+pub gathers_failed : (a b c : Outbox) (bytes : List ℕ) (n : ℕ) → Gathers a b (take n bytes) → GathersNone b c → GathersFront a c bytes
+gathers_failed a b c bytes n h k = record {
+  rest = drop n bytes;
+  went = record {
     front = take n bytes;
     whole = sym (take-append-drop n bytes);
-    gathered = subst (Gathers a c) (append-nil (take n bytes)) (gathers_more a b c (take n bytes) [] h k);
-  },
-)
+    gathered =
+        subst (Gathers a c) (append-nil (take n bytes)) (gathers_more a b c (take n bytes) [] h k.gathered);
+  };
+  rose = rose_later a.faults b.faults c.faults h.later k.rose;
+}
 
 -- a front of what waited went on
-pub gives_front : (a b : Outbox) (n : ℕ) → b.pending ≡ drop n a.pending → Appends a.given b.given (take n a.pending) → Gathers a b []
-gives_front a b n e h = record {
+pub gives_front : (a b : Outbox) (n : ℕ) → b.pending ≡ drop n a.pending → a.faults ≤ b.faults
+    → Appends a.given b.given (take n a.pending) → Gathers a b []
+gives_front a b n e later h = record {
   gone = take n a.pending;
   whole = append-nil a.pending ∙ sym (take-append-drop n a.pending) ∙ ap (λ (x : List ℕ). take n a.pending ++ x) (sym e);
   given = h;
+  later = later;
 }
 
 -- ---- one piece after another, where the rest of a text begins with the piece that goes in next
@@ -63,14 +78,19 @@ past_done a b c all piece next rest e h k = record {
 
 -- a front of the next piece went in
 pub past_fault : (a b c : Outbox) (all piece next rest : List ℕ) → rest ≡ piece ++ next → GathersUpTo a b all rest → GathersAll b c piece wrote.Fault → GathersAll a c all wrote.Fault
-past_fault a b c all piece next rest e h k = (
-  k.0 ++ next,
-  record {
-    front = h.front ++ k.1.front;
-    whole = h.whole ∙ ap (λ (x : List ℕ). h.front ++ x) (e ∙ ap (λ (x : List ℕ). x ++ next) k.1.whole ∙ append_assoc k.1.front k.0 next) ∙ sym (append_assoc h.front k.1.front (k.0 ++ next));
-    gathered = gathers_more a b c h.front k.1.front h.gathered k.1.gathered;
-  },
-)
+past_fault a b c all piece next rest e h k =
+    let went = k.went in
+    let cut : rest ≡ went.front ++ (k.rest ++ next) =
+    e ∙ ap (λ (x : List ℕ). x ++ next) went.whole ∙ append_assoc went.front k.rest next in
+    record {
+      rest = k.rest ++ next;
+      went = record {
+        front = h.front ++ went.front;
+        whole = h.whole ∙ ap (λ (x : List ℕ). h.front ++ x) cut ∙ sym (append_assoc h.front went.front (k.rest ++ next));
+        gathered = gathers_more a b c h.front went.front h.gathered went.gathered;
+      };
+      rose = rose_later a.faults b.faults c.faults h.gathered.later k.rose;
+    }
 
 -- the whole text went in where its rest is empty
 pub all_gathered : (a b : Outbox) (all rest : List ℕ) → rest ≡ [] → GathersUpTo a b all rest → Gathers a b all
@@ -109,7 +129,7 @@ front_given old new bytes rest none h =
 
 -- the same of what a call says at a fault
 pub fault_given : (old new : Outbox) (bytes : List ℕ) → old.pending ≡ [] → GathersAll old new bytes wrote.Fault → WritesAll old.given new.given bytes wrote.Fault
-fault_given old new bytes none h = (new.pending ++ h.0, front_given old new bytes h.0 none h.1)
+fault_given old new bytes none h = (new.pending ++ h.rest, front_given old new bytes h.rest none h.went)
 
 -- all of the bytes went in where nothing waited, and were flushed: they were written to the sink behind, or a front of them
 pub flushed : (old mid new : Outbox) (bytes : List ℕ) (result : Wrote) → old.pending ≡ [] → Gathers old mid bytes → Flushes mid new result → WritesAll old.given new.given bytes result
@@ -117,7 +137,7 @@ flushed old mid new bytes wrote.Done none h f =
     let g : Gathers old new bytes = subst (Gathers old new) (append-nil bytes) (gathers_more old mid new bytes [] h f.0) in
     all_given old new bytes none f.1 g
 flushed old mid new bytes wrote.Fault none h f =
-    let g : Gathers old new bytes = subst (Gathers old new) (append-nil bytes) (gathers_more old mid new bytes [] h f) in
+    let g : Gathers old new bytes = subst (Gathers old new) (append-nil bytes) (gathers_more old mid new bytes [] h f.gathered) in
     (new.pending ++ [], front_given old new bytes [] none (record { front = bytes; whole = sym (append-nil bytes); gathered = g }))
 
 -- a front of the bytes went in where nothing waited, and more was flushed or not: the sink behind took a front of them

@@ -5,7 +5,6 @@ ghost use Rattle.std.specs.Io.KnownBytes.{append_known};
 ghost use Rattle.gas_outside.specs.Buffered.{Flushes, GathersAll, GathersPut, outbox};
 ghost use Rattle.gas_outside.specs.Faults.{Rose};
 ghost use Rattle.gas_outside.specs.Sink.{Takes, TakesSome, IsFailed};
-ghost use Rattle.gas_outside.specs.Whole.{IsWriteFault};
 
 use crate::sink::{Put, Sink};
 use crate::writing::{Wrote, write_front};
@@ -57,9 +56,7 @@ impl<K: Sink> BufferedSink<K> {
     /// After `Done` nothing is held back. `Fault` comes only where the count of faults of the sink behind rose (or stands at
     /// its last value); a front of what was held back was given on then, and the rest is still held back.
     pub fn flush(&mut self) -> Wrote
-        ensures bytes { Flushes (outbox K.taken self.old) (outbox K.taken self.new) result }
-        ensures later { K.faults self.old.inner ≤ K.faults self.new.inner }
-        ensures fault { IsWriteFault result → Rose (K.faults self.old.inner) (K.faults self.new.inner) }
+        ensures { Flushes (outbox K.taken K.faults self.old) (outbox K.taken K.faults self.new) result }
     {
         let (gathered, _) = self.buffer.split_at(self.end);
         let (_, pending) = gathered.split_at(self.start);
@@ -78,9 +75,18 @@ impl<K: Sink> BufferedSink<K> {
     /// `Done` means that all of them went in. `Fault` comes only where the count of faults of the sink behind rose (or stands
     /// at its last value); a front of them went in then.
     pub fn write_all(&mut self, bytes: &[u8]) -> Wrote
-        ensures bytes { GathersAll (outbox K.taken self.old) (outbox K.taken self.new) bytes.now result }
-        ensures later { K.faults self.old.inner ≤ K.faults self.new.inner }
-        ensures fault { IsWriteFault result → Rose (K.faults self.old.inner) (K.faults self.new.inner) }
+        ensures { GathersAll (outbox K.taken K.faults self.old) (outbox K.taken K.faults self.new) bytes.now result }
+    {
+        if bytes.len() <= CAPACITY - self.end {
+            gather(&mut self.buffer, &mut self.end, bytes);
+            return Wrote::Done;
+        }
+        self.write_by_parts(bytes)
+    }
+
+    /// Writes all of the bytes, in order, as many at a time as there is room for.
+    fn write_by_parts(&mut self, bytes: &[u8]) -> Wrote
+        ensures { GathersAll (outbox K.taken K.faults self.old) (outbox K.taken K.faults self.new) bytes.now result }
     {
         let mut taken = 0;
         while taken < bytes.len() {
@@ -135,7 +141,7 @@ impl<K: Sink> Sink for BufferedSink<K> {
         ensures bytes { Takes (append_known (K.taken self.old.inner) self.old.pending) (append_known (K.taken self.new.inner) self.new.pending) result bytes.now }
         ensures later { K.faults self.old.inner ≤ K.faults self.new.inner }
         ensures cause { IsFailed result → Rose (K.faults self.old.inner) (K.faults self.new.inner) }
-        ensures gathers { GathersPut (outbox K.taken self.old) (outbox K.taken self.new) result bytes.now }
+        ensures gathers { GathersPut (outbox K.taken K.faults self.old) (outbox K.taken K.faults self.new) result bytes.now }
     {
         if bytes.len() <= CAPACITY - self.end {
             return Put::Put(gather(&mut self.buffer, &mut self.end, bytes));

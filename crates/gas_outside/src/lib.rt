@@ -3,6 +3,16 @@
 //! A source may tell the bytes that are left, and a sink the bytes that it took; what a function read or wrote is then a
 //! fact of its contract. Each has a count of faults that never falls, and fails only where that count rose. `MemorySource`
 //! and `MemorySink` tell all, and fail at the calls that a list numbers. `BufferedSink` gathers small pieces before any sink.
+//!
+//! What is proved, by the names of clauses (in `src/`) and definitions (in `specs/`):
+//!
+//! - `read_all` and `write_all` [`bytes`, `later`, `fault`]: all bytes, or a fault only where the count of faults rose.
+//! - `BufferedSink`: each call has one clause, over the outbox (`Outbox`): what was given on, what waits, and the count of faults
+//!   of the sink behind. What went in is what was given on, then what waits, in order; a fault comes only where that count rose,
+//!   and then a front of the bytes went in (`GathersAll`). `flush` gives on what waits (`Flushes`).
+//! - `MemorySource` and `MemorySink` [`exact`] number their calls, and fail at the listed ones.
+//!
+//! That memory ran out where `NoMemory` is told isn't proved.
 #![tactic(auto)]
 
 mod buffered;
@@ -18,6 +28,3 @@ pub use reading::{ReadAll, read_all};
 pub use sink::{Put, Sink};
 pub use source::{Got, Source};
 pub use writing::{Wrote, write_all};
-
-#[cfg(test)]
-mod tests;

@@ -32,7 +32,7 @@ pub fn read_all<S: Source>(alloc: Global, source: &mut S, limit: usize) -> ReadA
     ensures fault { IsFault result → Rose (S.faults source.old) (S.faults source.new) }
 {
     let mut bytes = Vec::new(alloc);
-    let mut piece = [0u8; 4096];
+    let mut piece = [0u8; 32768];
     loop {
         match source.read(&mut piece) {
             Got::Failed => return ReadAll::Fault,

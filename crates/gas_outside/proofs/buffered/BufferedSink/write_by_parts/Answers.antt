@@ -1,9 +1,9 @@
 use Rattle.std.proofs.Common.{arith, length, length-drop, ap}
 use Rattle.gas_outside.proofs.Outboxes.{gathers_front, gathers_failed}
-use Rattle.gas_outside.proofs.buffered.BufferedSink.write_all.Goals as goal
+use Rattle.gas_outside.proofs.buffered.BufferedSink.write_by_parts.Goals as goal
 
-pub returns-in-Failed-clause-bytes : goal.returns-in-Failed-clause-bytes
-returns-in-Failed-clause-bytes g c = gathers_failed _ _ _ _ _ c.loop-taken.invariant.bytes c.in-Failed.ensures.gathers
+pub returns-in-Failed : goal.returns-in-Failed
+returns-in-Failed g c = gathers_failed _ _ _ _ _ c.loop-taken.invariant.bytes c.in-Failed.ensures.gathers
 
 pub loop-taken-preserved : goal.loop-taken-preserved
 loop-taken-preserved g c =
@@ -11,5 +11,4 @@ loop-taken-preserved g c =
     record {
       bound = omega (arith, c.in-Put.ensures.bound.0);
       bytes = gathers_front _ _ _ _ _ _ _ c.split_at.ensures.back c.loop-taken.invariant.bytes c.in-Put.ensures.gathers;
-      later = omega arith;
     }
