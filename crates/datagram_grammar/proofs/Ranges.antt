@@ -6,8 +6,8 @@ use Rattle.std.specs.Int.RustNames.{FitsSigned}
 use Rattle.std.specs.List.{AllByRecursion}
 use Rattle.std.proofs.lemmas.Bool.{or_parts, and_parts, or_from, ltb-false, le-ltb, eqb-true, eqb-false, eq-eqb, ne_eqb}
 use Rattle.std.proofs.lemmas.Bool.{not-true, not-false, not_from_true}
-use Rattle.datagram_grammar.specs.Message.{Message, IsMessage, IsWellFormed, HasRanges, is_version, is_kind, is_ack}
-use Rattle.datagram_grammar.specs.Message.{is_long, is_bare}
+use Rattle.datagram_grammar.specs.Content.{Message, IsMessage, IsWellFormed, HasRanges, is_version, is_kind, is_ack}
+use Rattle.datagram_grammar.specs.Content.{is_long, is_bare}
 use Rattle.datagram_grammar.specs.Refusals.{HeaderFields, fields_of, is_wrong_count, is_wrong_reserved, is_wrong_length}
 use Rattle.datagram_grammar.specs.Refusals.{is_clean}
 

@@ -3,7 +3,7 @@ use Rattle.std.specs.Prelude.{◌≡◌, ◌≢◌, ℕ, ◌<◌, ◌≤◌, ◌
 use Rattle.std.specs.Prelude.{length, Option, None, Some, unwrap_or}
 use Rattle.lists.specs.Sums.{sum_below}
 use Rattle.datagram_grammar.specs.declared.pairs.PairCredits.{PairCredits}
-use Rattle.datagram_grammar.specs.Message.{is_version}
+use Rattle.datagram_grammar.specs.Content.{is_version}
 
 -- the version of the datagrams, the job's number, its nodes, the credits of each ordered pair of nodes that has none of
 -- its own, the pairs that have, in the order in which they were set, the threads of each node, the bytes of each

@@ -1,10 +1,11 @@
 //! What messages say, and where they go, with their spelling.
 
 ghost use Rattle.std.specs.Prelude.{◌≡◌, ◌+◌, ◌≤◌, [], ◌++◌, length, drop};
-ghost use Rattle.datagram_grammar.specs.Message.{IsMessage, IsWellFormed, spelling};
+ghost use Rattle.datagram_grammar.specs.Content.{IsMessage, IsWellFormed, spelling};
 ghost use Rattle.datagram_grammar.specs.Reading.{outgoing_message};
 ghost use Rattle.datagram_grammar.specs.Content.{Content, IsWellAddressed, addressed};
-ghost use Rattle.datagram_grammar.specs.Content.{short_request, short_reply, ack};
+ghost use Rattle.datagram_grammar.specs.Content.{short_request, medium_request, long_request};
+ghost use Rattle.datagram_grammar.specs.Content.{short_reply, medium_reply, long_reply, ack};
 
 use crate::kind::Kind;
 use crate::outgoing::Outgoing;
@@ -59,6 +60,52 @@ pub fn short_request<'a>(address: Address, handler: u8, args: &'a [i32]) -> Outg
     bare(address, Kind::ShortRequest, handler, args)
 }
 
+/// The parts of a Medium request for a handler, which isn't 0, with at most 16 arguments and a payload of at most 8,192
+/// bytes, which the handler sees in a buffer of the library.
+pub fn medium_request<'a>(
+    address: Address,
+    handler: u8,
+    args: &'a [i32],
+    payload: &'a [u8],
+) -> Outgoing<'a>
+    requires address { IsWellAddressed address }
+    requires handler { 1 ≤ handler }
+    requires count { length args.now ≤ 16 }
+    requires payload { length payload.now ≤ 8192 }
+    ensures value { let content = medium_request handler args.now payload.now in
+        outgoing_message result ≡ addressed address content }
+    ensures formed { IsWellFormed (outgoing_message result) }
+{
+    Outgoing {
+        payload,
+        ..bare(address, Kind::MediumRequest, handler, args)
+    }
+}
+
+/// The parts of a Long request for a handler, which isn't 0, with at most 16 arguments and a payload of at most 8,192
+/// bytes, which goes to the receiver's segment from the byte at `offset` on.
+pub fn long_request<'a>(
+    address: Address,
+    handler: u8,
+    args: &'a [i32],
+    offset: u64,
+    payload: &'a [u8],
+) -> Outgoing<'a>
+    requires address { IsWellAddressed address }
+    requires handler { 1 ≤ handler }
+    requires count { length args.now ≤ 16 }
+    requires payload { length payload.now ≤ 8192 }
+    ensures value { let content = long_request handler args.now offset payload.now in
+        outgoing_message result ≡ addressed address content }
+    ensures formed { IsWellFormed (outgoing_message result) }
+{
+    Outgoing {
+        offset,
+        payload,
+        ..bare(address, Kind::LongRequest, handler, args)
+    }
+}
+
 /// The parts of a Short reply for a handler, which isn't 0, with at most 16 arguments.
 pub fn short_reply<'a>(address: Address, handler: u8, args: &'a [i32]) -> Outgoing<'a>
     requires address { IsWellAddressed address }
@@ -68,6 +115,52 @@ pub fn short_reply<'a>(address: Address, handler: u8, args: &'a [i32]) -> Outgoi
     ensures formed { IsWellFormed (outgoing_message result) }
 {
     bare(address, Kind::ShortReply, handler, args)
+}
+
+/// The parts of a Medium reply for a handler, which isn't 0, with at most 16 arguments and a payload of at most 8,192
+/// bytes, which the handler sees in a buffer of the library.
+pub fn medium_reply<'a>(
+    address: Address,
+    handler: u8,
+    args: &'a [i32],
+    payload: &'a [u8],
+) -> Outgoing<'a>
+    requires address { IsWellAddressed address }
+    requires handler { 1 ≤ handler }
+    requires count { length args.now ≤ 16 }
+    requires payload { length payload.now ≤ 8192 }
+    ensures value { let content = medium_reply handler args.now payload.now in
+        outgoing_message result ≡ addressed address content }
+    ensures formed { IsWellFormed (outgoing_message result) }
+{
+    Outgoing {
+        payload,
+        ..bare(address, Kind::MediumReply, handler, args)
+    }
+}
+
+/// The parts of a Long reply for a handler, which isn't 0, with at most 16 arguments and a payload of at most 8,192
+/// bytes, which goes to the receiver's segment from the byte at `offset` on.
+pub fn long_reply<'a>(
+    address: Address,
+    handler: u8,
+    args: &'a [i32],
+    offset: u64,
+    payload: &'a [u8],
+) -> Outgoing<'a>
+    requires address { IsWellAddressed address }
+    requires handler { 1 ≤ handler }
+    requires count { length args.now ≤ 16 }
+    requires payload { length payload.now ≤ 8192 }
+    ensures value { let content = long_reply handler args.now offset payload.now in
+        outgoing_message result ≡ addressed address content }
+    ensures formed { IsWellFormed (outgoing_message result) }
+{
+    Outgoing {
+        offset,
+        payload,
+        ..bare(address, Kind::LongReply, handler, args)
+    }
 }
 
 /// The parts of an Ack, the empty reply.

@@ -4,7 +4,7 @@ ghost use Rattle.std.specs.Prelude.{◌≡◌, ◌≢◌, true, MatchOption, [],
 ghost use Rattle.datagram_grammar.specs.Parameters.{Parameters, AreInRange, credits_of, with_pair};
 ghost use Rattle.datagram_grammar.specs.Stored.{no_pair};
 ghost use Rattle.datagram_grammar.specs.declared.pairs.PairCredits.{PairCredits};
-ghost use Rattle.datagram_grammar.specs.Message.{is_version};
+ghost use Rattle.datagram_grammar.specs.Content.{is_version};
 
 use crate::kind::is_version;
 use crate::pairs::{PairCredits, own_credits};

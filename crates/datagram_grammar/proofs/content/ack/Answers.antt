@@ -1,5 +1,5 @@
 use Rattle.std.proofs.Common.{subst, sym}
-use Rattle.datagram_grammar.specs.Message.{Message, IsWellFormed}
+use Rattle.datagram_grammar.specs.Content.{Message, IsWellFormed}
 use Rattle.datagram_grammar.proofs.Addressing.{ack_formed}
 use Rattle.datagram_grammar.proofs.content.ack.Goals as goal
 

@@ -1,9 +1,16 @@
-use Rattle.std.proofs.Common.{subst, sym}
-use Rattle.datagram_grammar.specs.Message.{Message, IsWellFormed}
-use Rattle.datagram_grammar.proofs.Addressing.{short_request_formed}
+use Rattle.std.proofs.Common.{subst, sym, refl, arith}
+use Rattle.datagram_grammar.specs.Content.{Message, IsWellFormed}
+use Rattle.datagram_grammar.proofs.Addressing.{for_handler}
 use Rattle.datagram_grammar.proofs.content.short_request.Goals as goal
 
 pub returns-clause-formed : goal.returns-clause-formed
 returns-clause-formed c = subst (λ (m : Message). IsWellFormed m) (sym c.bare.ensures)
-    (short_request_formed c.args.address c.args.handler c.args.args.now
-    c.requires.address c.requires.handler c.requires.count)
+    (for_handler c.args.address _ c.requires.address (record {
+      kind = refl;
+      no_ack = refl;
+      some_handler = c.requires.handler;
+      few_args = c.requires.count;
+      long_offset = λ e. refl;
+      short_payload = omega arith;
+      bare_payload = λ e. refl;
+    }))

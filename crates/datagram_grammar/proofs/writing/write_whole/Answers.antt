@@ -1,6 +1,6 @@
 use Rattle.std.proofs.Common.{arith, ◌∙◌, ap, ◌≡◌, ◌*◌, ◌++◌, length, drop, ℕ, List}
 use Rattle.std.specs.List.{flat_map}
-use Rattle.datagram_grammar.specs.Message.{header, spelling, word}
+use Rattle.datagram_grammar.specs.Content.{header, spelling, word}
 use Rattle.datagram_grammar.specs.Reading.{outgoing_message}
 use Rattle.datagram_grammar.proofs.Words.{length-words}
 use Rattle.datagram_grammar.proofs.Laws.{length-spelling, length-header, version_small}
