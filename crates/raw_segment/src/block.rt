@@ -1,6 +1,6 @@
 //! Parts of one size in one allocation.
 
-ghost use Rattle.std.specs.Prelude.{◌≡◌, ◌<◌, ◌≤◌, length, slice_get, Some, IfOk};
+ghost use Rattle.std.specs.Prelude.{◌≡◌, ◌<◌, ◌≤◌, length, slice_get, Some, IfOk, IsOk};
 ghost use Rattle.std.proofs.Math.ListN.{replicate};
 ghost use Rattle.std.specs.Borrow.{sem, Lends, Array, u8 as byte};
 
@@ -92,11 +92,18 @@ impl Block {
     ///
     /// # Errors
     ///
-    /// Where the memory cannot be reserved.
+    /// Where the memory cannot be reserved; never for no parts.
     pub fn new(alloc: Global, parts: usize) -> Result<Block, AllocError>
         requires { parts ≤ 65536 }
-        ensures { IfOk result (λ b. b ≡ replicate parts (replicate 8296 0)) }
+        ensures zeros { IfOk result (λ block. block ≡ replicate parts (replicate 8296 0)) }
+        ensures no_parts { parts ≡ 0 → IsOk result }
     {
+        if parts == 0 {
+            return Ok(Block {
+                places: Vec::new(alloc),
+                filled: Vec::new(alloc),
+            });
+        }
         let places = vec![in alloc; None; parts]?;
         let filled = Vec::with_capacity(alloc, parts)?;
         Ok(Block { places, filled })
