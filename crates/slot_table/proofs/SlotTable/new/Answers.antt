@@ -50,7 +50,7 @@ invariant_of-result c =
       made-counted c.args.credits.now c.args.me c.loop-node.node c.loop-node.first c.loop-node.peers.items
           c.in_ok-vec.field-0.items c.loop-node.invariant all
           (total-small c.args.credits.now c.args.me c.requires.few c.requires.narrow) are,
-      made-buffered c.loop-node.first c.in_ok-vec.field-0.items c.in_ok-new.field-0 _ are c.in_ok-new.ensures
+      made-buffered c.loop-node.first c.in_ok-vec.field-0.items c.in_ok-new.field-0 _ are c.in_ok-new.ensures.zeros
           (length-replicate {A = ℕ} 8296 0),
     )
 
