@@ -1,0 +1,30 @@
+-- A reply as a handler asks for it.
+use Rattle.std.specs.Prelude.{ℕ, ℤ, ◌≤◌, List, Option, Some, None, length}
+use Rattle.datagram_grammar.specs.Content.{Content, short_reply, medium_reply, long_reply}
+use Rattle.handler_rules.specs.declared.message.Replied.{Replied}
+use Rattle.handler_rules.specs.declared.message.Replied.TheVariants as replied
+use Rattle.handler_rules.specs.declared.message.Which.{Which}
+use Rattle.handler_rules.specs.declared.reply.AskedReply.{AskedReply}
+use Rattle.handler_rules.specs.declared.reply.Load.{Load}
+use Rattle.handler_rules.specs.declared.reply.Load.TheVariants as load
+
+-- what a reply with this load says
+abbrev pub loaded_content : Load → (handler : ℕ) → List ℤ → Content
+loaded_content load.Nothing handler args = short_reply handler args
+loaded_content (load.Medium payload) handler args = medium_reply handler args payload.now
+loaded_content (load.Long payload offset) handler args = long_reply handler args offset payload.now
+
+-- what the reply says
+abbrev pub asked_content : AskedReply → Content
+asked_content asked = loaded_content asked.load asked.handler asked.args.now
+
+-- it names a handler of a client, and its arguments and its payload are within their limits
+pub record IsSmall (content : Content) : Type 0 where
+  pub some_handler : 1 ≤ content.handler
+  pub few : length content.args ≤ 16
+  pub small : length content.payload ≤ 8192
+
+-- the answer where this part is wrong, if one is
+abbrev pub answer_of : Option Which → Replied
+answer_of None = replied.Sent
+answer_of (Some part) = replied.BadArg part
