@@ -34,7 +34,7 @@ use Rattle.plain_world.proofs.PlainParts.{plain_same, plain_accepted, plain_sent
 use Rattle.plain_world.proofs.PlainAsks.{is_next}
 
 -- it names a request that isn't back, with its slot
-abbrev IsOpenAt : (ℕ → List Request) → Due → Type 0
+abbrev pub IsOpenAt : (ℕ → List Request) → Due → Type 0
 IsOpenAt asked d = (request : Request) × (numbered (asked d.peer) d.number ≡ Some request) × (request.back ≡ false)
     × (d.slot ≡ request.slot)
 
@@ -64,7 +64,7 @@ dues_open now resend peer k asked (request ∷ requests) at =
     not_back false e = refl
 
 -- each that is due is such
-all_dues_open : (now resend : ℕ) (asked : ℕ → List Request) (n : ℕ)
+pub all_dues_open : (now resend : ℕ) (asked : ℕ → List Request) (n : ℕ)
     → AllByRecursion (IsOpenAt asked) (all_dues now resend asked n)
 all_dues_open now resend asked zero = tt
 all_dues_open now resend asked (suc peer) = all_append (IsOpenAt asked) _ _ (all_dues_open now resend asked peer)
@@ -72,7 +72,7 @@ all_dues_open now resend asked (suc peer) = all_append (IsOpenAt asked) _ _ (all
     (λ p x e. subst (λ q. numbered (asked peer) q ≡ Some x) {x = suc p} (omega arith) e))
 
 -- what holds of each holds of the earliest
-earliest_has : (P : Due → Type 0) (ds : List Due) (d : Due) → AllByRecursion P ds → earliest ds ≡ Some d → P d
+pub earliest_has : (P : Due → Type 0) (ds : List Due) (d : Due) → AllByRecursion P ds → earliest ds ≡ Some d → P d
 earliest_has P [] d a e = absurd (cc)
 earliest_has P (c ∷ ds) d a e = subst P (same_Some _ _ e) (go (earliest ds) (λ b f. earliest_has P ds b a.1 f))
   where

@@ -36,11 +36,11 @@ sender (Replying place content) = place.to
 -- the record of that node has it
 abbrev pub Has : {Local : Type 0} → Packet → Node Local → Type 0
 Has (Asking place content) node =
-    (x : Request) × (numbered (node.asked place.to) place.number ≡ Some x)
-    × (x.slot ≡ place.slot) × (x.content ≡ content)
+    (request : Request) × (numbered (node.asked place.to) place.number ≡ Some request)
+    × (request.slot ≡ place.slot) × (request.content ≡ content)
 Has (Replying place content) node =
-    (t : Run) × (run_of place.number (node.ran place.from) ≡ Some t)
-    × (t.slot ≡ place.slot) × (t.reply ≡ content)
+    (run : Run) × (run_of place.number (node.ran place.from) ≡ Some run)
+    × (run.slot ≡ place.slot) × (run.reply ≡ content)
 
 -- it is the message of a request that was accepted, or the reply of a run
 abbrev pub IsRecorded : {Local : Type 0} → World Local → Packet → Type 0
@@ -49,14 +49,14 @@ IsRecorded world packet = Has packet (world (sender packet))
 -- a request of the record
 abbrev pub asking : (from to number : ℕ) → Option Request → List Packet
 asking from to number None = []
-asking from to number (Some x) =
-    Asking (record { from = from; to = to; number = number; slot = x.slot }) x.content ∷ []
+asking from to number (Some request) =
+    Asking (record { from = from; to = to; number = number; slot = request.slot }) request.content ∷ []
 
 -- the reply of a run of the record
 abbrev pub replying : (from to number : ℕ) → Option Run → List Packet
 replying from to number None = []
-replying from to number (Some r) =
-    Replying (record { from = from; to = to; number = number; slot = r.slot }) r.reply ∷ []
+replying from to number (Some run) =
+    Replying (record { from = from; to = to; number = number; slot = run.slot }) run.reply ∷ []
 
 -- a thread's request sends its message where it is accepted
 abbrev pub asked_sends : {Local : Type 0} → Site Local → Node Local → Ask → Asked → List Packet
