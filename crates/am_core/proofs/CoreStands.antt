@@ -28,20 +28,27 @@ use Rattle.reply_slots.specs.declared.Judged.TheVariants.{New, Again, Stale}
 use Rattle.handler_rules.specs.declared.table.Entry.{Entry}
 use Rattle.handler_rules.specs.declared.rules.Role.{Role}
 use Rattle.handler_rules.specs.declared.rules.Violation.{Violation}
-use Rattle.handler_rules.specs.Logged.{Logged, log_of, noted, notes}
+use Rattle.handler_rules.specs.Logged.{log_of, notes}
 use Rattle.handler_rules.specs.Runs.{Outcome, violation}
-use Rattle.handler_rules.proofs.Logs.{noted-log_of, notes-log_of}
+use Rattle.handler_rules.proofs.Logs.{notes-log_of}
 use Rattle.node_record.specs.declared.answer.Asked.TheVariants as asked
 use Rattle.node_record.specs.Record.{Request, Run, Node, opening_node, numbered, change}
 use Rattle.node_record.specs.Requests.{is_open, open_in, as_back, sent_at}
 use Rattle.node_record.specs.Executed.{greatest, last_run}
 use Rattle.node_record.specs.Step.{claim_answer, put, with_local, new_request, with_request, with_run, with_back}
-use Rattle.am_core.specs.Kept.{Local, IsKept, nothing_done}
+use Rattle.am_core.specs.Kept.{Local, IsKept, segment_of, with_writes, nothing_done}
+use Rattle.raw_segment.specs.Image.{Write, AllFit, written_by}
+use Rattle.raw_segment.proofs.Images.{all_fit_none, all_fit-append, image-append}
+use Rattle.hsl_locks.specs.declared.answer.Held.{Held}
+use Rattle.hsl_locks.specs.declared.answer.Owner.TheVariants as owner
+use Rattle.hsl_locks.specs.Locks.{holds}
 use Rattle.am_core.specs.HandlerRuns.{left_by}
 use Rattle.node_record.specs.Invariant.{IsOrderly, NodeInvariant}
 use Rattle.am_core.specs.CoreState.{CoreState}
 use Rattle.am_core.specs.Stands.{Stands, slot_state, reply_state}
-use Rattle.am_core.specs.CoreStep.{IsOpening, Accepts, with_outcome}
+use Rattle.am_core.specs.CoreStep.{IsOpening, Accepts, ContentFor, with_outcome}
+use Rattle.node_record.specs.Transition.{Transition}
+use Rattle.node_record.specs.Requests.{Claim}
 use Rattle.node_record.proofs.Lists.{numbered_push, numbered-change, slice_get_past}
 use Rattle.node_record.proofs.Puts.{put_same, put_other}
 use Rattle.node_record.proofs.Orderly.{orderly_accepts, orderly_back, orderly_sent, sent_slot, sent_content, back_slot}
@@ -86,7 +93,8 @@ opens_at : (e : CoreState) → AreInRange e.settings → e.me < e.settings.nodes
 opens_at e range me_in O = record {
   range = range;
   me_in = me_in;
-  invariant_ = opening_keeps e.settings IsKept e.me nothing_done tt;
+  invariant_ = opening_keeps e.settings (IsKept e.settings) e.me nothing_done
+      (record { writes = all_fit_none e.settings.segment; locks = refl });
   last = O.requests.last;
   requests = λ peer low other. let count = credits_of e.settings e.me peer in (
     new_peer count,
@@ -107,6 +115,8 @@ opens_at e range me_in O = record {
     },
   );
   own_ran = refl;
+  segment_is = O.segment_is;
+  locks_are = O.locks_are;
   cells_are = O.cells_are;
   log_is = O.log_is;
 }
@@ -119,44 +129,85 @@ core_opens s me table e range low O =
     (subst (λ t. IsOpening t e.me e.table e) (sym O.settings)
     (subst (λ m. IsOpening s m e.table e) (sym O.me_is) (subst (λ b. IsOpening s me b e) (sym O.table_is) O)))
 
--- ---- cells and log
+-- ---- segment, locks, cells and log
 
--- cells and violations are set
-pub local_stands : (e : CoreState) (r : Node Local) (cells : _) (log : Logged) (l : Local) → Stands e r
-    → cells ≡ l.cells → log ≡ log_of l.violations → Stands (record e { cells = cells; log = log }) (with_local r l)
-local_stands e r cells log l S same_cells same_log = record {
-  range = S.range;
-  me_in = S.me_in;
-  invariant_ = same_keeps e.settings IsKept e.me r l S.invariant_ tt;
-  last = S.last;
-  requests = S.requests;
-  no_more = S.no_more;
-  replies = S.replies;
-  own_ran = S.own_ran;
-  cells_are = same_cells;
-  log_is = same_log;
-}
+-- all of what a core keeps beside its slots is set
+pub local_stands : (e new : CoreState) (r : Node Local) (l : Local) → Stands e r
+    → new ≡ record e { segment = new.segment; locks = new.locks; cells = new.cells; log = new.log }
+    → IsKept e.settings e.me l → new.segment ≡ segment_of e.settings l → new.locks ≡ l.locks
+    → new.cells ≡ l.cells → new.log ≡ log_of l.violations → Stands new (with_local r l)
+local_stands e new r l S is kept same_segment same_locks same_cells same_log =
+    rw is (record {
+      range = S.range;
+      me_in = S.me_in;
+      invariant_ = same_keeps e.settings (IsKept e.settings) e.me r l S.invariant_ kept;
+      last = S.last;
+      requests = S.requests;
+      no_more = S.no_more;
+      replies = S.replies;
+      own_ran = S.own_ran;
+      segment_is = same_segment;
+      locks_are = same_locks;
+      cells_are = same_cells;
+      log_is = same_log;
+    })
 
 -- a core whose cells are set stands for the record with those cells
 pub cells_stand : (e : CoreState) (r : Node Local) (cells : _) → Stands e r
     → Stands (record e { cells = cells }) (with_local r (record r.local { cells = cells }))
-cells_stand e r cells S = local_stands e r cells e.log (record r.local { cells = cells }) S refl S.log_is
+cells_stand e r cells S =
+    let kept = S.invariant_.kept in
+    local_stands e (record e { cells = cells }) r (record r.local { cells = cells }) S refl
+    (record { writes = kept.writes; locks = kept.locks }) S.segment_is S.locks_are refl S.log_is
 
--- one violation more is noted
-pub noted_stands : (e : CoreState) (r : Node Local) (v : Violation) → Stands e r
-    → Stands (record e { log = noted e.log v })
-    (with_local r (record r.local { violations = r.local.violations ++ v ∷ [] }))
-noted_stands e r v S =
-    local_stands e r e.cells (noted e.log v) (record r.local { violations = r.local.violations ++ v ∷ [] }) S
-    S.cells_are (ap (λ log. noted log v) S.log_is ∙ noted-log_of r.local.violations v)
+-- a core whose segment was written to stands for the record with those writes
+pub segment_stand : (e : CoreState) (r : Node Local) (writes : List Write) → Stands e r
+    → AllFit e.settings.segment writes
+    → Stands (record e { segment = written_by e.segment writes }) (with_local r (with_writes r.local writes))
+segment_stand e r writes S fits =
+    let kept = S.invariant_.kept in
+    let len = e.settings.segment in
+    local_stands e (record e { segment = written_by e.segment writes }) r (with_writes r.local writes) S refl
+    (record { writes = all_fit-append len r.local.writes writes kept.writes fits; locks = kept.locks })
+    (ap (λ (bytes : List ℕ). written_by bytes writes) S.segment_is ∙ sym (image-append len r.local.writes writes))
+    S.locks_are S.cells_are S.log_is
+
+-- a core whose locks are set, and that noted violations
+pub locks_stand : (e : CoreState) (r : Node Local) (held : List Held) (found : List Violation) → Stands e r
+    → holds owner.Handler held ≡ false
+    → Stands (record e { locks = held; log = notes e.log found })
+    (with_local r (record r.local { locks = held; violations = r.local.violations ++ found }))
+locks_stand e r held found S none =
+    let kept = S.invariant_.kept in
+    local_stands e (record e { locks = held; log = notes e.log found }) r
+    (record r.local { locks = held; violations = r.local.violations ++ found }) S refl
+    (record { writes = kept.writes; locks = none }) S.segment_is refl S.cells_are
+    (ap (λ log. notes log found) S.log_is ∙ notes-log_of r.local.violations found)
+
+-- violations are noted
+pub noted_stands : (e : CoreState) (r : Node Local) (found : List Violation) → Stands e r
+    → Stands (record e { log = notes e.log found })
+    (with_local r (record r.local { violations = r.local.violations ++ found }))
+noted_stands e r found S =
+    let kept = S.invariant_.kept in
+    local_stands e (record e { log = notes e.log found }) r
+    (record r.local { violations = r.local.violations ++ found }) S refl
+    (record { writes = kept.writes; locks = kept.locks }) S.segment_is S.locks_are S.cells_are
+    (ap (λ log. notes log found) S.log_is ∙ notes-log_of r.local.violations found)
 
 -- a handler ran
 pub outcome_stands : (e : CoreState) (r : Node Local) (role : Role) (o : Outcome) → Stands e r
+    → AllFit e.settings.segment o.writes
     → Stands (with_outcome e role o) (with_local r (left_by role o r.local))
-outcome_stands e r role o S =
-    local_stands e r o.cells (notes e.log (map (violation role) o.refused)) (left_by role o r.local) S refl
-    (ap (λ log. notes log (map (violation role) o.refused)) S.log_is
-    ∙ notes-log_of r.local.violations (map (violation role) o.refused))
+outcome_stands e r role o S fits =
+    let kept = S.invariant_.kept in
+    let len = e.settings.segment in
+    let found = map (violation role) o.refused in
+    local_stands e (with_outcome e role o) r (left_by role o r.local) S refl
+    (record { writes = all_fit-append len r.local.writes o.writes kept.writes fits; locks = kept.locks })
+    (ap (λ (bytes : List ℕ). written_by bytes o.writes) S.segment_is
+    ∙ sym (image-append len r.local.writes o.writes))
+    S.locks_are refl (ap (λ log. notes log found) S.log_is ∙ notes-log_of r.local.violations found)
 
 -- ---- a request
 
@@ -178,6 +229,14 @@ node_not_yet to e r S low other h =
     let full = subst (λ o. IfSome o (λ q. Refuses q e.requests.last claims.NotYet)) p.1 h in
     not_yet_is e.settings e.me to p.0 (r.asked to) e.requests.last p.2 S.last full.0 full.1
 
+-- a request that is claimed for a node, with its slot and number
+abbrev pub claiming : (now to : ℕ) → Content → (slot number : ℕ) → Transition ContentFor Claim
+claiming now to content slot number = record {
+  now = now;
+  event = record { to = to; content = content };
+  answer = record { slot = slot; number = number };
+}
+
 -- the core accepts, and stands for what that leaves
 pub record NodeAccepts (e : CoreState) (to : ℕ) (r : Node Local) (c : Content) (now slot number : ℕ)
     (new : CoreState) : Type 0 where
@@ -188,12 +247,12 @@ pub record NodeAccepts (e : CoreState) (to : ℕ) (r : Node Local) (c : Content)
 pub invariant_accepts : (e : CoreState) (to now slot number : ℕ) (r : Node Local) (p : PeerState) (c : Content)
     → Stands e r → to ≢ e.me → Takes e.settings e.me to p (r.asked to) slot number
     → IsMessage (addressed (address_in e.settings e.me to slot number) c)
-    → NodeInvariant e.settings IsKept e.me (with_request r now to slot c)
+    → NodeInvariant e.settings (IsKept e.settings) e.me (with_request r now to slot c)
 invariant_accepts e to now slot number r p c S other T spelled =
     let xs = r.asked to in
     let asked : Request = record { slot = slot; content = c; time = now; back = false } in
     let O = S.invariant_.orderly to in
-    asked_keeps e.settings IsKept e.me to r (with_request r now to slot c) (xs ++ asked ∷ []) S.invariant_ refl refl tt
+    asked_keeps e.settings (IsKept e.settings) e.me to r (with_request r now to slot c) (xs ++ asked ∷ []) S.invariant_ refl refl S.invariant_.kept
     (λ h. absurd (other (sym h)))
     (subst (λ q. IsOrderly (limits_of e.settings e.me to) (xs ++ new_request now q c ∷ [])) (sym T.lowest)
     (orderly_accepts (limits_of e.settings e.me to) xs c now O
@@ -209,7 +268,8 @@ invariant_accepts e to now slot number r p c S other T spelled =
 
 -- a request that is accepted is the record's step
 pub node_accepts : (to now slot number : ℕ) (e : CoreState) (r : Node Local) (c : Content) (new : CoreState)
-    → Stands e r → to < e.settings.nodes → to ≢ e.me → Accepts e now to c slot number new
+    → Stands e r → to < e.settings.nodes → to ≢ e.me
+    → Accepts e (claiming now to c slot number) new
     → NodeAccepts e to r c now slot number new
 node_accepts to now slot number e r c new S low other A =
     let s = e.settings in
@@ -223,7 +283,7 @@ node_accepts to now slot number e r c new S low other A =
       stands = rw A.kept (record {
         range = S.range;
         me_in = S.me_in;
-        invariant_ = invariant_accepts e to now slot number r p.0 c S other T A.message;
+        invariant_ = invariant_accepts e to now slot number r p.0 c S other T A.spelled;
         last = S.last;
         requests = λ peer l d. elim (cases_eq peer to) [
           | inl same ↦ (
@@ -249,6 +309,8 @@ node_accepts to now slot number e r c new S low other A =
             (λ same. other (sym same ∙ h (rw same low))) ∙ S.no_more peer at h;
         replies = S.replies;
         own_ran = S.own_ran;
+        segment_is = S.segment_is;
+        locks_are = S.locks_are;
         cells_are = S.cells_are;
         log_is = S.log_is;
       });
@@ -294,10 +356,10 @@ node_not_taken from slot number e r S low other below h =
 
 -- a request of the peer comes back
 pub invariant_back : (e : CoreState) (from number : ℕ) (r : Node Local) → Stands e r
-    → NodeInvariant e.settings IsKept e.me (with_back r from number r.local)
+    → NodeInvariant e.settings (IsKept e.settings) e.me (with_back r from number r.local)
 invariant_back e from number r S =
-    asked_keeps e.settings IsKept e.me from r (with_back r from number r.local) (change as_back (r.asked from) number)
-    S.invariant_ refl refl tt
+    asked_keeps e.settings (IsKept e.settings) e.me from r (with_back r from number r.local) (change as_back (r.asked from) number)
+    S.invariant_ refl refl S.invariant_.kept
     (λ h. change_none number (r.asked from) (ap r.asked (sym h) ∙ S.invariant_.own))
     (orderly_back (limits_of e.settings e.me from) (r.asked from) number (S.invariant_.orderly from))
     (λ k x f. let it = numbered-change as_back (r.asked from) number k x f in
@@ -344,6 +406,8 @@ node_returns from slot number e r new S low other below t is =
           (λ same. other (sym same ∙ h (rw same low))) ∙ S.no_more peer at h;
       replies = S.replies;
       own_ran = S.own_ran;
+      segment_is = S.segment_is;
+      locks_are = S.locks_are;
       cells_are = S.cells_are;
       log_is = S.log_is;
     })
@@ -400,7 +464,7 @@ node_runs from slot number e r c reply new S low other below above spelled is =
     rw is (record {
       range = S.range;
       me_in = S.me_in;
-      invariant_ = ran_keeps s IsKept e.me from r q run S.invariant_ refl refl tt spelled;
+      invariant_ = ran_keeps s (IsKept s) e.me from r q run S.invariant_ refl refl S.invariant_.kept spelled;
       last = S.last;
       requests = S.requests;
       no_more = S.no_more;
@@ -426,6 +490,8 @@ node_runs from slot number e r c reply new S low other below above spelled is =
         ))
       ];
       own_ran = put_other r.ran from (rs ++ run ∷ []) e.me (λ same. other (sym same)) ∙ S.own_ran;
+      segment_is = S.segment_is;
+      locks_are = S.locks_are;
       cells_are = S.cells_are;
       log_is = S.log_is;
     })
@@ -434,12 +500,12 @@ node_runs from slot number e r c reply new S low other below above spelled is =
 
 -- a request to the peer is sent again
 invariant_sent : (e : CoreState) (to now number : ℕ) (r : Node Local) → Stands e r → to ≢ e.me
-    → NodeInvariant e.settings IsKept e.me
+    → NodeInvariant e.settings (IsKept e.settings) e.me
     (record r { asked = put r.asked to (change (sent_at now) (r.asked to) number) })
 invariant_sent e to now number r S other =
-    asked_keeps e.settings IsKept e.me to r
+    asked_keeps e.settings (IsKept e.settings) e.me to r
     (record r { asked = put r.asked to (change (sent_at now) (r.asked to) number) })
-    (change (sent_at now) (r.asked to) number) S.invariant_ refl refl tt
+    (change (sent_at now) (r.asked to) number) S.invariant_ refl refl S.invariant_.kept
     (λ h. absurd (other (sym h)))
     (orderly_sent (limits_of e.settings e.me to) now (r.asked to) number (S.invariant_.orderly to))
     (λ k x f. let it = numbered-change (sent_at now) (r.asked to) number k x f in
@@ -482,6 +548,8 @@ node_sent to slot now number x e r S low other below at open_ same found =
           (λ same. other (sym same ∙ h (rw same low))) ∙ S.no_more peer at h;
       replies = S.replies;
       own_ran = S.own_ran;
+      segment_is = S.segment_is;
+      locks_are = S.locks_are;
       cells_are = S.cells_are;
       log_is = S.log_is;
     }

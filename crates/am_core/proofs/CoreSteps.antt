@@ -1,5 +1,6 @@
 -- What the code's deeds are, as steps of every record for which a core stands.
 use Rattle.std.proofs.Common.{◌≡◌, ◌≢◌, inl, inr, ℕ, ◌<◌, Bool, true, false, true≢false, Option, None, Some}
+use Rattle.std.proofs.Common.{List, ◌∷◌, [], length, map, ℤ}
 use Rattle.std.proofs.Common.{refl, sym, ap, ◌∙◌, subst, arith, eqb, eq-eqb, ne_eqb, eqb-true}
 use Rattle.std.specs.Prelude.{Result, Ok, Err, nat_le, if◌then◌else◌, ◌==◌}
 use Rattle.std.proofs.lemmas.Bool.Decides.{nat_tests}
@@ -14,31 +15,52 @@ use Rattle.handler_rules.specs.declared.rules.Forbidden.{Forbidden}
 use Rattle.handler_rules.specs.declared.rules.Role.TheVariants as role
 use Rattle.handler_rules.specs.declared.message.Which.{Which}
 use Rattle.handler_rules.specs.Rules.{rule}
-use Rattle.handler_rules.specs.Runs.{Scene, IsLawful}
+use Rattle.handler_rules.specs.Runs.{Frame, Start, Outcome, IsLawful, lock_refusal, unlock_refusal}
+use Rattle.handler_rules.specs.Logged.{notes}
+use Rattle.handler_rules.specs.declared.rules.Role.{Role}
+use Rattle.handler_rules.specs.declared.rules.Fault.{Fault}
+use Rattle.handler_rules.specs.declared.rules.Fault.TheVariants as fault
+use Rattle.handler_rules.specs.declared.message.Which.TheVariants as which
+use Rattle.hsl_locks.specs.declared.answer.Held.{Held}
+use Rattle.hsl_locks.specs.declared.answer.Owner.TheVariants as owner
+use Rattle.hsl_locks.specs.declared.answer.LockFault.{LockFault}
+use Rattle.hsl_locks.specs.declared.answer.LockAnswer.{LockAnswer}
+use Rattle.hsl_locks.specs.declared.answer.LockAnswer.TheVariants as lock_answers
+use Rattle.hsl_locks.specs.declared.answer.UnlockAnswer.TheVariants as unlock_answers
+use Rattle.hsl_locks.specs.declared.answer.UnlockAnswer.{UnlockAnswer}
+use Rattle.hsl_locks.specs.Locks.{holds, lock_answer, after_lock, unlock_answer, after_unlock}
+use Rattle.raw_segment.specs.Image.{AllFit}
+use Rattle.raw_segment.proofs.Images.{length-image, length-written_by}
+use Rattle.datagram_grammar.specs.Parameters.{Parameters}
 use Rattle.node_record.specs.declared.answer.Asked.{Asked as AskedAnswer}
 use Rattle.node_record.specs.declared.answer.Asked.TheVariants as asked
 use Rattle.node_record.specs.Record.{Node}
-use Rattle.node_record.specs.Behaviour.{Behaviour, Ask, Contact}
+use Rattle.node_record.specs.Behaviour.{Behaviour, Ask, Asking, Contact, Category, Short, Medium, Long}
 use Rattle.node_record.specs.Transition.{Transition}
 use Rattle.node_record.specs.NodeStep.{NodeAnswer, OfRequest, OfCall, Asks, Does}
 use Rattle.node_record.specs.Step.{Site, after_request}
 use Rattle.node_record.specs.Step.{with_itself, with_local, request_answer}
-use Rattle.node_record.specs.Step.{unless_forbidden, unless_bad, claim_answer}
+use Rattle.node_record.specs.Step.{unless_forbidden, unless_bad, claim_answer, own_answer, judged_local, ran_here}
+use Rattle.node_record.specs.Step.{with_request}
 use Rattle.node_record.specs.Credits.{limits_of}
-use Rattle.am_core.specs.Kept.{Local}
+use Rattle.am_core.specs.Kept.{Local, segment_of, start_of, with_writes, with_locks}
 use Rattle.handler_rules.specs.Runs.{Meaning, IsLawfulMeaning}
-use Rattle.am_core.specs.ClientRules.{rules, said_of}
-use Rattle.am_core.specs.HandlerRuns.{left_by, outcome, reply_or_ack, run_request}
-use Rattle.am_core.specs.HandlerRuns.{run_reply, scene_of_run}
+use Rattle.am_core.specs.ClientRules.{rules, said_in, content_by, payload_in, asking_fault, busy_lock}
+use Rattle.am_core.specs.ClientRules.{thread_violation, with_violations}
+use Rattle.am_core.specs.HandlerRuns.{left_by, outcome, landing, reply_or_ack, run_request}
+use Rattle.am_core.specs.HandlerRuns.{run_reply, frame_of_run}
 use Rattle.am_core.specs.CoreState.{CoreState}
 use Rattle.am_core.specs.CoreContracts.{IsSameNode}
 use Rattle.am_core.specs.Stands.{Stands}
-use Rattle.am_core.specs.CoreContracts.{Check, CoreTold, CoreSteps}
-use Rattle.am_core.specs.CoreStep.{AsksShort, AsksUnlessForbidden, AsksUnlessBad, AsksNode, Claims, claim_of}
-use Rattle.am_core.specs.CoreStep.{after_judgement, short_fault, handlers_at}
-use Rattle.am_core.specs.CoreStep.{request_outcome}
-use Rattle.am_core.specs.CoreStep.{reply_outcome, with_outcome, with_own_reply, with_own_run}
-use Rattle.am_core.proofs.CoreStands.{noted_stands, outcome_stands, node_worn, node_not_yet, node_accepts}
+use Rattle.am_core.specs.CoreContracts.{Check, Lock, Unlock, Checked, Locked, Unlocked, CoreTold, CoreSteps}
+use Rattle.am_core.specs.CoreStep.{AsksFor, AsksUnlessForbidden, AsksUnlessBad, AsksNode, AsksOwn, Claims, claim_of}
+use Rattle.am_core.specs.CoreStep.{after_judgement, asked_fault, judged_at, said_at, start_at, handlers_at}
+use Rattle.am_core.specs.CoreStep.{landed_core, request_outcome, with_outcome, with_reply_ran}
+use Rattle.am_core.specs.CoreStep.{with_own_reply, with_own_run}
+use Rattle.am_core.proofs.CoreStands.{noted_stands, locks_stand, segment_stand, outcome_stands}
+use Rattle.am_core.proofs.CoreStands.{node_worn, node_not_yet, node_accepts}
+use Rattle.am_core.proofs.Landings.{landing_fits, reply_kind_is, said_fits}
+use Rattle.am_core.proofs.ThreadLocks.{lock_unheld, unlock_unheld}
 
 -- ---- a core as a node
 
@@ -73,142 +95,412 @@ record Requests (meaning : Meaning) (old : CoreState) (now : ℕ) (ask : Ask) (a
 
 -- nothing changed
 pub same_core : (e new : CoreState) → new ≡ e → IsSameNode e new
-same_core e new is = rw is (record { settings = refl; me_is = refl; table = refl })
+same_core e new is = rw is (record { settings = refl; me_is = refl; table = refl; segment_length = refl })
 
 -- ---- calls that the rule table judges
 
+-- the rule table judges by the record as by the core
+pub judged_alike : (e : CoreState) (r : Node Local) (thread : ℕ) (kind : CallKind) → Stands e r
+    → judged_at e thread kind ≡ rule (Thread thread) (holds (owner.Thread thread) r.local.locks) false kind
+judged_alike e r thread kind S =
+    ap (λ (held : List Held). rule (Thread thread) (holds (owner.Thread thread) held) false kind) S.locks_are
+
+same_judged : (e : CoreState) (thread : ℕ) (result : Result (Unit {0}) Forbidden) (new : CoreState)
+    → new ≡ after_judgement e thread result → IsSameNode e new
+same_judged e thread (Ok allowed) new is = same_core e new is
+same_judged e thread (Err forbidden) new is =
+    rw is (record { settings = refl; me_is = refl; table = refl; segment_length = refl })
+
+-- what a judgement leaves
+judged_stands : (meaning : Meaning) (e : CoreState) (r : Node Local) (thread : ℕ)
+    (result : Result (Unit {0}) Forbidden) (new : CoreState) → new ≡ after_judgement e thread result → Stands e r
+    → Stands new (with_local r (judged_local (rules_at meaning e) thread result r.local))
+judged_stands meaning e r thread (Ok allowed) new is S = rw is S
+judged_stands meaning e r thread (Err forbidden) new is S =
+    rw is (noted_stands e r (map (thread_violation thread) (fault.Rule forbidden ∷ [])) S)
+
 -- a call that is judged is the record's step
 pub checks_step : (meaning : Meaning) (e : CoreState) (now thread : ℕ) (kind : CallKind)
-    (result : Result (Unit {0}) Forbidden) (new : CoreState) → result ≡ rule (Thread thread) false kind
+    (result : Result (Unit {0}) Forbidden) (new : CoreState) → result ≡ judged_at e thread kind
     → new ≡ after_judgement e thread result
-    → CoreSteps meaning e (record { now = now; event = Does thread (Check kind); answer = OfCall result }) new
-checks_step meaning e now thread kind (Ok allowed) new judged is = record {
-  same = same_core e new is;
-  steps = λ r S. (ap of_call judged, rw (sym judged) (rw is S));
+    → CoreSteps meaning e (record { now = now; event = Does thread (Check kind); answer = OfCall (Checked result) }) new
+checks_step meaning e now thread kind result new judged is = record {
+  same = same_judged e thread result new is;
+  steps = λ r S.
+      let told = judged ∙ judged_alike e r thread kind S in (
+        ap (λ answer. of_call (Checked answer)) told,
+        subst (λ answer. Stands new (with_local r (judged_local (rules_at meaning e) thread answer r.local))) told
+            (judged_stands meaning e r thread result new is S),
+      );
 }
-checks_step meaning e now thread kind (Err forbidden) new judged is = record {
-  same = rw is (record { settings = refl; me_is = refl; table = refl });
-  steps = λ r S. (ap of_call judged, rw (sym judged) (rw is (noted_stands e r _ S)));
+
+-- ---- locks
+
+-- no handler holds a lock at the core
+unheld : (e : CoreState) (r : Node Local) → Stands e r → holds owner.Handler e.locks ≡ false
+unheld e r S = ap (holds owner.Handler) S.locks_are ∙ S.invariant_.kept.locks
+
+-- a thread's call on locks, where no handler holds one before or after it
+pub locks_step : (e : CoreState) (r : Node Local) (thread : ℕ) (held : List Held) (faults : List Fault)
+    → Stands e r → holds owner.Handler held ≡ false
+    → Stands (record e { locks = held; log = notes e.log (map (thread_violation thread) faults) })
+    (with_local r (with_locks held (with_violations thread faults r.local)))
+locks_step e r thread held faults S none = locks_stand e r held (map (thread_violation thread) faults) S none
+
+-- a lock that a thread asked for, as the core answered
+pub lock_step : (meaning : Meaning) (e : CoreState) (now thread lock : ℕ) (answer : LockAnswer) (new : CoreState)
+    → answer ≡ lock_answer e.locks (owner.Thread thread) lock 0
+    → new ≡ record e {
+      locks = after_lock e.locks (owner.Thread thread) lock 0;
+      log = notes e.log (map (thread_violation thread) (lock_refusal answer));
+    }
+    → CoreSteps meaning e (record { now = now; event = Does thread (Lock lock); answer = OfCall (Locked answer) }) new
+lock_step meaning e now thread lock answer new told is = record {
+  same = rw is (record { settings = refl; me_is = refl; table = refl; segment_length = refl });
+  steps = λ r S.
+      let same = told ∙ ap (λ (held : List Held). lock_answer held (owner.Thread thread) lock 0) S.locks_are in (
+        ap (λ one. of_call (Locked one)) same,
+        subst (λ one. Stands new (with_local r (with_locks (after_lock r.local.locks (owner.Thread thread) lock 0)
+            (with_violations thread (lock_refusal one) r.local)))) same
+            (subst (λ (held : List Held). Stands new (with_local r
+            (with_locks (after_lock held (owner.Thread thread) lock 0)
+            (with_violations thread (lock_refusal answer) r.local)))) S.locks_are
+            (rw is (locks_step e r thread (after_lock e.locks (owner.Thread thread) lock 0) (lock_refusal answer) S
+            (lock_unheld e.locks thread lock (unheld e r S))))),
+      );
 }
+
+-- a lock that a thread gave back, as the core answered
+pub unlock_step : (meaning : Meaning) (e : CoreState) (now thread lock : ℕ) (answer : UnlockAnswer) (new : CoreState)
+    → answer ≡ unlock_answer e.locks (owner.Thread thread) lock
+    → new ≡ record e {
+      locks = after_unlock e.locks (owner.Thread thread) lock;
+      log = notes e.log (map (thread_violation thread) (unlock_refusal answer));
+    }
+    → CoreSteps meaning e (record { now = now; event = Does thread (Unlock lock); answer = OfCall (Unlocked answer) })
+    new
+unlock_step meaning e now thread lock answer new told is = record {
+  same = rw is (record { settings = refl; me_is = refl; table = refl; segment_length = refl });
+  steps = λ r S.
+      let same = told ∙ ap (λ (held : List Held). unlock_answer held (owner.Thread thread) lock) S.locks_are in (
+        ap (λ one. of_call (Unlocked one)) same,
+        subst (λ one. Stands new (with_local r (with_locks (after_unlock r.local.locks (owner.Thread thread) lock)
+            (with_violations thread (unlock_refusal one) r.local)))) same
+            (subst (λ (held : List Held). Stands new (with_local r
+            (with_locks (after_unlock held (owner.Thread thread) lock)
+            (with_violations thread (unlock_refusal answer) r.local)))) S.locks_are
+            (rw is (locks_step e r thread (after_unlock e.locks (owner.Thread thread) lock) (unlock_refusal answer) S
+            (unlock_unheld e.locks thread lock (unheld e r S))))),
+      );
+}
+
+-- the same, where the answer is no refusal, and so nothing was noted
+pub lock_step_quiet : (meaning : Meaning) (e : CoreState) (now thread lock : ℕ) (answer : LockAnswer) (new : CoreState)
+    → answer ≡ lock_answer e.locks (owner.Thread thread) lock 0
+    → ((found : LockFault) → answer ≡ lock_answers.Refused found → ⊥)
+    → new ≡ record e { locks = after_lock e.locks (owner.Thread thread) lock 0 }
+    → CoreSteps meaning e (record { now = now; event = Does thread (Lock lock); answer = OfCall (Locked answer) }) new
+lock_step_quiet meaning e now thread lock answer new told quiet is =
+    lock_step meaning e now thread lock answer new told (is ∙ ap (λ (faults : List Fault). record e {
+      locks = after_lock e.locks (owner.Thread thread) lock 0;
+      log = notes e.log (map (thread_violation thread) faults);
+    }) (sym (none answer quiet)))
+  where
+    none : (answer : LockAnswer) → ((found : LockFault) → answer ≡ lock_answers.Refused found → ⊥)
+        → lock_refusal answer ≡ []
+    none lock_answers.Taken quiet = refl
+    none lock_answers.Held quiet = refl
+    none (lock_answers.Refused found) quiet = absurd (quiet found refl)
+
+pub unlock_step_quiet : (meaning : Meaning) (e : CoreState) (now thread lock : ℕ) (answer : UnlockAnswer)
+    (new : CoreState) → answer ≡ unlock_answer e.locks (owner.Thread thread) lock
+    → ((found : LockFault) → answer ≡ unlock_answers.Refused found → ⊥)
+    → new ≡ record e { locks = after_unlock e.locks (owner.Thread thread) lock }
+    → CoreSteps meaning e (record { now = now; event = Does thread (Unlock lock); answer = OfCall (Unlocked answer) })
+    new
+unlock_step_quiet meaning e now thread lock answer new told quiet is =
+    unlock_step meaning e now thread lock answer new told (is ∙ ap (λ (faults : List Fault). record e {
+      locks = after_unlock e.locks (owner.Thread thread) lock;
+      log = notes e.log (map (thread_violation thread) faults);
+    }) (sym (none answer quiet)))
+  where
+    none : (answer : UnlockAnswer) → ((found : LockFault) → answer ≡ unlock_answers.Refused found → ⊥)
+        → unlock_refusal answer ≡ []
+    none unlock_answers.Freed quiet = refl
+    none (unlock_answers.Refused found) quiet = absurd (quiet found refl)
+
+-- ---- runs
+
+abbrev a_start : List ℤ → List ℕ → List Held → Start
+a_start cells segment locks = record { cells = cells; segment = segment; locks = locks }
+
+-- a handler finds at the core what its record says
+pub same_start : (e : CoreState) (r : Node Local) → Stands e r → start_at e ≡ start_of e.settings r.local
+same_start e r S =
+    ap (λ (cells : List ℤ). a_start cells e.segment e.locks) S.cells_are
+    ∙ (ap (λ (segment : List ℕ). a_start r.local.cells segment e.locks) S.segment_is
+    ∙ ap (λ (locks : List Held). a_start r.local.cells (segment_of e.settings r.local) locks) S.locks_are)
+
+-- the segment of a core that stands is as long as the settings say
+pub segment_sized : (e : CoreState) (r : Node Local) → Stands e r → length e.segment ≡ e.settings.segment
+segment_sized e r S =
+    ap (λ (bytes : List ℕ). length bytes) S.segment_is
+    ∙ length-image e.settings.segment r.local.writes S.invariant_.kept.writes
+
+-- what a run writes fits
+run_fits : (meaning : Meaning) (e : CoreState) (which : Role) (contact : Contact) (c : Content)
+    → IsLawfulMeaning meaning → length e.segment ≡ e.settings.segment
+    → AllFit e.settings.segment (outcome (handlers_at meaning e) which contact c (start_at e)).writes
+run_fits meaning e which contact c lawful sized =
+    subst (λ (len : ℕ). AllFit len (outcome (handlers_at meaning e) which contact c (start_at e)).writes) sized
+    (lawful c.handler (frame_of_run (handlers_at meaning e) which contact c) (start_at e)).writes
+
+-- the core after a message landed and ran, with this role
+abbrev pub ran_core : Meaning → CoreState → Role → Contact → Content → CoreState
+ran_core meaning e which contact c =
+    let landed = landed_core e c in
+    with_outcome landed which (outcome (handlers_at meaning landed) which contact c (start_at landed))
+
+-- a message landed and ran
+pub ran_stands : (meaning : Meaning) (e : CoreState) (r : Node Local) (which : Role) (contact : Contact) (c : Content)
+    → IsLawfulMeaning meaning → Stands e r → AllFit e.settings.segment (landing c)
+    → Stands (ran_core meaning e which contact c)
+    (with_local r (let landed = with_writes r.local (landing c) in
+    left_by which (outcome (handlers_at meaning e) which contact c (start_of e.settings landed)) landed))
+ran_stands meaning e r which contact c lawful S fits =
+    let landed = with_writes r.local (landing c) in
+    let L = segment_stand e r (landing c) S fits in
+    let here = landed_core e c in
+    let run = outcome (handlers_at meaning here) which contact c (start_at here) in
+    subst (λ (start : Start). Stands (with_outcome here which run)
+    (with_local r (left_by which (outcome (handlers_at meaning e) which contact c start) landed)))
+    (same_start here (with_local r landed) L)
+    (outcome_stands here (with_local r landed) which run L
+    (run_fits meaning here which contact c lawful (segment_sized here (with_local r landed) L)))
+
+-- after it the segment is as long as before
+pub ran_sized : (meaning : Meaning) (e : CoreState) (which : Role) (contact : Contact) (c : Content)
+    → IsLawfulMeaning meaning → length e.segment ≡ e.settings.segment → AllFit e.settings.segment (landing c)
+    → length (ran_core meaning e which contact c).segment ≡ e.settings.segment
+ran_sized meaning e which contact c lawful sized fits =
+    let here = landed_core e c in
+    let landed = length-written_by e.settings.segment e.segment (landing c) sized fits in
+    length-written_by e.settings.segment here.segment
+    (outcome (handlers_at meaning here) which contact c (start_at here)).writes landed
+    (run_fits meaning here which contact c lawful landed)
 
 -- ---- runs of replies
 
--- an Ack changes nothing, each other reply runs
+-- an Ack changes nothing, each other reply lands and runs
 pub reply_run_stands : (meaning : Meaning) (e : CoreState) (r : Node Local) (contact : Contact) (c : Content)
-    (new : CoreState) → Stands e r
+    (new : CoreState) → IsLawfulMeaning meaning → Stands e r → AllFit e.settings.segment (landing c)
     → (is_ack (code c.kind) ≡ true → new ≡ e)
-    → (is_ack (code c.kind) ≡ false → new ≡ with_outcome e role.Reply (reply_outcome meaning e contact c))
+    → (is_ack (code c.kind) ≡ false → new ≡ with_reply_ran meaning e contact c)
     → Stands new (with_local r (run_reply (handlers_at meaning e) contact c r.local))
-reply_run_stands meaning e r contact c new S ack runs = elim (cases_Bool (is_ack (code c.kind))) [
+reply_run_stands meaning e r contact c new lawful S fits ack runs = elim (cases_Bool (is_ack (code c.kind))) [
   | inl t ↦ rw (t, ack t) S
-  | inr f ↦ rw (f, runs f)
-      (subst (λ cells. Stands (with_outcome e role.Reply (reply_outcome meaning e contact c))
-      (with_local r (left_by role.Reply
-      (outcome (handlers_at meaning e) role.Reply contact c cells) r.local))) S.cells_are
-      (outcome_stands e r role.Reply (reply_outcome meaning e contact c) S))
+  | inr f ↦ rw (f, runs f) (ran_stands meaning e r role.Reply contact c lawful S fits)
 ]
 
 -- ---- requests
 
--- a reply that was let through is no Ack
-not_ack : (scene : Scene) (o : Option Content) → IsLawful scene o → (content : Content) → o ≡ Some content
-    → is_ack (code content.kind) ≡ false
-not_ack scene None L content e = absurd (cc)
-not_ack scene (Some x) L content e = ap (λ (k : Content). is_ack (code k.kind)) (sym (same_Some x content e) ∙ L.short)
+-- a reply that a handler may send
+pub record IsSendable (settings : Parameters) (content : Content) : Type 0 where
+  pub runs : is_ack (code content.kind) ≡ false
+  pub fits : AllFit settings.segment (landing content)
+
+-- a reply that was let through is one
+pub sendable : (frame : Frame) (o : Option Content) → IsLawful frame o → (content : Content) → o ≡ Some content
+    → IsSendable frame.settings content
+sendable frame None L content e = absurd (cc)
+sendable frame (Some x) L content e =
+    subst (IsSendable frame.settings) (same_Some x content e) (record {
+      runs = reply_kind_is x.kind L.reply.kind;
+      fits = landing_fits frame.settings.segment x L.inside;
+    })
 
 -- the reply of an own request ran, if there was one
-own_reply_stands : (meaning : Meaning) (e : CoreState) (r : Node Local) (o : Option Content) → Stands e r
-    → ((content : Content) → o ≡ Some content → is_ack (code content.kind) ≡ false)
+own_reply_stands : (meaning : Meaning) (e : CoreState) (r : Node Local) (o : Option Content) → IsLawfulMeaning meaning
+    → Stands e r → ((content : Content) → o ≡ Some content → IsSendable e.settings content)
     → Stands (with_own_reply meaning e o)
     (with_local r (run_reply (handlers_at meaning e) (with_itself e.me) (reply_or_ack o) r.local))
-own_reply_stands meaning e r None S unlike = S
-own_reply_stands meaning e r (Some content) S unlike =
-    reply_run_stands meaning e r (with_itself e.me) content _ S (λ t. absurd (true≢false (sym t ∙ unlike content refl)))
-    (λ f. refl)
+own_reply_stands meaning e r None lawful S sent = S
+own_reply_stands meaning e r (Some content) lawful S sent =
+    let is = sent content refl in
+    reply_run_stands meaning e r (with_itself e.me) content _ lawful S is.fits
+    (λ t. absurd (true≢false (sym t ∙ is.runs))) (λ f. refl)
+
+-- the run of an own request
+abbrev own_run : Meaning → CoreState → Content → Outcome
+own_run meaning e c = request_outcome meaning (landed_core e c) (with_itself e.me) c
+
+own_sendable : (meaning : Meaning) (e : CoreState) (c : Content) → IsLawfulMeaning meaning → (content : Content)
+    → (own_run meaning e c).reply ≡ Some content → IsSendable e.settings content
+own_sendable meaning e c lawful =
+    let here = landed_core e c in
+    let frame = frame_of_run (handlers_at meaning here) role.Request (with_itself e.me) c in
+    sendable frame (own_run meaning e c).reply (lawful c.handler frame (start_at here)).reply
 
 -- a request to the own node ran, and its reply
 own_run_stands : (meaning : Meaning) (e : CoreState) (r : Node Local) (c : Content) → IsLawfulMeaning meaning
-    → Stands e r
+    → Stands e r → AllFit e.settings.segment (landing c)
     → Stands (with_own_run meaning e c)
     (with_local r (let out = run_request (handlers_at meaning e) (with_itself e.me) c r.local in
     run_reply (handlers_at meaning e) (with_itself e.me) out.1 out.0))
-own_run_stands meaning e r c lawful S =
-    let scene = scene_of_run (handlers_at meaning e) role.Request (with_itself e.me) c in
-    let o = request_outcome meaning e (with_itself e.me) c in
-    subst (λ cells. Stands (with_own_run meaning e c)
-    (with_local r (let out = outcome (handlers_at meaning e) role.Request (with_itself e.me) c cells in
+own_run_stands meaning e r c lawful S fits =
+    let landed = with_writes r.local (landing c) in
+    let L = segment_stand e r (landing c) S fits in
+    let here = landed_core e c in
+    let run = own_run meaning e c in
+    subst (λ (start : Start). Stands (with_own_run meaning e c)
+    (with_local r (let out = outcome (handlers_at meaning e) role.Request (with_itself e.me) c start in
     run_reply (handlers_at meaning e) (with_itself e.me) (reply_or_ack out.reply)
-    (left_by role.Request out r.local)))) S.cells_are
-    (own_reply_stands meaning (with_outcome e role.Request o) (with_local r (left_by role.Request o r.local)) o.reply
-    (outcome_stands e r role.Request o S)
-    (not_ack scene o.reply (lawful c.handler scene (record { cells = e.cells }))))
+    (left_by role.Request out landed)))) (same_start here (with_local r landed) L)
+    (own_reply_stands meaning (with_outcome here role.Request run)
+    (with_local r (left_by role.Request run landed)) run.reply lawful
+    (outcome_stands here (with_local r landed) role.Request run L
+    (run_fits meaning here role.Request (with_itself e.me) c lawful (segment_sized here (with_local r landed) L)))
+    (own_sendable meaning e c lawful))
+
+-- the locks of the handler of what a request says
+said_handler : (category : Category) (asking : Asking) (payload : List ℕ)
+    → (content_by category asking payload).handler ≡ asking.handler
+said_handler Short asking payload = refl
+said_handler Medium asking payload = refl
+said_handler Long asking payload = refl
 
 -- what a request that passes the checks is answered
 abbrev pub passed_answer : CoreState → Node Local → Ask → AskedAnswer
 passed_answer e r ask =
-    if ask.to == e.me then asked.Ran else claim_answer (limits_of e.settings e.me ask.to) ask.to (r.asked ask.to)
+    if ask.to == e.me
+    then own_answer (busy_lock e.table (said_in (segment_of e.settings r.local) ask.what).handler r.local.locks)
+    else claim_answer (limits_of e.settings e.me ask.to) ask.to (r.asked ask.to)
+
+-- a request that the table allows
+allowed_answer : (meaning : Meaning) (e : CoreState) (r : Node Local) (ask : Ask) (judgement : Result (Unit {0}) Forbidden)
+    → Stands e r → judged_at e ask.thread call.Request ≡ judgement
+    → request_answer (site_at meaning e) r ask
+    ≡ unless_forbidden judgement (unless_bad (asked_fault e ask) (passed_answer e r ask))
+allowed_answer meaning e r ask judgement S j =
+    ap (λ x. unless_forbidden x (unless_bad (asked_fault e ask) (passed_answer e r ask)))
+    (sym (judged_alike e r ask.thread call.Request S) ∙ j)
 
 -- what a request is answered, where the table allows it and nothing is wrong with it
 answer_is : (meaning : Meaning) (e : CoreState) (r : Node Local) (ask : Ask) (allowed : Unit {0}) (a : AskedAnswer)
-    → rule (Thread ask.thread) false call.Request ≡ Ok allowed → short_fault e ask.to (said_of ask.what) ≡ None
-    → ask.to ≢ e.me → claim_answer (limits_of e.settings e.me ask.to) ask.to (r.asked ask.to) ≡ a
-    → a ≡ request_answer (site_at meaning e) r ask
-answer_is meaning e r ask allowed a j f other is =
-    sym (ap (λ x. unless_forbidden x (unless_bad (short_fault e ask.to (said_of ask.what)) (passed_answer e r ask))) j
-    ∙ (ap (λ x. unless_bad x (passed_answer e r ask)) f ∙ (rw (ne_eqb ask.to e.me other) is)))
+    → Stands e r → judged_at e ask.thread call.Request ≡ Ok allowed → asked_fault e ask ≡ None
+    → passed_answer e r ask ≡ a → a ≡ request_answer (site_at meaning e) r ask
+answer_is meaning e r ask allowed a S j f is =
+    sym (allowed_answer meaning e r ask (Ok allowed) S j ∙ (ap (λ x. unless_bad x (passed_answer e r ask)) f ∙ is))
+
+-- of a request to another node
+other_answer : (e : CoreState) (r : Node Local) (ask : Ask) (a : AskedAnswer) → ask.to ≢ e.me
+    → claim_answer (limits_of e.settings e.me ask.to) ask.to (r.asked ask.to) ≡ a → passed_answer e r ask ≡ a
+other_answer e r ask a other is = rw (ne_eqb ask.to e.me other) is
+
+-- of a request to the own node
+own_passed : (e : CoreState) (r : Node Local) (ask : Ask) (lock : Option ℕ) → Stands e r → ask.to ≡ e.me
+    → busy_lock e.table ask.what.handler e.locks ≡ lock → passed_answer e r ask ≡ own_answer lock
+own_passed e r ask lock S own is =
+    rw (eq-eqb ask.to e.me own)
+    (ap (λ (handler : ℕ). own_answer (busy_lock e.table handler r.local.locks))
+    (said_handler ask.what.category ask.what (payload_in (segment_of e.settings r.local) ask.what.payload))
+    ∙ (ap (λ (held : List Held). own_answer (busy_lock e.table ask.what.handler held)) (sym S.locks_are)
+    ∙ ap own_answer is))
 
 -- a request to another node, by what it was answered
 claims_step : (meaning : Meaning) (e : CoreState) (now : ℕ) (ask : Ask) (allowed : Unit {0}) (a : AskedAnswer)
-    (new : CoreState) → rule (Thread ask.thread) false call.Request ≡ Ok allowed
-    → short_fault e ask.to (said_of ask.what) ≡ None → ask.to < e.settings.nodes → ask.to ≢ e.me
-    → Claims e (claim_of (asking now ask a)) new → Requests meaning e now ask a new
+    (new : CoreState) → judged_at e ask.thread call.Request ≡ Ok allowed
+    → asked_fault e ask ≡ None → ask.to < e.settings.nodes → ask.to ≢ e.me
+    → Claims e (claim_of e (asking now ask a)) new → Requests meaning e now ask a new
 claims_step meaning e now ask allowed (asked.Accepted peer slot number) new j f low other h = record {
-  same = rw h.1.kept (record { settings = refl; me_is = refl; table = refl });
+  same = rw h.1.kept (record { settings = refl; me_is = refl; table = refl; segment_length = refl });
   steps =
       λ r S. let N =
-      node_accepts ask.to now slot number e r (said_of ask.what) new S low other h.1 in (
-        answer_is meaning e r ask allowed _ j f other
-            (N.takes.1.answer ∙ ap (λ p. asked.Accepted p slot number) (sym h.0)),
-        N.stands,
+      node_accepts ask.to now slot number e r (said_at e ask) new S low other h.1 in (
+        answer_is meaning e r ask allowed _ S j f (other_answer e r ask _ other
+            (N.takes.1.answer ∙ ap (λ p. asked.Accepted p slot number) (sym h.0))),
+        subst (λ (bytes : List ℕ). Stands new (with_request r now ask.to slot (said_in bytes ask.what))) S.segment_is
+            N.stands,
       );
 }
 claims_step meaning e now ask allowed asked.WornOut new j f low other h = record {
   same = same_core e new h.1;
-  steps = λ r S. (answer_is meaning e r ask allowed _ j f other (node_worn ask.to e r S low other h.0), rw h.1 S);
+  steps = λ r S. (
+    answer_is meaning e r ask allowed _ S j f (other_answer e r ask _ other (node_worn ask.to e r S low other h.0)),
+    rw h.1 S,
+  );
 }
 claims_step meaning e now ask allowed asked.NotYet new j f low other h = record {
   same = same_core e new h.1;
-  steps = λ r S. (answer_is meaning e r ask allowed _ j f other (node_not_yet ask.to e r S low other h.0), rw h.1 S);
+  steps = λ r S. (
+    answer_is meaning e r ask allowed _ S j f
+        (other_answer e r ask _ other (node_not_yet ask.to e r S low other h.0)),
+    rw h.1 S,
+  );
 }
 claims_step meaning e now ask allowed _ new j f low other h = absurd h
 
--- a request to the own node that passes the checks
-own_step : (meaning : Meaning) (e : CoreState) (now : ℕ) (ask : Ask) (allowed : Unit {0}) (a : AskedAnswer)
-    (new : CoreState) → IsLawfulMeaning meaning → rule (Thread ask.thread) false call.Request ≡ Ok allowed
-    → short_fault e ask.to (said_of ask.what) ≡ None → ask.to ≡ e.me → a ≡ asked.Ran
-    → new ≡ with_own_run meaning e (said_of ask.what) → Requests meaning e now ask a new
-own_step meaning e now ask allowed a new lawful j f own ran is = record {
-  same = rw is (same_own meaning e (said_of ask.what));
+-- a request without a fault has none beside its target
+fault_beside : (e : CoreState) (ask : Ask) → asked_fault e ask ≡ None → asking_fault e.settings e.table ask.what ≡ None
+fault_beside e ask none = by_test (nat_le e.settings.nodes ask.to) none
+  where
+    by_test : (past : Bool) → (if past then Some which.Node else asking_fault e.settings e.table ask.what) ≡ None
+        → asking_fault e.settings e.table ask.what ≡ None
+    by_test true none = absurd (cc)
+    by_test false none = none
+
+-- a core that ran an own request is that of the same node
+own_same : (meaning : Meaning) (e : CoreState) (c : Content) → IsLawfulMeaning meaning
+    → length e.segment ≡ e.settings.segment → AllFit e.settings.segment (landing c)
+    → IsSameNode e (with_own_run meaning e c)
+own_same meaning e c lawful sized fits =
+    by_reply (own_run meaning e c).reply (ran_core meaning e role.Request (with_itself e.me) c) refl refl refl
+    (ran_sized meaning e role.Request (with_itself e.me) c lawful sized fits) (own_sendable meaning e c lawful)
+  where
+    by_reply : (o : Option Content) (v : CoreState) → v.settings ≡ e.settings → v.me ≡ e.me → v.table ≡ e.table
+        → length v.segment ≡ e.settings.segment
+        → ((content : Content) → o ≡ Some content → IsSendable e.settings content)
+        → IsSameNode e (with_own_reply meaning v o)
+    by_reply None v settings me_is table len sent =
+        record { settings = settings; me_is = me_is; table = table; segment_length = len ∙ sym sized }
+    by_reply (Some content) v settings me_is table len sent =
+        let as_long = ran_sized meaning v role.Reply (with_itself v.me) content lawful
+        (len ∙ ap (λ (s : Parameters). s.segment) (sym settings))
+        (subst (λ (s : Parameters). AllFit s.segment (landing content)) (sym settings) (sent content refl).fits) in
+        record {
+          settings = settings;
+          me_is = me_is;
+          table = table;
+          segment_length = as_long ∙ (ap (λ (s : Parameters). s.segment) settings ∙ sym sized);
+        }
+
+-- a request to the own node that passes the checks, by the lock for which it waits
+own_step : (meaning : Meaning) (e : CoreState) (now : ℕ) (ask : Ask) (allowed : Unit {0}) (lock : Option ℕ)
+    (a : AskedAnswer) (new : CoreState) → IsLawfulMeaning meaning → length e.segment ≡ e.settings.segment
+    → judged_at e ask.thread call.Request ≡ Ok allowed → asked_fault e ask ≡ None → ask.to ≡ e.me
+    → busy_lock e.table ask.what.handler e.locks ≡ lock → AsksOwn lock meaning e (asking now ask a) new
+    → Requests meaning e now ask a new
+own_step meaning e now ask allowed (Some lock) a new lawful sized j f own busy h = record {
+  same = same_core e new h.1;
   steps = λ r S. (
-    ran ∙ sym (ap (λ x. unless_forbidden x
-        (unless_bad (short_fault e ask.to (said_of ask.what)) (passed_answer e r ask))) j
-        ∙ (ap (λ x. unless_bad x (passed_answer e r ask)) f
-        ∙ ap (λ b. if b then asked.Ran else claim_answer (limits_of e.settings e.me ask.to) ask.to
-        (r.asked ask.to)) (eq-eqb ask.to e.me own))),
-    rw (ran, is) (own_run_stands meaning e r (said_of ask.what) lawful S),
+    h.0 ∙ answer_is meaning e r ask allowed _ S j f (own_passed e r ask (Some lock) S own busy),
+    rw (h.0, h.1) S,
   );
 }
-  where
-    same_reply : (meaning : Meaning) (e v : CoreState) (o : Option Content) → IsSameNode e v
-        → IsSameNode e (with_own_reply meaning v o)
-    same_reply meaning e v None h = h
-    same_reply meaning e v (Some content) h = record { settings = h.settings; me_is = h.me_is; table = h.table }
-
-    same_own : (meaning : Meaning) (e : CoreState) (c : Content) → IsSameNode e (with_own_run meaning e c)
-    same_own meaning e c = same_reply meaning e _ _ (record { settings = refl; me_is = refl; table = refl })
+own_step meaning e now ask allowed None a new lawful sized j f own busy h =
+    let fits = said_fits e.settings e.table e.segment ask.what (fault_beside e ask f) in
+    record {
+      same = rw h.1 (own_same meaning e (said_at e ask) lawful sized fits);
+      steps = λ r S. (
+        h.0 ∙ answer_is meaning e r ask allowed _ S j f (own_passed e r ask None S own busy),
+        rw (h.0, h.1) (subst (λ (bytes : List ℕ). Stands (with_own_run meaning e (said_at e ask))
+            (with_local r (ran_here (rules_at meaning e) e.me (said_in bytes ask.what) r.local))) S.segment_is
+            (own_run_stands meaning e r (said_at e ask) lawful S fits)),
+      );
+    }
 
 -- a target that is no fault is a node
-target_in : (e : CoreState) (ask : Ask) → short_fault e ask.to (said_of ask.what) ≡ None → ask.to < e.settings.nodes
+target_in : (e : CoreState) (ask : Ask) → asked_fault e ask ≡ None → ask.to < e.settings.nodes
 target_in e ask f = elim (cases_lt ask.to e.settings.nodes) [
   | inl low ↦ low
   | inr past ↦ (let t : nat_le e.settings.nodes ask.to ≡ true = grind (arith, nat_tests) in absurd (bad t))
@@ -220,48 +512,46 @@ target_in e ask f = elim (cases_lt ask.to e.settings.nodes) [
 -- a request that passes the checks, by whether it is for the own node
 asks_node : (meaning : Meaning) (e : CoreState) (now : ℕ) (ask : Ask) (allowed : Unit {0}) (a : AskedAnswer)
     (new : CoreState) (own : Bool) → eqb ask.to e.me ≡ own → IsLawfulMeaning meaning
-    → rule (Thread ask.thread) false call.Request ≡ Ok allowed → short_fault e ask.to (said_of ask.what) ≡ None
+    → length e.segment ≡ e.settings.segment
+    → judged_at e ask.thread call.Request ≡ Ok allowed → asked_fault e ask ≡ None
     → AsksNode own meaning e (asking now ask a) new → Requests meaning e now ask a new
-asks_node meaning e now ask allowed a new true own lawful j f h =
-    own_step meaning e now ask allowed a new lawful j f (eqb-true ask.to e.me own) h.0 h.1
-asks_node meaning e now ask allowed a new false own lawful j f h =
+asks_node meaning e now ask allowed a new true own lawful sized j f h =
+    own_step meaning e now ask allowed (busy_lock e.table ask.what.handler e.locks) a new lawful sized j f
+    (eqb-true ask.to e.me own) refl h
+asks_node meaning e now ask allowed a new false own lawful sized j f h =
     claims_step meaning e now ask allowed a new j f (target_in e ask f)
     (λ same. true≢false (sym (eq-eqb ask.to e.me same) ∙ own)) h
 
 -- a request that the rule table allows, by what is wrong with it
 asks_unless_bad : (meaning : Meaning) (e : CoreState) (now : ℕ) (ask : Ask) (allowed : Unit {0}) (f : Option Which)
-    (a : AskedAnswer) (new : CoreState) → IsLawfulMeaning meaning
-    → rule (Thread ask.thread) false call.Request ≡ Ok allowed → short_fault e ask.to (said_of ask.what) ≡ f
+    (a : AskedAnswer) (new : CoreState) → IsLawfulMeaning meaning → length e.segment ≡ e.settings.segment
+    → judged_at e ask.thread call.Request ≡ Ok allowed → asked_fault e ask ≡ f
     → AsksUnlessBad f meaning e (asking now ask a) new → Requests meaning e now ask a new
-asks_unless_bad meaning e now ask allowed (Some part) a new lawful j fault h = record {
+asks_unless_bad meaning e now ask allowed (Some part) a new lawful sized j fault_is h = record {
   same = same_core e new h.1;
-  steps =
-      λ r S. (
-        h.0 ∙ sym (ap
-            (λ x. unless_forbidden x (unless_bad (short_fault e ask.to (said_of ask.what)) (passed_answer e r ask))) j
-            ∙ ap (λ x. unless_bad x (passed_answer e r ask)) fault),
-        rw (h.0, h.1) S,
-      );
+  steps = λ r S. (
+    h.0 ∙ sym (allowed_answer meaning e r ask (Ok allowed) S j
+        ∙ ap (λ x. unless_bad x (passed_answer e r ask)) fault_is),
+    rw (h.0, h.1) S,
+  );
 }
-asks_unless_bad meaning e now ask allowed None a new lawful j fault h =
-    asks_node meaning e now ask allowed a new (eqb ask.to e.me) refl lawful j fault h
+asks_unless_bad meaning e now ask allowed None a new lawful sized j fault_is h =
+    asks_node meaning e now ask allowed a new (eqb ask.to e.me) refl lawful sized j fault_is h
 
 -- a request, by how it was judged
 asks_unless : (meaning : Meaning) (e : CoreState) (now : ℕ) (ask : Ask) (j : Result (Unit {0}) Forbidden)
-    (a : AskedAnswer) (new : CoreState) → IsLawfulMeaning meaning
-    → rule (Thread ask.thread) false call.Request ≡ j
+    (a : AskedAnswer) (new : CoreState) → IsLawfulMeaning meaning → length e.segment ≡ e.settings.segment
+    → judged_at e ask.thread call.Request ≡ j
     → AsksUnlessForbidden j meaning e (asking now ask a) new → Requests meaning e now ask a new
-asks_unless meaning e now ask (Err forbidden) a new lawful j h = record {
-  same = rw h.1 (record { settings = refl; me_is = refl; table = refl });
-  steps =
-      λ r S. (
-        h.0 ∙ sym (ap
-            (λ x. unless_forbidden x (unless_bad (short_fault e ask.to (said_of ask.what)) (passed_answer e r ask))) j),
-        rw (h.0, h.1) (noted_stands e r _ S),
-      );
+asks_unless meaning e now ask (Err forbidden) a new lawful sized j h = record {
+  same = rw h.1 (record { settings = refl; me_is = refl; table = refl; segment_length = refl });
+  steps = λ r S. (
+    h.0 ∙ sym (allowed_answer meaning e r ask (Err forbidden) S j),
+    rw (h.0, h.1) (noted_stands e r (map (thread_violation ask.thread) (fault.Rule forbidden ∷ [])) S),
+  );
 }
-asks_unless meaning e now ask (Ok allowed) a new lawful j h =
-    asks_unless_bad meaning e now ask allowed (short_fault e ask.to (said_of ask.what)) a new lawful j refl h
+asks_unless meaning e now ask (Ok allowed) a new lawful sized j h =
+    asks_unless_bad meaning e now ask allowed (asked_fault e ask) a new lawful sized j refl h
 
 -- a request, told as an event
 asks_step : (meaning : Meaning) (e : CoreState) (now : ℕ) (ask : Ask) (a : AskedAnswer) (new : CoreState)
@@ -275,10 +565,10 @@ asks_step meaning e now ask a new h = record {
   );
 }
 
--- a Short request of a thread
+-- a request of a thread
 pub requests_step : (meaning : Meaning) (e : CoreState) (now : ℕ) (ask : Ask) (a : AskedAnswer) (new : CoreState)
-    → IsLawfulMeaning meaning → AsksShort meaning e (asking now ask a) new
+    → IsLawfulMeaning meaning → length e.segment ≡ e.settings.segment → AsksFor meaning e (asking now ask a) new
     → CoreSteps meaning e (record { now = now; event = Asks ask; answer = OfRequest a }) new
-requests_step meaning e now ask a new lawful h =
+requests_step meaning e now ask a new lawful sized h =
     asks_step meaning e now ask a new
-    (asks_unless meaning e now ask (rule (Thread ask.thread) false call.Request) a new lawful refl h)
+    (asks_unless meaning e now ask (judged_at e ask.thread call.Request) a new lawful sized refl h)

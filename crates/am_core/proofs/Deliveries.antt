@@ -1,5 +1,5 @@
 -- What the code does with a message that is delivered, as steps of every record for which a core stands.
-use Rattle.std.proofs.Common.{◌≡◌, ◌≢◌, inl, inr, ℕ, ◌<◌, true, List, Option, None, Some}
+use Rattle.std.proofs.Common.{◌≡◌, ◌≢◌, ◌⊎◌, inl, inr, ℕ, ◌<◌, true, List, length, Option, None, Some}
 use Rattle.std.proofs.Common.{refl, sym, ap, ap₂, ◌∙◌, subst, arith}
 use Rattle.std.specs.Prelude.{if◌then◌else◌}
 use Rattle.std.proofs.lemmas.Bool.Decides.{nat_tests}
@@ -22,28 +22,34 @@ use Rattle.node_record.specs.Requests.{is_open}
 use Rattle.node_record.specs.Executed.{greatest}
 use Rattle.node_record.specs.Behaviour.{is_request}
 use Rattle.node_record.specs.NodeStep.{NodeAnswer, OfDelivery, Comes}
-use Rattle.node_record.specs.Step.{judged as judged_answer, taken_back, unless_refused}
+use Rattle.node_record.specs.Step.{judged as judged_answer, taken_back, unless_refused, unless_waiting, with_local}
+use Rattle.node_record.specs.Step.{Waits as WaitsVerdict}
 use Rattle.node_record.specs.Step.{deliver_answer, after_delivery}
 use Rattle.node_record.specs.Step.{address_fault, first_why, with_run, with_back}
 use Rattle.node_record.specs.Step.{Verdict, Refused as RefusedVerdict, Repeated, Passed, Runs as RunsVerdict, Missed}
 use Rattle.node_record.specs.Step.{Returns as ReturnsVerdict, verdict, answer_by, slots_for, with_sender}
 use Rattle.datagram_grammar.specs.Parameters.{credits_of}
-use Rattle.am_core.specs.Kept.{Local}
-use Rattle.handler_rules.specs.Runs.{Meaning}
-use Rattle.am_core.specs.ClientRules.{content_refusal}
-use Rattle.am_core.specs.HandlerRuns.{left_by, outcome, reply_or_ack, run_request}
+use Rattle.am_core.specs.Kept.{Local, start_of, with_writes}
+use Rattle.handler_rules.specs.Runs.{Meaning, IsLawfulMeaning}
+use Rattle.handler_rules.specs.declared.rules.Role.{Role}
+use Rattle.hsl_locks.specs.declared.answer.Held.{Held}
+use Rattle.raw_segment.specs.Image.{AllFit}
+use Rattle.am_core.proofs.Landings.{content_fits}
+use Rattle.am_core.specs.ClientRules.{content_refusal, awaited_lock}
+use Rattle.am_core.specs.HandlerRuns.{left_by, landing, outcome, reply_or_ack, run_request}
 use Rattle.am_core.specs.HandlerRuns.{run_reply}
 use Rattle.am_core.specs.CoreState.{CoreState}
 use Rattle.am_core.specs.CoreContracts.{IsSameNode}
 use Rattle.am_core.specs.Stands.{Stands}
 use Rattle.am_core.specs.CoreContracts.{CoreTold, CoreSteps, Delivers}
-use Rattle.am_core.specs.CoreStep.{request_outcome}
-use Rattle.am_core.specs.CoreStep.{with_outcome, DeliversMessage}
-use Rattle.am_core.specs.CoreStep.{IsOurRequest, IsOurReply, Runs, message_refusal, with_reply_run}
+use Rattle.am_core.specs.CoreStep.{delivered_outcome, landed_core, lock_at, DeliversMessage}
+use Rattle.am_core.specs.CoreStep.{IsOurRequest, IsOurReply, IsNewRequest, IsOpenReply, Runs}
+use Rattle.am_core.specs.CoreStep.{message_refusal, with_reply_run}
 use Rattle.am_core.specs.CoreStep.{answer_message, handlers_at}
-use Rattle.am_core.proofs.CoreStands.{outcome_stands, node_taken}
+use Rattle.am_core.proofs.CoreStands.{segment_stand, node_taken}
 use Rattle.am_core.proofs.CoreStands.{node_not_taken, node_returns, node_judged, node_runs}
-use Rattle.am_core.proofs.CoreSteps.{rules_at, site_at, same_core, reply_run_stands}
+use Rattle.am_core.proofs.CoreSteps.{rules_at, site_at, same_core, same_start, ran_core, ran_stands, ran_sized}
+use Rattle.am_core.proofs.CoreSteps.{reply_run_stands}
 
 -- how a core tells a delivery
 abbrev of_delivery : Delivered → NodeAnswer CoreTold
@@ -66,7 +72,7 @@ first_none (Some reason) b h = absurd (cc)
 pub ours_says : (e : CoreState) (m : Message) → message_refusal e m ≡ None → IsOurs e m
 ours_says e m h =
     let none : address_fault e.settings e.me m ≡ None = first_none (address_fault e.settings e.me m)
-    (content_refusal e.table (content_of m)) h in
+    (content_refusal e.settings e.table (content_of m)) h in
     record {
       to = grind (arith, nat_tests, none);
       from = grind (arith, nat_tests, none);
@@ -78,39 +84,63 @@ ours_says e m h =
 from_other : (e : CoreState) (m : Message) → IsOurs e m → IsMessage m → m.from ≢ e.me
 from_other e m O M same = M.apart (same ∙ sym O.to)
 
--- what becomes of a message that isn't refused
-abbrev pub taken_verdict : Node Local → Message → Verdict
-taken_verdict r m =
-    if is_request m.kind then judged_answer m.number (greatest m.slot (r.ran m.from)) None else taken_back m.slot
-    (numbered (r.asked m.from) m.number) None
+-- what it says isn't refused either
+first_second : (a b : Option Why) → first_why a b ≡ None → b ≡ None
+first_second None b h = h
+first_second (Some reason) b h = absurd (cc)
+
+-- what lands of a message that isn't refused fits
+message_fits : (e : CoreState) (m : Message) → message_refusal e m ≡ None
+    → AllFit e.settings.segment (landing (content_of m))
+message_fits e m h =
+    content_fits e.settings e.table (content_of m)
+    (first_second (address_fault e.settings e.me m) (content_refusal e.settings e.table (content_of m)) h)
+
+-- what becomes of a message that isn't refused, by the lock for which it waits
+abbrev pub taken_verdict : Node Local → Message → Option ℕ → Verdict
+taken_verdict r m lock =
+    if is_request m.kind then judged_answer m.number (greatest m.slot (r.ran m.from)) lock else taken_back m.slot
+    (numbered (r.asked m.from) m.number) lock
+
+-- the record of a core waits for the same lock
+waits_alike : (e : CoreState) (r : Node Local) (m : Message) → Stands e r
+    → lock_at e m ≡ awaited_lock e.table (content_of m) r.local.locks
+waits_alike e r m S = ap (λ (held : List Held). awaited_lock e.table (content_of m) held) S.locks_are
 
 -- of a request that isn't refused
 request_verdict : (meaning : Meaning) (e : CoreState) (r : Node Local) (m : Message) (v : Verdict) → IsOurRequest e m
-    → judged_answer m.number (greatest m.slot (r.ran m.from)) None ≡ v → verdict (site_at meaning e) r m ≡ v
-request_verdict meaning e r m v O is =
-    ap (λ x. unless_refused x (taken_verdict r m)) O.ours
-    ∙ (ap (λ b. if b then judged_answer m.number (greatest m.slot (r.ran m.from)) None else taken_back m.slot
-    (numbered (r.asked m.from) m.number) None) O.request ∙ is)
+    → Stands e r → judged_answer m.number (greatest m.slot (r.ran m.from)) (lock_at e m) ≡ v
+    → verdict (site_at meaning e) r m ≡ v
+request_verdict meaning e r m v O S is =
+    ap (λ x. unless_refused x (taken_verdict r m (awaited_lock e.table (content_of m) r.local.locks))) O.ours
+    ∙ (ap (λ lock. taken_verdict r m lock) (sym (waits_alike e r m S))
+    ∙ (ap (λ b. if b then judged_answer m.number (greatest m.slot (r.ran m.from)) (lock_at e m) else taken_back m.slot
+    (numbered (r.asked m.from) m.number) (lock_at e m)) O.request ∙ is))
 
 -- of a reply that isn't refused
 reply_verdict : (meaning : Meaning) (e : CoreState) (r : Node Local) (m : Message) (v : Verdict) → IsOurReply e m
-    → taken_back m.slot (numbered (r.asked m.from) m.number) None ≡ v → verdict (site_at meaning e) r m ≡ v
-reply_verdict meaning e r m v O is =
-    ap (λ x. unless_refused x (taken_verdict r m)) O.ours
-    ∙ (ap (λ b. if b then judged_answer m.number (greatest m.slot (r.ran m.from)) None else taken_back m.slot
-    (numbered (r.asked m.from) m.number) None) O.reply ∙ is)
+    → Stands e r → taken_back m.slot (numbered (r.asked m.from) m.number) (lock_at e m) ≡ v
+    → verdict (site_at meaning e) r m ≡ v
+reply_verdict meaning e r m v O S is =
+    ap (λ x. unless_refused x (taken_verdict r m (awaited_lock e.table (content_of m) r.local.locks))) O.ours
+    ∙ (ap (λ lock. taken_verdict r m lock) (sym (waits_alike e r m S))
+    ∙ (ap (λ b. if b then judged_answer m.number (greatest m.slot (r.ran m.from)) (lock_at e m) else taken_back m.slot
+    (numbered (r.asked m.from) m.number) (lock_at e m)) O.reply ∙ is))
 
--- a greater number is run
-judged_new : (m : Message) (last : ℕ) → last < m.number → judged_answer m.number last None ≡ RunsVerdict
-judged_new m last l = grind (arith, nat_tests)
+-- a greater number is run, or waits
+judged_new : (m : Message) (last : ℕ) (lock : Option ℕ) → last < m.number
+    → judged_answer m.number last lock ≡ unless_waiting lock RunsVerdict
+judged_new m last lock l = grind (arith, nat_tests)
 
 -- the greatest number came again
-judged_again : (m : Message) (last : ℕ) → m.number ≡ last → judged_answer m.number last None ≡ Repeated
-judged_again m last l = grind (arith, nat_tests)
+judged_again : (m : Message) (last : ℕ) (lock : Option ℕ) → m.number ≡ last
+    → judged_answer m.number last lock ≡ Repeated
+judged_again m last lock l = grind (arith, nat_tests)
 
 -- a smaller number is stale
-judged_stale : (m : Message) (last : ℕ) → m.number < last → judged_answer m.number last None ≡ Passed
-judged_stale m last l = grind (arith, nat_tests)
+judged_stale : (m : Message) (last : ℕ) (lock : Option ℕ) → m.number < last
+    → judged_answer m.number last lock ≡ Passed
+judged_stale m last lock l = grind (arith, nat_tests)
 
 -- where this becomes of a message: the answer, and what stands
 by_verdict : (meaning : Meaning) (e new : CoreState) (r : Node Local) (m : Message) (v : Verdict) (a : Delivered)
@@ -143,107 +173,171 @@ reply_slot_in e m O =
     subst (λ b. m.slot < (if b then credits_of e.settings m.from e.me else credits_of e.settings e.me m.from)) O.reply
     (ours_says e m O.ours).slot
 
--- a request that is new in its slot ran
-runs_stand : (meaning : Meaning) (e : CoreState) (m : Message) (new : CoreState) (r : Node Local) → IsOurRequest e m
+-- a request that is new in its slot landed and ran
+runs_stand : (meaning : Meaning) (e : CoreState) (m : Message) (new : CoreState) (r : Node Local)
+    → IsLawfulMeaning meaning → IsOurRequest e m
     → Runs meaning e m new → Stands e r → greatest m.slot (r.ran m.from) < m.number
     → Stands new (with_run r (with_sender e.me m) (content_of m)
     (run_request (handlers_at meaning e) (with_sender e.me m) (content_of m) r.local))
-runs_stand meaning e m new r O R S above =
+runs_stand meaning e m new r lawful O R S above =
     let ours = ours_says e m O.ours in
-    let o = request_outcome meaning e (with_sender e.me m) (content_of m) in
+    let o = delivered_outcome meaning e m in
     let answer = answer_message e (with_sender e.me m) o in
     let ran : CoreState = record e {
       replies = with_reply e.replies m.from m.slot m.number (spelling answer);
     } in
+    let at = with_sender e.me m in
     let N = node_runs m.from m.slot m.number e r (content_of m) (reply_or_ack o.reply) ran S ours.from
-    (from_other e m ours O.message) (request_slot_in e m O) above R.message refl in
-    let stands = outcome_stands ran (with_run r (with_sender e.me m) (content_of m) (r.local, reply_or_ack o.reply))
-    role.Request o N in
-    rw R.kept (subst (λ cells. Stands (with_outcome ran role.Request o)
-    (with_run r (with_sender e.me m) (content_of m)
-    (let out = outcome (handlers_at meaning e) role.Request (with_sender e.me m) (content_of m) cells in
-    (left_by role.Request out r.local, reply_or_ack out.reply)))) S.cells_are stands)
+    (from_other e m ours O.spelled) (request_slot_in e m O) above R.spelled refl in
+    let stands = ran_stands meaning ran (with_run r at (content_of m) (r.local, reply_or_ack o.reply))
+    role.Request at (content_of m) lawful N (message_fits e m O.ours) in
+    let landed = with_writes r.local (landing (content_of m)) in
+    let L = segment_stand e r (landing (content_of m)) S (message_fits e m O.ours) in
+    rw R.kept (subst (λ reply. Stands (record (ran_core meaning e role.Request at (content_of m)) {
+      replies = with_reply e.replies m.from m.slot m.number (spelling answer);
+    }) (with_run r at (content_of m) (
+      left_by role.Request (outcome (handlers_at meaning e) role.Request at
+          (content_of m) (start_of e.settings landed)) landed,
+      reply,
+    )))
+    (ap (λ start. reply_or_ack (outcome (handlers_at meaning e) role.Request at (content_of m) start).reply)
+    (same_start (landed_core e (content_of m)) (with_local r landed) L)) stands)
 
 -- the reply to a request that isn't back came
-returns_stand : (meaning : Meaning) (e : CoreState) (m : Message) (new : CoreState) (r : Node Local) → IsOurReply e m
+returns_stand : (meaning : Meaning) (e : CoreState) (m : Message) (new : CoreState) (r : Node Local)
+    → IsLawfulMeaning meaning → IsOurReply e m
     → new ≡ with_reply_run meaning
     (record e { requests = with_slot e.requests m.from m.slot Vacant }) m → Stands e r
     → is_open m.slot (numbered (r.asked m.from) m.number) ≡ true
     → Stands new (with_back r m.from m.number
     (run_reply (handlers_at meaning e) (with_sender e.me m) (content_of m) r.local))
-returns_stand meaning e m new r O is S open_ =
+returns_stand meaning e m new r lawful O is S open_ =
     let ours = ours_says e m O.ours in
     let back : CoreState = record e { requests = with_slot e.requests m.from m.slot Vacant } in
-    let N = node_returns m.from m.slot m.number e r back S ours.from (from_other e m ours O.message)
+    let N = node_returns m.from m.slot m.number e r back S ours.from (from_other e m ours O.spelled)
     (reply_slot_in e m O) open_ refl in
     reply_run_stands meaning back (with_back r m.from m.number r.local) (with_sender e.me m) (content_of m) new
-    N (λ t. is ∙ rw t refl) (λ f. is ∙ rw f refl)
+    lawful N (message_fits e m O.ours) (λ t. is ∙ rw t refl) (λ f. is ∙ rw f refl)
+
+-- a new request, or an open reply, that waits for a lock
+deferred_step : (meaning : Meaning) (e : CoreState) (m : Message) (lock : ℕ) (new : CoreState)
+    → IsNewRequest e m ⊎ IsOpenReply e m → lock_at e m ≡ Some lock → new ≡ e
+    → MessageStep meaning e m (delivered.Deferred lock) new
+deferred_step meaning e m lock new (inl N) waits is = record {
+  same = same_core e new is;
+  steps = λ r S.
+      let ours = ours_says e m N.ours.ours in
+      let above : greatest m.slot (r.ran m.from) < m.number = node_judged m.from m.slot m.number e r judged.New S
+      ours.from (from_other e m ours N.ours.spelled) (request_slot_in e m N.ours) N.new in
+      by_verdict meaning e new r m (WaitsVerdict lock) _
+      (request_verdict meaning e r m _ N.ours S (judged_new m (greatest m.slot (r.ran m.from)) (lock_at e m) above
+      ∙ ap (λ one. unless_waiting one RunsVerdict) waits)) refl (rw is S);
+}
+deferred_step meaning e m lock new (inr N) waits is = record {
+  same = same_core e new is;
+  steps = λ r S.
+      let ours = ours_says e m N.ours.ours in
+      let open_ = node_taken m.from m.slot m.number e r S ours.from (from_other e m ours N.ours.spelled)
+      (reply_slot_in e m N.ours) N.taken in
+      by_verdict meaning e new r m (WaitsVerdict lock) _
+      (reply_verdict meaning e r m _ N.ours S (rw open_ (ap (λ one. unless_waiting one ReturnsVerdict) waits))) refl
+      (rw is S);
+}
+
+-- the segment of a core after a message landed and ran is as long as before
+same_ran : (meaning : Meaning) (e v : CoreState) (m : Message) (which : Role) → IsLawfulMeaning meaning
+    → length e.segment ≡ e.settings.segment → AllFit e.settings.segment (landing (content_of m))
+    → length (ran_core meaning e which (with_sender e.me m) (content_of m)).segment ≡ length e.segment
+same_ran meaning e v m which lawful sized fits =
+    ran_sized meaning e which (with_sender e.me m) (content_of m) lawful sized fits ∙ sym sized
 
 -- by what the code answered
 pub message_step : (meaning : Meaning) (e : CoreState) (m : Message) (a : Delivered) (new : CoreState)
+    → IsLawfulMeaning meaning → length e.segment ≡ e.settings.segment
     → DeliversMessage meaning e m a new → MessageStep meaning e m a new
-message_step meaning e m (delivered.Ran at) new h = record {
-  same = rw h.3.kept (record { settings = refl; me_is = refl; table = refl });
+message_step meaning e m (delivered.Ran at) new lawful sized h = record {
+  same = rw h.3.kept (record {
+    settings = refl;
+    me_is = refl;
+    table = refl;
+    segment_length = same_ran meaning e e m role.Request lawful sized (message_fits e m h.0.ours.ours);
+  });
   steps = λ r S.
-      let ours = ours_says e m h.0.ours in
+      let ours = ours_says e m h.0.ours.ours in
       let above : greatest m.slot (r.ran m.from) < m.number = node_judged m.from m.slot m.number e r judged.New S
-      ours.from (from_other e m ours h.0.message) (request_slot_in e m h.0) h.2 in
+      ours.from (from_other e m ours h.0.ours.spelled) (request_slot_in e m h.0.ours) h.0.new in
       by_verdict meaning e new r m RunsVerdict _
-      (request_verdict meaning e r m _ h.0 (judged_new m (greatest m.slot (r.ran m.from)) above))
-      (ap delivered.Ran h.1) (runs_stand meaning e m new r h.0 h.3 S above);
+      (request_verdict meaning e r m _ h.0.ours S (judged_new m (greatest m.slot (r.ran m.from)) (lock_at e m) above
+      ∙ ap (λ one. unless_waiting one RunsVerdict) h.2))
+      (ap delivered.Ran h.1) (runs_stand meaning e m new r lawful h.0.ours h.3 S above);
 }
-message_step meaning e m (delivered.Again at) new h = record {
+message_step meaning e m (delivered.Again at) new lawful sized h = record {
   same = same_core e new h.3;
   steps = λ r S.
       let ours = ours_says e m h.0.ours in
-      let same = node_judged m.from m.slot m.number e r judged.Again S ours.from (from_other e m ours h.0.message)
+      let same = node_judged m.from m.slot m.number e r judged.Again S ours.from (from_other e m ours h.0.spelled)
       (request_slot_in e m h.0) h.2 in
       by_verdict meaning e new r m Repeated _
-      (request_verdict meaning e r m _ h.0 (judged_again m (greatest m.slot (r.ran m.from)) same))
+      (request_verdict meaning e r m _ h.0 S (judged_again m (greatest m.slot (r.ran m.from)) (lock_at e m) same))
       (ap delivered.Again h.1) (rw h.3 S);
 }
-message_step meaning e m delivered.Stale new h = record {
+message_step meaning e m delivered.Stale new lawful sized h = record {
   same = same_core e new h.2;
   steps = λ r S.
       let ours = ours_says e m h.0.ours in
-      let below = node_judged m.from m.slot m.number e r judged.Stale S ours.from (from_other e m ours h.0.message)
+      let below = node_judged m.from m.slot m.number e r judged.Stale S ours.from (from_other e m ours h.0.spelled)
       (request_slot_in e m h.0) h.1 in
       by_verdict meaning e new r m Passed _
-      (request_verdict meaning e r m _ h.0 (judged_stale m (greatest m.slot (r.ran m.from)) below)) refl (rw h.2 S);
+      (request_verdict meaning e r m _ h.0 S (judged_stale m (greatest m.slot (r.ran m.from)) (lock_at e m) below))
+      refl (rw h.2 S);
 }
-message_step meaning e m (delivered.Returned to slot number) new h = record {
+message_step meaning e m (delivered.Returned to slot number) new lawful sized h = record {
   same =
       rw h.5 (same_run meaning e (record e { requests = with_slot e.requests m.from m.slot Vacant })
-      m (record { settings = refl; me_is = refl; table = refl }));
+      m (record { settings = refl; me_is = refl; table = refl; segment_length = refl }) lawful sized
+      (message_fits e m h.0.ours.ours));
   steps = λ r S.
-      let ours = ours_says e m h.0.ours in
-      let open_ = node_taken m.from m.slot m.number e r S ours.from (from_other e m ours h.0.message)
-      (reply_slot_in e m h.0) h.4 in
-      by_verdict meaning e new r m ReturnsVerdict _ (reply_verdict meaning e r m _ h.0 (rw open_ refl))
+      let ours = ours_says e m h.0.ours.ours in
+      let open_ = node_taken m.from m.slot m.number e r S ours.from (from_other e m ours h.0.ours.spelled)
+      (reply_slot_in e m h.0.ours) h.0.taken in
+      by_verdict meaning e new r m ReturnsVerdict _
+      (reply_verdict meaning e r m _ h.0.ours S
+      (rw open_ (ap (λ one. unless_waiting one ReturnsVerdict) h.4)))
       (ap₂ (λ p q. delivered.Returned p q number) h.1 h.2 ∙ ap (λ n. delivered.Returned m.from m.slot n) h.3)
-      (returns_stand meaning e m new r h.0 h.5 S open_);
+      (returns_stand meaning e m new r lawful h.0.ours h.5 S open_);
 }
   where
-    same_run : (meaning : Meaning) (e v : CoreState) (m : Message) → IsSameNode e v
+    same_run : (meaning : Meaning) (e v : CoreState) (m : Message) → IsSameNode e v → IsLawfulMeaning meaning
+        → length v.segment ≡ v.settings.segment → AllFit v.settings.segment (landing (content_of m))
         → IsSameNode e (with_reply_run meaning v m)
-    same_run meaning e v m h =
-        elim (cases_Bool (is_ack (code m.kind)))
-        [ inl t ↦ rw t h | inr f ↦ rw f (record { settings = h.settings; me_is = h.me_is; table = h.table }) ]
-message_step meaning e m delivered.Late new h = record {
+    same_run meaning e v m h lawful sized fits =
+        elim (cases_Bool (is_ack (code m.kind))) [
+          | inl t ↦ rw t h
+          | inr f ↦ rw f (record {
+            settings = h.settings;
+            me_is = h.me_is;
+            table = h.table;
+            segment_length =
+                same_ran meaning v v m role.Reply lawful sized fits ∙ h.segment_length;
+          })
+        ]
+message_step meaning e m delivered.Late new lawful sized h = record {
   same = same_core e new h.2;
   steps = λ r S.
       let ours = ours_says e m h.0.ours in
-      let not_open = node_not_taken m.from m.slot m.number e r S ours.from (from_other e m ours h.0.message)
+      let not_open = node_not_taken m.from m.slot m.number e r S ours.from (from_other e m ours h.0.spelled)
       (reply_slot_in e m h.0) h.1 in
-      by_verdict meaning e new r m Missed _ (reply_verdict meaning e r m _ h.0 (rw not_open refl)) refl (rw h.2 S);
+      by_verdict meaning e new r m Missed _ (reply_verdict meaning e r m _ h.0 S (rw not_open refl)) refl (rw h.2 S);
 }
-message_step meaning e m (delivered.Refused reason) new h = record {
+message_step meaning e m (delivered.Refused reason) new lawful sized h = record {
   same = same_core e new h.1;
   steps =
       λ r S. by_verdict meaning e new r m (RefusedVerdict reason) _
-      (ap (λ x. unless_refused x (taken_verdict r m)) h.0) refl (rw h.1 S);
+      (ap (λ x. unless_refused x (taken_verdict r m (awaited_lock e.table (content_of m) r.local.locks))) h.0) refl
+      (rw h.1 S);
 }
-message_step meaning e m (delivered.Deferred lock) new h = absurd h
+message_step meaning e m (delivered.Deferred lock) new lawful sized h =
+    deferred_step meaning e m lock new h.0 h.1 h.2
 
 -- a message that is delivered, told as an event
 message_comes : (meaning : Meaning) (e : CoreState) (m : Message) (a : Delivered) (new : CoreState) (now : ℕ)
@@ -254,15 +348,15 @@ message_comes meaning e m a new now h =
 
 -- bytes that spell a message of the version, the only one that they spell
 pub delivers_step : (meaning : Meaning) (e : CoreState) (version : ℕ) (bytes : List ℕ) (m : Message) (a : Delivered)
-    (new : CoreState) → version ≡ e.settings.version
+    (new : CoreState) → IsLawfulMeaning meaning → length e.segment ≡ e.settings.segment → version ≡ e.settings.version
     → ((other : Message) → other.version ≡ version → Spells other bytes → m ≡ other)
     → None ≡ first_refusal version bytes
     → DeliversMessage meaning e m a new → Delivers meaning e bytes a new
-delivers_step meaning e version bytes m a new same only fine h = record {
-  same = (message_comes meaning e m a new 0 (message_step meaning e m a new h)).same;
+delivers_step meaning e version bytes m a new lawful sized same only fine h = record {
+  same = (message_comes meaning e m a new 0 (message_step meaning e m a new lawful sized h)).same;
   comes = λ other is spelled now.
       subst (λ (n : Message). CoreSteps meaning e (record { now = now; event = Comes n; answer = OfDelivery a }) new)
-      (only other (is ∙ sym same) spelled) (message_comes meaning e m a new now (message_step meaning e m a new h));
+      (only other (is ∙ sym same) spelled) (message_comes meaning e m a new now (message_step meaning e m a new lawful sized h));
   refused = λ reason is. absurd (some_none reason (fine ∙ ap (λ v. first_refusal v bytes) same ∙ is));
 }
   where
@@ -276,7 +370,7 @@ pub refused_step : (meaning : Meaning) (e : CoreState) (version : ℕ) (bytes : 
     → Some reason ≡ first_refusal version bytes
     → Delivers meaning e bytes (delivered.Refused (why.Bytes reason)) e
 refused_step meaning e version bytes reason same no_message first = record {
-  same = record { settings = refl; me_is = refl; table = refl };
+  same = record { settings = refl; me_is = refl; table = refl; segment_length = refl };
   comes = λ m is spelled. absurd (no_message m (is ∙ sym same) spelled);
   refused = λ other h. (
     ap (λ x. delivered.Refused (why.Bytes x))

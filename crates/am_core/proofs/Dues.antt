@@ -157,7 +157,7 @@ same_or_earlier a b h e = elim (cases_eq b.time a.time) [
 ]
 
 -- the earliest is one of these
-earliest_in : (ds : List Due) (d : Due) → earliest ds ≡ Some d → Among d ds
+pub earliest_in : (ds : List Due) (d : Due) → earliest ds ≡ Some d → Among d ds
 earliest_in [] d e = absurd (cc)
 earliest_in (x ∷ ds) d e = go (earliest ds) refl (earliest_in ds)
   where

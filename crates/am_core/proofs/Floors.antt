@@ -1,6 +1,6 @@
 -- What runs on a floor finds, and what its reply is as a message.
 use Rattle.std.proofs.Common.{ℕ, zero, suc, ◌≡◌, ◌≢◌, ◌≤◌, ◌<◌, ◌+◌, ◌++◌, List, [], ◌∷◌, Option, Some, None, length}
-use Rattle.std.proofs.Common.{take, slice_get, slice_set, get_or, ap, ap₂, sym, ◌∙◌, arith}
+use Rattle.std.proofs.Common.{take, slice_get, slice_set, get_or, ap, ap₂, sym, ◌∙◌, arith, subst, subst₂}
 use Rattle.std.proofs.Common.{map, Bool, false, ◌==◌, drop, ne_eqb, if◌then◌else◌}
 use Rattle.std.proofs.lemmas.List.{take_more, take_more_set}
 use Rattle.std.proofs.lemmas.Option.{slice_get_within, slice_get-get_or}
@@ -10,10 +10,17 @@ use Rattle.handler_rules.specs.declared.message.Reply.{Reply}
 use Rattle.handler_rules.specs.declared.desk.Desk.{Desk}
 use Rattle.handler_rules.specs.declared.rules.CallKind.TheVariants as call
 use Rattle.handler_rules.specs.Logged.{Logged, notes}
-use Rattle.handler_rules.specs.Runs.{Scene, Outcome, IsSpelled, violation, closed, refusal, reply_bytes, outgoing_reply}
-use Rattle.handler_rules.specs.Desks.{leaving, noting, judged_at, scene_of, reply_of, reply_after, buffer_after}
+use Rattle.handler_rules.specs.Runs.{Frame, Meaning, IsLawfulMeaning, IsSpelled, violation, closed, refusal}
+use Rattle.handler_rules.specs.Runs.{reply_bytes, outgoing_reply}
+use Rattle.handler_rules.specs.Desks.{At, stage, start_of, noting, judged_at, frame_of, reply_of, reply_after}
+use Rattle.handler_rules.specs.Desks.{buffer_after}
+use Rattle.hsl_locks.specs.declared.answer.Held.{Held}
+use Rattle.hsl_locks.specs.declared.answer.Owner.TheVariants as owner
+use Rattle.hsl_locks.specs.Locks.{holds, without}
+use Rattle.hsl_locks.proofs.Laws.{without_nothing}
 use Rattle.handler_rules.proofs.Laws.{closed-leaving}
-use Rattle.am_core.specs.FloorRuns.{FloorRun, Touched, Ran, answer_of}
+use Rattle.am_core.specs.declared.floor.Work.{Work}
+use Rattle.am_core.specs.FloorRuns.{FloorRun, Touched, Ran, answer_of, run_of, start_on}
 
 -- a list that has nothing at a place ends there or before
 pub none_past : {A : Type 0} (xs : List A) (k : ℕ) → slice_get xs k ≡ None → length xs ≤ k
@@ -33,15 +40,51 @@ copied_more {A} xs ys k x e room some =
     take_more_set xs k x room ∙ ap (λ (zs : List A). zs ++ x ∷ []) e
     ∙ sym (take_more ys k x (slice_get_within ys k x some) ∙ ap (λ (y : A). take k ys ++ y ∷ []) (read_at ys k x some))
 
--- the log that a closed desk leaves, where the desk was made in this scene over this log
-pub closed_log : (d old : Desk) (o : Outcome) (log : Logged) (scene : Scene) → old ≡ leaving o d → d.log.now ≡ log
-    → scene_of d ≡ scene
-    → (noting old (refusal (judged_at old call.Return))).log.now ≡ notes log
-    (map (violation scene.arrival.role) (closed scene o).refused)
-closed_log d old o log scene left log_is scene_is =
-    closed-leaving d old o left
-    ∙ ap (λ (l : Logged). notes l (map (violation d.message.role) (closed (scene_of d) o).refused)) log_is
-    ∙ ap (λ (s : Scene). notes log (map (violation s.arrival.role) (closed s o).refused)) scene_is
+-- a run at a desk that was closed: what it left, and its reply
+pub ran_is : (meaning : Meaning) (work : Work) (before after : Touched) (desk old : Desk) (buffer new_buffer : List ℕ)
+    (reply : Option Reply) → IsLawfulMeaning meaning → holds owner.Handler before.locks ≡ false
+    → At (stage before.segment before.cells desk)
+    (meaning work.handler (frame_of desk) (start_of (stage before.segment before.cells desk)))
+    (stage after.segment after.cells old)
+    → frame_of desk ≡ (run_of meaning work before).frame → desk.locks.now ≡ before.locks
+    → desk.log.now ≡ before.log → desk.buffer.now ≡ buffer
+    → after.locks ≡ without owner.Handler old.locks.now
+    → after.log ≡ (noting old (refusal (judged_at old call.Return))).log.now
+    → new_buffer ≡ old.buffer.now → reply ≡ old.reply
+    → Ran (run_of meaning work before) after buffer new_buffer reply
+ran_is meaning work before after desk old buffer new_buffer reply lawful unheld at frame_is locks_is log_is buffer_is
+    left_locks left_log left_buffer left_reply =
+    let frame = (run_of meaning work before).frame in
+    let o = meaning work.handler frame (start_on before) in
+    let law = lawful work.handler frame (start_on before) in
+    let now = stage after.segment after.cells old in
+    let ran = subst₂ (λ (one : Frame) (held : List Held). At (stage before.segment before.cells desk)
+    (meaning work.handler one (record { cells = before.cells; segment = before.segment; locks = held })) now)
+    frame_is locks_is at in
+    record {
+      left = record {
+        cells_are = ran.cells_are;
+        segment_is = ran.segment_is;
+        same_length = ran.same_length;
+        locks_are =
+            left_locks ∙ (ap (λ (one : Desk). without owner.Handler one.locks.now) ran.desk_is
+            ∙ (law.locks ∙ without_nothing owner.Handler before.locks unheld));
+        log_is =
+            left_log ∙ (closed-leaving desk old o ran.desk_is
+            ∙ (ap (λ (one : Frame). notes desk.log.now (map (violation one.arrival.role) (closed one o).refused))
+            frame_is
+            ∙ ap (λ (log : Logged). notes log (map (violation frame.arrival.role) (closed frame o).refused)) log_is));
+      };
+      buffer_is =
+          left_buffer ∙ (ap (λ (one : Desk). one.buffer.now) ran.desk_is
+          ∙ (ap (λ (one : Frame). buffer_after one.settings one.arrival o.reply desk.buffer.now) frame_is
+          ∙ ap (buffer_after frame.settings frame.arrival o.reply) buffer_is));
+      reply_is =
+          left_reply ∙ (ap (λ (one : Desk). one.reply) ran.desk_is
+          ∙ ap (λ (one : Frame). reply_after one.settings one.arrival o.reply) frame_is);
+      lawful = law.reply;
+      spelled = subst (λ (one : Frame). IsSpelled one o.reply) frame_is ran.spelled;
+    }
 
 -- the datagram of a run's reply, or of an Ack for none, stands at the front of the buffer
 pub record IsAnswered (run : FloorRun) (buffer new_buffer : List ℕ) (len : ℕ) : Type 0 where
@@ -51,23 +94,23 @@ pub record IsAnswered (run : FloorRun) (buffer new_buffer : List ℕ) (len : ℕ
 
 -- where the run sent a reply
 pub answered_by_reply : (run : FloorRun) (after : Touched) (reply : Reply) (buffer new_buffer : List ℕ)
-    → run.scene.arrival.me ≢ run.scene.arrival.source → Ran run after buffer new_buffer (Some reply)
+    → run.frame.arrival.me ≢ run.frame.arrival.source → Ran run after buffer new_buffer (Some reply)
     → IsAnswered run buffer new_buffer reply.len
 answered_by_reply run after reply buffer new_buffer other ran =
     by_reply run.outcome.reply ran.reply_is ran.buffer_is ran.spelled
   where
-    by_reply : (sent : Option Content) → Some reply ≡ reply_after run.scene.settings run.scene.arrival sent
-        → new_buffer ≡ buffer_after run.scene.settings run.scene.arrival sent buffer → IsSpelled run.scene sent
+    by_reply : (sent : Option Content) → Some reply ≡ reply_after run.frame.settings run.frame.arrival sent
+        → new_buffer ≡ buffer_after run.frame.settings run.frame.arrival sent buffer → IsSpelled run.frame sent
         → IsAnswered (record run { outcome = record run.outcome { reply = sent } }) buffer new_buffer reply.len
     by_reply None is written spelled = absurd (cc)
     by_reply (Some content) is written spelled =
-        let same : reply ≡ reply_of run.scene.settings run.scene.arrival content = cc in
-        let apart : (run.scene.arrival.source == run.scene.arrival.me) ≡ false =
-        ne_eqb run.scene.arrival.source run.scene.arrival.me (λ e. other (sym e)) in
-        let bytes : reply_bytes run.scene.settings run.scene.arrival content
-        ≡ spelling (outgoing_reply run.scene.settings run.scene.arrival content) = ap
+        let same : reply ≡ reply_of run.frame.settings run.frame.arrival content = cc in
+        let apart : (run.frame.arrival.source == run.frame.arrival.me) ≡ false =
+        ne_eqb run.frame.arrival.source run.frame.arrival.me (λ e. other (sym e)) in
+        let bytes : reply_bytes run.frame.settings run.frame.arrival content
+        ≡ spelling (outgoing_reply run.frame.settings run.frame.arrival content) = ap
         (λ (b : Bool). if b then content.payload
-        else spelling (outgoing_reply run.scene.settings run.scene.arrival content)) apart in
+        else spelling (outgoing_reply run.frame.settings run.frame.arrival content)) apart in
         record {
           message = spelled (λ e. other (sym e));
           len_is = ap (λ (x : Reply). x.len) same ∙ ap (λ (bs : List ℕ). length bs) bytes;
@@ -77,21 +120,21 @@ answered_by_reply run after reply buffer new_buffer other ran =
 -- where the run sent none, and an Ack was written
 pub answered_by_ack : (run : FloorRun) (after : Touched) (buffer ran_buffer new_buffer : List ℕ) (len : ℕ)
     → Ran run after buffer ran_buffer None
-    → IsMessage (outgoing_reply run.scene.settings run.scene.arrival ack)
-    → len ≡ length (spelling (outgoing_reply run.scene.settings run.scene.arrival ack))
-    → new_buffer ≡ spelling (outgoing_reply run.scene.settings run.scene.arrival ack) ++ drop len ran_buffer
+    → IsMessage (outgoing_reply run.frame.settings run.frame.arrival ack)
+    → len ≡ length (spelling (outgoing_reply run.frame.settings run.frame.arrival ack))
+    → new_buffer ≡ spelling (outgoing_reply run.frame.settings run.frame.arrival ack) ++ drop len ran_buffer
     → IsAnswered run buffer new_buffer len
 answered_by_ack run after buffer ran_buffer new_buffer len ran message len_is written =
     by_reply run.outcome.reply ran.reply_is ran.buffer_is
   where
-    by_reply : (sent : Option Content) → None ≡ reply_after run.scene.settings run.scene.arrival sent
-        → ran_buffer ≡ buffer_after run.scene.settings run.scene.arrival sent buffer
+    by_reply : (sent : Option Content) → None ≡ reply_after run.frame.settings run.frame.arrival sent
+        → ran_buffer ≡ buffer_after run.frame.settings run.frame.arrival sent buffer
         → IsAnswered (record run { outcome = record run.outcome { reply = sent } }) buffer new_buffer len
     by_reply None is same = record {
       message = message;
       len_is = len_is;
       buffer_is =
           written ∙ ap₂ (λ (n : ℕ) (bs : List ℕ). spelling
-          (outgoing_reply run.scene.settings run.scene.arrival ack) ++ drop n bs) len_is same;
+          (outgoing_reply run.frame.settings run.frame.arrival ack) ++ drop n bs) len_is same;
     }
     by_reply (Some content) is same = absurd (cc)

@@ -1,37 +1,45 @@
 -- What a core tells of a message that isn't delivered to it.
-use Rattle.std.proofs.Common.{◌≡◌, ◌≢◌, ℕ, [], refl, arith, eq-eqb, ne_eqb}
+use Rattle.std.proofs.Common.{◌≡◌, ◌≢◌, ◌<◌, ℕ, [], Bool, true, false, refl, subst, arith, eq-eqb, ne_eqb}
+use Rattle.std.specs.Prelude.{◌==◌, nat_lt}
+use Rattle.std.proofs.lemmas.Bool.Decides.{nat_tests}
 use Rattle.reply_slots.specs.State.{JudgesAt, Judges, Kept}
 use Rattle.reply_slots.specs.declared.Judged.{Judged}
 use Rattle.reply_slots.specs.declared.Judged.TheVariants.{New, Again, Stale}
-use Rattle.node_record.specs.declared.answer.Delivered.TheVariants as delivered
-use Rattle.node_record.specs.Step.{reply_slot}
+use Rattle.datagram_grammar.specs.Parameters.{credits_of}
 use Rattle.node_record.specs.Executed.{greatest}
 use Rattle.am_core.specs.CoreState.{CoreState}
-use Rattle.am_core.specs.Known.{Repeats}
+use Rattle.am_core.specs.Known.{IsLastRun}
 use Rattle.am_core.proofs.CoreStands.{node_judged}
 
--- a request that is the last one run in its slot
-pub again_repeats : (e : CoreState) (from slot number : ℕ) → JudgesAt e.replies from slot number Again
-    → Repeats e from slot number (delivered.Again (reply_slot from slot))
-again_repeats e from slot number judged r S low other below =
-    let same : number ≡ greatest slot (r.ran from) =
-    node_judged from slot number e r Again S low other below judged in
-    rw (eq-eqb number (greatest slot (r.ran from)) same) refl
+-- the request was judged to come again
+abbrev pub is_again : Judged → Bool
+is_again New = false
+is_again Again = true
+is_again Stale = false
 
--- it isn't the last one
-abbrev pub IsOther : Judged → Type 0
-IsOther New = Unit {0}
-IsOther Again = ⊥
-IsOther Stale = Unit {0}
+judged_last : (number last : ℕ) (answer : Judged) → Judges (Kept last []) number answer
+    → is_again answer ≡ (number == last)
+judged_last number last New judged = rw (ne_eqb number last (λ same. omega (arith, same, judged))) refl
+judged_last number last Again judged = rw (eq-eqb number last judged) refl
+judged_last number last Stale judged = rw (ne_eqb number last (λ same. omega (arith, same, judged))) refl
 
-judged_other : (number last : ℕ) (j : Judged) → IsOther j → Judges (Kept last []) number j → number ≢ last
-judged_other number last New other h = λ e. omega (arith, e, h)
-judged_other number last Again other h = absurd other
-judged_other number last Stale other h = λ e. omega (arith, e, h)
+-- a slot of another node, with the judgement of the number there
+pub last_judged : (core : CoreState) (from slot number : ℕ) (answer : Judged) → from < core.settings.nodes
+    → from ≢ core.me → slot < credits_of core.settings from core.me → JudgesAt core.replies from slot number answer
+    → IsLastRun core from slot number (is_again answer)
+last_judged core from slot number answer low other below judged node stands =
+    let low_test : nat_lt from core.settings.nodes ≡ true = grind (arith, nat_tests) in
+    let slot_test : nat_lt slot (credits_of core.settings from core.me) ≡ true = grind (arith, nat_tests) in
+    rw (low_test, slot_test, ne_eqb from core.me other)
+    (judged_last number (greatest slot (node.ran from)) answer
+    (node_judged from slot number core node answer stands low other below judged))
 
--- a request that is another one than the last one run in its slot
-pub stale_repeats : (e : CoreState) (from slot number : ℕ) (j : Judged) → IsOther j
-    → JudgesAt e.replies from slot number j → Repeats e from slot number delivered.Stale
-stale_repeats e from slot number j is judged r S low other below =
-    rw (ne_eqb number (greatest slot (r.ran from)) (judged_other number (greatest slot (r.ran from)) j is
-    (node_judged from slot number e r j S low other below judged))) refl
+-- the same of a core that was looked into, by how the number was judged
+pub last_found : (core inside : CoreState) (from slot number : ℕ) (answer found : Judged) → inside ≡ core
+    → found ≡ answer → from < inside.settings.nodes → from ≢ inside.me
+    → slot < credits_of inside.settings from inside.me → JudgesAt inside.replies from slot number found
+    → IsLastRun core from slot number (is_again answer)
+last_found core inside from slot number answer found same is low other below judged =
+    subst (λ (one : CoreState). IsLastRun one from slot number (is_again answer)) same
+    (last_judged inside from slot number answer low other below
+    (subst (λ (one : Judged). JudgesAt inside.replies from slot number one) is judged))

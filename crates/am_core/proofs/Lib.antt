@@ -9,4 +9,9 @@ pub mod Deliveries
 pub mod Knowing
 pub mod Ticking
 pub mod Readings
+pub mod Bounds
 pub mod Counts
+pub mod Landings
+pub mod ThreadLocks
+pub mod LocalKept
+mod OwnRuns

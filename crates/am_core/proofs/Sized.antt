@@ -7,6 +7,11 @@ use Rattle.datagram_grammar.specs.Parameters.{Parameters, AreInRange, credits_of
 use Rattle.node_record.specs.declared.answer.Side.TheVariants as side
 use Rattle.credit_slots.specs.State.{SlotsState, SlotState, PeerState, Vacant, IsNew, new_peer}
 use Rattle.credit_slots.specs.State.{with_slot as with_request_slot}
+use Rattle.credit_slots.specs.State.{Sealed, CanClaim, slot_count, with_request}
+use Rattle.credit_slots.specs.declared.NoClaim.{NoClaim}
+use Rattle.std.specs.Prelude.{Result, Ok, Err, IfOk, OnErr, IfSome, slice_get}
+use Rattle.std.proofs.Common.{◌≡◌, ◌≢◌}
+use Rattle.am_core.specs.CoreState.{CoreState}
 use Rattle.credit_slots.proofs.Shape as requests
 use Rattle.reply_slots.specs.State.{RepliesState, ReplyState, with_reply, Kept, Unused}
 use Rattle.reply_slots.specs.State.{IsNew as IsNewReplies}
@@ -74,3 +79,35 @@ sized_new s range me me_in asked ran asked_are ran_are table kept new_table new_
       ap count_replies (new_kept.peers me count (slice_get-get_or ran me 0 (omega (arith, ran_are.nodes))))
       ∙ ap (λ (b : Bool). count_replies (Some (replicate (if b then 0 else count) Unused))) (eq-eqb me me refl);
 }
+
+-- where a request was asked for: its slot has it, or nothing changed
+pub sized_asked : (s : Parameters) (me : ℕ) (asked new : SlotsState) (kept : RepliesState) (to now : ℕ)
+    (result : Result (ℕ × ℕ) NoClaim) (message : ℕ × ℕ → List ℕ)
+    → IfOk result (λ r. new ≡ with_request asked to (record { slot = r.0; number = r.1; time = now }) (message r))
+    → OnErr result (new ≡ asked) → IsSized s me asked kept → IsSized s me new kept
+sized_asked s me asked new kept to now (Ok r) message is refused sized =
+    let state : SlotState = Sealed r.1 now (message r) in
+    rw is (record {
+      range = sized.range;
+      requesters = requests.nodes-given asked to r.0 r.1 state ∙ sized.requesters;
+      request_slots =
+          λ peer below other. requests.slot_count-given asked to r.0 r.1 state peer
+          ∙ sized.request_slots peer below other;
+      none_asked = requests.slot_count-given asked to r.0 r.1 state me ∙ sized.none_asked;
+      responders = sized.responders;
+      kept_slots = sized.kept_slots;
+      none_kept = sized.none_kept;
+    })
+sized_asked s me asked new kept to now (Err why) message is refused sized = rw refused sized
+
+-- a request that was claimed: its slot is one of its pair
+pub claimed_slot : (core : CoreState) (to slot : ℕ) (peer : Option PeerState)
+    → IsSized core.settings core.me core.requests core.replies → to < core.settings.nodes → to ≢ core.me
+    → slice_get core.requests.peers to ≡ peer → IfSome peer (λ p. CanClaim p core.requests.last slot)
+    → slot < credits_of core.settings core.me to
+claimed_slot core to slot None sized low other is claim =
+    let there = slice_get-get_or core.requests.peers to (new_peer 0) (omega (arith, sized.requesters, low)) in
+    absurd (cc)
+claimed_slot core to slot (Some p) sized low other is claim =
+    let count : slot_count core.requests to ≡ length p.slots = ap count_requests is in
+    omega (arith, count, sized.request_slots to low other, claim.in_range)

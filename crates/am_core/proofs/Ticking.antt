@@ -184,7 +184,7 @@ record Resent (old : CoreState) (now : ℕ) (a : Option SlotRef) (new : CoreStat
 tick_none : (e : CoreState) (now : ℕ) (new : CoreState) → NoneIsDue e.requests now e.settings.resend → new ≡ e
     → Resent e now None new
 tick_none e now new none is = record {
-  same = rw is (record { settings = refl; me_is = refl; table = refl });
+  same = rw is (record { settings = refl; me_is = refl; table = refl; segment_length = refl });
   steps = λ r S. let next = next_none e r now S none in (sym (ap due_slot next), rw (next, is) S);
 }
 
@@ -194,7 +194,7 @@ tick_some : (e : CoreState) (now peer slot : ℕ) (new : CoreState)
     → new ≡ record e { requests = with_slot_changed e.requests peer slot (sent_again now) }
     → Resent e now (Some (request_slot peer slot)) new
 tick_some e now peer slot new F is = record {
-  same = rw is (record { settings = refl; me_is = refl; table = refl });
+  same = rw is (record { settings = refl; me_is = refl; table = refl; segment_length = refl });
   steps = λ r S.
       let D = due_is e r now peer slot F.time S F.due in
       let next = next_is e r now peer slot S F D in (

@@ -1,11 +1,15 @@
 -- What each call of a core does, of every record for which the core stood.
-use Rattle.std.specs.Prelude.{ℕ, ◌≡◌, List, Option, Some, None, Result}
+use Rattle.std.specs.Prelude.{ℕ, ◌≡◌, List, length, Option, Some, None, Result}
 use Rattle.datagram_grammar.specs.Message.{Message, Spells}
 use Rattle.datagram_grammar.specs.Refusals.{first_refusal}
 use Rattle.datagram_grammar.specs.declared.refused.Refused.{Refused}
 use Rattle.handler_rules.specs.declared.rules.CallKind.{CallKind}
 use Rattle.handler_rules.specs.declared.rules.Forbidden.{Forbidden}
-use Rattle.handler_rules.specs.Runs.{Meaning}
+use Rattle.handler_rules.specs.Runs.{Meaning, lock_refusal, unlock_refusal}
+use Rattle.hsl_locks.specs.declared.answer.Owner.TheVariants as owner
+use Rattle.hsl_locks.specs.declared.answer.LockAnswer.{LockAnswer}
+use Rattle.hsl_locks.specs.declared.answer.UnlockAnswer.{UnlockAnswer}
+use Rattle.hsl_locks.specs.Locks.{lock_answer, after_lock, unlock_answer, after_unlock}
 use Rattle.node_record.specs.declared.answer.SlotRef.{SlotRef}
 use Rattle.node_record.specs.declared.answer.Why.TheVariants as why
 use Rattle.node_record.specs.declared.answer.Delivered.{Delivered}
@@ -17,8 +21,8 @@ use Rattle.node_record.specs.Behaviour.{Behaviour}
 use Rattle.node_record.specs.Step.{judged_local}
 use Rattle.node_record.specs.NodeStep.{Job, NodeEvent, Comes, NodeAnswer, OfDelivery, node_answer, node_after}
 use Rattle.node_record.specs.Transition.{Transition}
-use Rattle.am_core.specs.Kept.{Local}
-use Rattle.am_core.specs.ClientRules.{rules}
+use Rattle.am_core.specs.Kept.{Local, with_locks}
+use Rattle.am_core.specs.ClientRules.{rules, with_violations}
 use Rattle.am_core.specs.CoreState.{CoreState}
 use Rattle.am_core.specs.Stands.{Stands}
 
@@ -27,16 +31,33 @@ use Rattle.am_core.specs.Stands.{Stands}
 -- what a thread may call of a core beside a request
 pub data CoreCall : Type 0 where
   Check : CallKind → CoreCall  -- such a call is judged by the rule table
+  Lock : (lock : ℕ) → CoreCall  -- a handler-safe lock is taken
+  Unlock : (lock : ℕ) → CoreCall  -- it is given back
 
 -- what that is answered
-abbrev pub CoreTold : Type 0
-CoreTold = Result (Unit {0}) Forbidden
+pub data CoreTold : Type 0 where
+  Checked : Result (Unit {0}) Forbidden → CoreTold
+  Locked : LockAnswer → CoreTold
+  Unlocked : UnlockAnswer → CoreTold
 
--- what such a call answers and leaves, where a node does this with messages
+-- what such a call answers and leaves, where a node does this with messages. A fault of a lock is noted as a violation;
+-- a thread may take any lock
 abbrev pub core_does : Behaviour Local → (thread : ℕ) → CoreCall → Local → CoreTold × Local
 core_does behaviour thread (Check kind) local =
     let judged = behaviour.judges thread kind local in
-    (judged, judged_local behaviour thread judged local)
+    (Checked judged, judged_local behaviour thread judged local)
+core_does behaviour thread (Lock lock) local =
+    let answer = lock_answer local.locks (owner.Thread thread) lock 0 in (
+      Locked answer,
+      with_locks (after_lock local.locks (owner.Thread thread) lock 0)
+          (with_violations thread (lock_refusal answer) local),
+    )
+core_does behaviour thread (Unlock lock) local =
+    let answer = unlock_answer local.locks (owner.Thread thread) lock in (
+      Unlocked answer,
+      with_locks (after_unlock local.locks (owner.Thread thread) lock)
+          (with_violations thread (unlock_refusal answer) local),
+    )
 
 -- the core's job: what it does with messages by its table and these handlers, and by the other calls
 abbrev pub core_job : Meaning → CoreState → Job Local CoreCall CoreTold
@@ -50,11 +71,12 @@ core_job meaning core =
       };
     }
 
--- the core of the same node of the same job, with the same table
+-- the core of the same node of the same job, with the same table, and a segment as long
 pub record IsSameNode (old new : CoreState) : Type 0 where
   pub settings : new.settings ≡ old.settings
   pub me_is : new.me ≡ old.me
   pub table : new.table ≡ old.table
+  pub segment_length : length new.segment ≡ length old.segment
 
 -- ---- every call
 

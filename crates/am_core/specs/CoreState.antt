@@ -4,6 +4,7 @@ use Rattle.datagram_grammar.specs.Parameters.{Parameters}
 use Rattle.credit_slots.specs.State.{SlotsState}
 use Rattle.reply_slots.specs.State.{RepliesState}
 use Rattle.handler_rules.specs.declared.table.Entry.{Entry}
+use Rattle.hsl_locks.specs.declared.answer.Held.{Held}
 use Rattle.handler_rules.specs.Logged.{Logged}
 
 pub record CoreState : Type 0 where
@@ -12,5 +13,7 @@ pub record CoreState : Type 0 where
   pub table : List (Option Entry)
   pub requests : SlotsState
   pub replies : RepliesState
+  pub segment : List ℕ
+  pub locks : List Held
   pub cells : List ℤ
   pub log : Logged

@@ -1,6 +1,6 @@
 -- What the parts of a core's calls do, as values.
 use Rattle.node_record.specs.Invariant.{address_in}
-use Rattle.std.specs.Prelude.{ℕ, ℤ, pos, Bool, false, nat_le, ◌==◌, ◌≡◌, ◌+◌, ◌<◌}
+use Rattle.std.specs.Prelude.{ℕ, pos, Bool, false, nat_le, ◌==◌, ◌≡◌, ◌+◌, ◌<◌, ◌⊎◌, ◌∷◌}
 use Rattle.std.specs.Prelude.{map, replicate, IfSome, Option, None, Some, slice_get, List, [], true, false}
 use Rattle.std.specs.Prelude.{if◌then◌else◌, Result, Ok, Err}
 use Rattle.datagram_grammar.specs.Parameters.{Parameters, credits_of}
@@ -23,10 +23,14 @@ use Rattle.handler_rules.specs.declared.message.Which.TheVariants as which
 use Rattle.handler_rules.specs.declared.rules.CallKind.TheVariants as call
 use Rattle.handler_rules.specs.declared.rules.Context.TheVariants.{Thread}
 use Rattle.handler_rules.specs.Rules.{rule}
-use Rattle.handler_rules.specs.declared.message.Reply.{Reply}
-use Rattle.handler_rules.specs.Logged.{log_of, noted, notes}
-use Rattle.handler_rules.specs.Runs.{Arrival, Scene, Outcome, closed, violation}
-use Rattle.handler_rules.specs.Desks.{reply_after}
+use Rattle.handler_rules.specs.Logged.{log_of, notes}
+use Rattle.handler_rules.specs.declared.rules.Fault.{Fault}
+use Rattle.handler_rules.specs.declared.rules.Fault.TheVariants as fault
+use Rattle.handler_rules.specs.declared.rules.CallKind.{CallKind}
+use Rattle.hsl_locks.specs.declared.answer.Owner.TheVariants as owner
+use Rattle.hsl_locks.specs.Locks.{holds}
+use Rattle.raw_segment.specs.Image.{written_by}
+use Rattle.handler_rules.specs.Runs.{Start, Outcome, violation}
 use Rattle.node_record.specs.declared.answer.Asked.{Asked as AskedAnswer}
 use Rattle.node_record.specs.declared.answer.Asked.TheVariants as asked
 use Rattle.node_record.specs.declared.answer.Why.{Why}
@@ -34,9 +38,10 @@ use Rattle.node_record.specs.declared.answer.Delivered.{Delivered}
 use Rattle.node_record.specs.declared.answer.Delivered.TheVariants as delivered
 use Rattle.node_record.specs.Behaviour.{Contact, Ask, is_request}
 use Rattle.node_record.specs.Transition.{Transition}
+use Rattle.node_record.specs.Requests.{Claim}
 use Rattle.handler_rules.specs.Runs.{Meaning}
-use Rattle.am_core.specs.HandlerRuns.{NodeHandlers, handlers_of, outcome, reply_or_ack}
-use Rattle.am_core.specs.ClientRules.{content_refusal, content_fault, thread_violation, said_of}
+use Rattle.am_core.specs.HandlerRuns.{NodeHandlers, handlers_of, outcome, landing, reply_or_ack}
+use Rattle.am_core.specs.ClientRules.{content_refusal, asking_fault, thread_violation, said_in, busy_lock, awaited_lock}
 use Rattle.node_record.specs.declared.answer.Side.TheVariants as side
 use Rattle.am_core.specs.Sizes.{AreSlots}
 use Rattle.node_record.specs.Step.{address_fault, first_why, reply_slot, with_itself, with_sender}
@@ -45,52 +50,76 @@ use Rattle.am_core.specs.CoreState.{CoreState}
 -- ---- a new core
 
 -- the node `me` asked and ran nothing
-pub record IsOpening (s : Parameters) (me : ℕ) (table : List (Option Entry)) (e : CoreState) : Type 0 where
-  pub settings : e.settings ≡ s
-  pub me_is : e.me ≡ me
-  pub table_is : e.table ≡ table
+pub record IsOpening (parameters : Parameters) (me : ℕ) (table : List (Option Entry)) (core : CoreState)
+    : Type 0 where
+  pub settings : core.settings ≡ parameters
+  pub me_is : core.me ≡ me
+  pub table_is : core.table ≡ table
   pub asked : List ℕ  -- how many slots there are for requests to each peer
-  pub asked_are : AreSlots s me side.Request asked
-  pub requests : IsNew asked me s.last e.requests
+  pub asked_are : AreSlots parameters me side.Request asked
+  pub requests : IsNew asked me parameters.last core.requests
   pub ran : List ℕ  -- how many there are for the requests of each peer
-  pub ran_are : AreSlots s me side.Reply ran
-  pub replies : IsNewReplies ran me e.replies
-  pub cells_are : e.cells ≡ replicate 256 (pos 0)
-  pub log_is : e.log ≡ log_of []
+  pub ran_are : AreSlots parameters me side.Reply ran
+  pub replies : IsNewReplies ran me core.replies
+  pub segment_is : core.segment ≡ replicate parameters.segment 0
+  pub locks_are : core.locks ≡ []
+  pub cells_are : core.cells ≡ replicate 256 (pos 0)
+  pub log_is : core.log ≡ log_of []
 
 -- ---- runs
 
+-- what a handler finds at the core
+abbrev pub start_at : CoreState → Start
+start_at core = record { cells = core.cells; segment = core.segment; locks = core.locks }
+
+-- the core after the payload of a message landed
+abbrev pub landed_core : CoreState → Content → CoreState
+landed_core core content = record core { segment = written_by core.segment (landing content) }
+
 -- the core after a run with this outcome
 abbrev pub with_outcome : CoreState → Role → Outcome → CoreState
-with_outcome e r o = record e { cells = o.cells; log = notes e.log (map (violation r) o.refused) }
+with_outcome core which run = record core {
+  cells = run.cells;
+  segment = written_by core.segment run.writes;
+  log = notes core.log (map (violation which) run.refused);
+}
 
 -- the core's handlers
 abbrev pub handlers_at : Meaning → CoreState → NodeHandlers
-handlers_at meaning e = handlers_of e.settings e.table meaning
+handlers_at meaning core = handlers_of core.settings core.table meaning
 
 -- what the run of a request at the core gives
 abbrev pub request_outcome : Meaning → CoreState → Contact → Content → Outcome
-request_outcome meaning e contact c = outcome (handlers_at meaning e) role.Request contact c e.cells
+request_outcome meaning core contact content =
+    outcome (handlers_at meaning core) role.Request contact content (start_at core)
 
 -- what the run of a reply at the core gives
 abbrev pub reply_outcome : Meaning → CoreState → Contact → Content → Outcome
-reply_outcome meaning e contact c = outcome (handlers_at meaning e) role.Reply contact c e.cells
+reply_outcome meaning core contact content =
+    outcome (handlers_at meaning core) role.Reply contact content (start_at core)
 
 -- the reply of a request of another node, with an Ack for none, on its way
 abbrev pub answer_message : CoreState → Contact → Outcome → Message
-answer_message e contact o =
-    addressed (address_in e.settings contact.me contact.peer contact.slot contact.number) (reply_or_ack o.reply)
+answer_message core contact run =
+    addressed (address_in core.settings contact.me contact.peer contact.slot contact.number) (reply_or_ack run.reply)
+
+-- the core after a reply landed and ran
+abbrev pub with_reply_ran : Meaning → CoreState → Contact → Content → CoreState
+with_reply_ran meaning core contact content =
+    let landed = landed_core core content in
+    with_outcome landed role.Reply (reply_outcome meaning landed contact content)
 
 -- the core after the reply of an own request ran, if there was one
 abbrev pub with_own_reply : Meaning → CoreState → Option Content → CoreState
-with_own_reply meaning e None = e
-with_own_reply meaning e (Some content) = with_outcome e role.Reply (reply_outcome meaning e (with_itself e.me) content)
+with_own_reply meaning core None = core
+with_own_reply meaning core (Some content) = with_reply_ran meaning core (with_itself core.me) content
 
 -- the core after a request to the own node
 abbrev pub with_own_run : Meaning → CoreState → Content → CoreState
-with_own_run meaning e c =
-    let o = request_outcome meaning e (with_itself e.me) c in
-    with_own_reply meaning (with_outcome e role.Request o) o.reply
+with_own_run meaning core content =
+    let landed = landed_core core content in
+    let run = request_outcome meaning landed (with_itself core.me) content in
+    with_own_reply meaning (with_outcome landed role.Request run) run.reply
 
 -- ---- requests
 
@@ -98,171 +127,194 @@ with_own_run meaning e c =
 abbrev pub numbered_way : Address → (claim : ℕ × ℕ) → Address
 numbered_way way claim = record way { slot = claim.0; number = claim.1 }
 
--- the lowest free slot and the next number are taken, and the message is kept there
-pub record Accepts (e : CoreState) (now to : ℕ) (c : Content) (slot number : ℕ) (new : CoreState) : Type 0 where
-  pub claim : IfSome (slice_get e.requests.peers to) (λ p. CanClaim p e.requests.last slot × (number ≡ p.given + 1))
-  pub slot_in : slot < credits_of e.settings e.me to
-  pub message : IsMessage (addressed (address_in e.settings e.me to slot number) c)
-  pub kept : new ≡ record e {
-    requests = with_request e.requests to (record { slot = slot; number = number; time = now })
-        (spelling (addressed (address_in e.settings e.me to slot number) c));
-  }
-
 -- a content for a node
 pub record ContentFor : Type 0 where
   pub to : ℕ
   pub content : Content
 
+-- the request that is claimed for a node, in this slot and with this number
+abbrev pub claimed_message : CoreState → Transition ContentFor Claim → Message
+claimed_message core step =
+    addressed (address_in core.settings core.me step.event.to step.answer.slot step.answer.number) step.event.content
+
+-- the lowest free slot and the next number are taken, and the message is kept there
+pub record Accepts (core : CoreState) (step : Transition ContentFor Claim) (new : CoreState) : Type 0 where
+  pub claim : IfSome (slice_get core.requests.peers step.event.to)
+      (λ peer. CanClaim peer core.requests.last step.answer.slot × (step.answer.number ≡ peer.given + 1))
+  pub slot_in : step.answer.slot < credits_of core.settings core.me step.event.to
+  pub spelled : IsMessage (claimed_message core step)
+  pub kept : new ≡ record core {
+    requests = with_request core.requests step.event.to
+        (record { slot = step.answer.slot; number = step.answer.number; time = step.now })
+        (spelling (claimed_message core step));
+  }
+
 -- what a request to another node is answered, and what it leaves
 abbrev pub Claims : CoreState → Transition ContentFor AskedAnswer → CoreState → Type 0
-Claims e step new = elim step.answer [
+Claims core step new = elim step.answer [
   | asked.Accepted peer slot number ↦
-      (peer ≡ step.event.to) × Accepts e step.now step.event.to step.event.content slot number new
+      (peer ≡ step.event.to) × Accepts core (record {
+        now = step.now;
+        event = step.event;
+        answer = record { slot = slot; number = number };
+      }) new
   | asked.WornOut ↦
-      IfSome (slice_get e.requests.peers step.event.to) (λ p. Refuses p e.requests.last claims.WornOut) × (new ≡ e)
+      IfSome (slice_get core.requests.peers step.event.to) (λ peer. Refuses peer core.requests.last claims.WornOut)
+      × (new ≡ core)
   | asked.NotYet ↦
-      IfSome (slice_get e.requests.peers step.event.to) (λ p. Refuses p e.requests.last claims.NotYet) × (new ≡ e)
+      IfSome (slice_get core.requests.peers step.event.to) (λ peer. Refuses peer core.requests.last claims.NotYet)
+      × (new ≡ core)
   | _ ↦ ⊥
 ]
 
+-- the core after these faults of a thread's calls were noted
+abbrev pub noting : CoreState → (thread : ℕ) → List Fault → CoreState
+noting core thread faults = record core { log = notes core.log (map (thread_violation thread) faults) }
+
 -- the core after a thread's call was judged
 abbrev pub after_judgement : CoreState → (thread : ℕ) → Result (Unit {0}) Forbidden → CoreState
-after_judgement e thread (Ok allowed) = e
-after_judgement e thread (Err forbidden) = record e { log = noted e.log (thread_violation thread forbidden) }
+after_judgement core thread (Ok allowed) = core
+after_judgement core thread (Err forbidden) = noting core thread (fault.Rule forbidden ∷ [])
+
+-- how the rule table judges a thread's call at the core
+abbrev pub judged_at : CoreState → (thread : ℕ) → CallKind → Result (Unit {0}) Forbidden
+judged_at core thread kind = rule (Thread thread) (holds (owner.Thread thread) core.locks) false kind
 
 -- ---- deliveries
 
 -- why the core refuses a message
 abbrev pub message_refusal : CoreState → Message → Option Why
-message_refusal e m = first_why (address_fault e.settings e.me m) (content_refusal e.table (content_of m))
+message_refusal core message =
+    first_why (address_fault core.settings core.me message) (content_refusal core.settings core.table (content_of message))
 
 -- a request that the core doesn't refuse
-pub record IsOurRequest (e : CoreState) (m : Message) : Type 0 where
-  pub ours : message_refusal e m ≡ None
-  pub request : is_request m.kind ≡ true
-  pub message : IsMessage m
+pub record IsOurRequest (core : CoreState) (message : Message) : Type 0 where
+  pub ours : message_refusal core message ≡ None
+  pub request : is_request message.kind ≡ true
+  pub spelled : IsMessage message
 
 -- a reply that the core doesn't refuse
-pub record IsOurReply (e : CoreState) (m : Message) : Type 0 where
-  pub ours : message_refusal e m ≡ None
-  pub reply : is_request m.kind ≡ false
-  pub message : IsMessage m
+pub record IsOurReply (core : CoreState) (message : Message) : Type 0 where
+  pub ours : message_refusal core message ≡ None
+  pub reply : is_request message.kind ≡ false
+  pub spelled : IsMessage message
 
--- a request that is new in its slot ran, and its reply, or an Ack, is kept there
-pub record Runs (meaning : Meaning) (e : CoreState) (m : Message) (new : CoreState) : Type 0 where
-  pub message : IsMessage
-      (answer_message e (with_sender e.me m) (request_outcome meaning e (with_sender e.me m) (content_of m)))
-  pub kept : new ≡ (let o = request_outcome meaning e (with_sender e.me m) (content_of m) in
-      record (with_outcome e role.Request o) {
-        replies = with_reply e.replies m.from m.slot m.number (spelling (answer_message e (with_sender e.me m) o));
+-- the lock for which a message waits at the core, if any
+abbrev pub lock_at : CoreState → Message → Option ℕ
+lock_at core message = awaited_lock core.table (content_of message) core.locks
+
+-- a request that is new in its slot
+pub record IsNewRequest (core : CoreState) (message : Message) : Type 0 where
+  pub ours : IsOurRequest core message
+  pub new : JudgesAt core.replies message.from message.slot message.number New
+
+-- a reply to a request that isn't back
+pub record IsOpenReply (core : CoreState) (message : Message) : Type 0 where
+  pub ours : IsOurReply core message
+  pub taken : IsTakenAt core.requests message.from message.slot message.number
+
+-- what the run of a request of another node gives, after its payload landed
+abbrev pub delivered_outcome : Meaning → CoreState → Message → Outcome
+delivered_outcome meaning core message =
+    request_outcome meaning (landed_core core (content_of message)) (with_sender core.me message) (content_of message)
+
+-- a request that is new in its slot landed and ran, and its reply, or an Ack, is kept there
+pub record Runs (meaning : Meaning) (core : CoreState) (message : Message) (new : CoreState) : Type 0 where
+  pub spelled : IsMessage
+      (answer_message core (with_sender core.me message) (delivered_outcome meaning core message))
+  pub kept : new ≡ (let run = delivered_outcome meaning core message in
+      record (with_outcome (landed_core core (content_of message)) role.Request run) {
+        replies = with_reply core.replies message.from message.slot message.number
+            (spelling (answer_message core (with_sender core.me message) run));
       })
 
--- the core after a reply ran; an Ack runs no handler
+-- the core after a reply landed and ran; an Ack runs no handler
 abbrev pub with_reply_run : Meaning → CoreState → Message → CoreState
-with_reply_run meaning e m =
-    if is_ack (code m.kind) then e
-    else with_outcome e role.Reply (reply_outcome meaning e (with_sender e.me m) (content_of m))
+with_reply_run meaning core message =
+    if is_ack (code message.kind) then core
+    else with_reply_ran meaning core (with_sender core.me message) (content_of message)
+
+-- a reply whose handler can run: it isn't refused, it is no Ack, and it waits for no lock
+pub record CanRunReply (core : CoreState) (message : Message) : Type 0 where
+  pub ours : IsOurReply core message
+  pub runs : is_ack (code message.kind) ≡ false
+  pub free : lock_at core message ≡ None
 
 -- what a message that is delivered is answered, and what it leaves
 abbrev pub DeliversMessage : Meaning → CoreState → Message → Delivered → CoreState → Type 0
-DeliversMessage meaning e m (delivered.Ran at) new =
-    IsOurRequest e m × (at ≡ reply_slot m.from m.slot) × JudgesAt e.replies m.from m.slot m.number New × Runs meaning e
-    m new
-DeliversMessage meaning e m (delivered.Again at) new =
-    IsOurRequest e m × (at ≡ reply_slot m.from m.slot) × JudgesAt e.replies m.from m.slot m.number Again × (new ≡ e)
-DeliversMessage meaning e m delivered.Stale new =
-    IsOurRequest e m × JudgesAt e.replies m.from m.slot m.number Stale × (new ≡ e)
-DeliversMessage meaning e m (delivered.Returned to slot number) new =
-    IsOurReply e m × (to ≡ m.from) × (slot ≡ m.slot) × (number ≡ m.number) × IsTakenAt e.requests m.from m.slot m.number
-    × (new ≡ with_reply_run meaning (record e { requests = with_slot e.requests m.from m.slot Vacant }) m)
-DeliversMessage meaning e m delivered.Late new =
-    IsOurReply e m × (IsTakenAt e.requests m.from m.slot m.number → ⊥) × (new ≡ e)
-DeliversMessage meaning e m (delivered.Refused why) new = (message_refusal e m ≡ Some why) × (new ≡ e)
-DeliversMessage meaning e m (delivered.Deferred lock) new = ⊥
+DeliversMessage meaning core message (delivered.Ran at) new =
+    IsNewRequest core message × (at ≡ reply_slot message.from message.slot) × (lock_at core message ≡ None)
+    × Runs meaning core message new
+DeliversMessage meaning core message (delivered.Again at) new =
+    IsOurRequest core message × (at ≡ reply_slot message.from message.slot)
+    × JudgesAt core.replies message.from message.slot message.number Again × (new ≡ core)
+DeliversMessage meaning core message delivered.Stale new =
+    IsOurRequest core message × JudgesAt core.replies message.from message.slot message.number Stale × (new ≡ core)
+DeliversMessage meaning core message (delivered.Returned to slot number) new =
+    IsOpenReply core message × (to ≡ message.from) × (slot ≡ message.slot) × (number ≡ message.number)
+    × (lock_at core message ≡ None) × (new ≡ with_reply_run meaning
+    (record core { requests = with_slot core.requests message.from message.slot Vacant }) message)
+DeliversMessage meaning core message delivered.Late new =
+    IsOurReply core message × (IsTakenAt core.requests message.from message.slot message.number → ⊥) × (new ≡ core)
+DeliversMessage meaning core message (delivered.Refused why) new = (message_refusal core message ≡ Some why) × (new ≡ core)
+DeliversMessage meaning core message (delivered.Deferred lock) new =
+    (IsNewRequest core message ⊎ IsOpenReply core message) × (lock_at core message ≡ Some lock) × (new ≡ core)
 
 -- ---- ticks
 
 -- the request that is sent again, and what that leaves
 abbrev pub Resends : CoreState → (now : ℕ) → Option (ℕ × ℕ) → CoreState → Type 0
-Resends e now None new = IsDueNext e.requests now e.settings.resend None × (new ≡ e)
-Resends e now (Some at) new =
-    IsDueNext e.requests now e.settings.resend (Some at) ×
-    (new ≡ record e { requests = with_slot_changed e.requests at.0 at.1 (sent_again now) })
+Resends core now None new = IsDueNext core.requests now core.settings.resend None × (new ≡ core)
+Resends core now (Some at) new =
+    IsDueNext core.requests now core.settings.resend (Some at) ×
+    (new ≡ record core { requests = with_slot_changed core.requests at.0 at.1 (sent_again now) })
 
 -- ---- a request of a thread
 
 -- the first argument of a request that is bad
-abbrev pub short_fault : CoreState → (to : ℕ) → Content → Option Which
-short_fault e to c = if nat_le e.settings.nodes to then Some which.Node else content_fault e.table c
+abbrev pub asked_fault : CoreState → Ask → Option Which
+asked_fault core ask =
+    if nat_le core.settings.nodes ask.to then Some which.Node
+    else asking_fault core.settings core.table ask.what
+
+-- what a request says at the core
+abbrev pub said_at : CoreState → Ask → Content
+said_at core ask = said_in core.segment ask.what
 
 -- a request of a thread to another node, without the thread
-abbrev pub claim_of : Transition Ask AskedAnswer → Transition ContentFor AskedAnswer
-claim_of step = record {
+abbrev pub claim_of : CoreState → Transition Ask AskedAnswer → Transition ContentFor AskedAnswer
+claim_of core step = record {
   now = step.now;
-  event = record { to = step.event.to; content = said_of step.event.what };
+  event = record { to = step.event.to; content = said_at core step.event };
   answer = step.answer;
 }
 
--- a request with no fault: to the own node it runs at once, to another one it is claimed
+-- a request to the own node, by the lock for which it waits: with none it runs at once
+abbrev pub AsksOwn : Option ℕ → Meaning → CoreState → Transition Ask AskedAnswer → CoreState → Type 0
+AsksOwn (Some lock) meaning core step new = (step.answer ≡ asked.LockBusy lock) × (new ≡ core)
+AsksOwn None meaning core step new =
+    (step.answer ≡ asked.Ran) × (new ≡ with_own_run meaning core (said_at core step.event))
+
+-- a request with no fault: to the own node, or to another one, where it is claimed
 abbrev pub AsksNode : (is_own : Bool) → Meaning → CoreState → Transition Ask AskedAnswer → CoreState → Type 0
-AsksNode true meaning e step new =
-    (step.answer ≡ asked.Ran) × (new ≡ with_own_run meaning e (said_of step.event.what))
-AsksNode false meaning e step new = Claims e (claim_of step) new
+AsksNode true meaning core step new =
+    AsksOwn (busy_lock core.table step.event.what.handler core.locks) meaning core step new
+AsksNode false meaning core step new = Claims core (claim_of core step) new
 
 -- a request that the rule table allows: looked through, and then run or claimed
 abbrev pub AsksUnlessBad : Option Which → Meaning → CoreState → Transition Ask AskedAnswer → CoreState → Type 0
-AsksUnlessBad (Some part) meaning e step new = (step.answer ≡ asked.BadArg part) × (new ≡ e)
-AsksUnlessBad None meaning e step new = AsksNode (step.event.to == e.me) meaning e step new
+AsksUnlessBad (Some part) meaning core step new = (step.answer ≡ asked.BadArg part) × (new ≡ core)
+AsksUnlessBad None meaning core step new = AsksNode (step.event.to == core.me) meaning core step new
 
 -- a request of a thread that was judged
 abbrev pub AsksUnlessForbidden : Result (Unit {0}) Forbidden → Meaning → CoreState → Transition Ask AskedAnswer
     → CoreState → Type 0
-AsksUnlessForbidden (Err forbidden) meaning e step new =
-    (step.answer ≡ asked.Forbidden forbidden) × (new ≡ after_judgement e step.event.thread (Err forbidden))
-AsksUnlessForbidden (Ok allowed) meaning e step new =
-    AsksUnlessBad (short_fault e step.event.to (said_of step.event.what)) meaning e step new
+AsksUnlessForbidden (Err forbidden) meaning core step new =
+    (step.answer ≡ asked.Forbidden forbidden) × (new ≡ after_judgement core step.event.thread (Err forbidden))
+AsksUnlessForbidden (Ok allowed) meaning core step new =
+    AsksUnlessBad (asked_fault core step.event) meaning core step new
 
--- a Short request of a thread
-abbrev pub AsksShort : Meaning → CoreState → Transition Ask AskedAnswer → CoreState → Type 0
-AsksShort meaning e step new =
-    AsksUnlessForbidden (rule (Thread step.event.thread) false call.Request) meaning e step new
-
--- ---- messages as handlers find them
-
--- a message of the own node
-abbrev pub own_arrival : CoreState → Role → List ℤ → Arrival
-own_arrival e which args = record {
-  role = which;
-  me = e.me;
-  source = e.me;
-  slot = 0;
-  number = 0;
-  args = args;
-  payload = [];
-  place = None;
-}
-
--- a message of another node
-abbrev pub arrival : CoreState → Role → Message → Arrival
-arrival e which message = record {
-  role = which;
-  me = e.me;
-  source = message.from;
-  slot = message.slot;
-  number = message.number;
-  args = message.args;
-  payload = message.payload;
-  place = None;
-}
-
--- what the run of a handler gives at the core
-abbrev pub outcome_at : Meaning → CoreState → (handler : ℕ) → Arrival → Outcome
-outcome_at meaning e handler arrival =
-    let scene : Scene = record { settings = e.settings; table = e.table; arrival = arrival } in
-    closed scene (meaning handler scene (record { cells = e.cells }))
-
--- a handler ran at the core for a message, with this outcome, and sent this reply
-pub record RunsHere
-    (old : CoreState) (arrival : Arrival) (outcome : Outcome) (reply : Option Reply) (new : CoreState) : Type 0 where
-  pub left : new ≡ with_outcome old arrival.role outcome
-  pub reply_is : reply ≡ reply_after old.settings arrival outcome.reply
+-- a request of a thread
+abbrev pub AsksFor : Meaning → CoreState → Transition Ask AskedAnswer → CoreState → Type 0
+AsksFor meaning core step new =
+    AsksUnlessForbidden (judged_at core step.event.thread call.Request) meaning core step new

@@ -6,6 +6,8 @@ pub mod Stands
 pub mod CoreContracts
 pub mod Known
 pub mod FloorRuns
+pub mod AskedFor
 pub mod CoreStep
+pub mod Landed
 pub mod Sizes
 pub mod Lending

@@ -6,6 +6,7 @@ use Rattle.reply_slots.specs.State.{RepliesState}
 use Rattle.reply_slots.specs.State.{slot_count as reply_count}
 use Rattle.node_record.specs.declared.answer.Side.{Side}
 use Rattle.node_record.specs.SlotMessages.{slots_of}
+use Rattle.am_core.specs.CoreState.{CoreState}
 
 -- as many slots for each other node as its pair has credits, and none for the node itself
 pub record IsSized (settings : Parameters) (me : ℕ) (requests : SlotsState) (replies : RepliesState) : Type 0 where
@@ -18,6 +19,10 @@ pub record IsSized (settings : Parameters) (me : ℕ) (requests : SlotsState) (r
   pub kept_slots : (peer : ℕ) → peer < settings.nodes → peer ≢ me
       → reply_count replies peer ≡ credits_of settings peer me
   pub none_kept : reply_count replies me ≡ 0
+
+-- the segment is as long as the settings say
+abbrev pub HasSegment : CoreState → Type 0
+HasSegment core = length core.segment ≡ core.settings.segment
 
 -- these numbers, by node, are those of the slots of that side for each other node
 pub record AreSlots (settings : Parameters) (me : ℕ) (which : Side) (counts : List ℕ) : Type 0 where

@@ -8,46 +8,52 @@ use Rattle.handler_rules.specs.Logged.{log_of}
 use Rattle.node_record.specs.Record.{Request, Run, Node}
 use Rattle.node_record.specs.Requests.{open_in}
 use Rattle.node_record.specs.Executed.{last_run}
-use Rattle.am_core.specs.Kept.{Local, IsKept}
+use Rattle.am_core.specs.Kept.{Local, IsKept, segment_of}
 use Rattle.node_record.specs.Invariant.{NodeInvariant, request_message, reply_message}
 use Rattle.am_core.specs.CoreState.{CoreState}
 
 -- a slot of a peer, by the request of the slot that isn't back
 abbrev pub slot_state : Parameters → (me peer : ℕ) → Option (ℕ × Request) → SlotState
-slot_state s me peer None = Vacant
-slot_state s me peer (Some open_) = Sealed open_.0 open_.1.time (spelling (request_message s me peer open_.0 open_.1))
+slot_state settings me peer None = Vacant
+slot_state settings me peer (Some open_) =
+    Sealed open_.0 open_.1.time (spelling (request_message settings me peer open_.0 open_.1))
 
 -- a slot of a peer's requests, by the last run of the slot
 abbrev pub reply_state : Parameters → (me peer : ℕ) → Option Run → ReplyState
-reply_state s me peer None = Unused
-reply_state s me peer (Some r) = Kept r.number (spelling (reply_message s peer me r))
+reply_state settings me peer None = Unused
+reply_state settings me peer (Some run) = Kept run.number (spelling (reply_message settings peer me run))
 
-pub record StandsForAsked (s : Parameters) (me peer : ℕ) (p : PeerState) (xs : List Request) : Type 0 where
-  pub given : p.given ≡ length xs
-  pub count : length p.slots ≡ credits_of s me peer
-  pub slots : (slot : ℕ) → slot < credits_of s me peer
-      → slice_get p.slots slot ≡ Some (slot_state s me peer (open_in slot xs))
+pub record StandsForAsked (settings : Parameters) (me peer : ℕ) (kept : PeerState) (requests : List Request)
+    : Type 0 where
+  pub given : kept.given ≡ length requests
+  pub count : length kept.slots ≡ credits_of settings me peer
+  pub slots : (slot : ℕ) → slot < credits_of settings me peer
+      → slice_get kept.slots slot ≡ Some (slot_state settings me peer (open_in slot requests))
 
-pub record StandsForRan (s : Parameters) (me peer : ℕ) (p : List ReplyState) (rs : List Run) : Type 0 where
-  pub count : length p ≡ credits_of s peer me
-  pub slots : (slot : ℕ) → slot < credits_of s peer me
-      → slice_get p slot ≡ Some (reply_state s me peer (last_run slot rs))
+pub record StandsForRan (settings : Parameters) (me peer : ℕ) (kept : List ReplyState) (runs : List Run)
+    : Type 0 where
+  pub count : length kept ≡ credits_of settings peer me
+  pub slots : (slot : ℕ) → slot < credits_of settings peer me
+      → slice_get kept slot ≡ Some (reply_state settings me peer (last_run slot runs))
 
 -- what the core keeps is what the record of its node gives
-pub record Stands (e : CoreState) (r : Node Local) : Type 0 where
-  pub range : AreInRange e.settings
-  pub me_in : e.me < e.settings.nodes
-  pub invariant_ : NodeInvariant e.settings IsKept e.me r
-  pub last : e.requests.last ≡ e.settings.last
-  pub requests : (peer : ℕ) → peer < e.settings.nodes → peer ≢ e.me
-      → (p : PeerState) × (slice_get e.requests.peers peer ≡ Some p) × StandsForAsked e.settings e.me peer p
-      (r.asked peer)
+pub record Stands (core : CoreState) (node : Node Local) : Type 0 where
+  pub range : AreInRange core.settings
+  pub me_in : core.me < core.settings.nodes
+  pub invariant_ : NodeInvariant core.settings (IsKept core.settings) core.me node
+  pub last : core.requests.last ≡ core.settings.last
+  pub requests : (peer : ℕ) → peer < core.settings.nodes → peer ≢ core.me
+      → (kept : PeerState) × (slice_get core.requests.peers peer ≡ Some kept)
+      × StandsForAsked core.settings core.me peer kept (node.asked peer)
   -- it has no slot for requests to what is no other node
-  pub no_more : (peer slot : ℕ) → (peer < e.settings.nodes → peer ≡ e.me) → slot_at e.requests peer slot ≡ None
-  pub replies : (peer : ℕ) → peer < e.settings.nodes → peer ≢ e.me
-      → (p : List ReplyState) × (slice_get e.replies.peers peer ≡ Some p) × StandsForRan e.settings e.me peer p
-      (r.ran peer)
+  pub no_more : (peer slot : ℕ) → (peer < core.settings.nodes → peer ≡ core.me)
+      → slot_at core.requests peer slot ≡ None
+  pub replies : (peer : ℕ) → peer < core.settings.nodes → peer ≢ core.me
+      → (kept : List ReplyState) × (slice_get core.replies.peers peer ≡ Some kept)
+      × StandsForRan core.settings core.me peer kept (node.ran peer)
   -- it ran nothing of itself
-  pub own_ran : r.ran e.me ≡ []
-  pub cells_are : e.cells ≡ r.local.cells
-  pub log_is : e.log ≡ log_of r.local.violations
+  pub own_ran : node.ran core.me ≡ []
+  pub segment_is : core.segment ≡ segment_of core.settings node.local
+  pub locks_are : core.locks ≡ node.local.locks
+  pub cells_are : core.cells ≡ node.local.cells
+  pub log_is : core.log ≡ log_of node.local.violations

@@ -1,50 +1,54 @@
 //! What a core tells of a call or a message before it comes.
 
-ghost use Rattle.am_core.specs.ClientRules.{short_ask};
-ghost use Rattle.am_core.specs.Known.{Repeats, WouldAccept};
+ghost use Rattle.am_core.specs.AskedFor.{ask_of};
+ghost use Rattle.am_core.specs.Sizes.{HasSegment};
+ghost use Rattle.am_core.specs.Known.{IsLastRun, WouldAccept};
 
-use crate::answer::{Delivered, Side, SlotRef};
+use crate::answer::Side;
+use crate::asking::Asking;
 use crate::node::Core;
 use crate::slots::slots_of;
 use handler_rules::{CallKind, Context, allowed};
 use reply_slots::Judged;
 
 impl Core {
-    /// How a request of the node `from` that ran in this slot is answered when it comes again:
-    /// `Again` where it is the last one that ran there, else `Stale`. It changes nothing.
-    pub fn repeat(&self, from: u16, slot: u16, number: u64) -> Delivered
-        ensures { Repeats self.now from slot number result }
+    /// Whether a request of this number is the last one that ran in a slot of the node `from`: false where that is no other node,
+    /// or its pair has no such slot. It changes nothing.
+    pub fn is_last_run(&self, from: u16, slot: u16, number: u64) -> bool
+        ensures { IsLastRun self.now from slot number result }
     {
         if from >= self.settings.nodes() || from == self.me {
-            return Delivered::Stale;
+            return false;
         }
         if slot >= slots_of(&self.settings, self.me, Side::Reply, from) {
-            return Delivered::Stale;
+            return false;
         }
         match self.replies.judge(from, slot, number) {
-            Judged::Again => Delivered::Again(SlotRef {
-                side: Side::Reply,
-                peer: from,
-                slot,
-            }),
-            Judged::Stale => Delivered::Stale,
-            Judged::New => Delivered::Stale,
+            Judged::Again => true,
+            Judged::New => false,
+            Judged::Stale => false,
         }
     }
 
-    /// Whether a Short request of the thread would be accepted. It changes nothing.
-    pub fn would_accept_short(&self, thread: u16, to: u16, handler: u8, args: &[i32]) -> bool
-        ensures { WouldAccept self.now (short_ask thread to handler args.now) result }
+    /// Whether a request of a thread would be accepted. It changes nothing.
+    pub fn would_accept(&self, asking: &Asking<'_>) -> bool
+        requires { HasSegment self.now }
+        ensures { WouldAccept self.now (ask_of asking.now) result }
     {
-        if let Err(_) = allowed(Context::Thread(thread), false, CallKind::Request) {
+        if let Err(_) = allowed(
+            Context::Thread(asking.thread),
+            &self.locks,
+            false,
+            CallKind::Request,
+        ) {
             return false;
         }
-        if let Some(_) = self.bad_argument(to, handler, args) {
+        if let Some(_) = self.bad_argument(asking) {
             return false;
         }
-        if to == self.me || self.worn_out(to) {
+        if asking.to == self.me || self.worn_out(asking.to) {
             return false;
         }
-        self.free(to) > 0
+        self.free(asking.to) > 0
     }
 }

@@ -1,30 +1,39 @@
 //! One node's active messages.
 
-ghost use Rattle.std.specs.Prelude.{ℕ, ◌≡◌, ◌≢◌, ◌<◌, ◌-◌, nat_le, IfOk, length, option_copied};
+ghost use Rattle.std.specs.Prelude.{◌≤◌, ℕ, ◌≡◌, ◌≢◌, ◌<◌, ◌-◌, ◌∷◌, [], nat_le, IfOk, length, option_copied};
 ghost use Rattle.datagram_grammar.specs.Parameters.{credits_of};
 ghost use Rattle.handler_rules.specs.Logged.{log_of};
+ghost use Rattle.hsl_locks.specs.Locks.{lock_answer, unlock_answer};
 ghost use Rattle.handler_rules.specs.Runs.{Meaning};
 ghost use Rattle.node_record.specs.Record.{opening_node};
 ghost use Rattle.node_record.specs.Requests.{unreturned};
+ghost use Rattle.node_record.specs.Credits.{greatest_holding};
 ghost use Rattle.node_record.specs.Held.{held};
 ghost use Rattle.node_record.specs.SlotMessages.{message_at, number_at};
 ghost use Rattle.node_record.specs.NodeStep.{Asks, Does, Ticks, OfRequest, OfCall, OfTick};
-ghost use Rattle.am_core.specs.Kept.{nothing_done};
-ghost use Rattle.am_core.specs.ClientRules.{short_ask};
+ghost use Rattle.am_core.specs.AskedFor.{ask_of, payload_from};
+ghost use Rattle.am_core.specs.Kept.{nothing_done, segment_of};
+ghost use Rattle.am_core.specs.ClientRules.{asks_of, short_asking, medium_asking, long_asking};
+ghost use Rattle.am_core.specs.CoreStep.{judged_at, noting};
+ghost use Rattle.am_core.specs.Sizes.{HasSegment};
 ghost use Rattle.am_core.specs.Stands.{Stands};
-ghost use Rattle.am_core.specs.CoreContracts.{CoreSteps, Check, Delivers, ForItsRecord, resends};
+ghost use Rattle.am_core.specs.CoreContracts.{CoreSteps, Check, Lock, Unlock, Checked, Locked, Unlocked, Delivers};
+ghost use Rattle.am_core.specs.CoreContracts.{ForItsRecord, resends};
 
 use crate::answer::{Asked, Delivered, Side, SlotRef, Why};
+use crate::asking::{Asking, Category, Payload};
 use crate::slots::{slots_by_peer, slots_of};
 use credit_slots::{BUFFER_BYTES, CreditSlots};
 use datagram_grammar::{Settings, view};
-use handler_rules::{CallKind, Cells, Forbidden, Handlers, Log, Table};
+use handler_rules::{CallKind, Cells, Context, Fault, Forbidden, Handlers, Log, Table, Violation};
+use hsl_locks::{LockAnswer, Locks, Owner, UnlockAnswer};
+use raw_segment::Segment;
 use reply_slots::ReplySlots;
 use std::alloc::{AllocError, Global};
 use std::marker::Model;
 
 /// The active messages of one node (GASNet 1.8.1, core API): its requests that aren't back, the replies that it keeps, its
-/// handlers' cells, and the violations of the rules.
+/// segment, the handler-safe locks, the handlers' cells, and the violations of the rules.
 ///
 /// All memory is taken by `new`.
 #[derive(Drop)]
@@ -34,13 +43,19 @@ pub struct Core {
     pub(crate) table: Table,
     pub(crate) requests: CreditSlots,
     pub(crate) replies: ReplySlots,
+    pub(crate) segment: Segment,
+    pub(crate) locks: Locks,
     pub(crate) cells: Cells,
     pub(crate) log: Log,
+    // For a call on the own node: the payload of its request, and its reply.
+    pub(crate) lent: Vec<u8>,
     pub(crate) desk: Vec<u8>,
 }
 
 impl Model for Core {
-    ghost use Rattle.std.specs.Prelude.{◌≡◌, vec_len};
+    ghost use Rattle.std.specs.Prelude.{◌≡◌, false, vec_len};
+    ghost use Rattle.hsl_locks.specs.declared.answer.Owner.TheVariants.{Handler};
+    ghost use Rattle.hsl_locks.specs.Locks.{holds};
     ghost use Rattle.am_core.specs.CoreState.{CoreState};
     ghost use Rattle.am_core.specs.Sizes.{IsSized};
 
@@ -52,16 +67,20 @@ impl Model for Core {
       table = c.table;
       requests = c.requests;
       replies = c.replies;
+      segment = c.segment;
+      locks = c.locks;
       cells = c.cells;
       log = c.log;
     } };
 
     ghost invariant = { λ c.
-        IsSized c.settings c.me c.requests c.replies × (vec_len c.desk ≡ 8296) };
+        IsSized c.settings c.me c.requests c.replies × (vec_len c.desk ≡ 8296)
+        × (vec_len c.lent ≡ 8296) × (holds Handler c.locks ≡ false) };
 }
 
 impl Core {
-    /// The core of node `me`, which asked and ran nothing: 256 cells that are 0, and no violation. It keeps a copy of the table.
+    /// The core of node `me`, which asked and ran nothing: a segment of zeros, of the settings' length; all locks free; 256 cells
+    /// that are 0, and no violation. It keeps a copy of the table.
     ///
     /// It is refused for want of memory alone. After it no call on a core takes memory.
     pub fn new(
@@ -74,6 +93,7 @@ impl Core {
         ensures settings { IfOk result (λ core. core.settings ≡ settings.now) }
         ensures me_is { IfOk result (λ core. core.me ≡ me) }
         ensures table_is { IfOk result (λ core. core.table ≡ table.now) }
+        ensures segment { IfOk result (λ core. HasSegment core) }
         ensures stands { IfOk result (λ core. Stands core (opening_node nothing_done)) }
     {
         let nodes = settings.nodes() as usize;
@@ -85,21 +105,41 @@ impl Core {
             table: table.copy()?,
             requests: CreditSlots::new(alloc, &asked[..nodes], me, settings.last())?,
             replies: ReplySlots::new(alloc, &ran[..nodes], me)?,
+            segment: Segment::new(alloc, settings.segment() as usize)?,
+            locks: Locks::new(),
             cells: Cells::new(),
             log: Log::new(alloc)?,
+            lent: vec![in alloc; 0; BUFFER_BYTES]?,
             desk: vec![in alloc; 0; BUFFER_BYTES]?,
         })
     }
 
-    /// A Short request of a client's thread for a handler of a node, with its arguments (GASNet 1.8.1, core API,
-    /// `gasnet_AMRequestShort`).
+    /// A request of a client's thread for a handler of a node (GASNet 1.8.1, core API, active messages).
     ///
-    /// The answer is the first of these that applies: `Forbidden` by the rule table; `BadArg` with `Node` where `to` is no node,
-    /// with `Handler` where no handler of requests is registered for the index, with `Count` where there are more than 16
-    /// arguments; `Ran` for the own node, where the handler runs at once and then that of its reply; `WornOut` where the numbers of
-    /// the pair are used up; `NotYet` where all its credits are out; else `Accepted`. `now` is the time of its sending, in any
-    /// one unit. After a refusal the core stands for the same record, but that
-    /// `Forbidden` is noted as a violation.
+    /// The answer is the first of these that applies: `Forbidden` by the rule table, where the thread holds a handler-safe lock;
+    /// `BadArg` with `Node` where `to` is no node, with `Handler` where no handler of requests is registered for the index, with
+    /// `Count` where there are more than 16 arguments, with `Payload` where there are more than 8,192 bytes, with `Source` where
+    /// the payload is a range that passes the end of the own segment, with `Offset` where its place passes the end of the
+    /// target's; for the own node `LockBusy` with the smallest lock that a thread holds among those of the handler and of all
+    /// handlers of replies, else `Ran`, where the handler runs at once and then that of its reply; `WornOut` where the numbers of
+    /// the pair are used up; `NotYet` where all its credits are out; else `Accepted`. `now` is the time of its sending, in any one
+    /// unit. After a refusal the core stands for the same record, but that `Forbidden` is noted as a violation.
+    ///
+    /// The segment is as long as the settings say.
+    pub fn request<H: Handlers>(&mut self, handlers: &H, now: u64, asking: &Asking<'_>) -> Asked
+        requires { HasSegment self.old }
+        ensures { CoreSteps (H.meaning handlers.now) self.old
+            (record {
+              now = now;
+              event = Asks (ask_of asking.now);
+              answer = OfRequest result;
+            })
+            self.new }
+    {
+        self.ask(handlers, now, asking)
+    }
+
+    /// A Short request (GASNet 1.8.1, core API, `gasnet_AMRequestShort`), answered as `request` says.
     pub fn request_short<H: Handlers>(
         &mut self,
         handlers: &H,
@@ -109,24 +149,140 @@ impl Core {
         handler: u8,
         args: &[i32],
     ) -> Asked
+        requires { HasSegment self.old }
         ensures { CoreSteps (H.meaning handlers.now) self.old
             (record {
               now = now;
-              event = Asks (short_ask thread to handler args.now);
+              event = Asks (asks_of thread to (short_asking handler args.now));
               answer = OfRequest result;
             })
             self.new }
     {
-        self.short(handlers, now, thread, to, handler, args)
+        let asking = Asking {
+            thread,
+            to,
+            category: Category::Short,
+            handler,
+            args,
+            payload: Payload::Lent(&[]),
+            offset: 0,
+        };
+        self.request(handlers, now, &asking)
+    }
+
+    /// A Medium request (GASNet 1.8.1, core API, `gasnet_AMRequestMedium`), answered as `request` says: the handler sees the payload in
+    /// a buffer.
+    pub fn request_medium<H: Handlers>(
+        &mut self,
+        handlers: &H,
+        now: u64,
+        thread: u16,
+        to: u16,
+        handler: u8,
+        args: &[i32],
+        payload: Payload<'_>,
+    ) -> Asked
+        requires { HasSegment self.old }
+        ensures { CoreSteps (H.meaning handlers.now) self.old
+            (record {
+              now = now;
+              event = Asks (asks_of thread to (medium_asking handler args.now (payload_from payload.entry)));
+              answer = OfRequest result;
+            })
+            self.new }
+    {
+        let asking = Asking {
+            thread,
+            to,
+            category: Category::Medium,
+            handler,
+            args,
+            payload,
+            offset: 0,
+        };
+        self.request(handlers, now, &asking)
+    }
+
+    /// A Long request (GASNet 1.8.1, core API, `gasnet_AMRequestLong`), answered as `request` says: the payload goes to the target's
+    /// segment, from the byte `offset` on.
+    pub fn request_long<H: Handlers>(
+        &mut self,
+        handlers: &H,
+        now: u64,
+        thread: u16,
+        to: u16,
+        handler: u8,
+        args: &[i32],
+        payload: Payload<'_>,
+        offset: u64,
+    ) -> Asked
+        requires { HasSegment self.old }
+        ensures { CoreSteps (H.meaning handlers.now) self.old
+            (record {
+              now = now;
+              event = Asks (asks_of thread to (long_asking handler args.now (payload_from payload.entry) offset));
+              answer = OfRequest result;
+            })
+            self.new }
+    {
+        let asking = Asking {
+            thread,
+            to,
+            category: Category::Long,
+            handler,
+            args,
+            payload,
+            offset,
+        };
+        self.request(handlers, now, &asking)
+    }
+
+    /// A Long request whose payload might be read after the call (GASNet 1.8.1, core API, `gasnet_AMRequestLongAsync`); it is copied at
+    /// the call, as `request_long` does (profile).
+    pub fn request_long_async<H: Handlers>(
+        &mut self,
+        handlers: &H,
+        now: u64,
+        thread: u16,
+        to: u16,
+        handler: u8,
+        args: &[i32],
+        payload: Payload<'_>,
+        offset: u64,
+    ) -> Asked
+        requires { HasSegment self.old }
+        ensures { CoreSteps (H.meaning handlers.now) self.old
+            (record {
+              now = now;
+              event = Asks (asks_of thread to (long_asking handler args.now (payload_from payload.entry) offset));
+              answer = OfRequest result;
+            })
+            self.new }
+    {
+        let asking = Asking {
+            thread,
+            to,
+            category: Category::Long,
+            handler,
+            args,
+            payload,
+            offset,
+        };
+        self.request(handlers, now, &asking)
     }
 
     /// A datagram that was delivered: any bytes.
     ///
     /// The answer is the first of these that applies. `Refused`, with the first of the reasons in the order of `Why`. For a request
-    /// `Again` where its number is the last one run in its slot, `Stale` where it is less, else `Ran`: its handler ran, and its
-    /// reply is kept in that slot, or an Ack where the handler sent none. For a reply `Late` where no request that isn't back
-    /// has that node, slot and number, else `Returned`: its handler ran, if it is no Ack, and the credit came back.
+    /// `Again` where its number is the last one run in its slot, `Stale` where it is less, `Deferred` with the smallest lock that
+    /// a thread holds among those of its handler, else `Ran`: its handler ran, and its reply is kept in that slot, or an Ack where
+    /// the handler sent none. For a reply `Late` where no request that isn't back has that node, slot and number, `Deferred` as
+    /// for a request, else `Returned`: its handler ran, if it is no Ack, and the credit came back. The payload of a Long that runs
+    /// stands at its place of the segment before its handler runs; for any other answer nothing is written.
+    ///
+    /// The segment is as long as the settings say.
     pub fn deliver<H: Handlers>(&mut self, handlers: &H, bytes: &[u8]) -> Delivered
+        requires { HasSegment self.old }
         ensures { Delivers (H.meaning handlers.now) self.old bytes.now result self.new }
     {
         match view(bytes, self.settings.version()) {
@@ -152,14 +308,66 @@ impl Core {
 
     /// Judges a call of a thread by the rule table; where it is forbidden, a violation is noted.
     pub fn check(&mut self, thread: u16, call: CallKind) -> Result<(), Forbidden>
-        ensures { (meaning : Meaning) (now : ℕ) → CoreSteps meaning self.old
+        ensures judged { result ≡ judged_at self.old thread call }
+        ensures steps { (meaning : Meaning) (now : ℕ) → CoreSteps meaning self.old
             (record {
               now = now;
               event = Does thread (Check call);
-              answer = OfCall result;
+              answer = OfCall (Checked result);
             }) self.new }
     {
         self.judge(thread, call)
+    }
+
+    /// Takes a handler-safe lock for a thread (GASNet 1.8.1, core API, `gasnet_hsl_trylock`; `gasnet_hsl_lock` tries again where it
+    /// is held).
+    ///
+    /// `Refused` with `BadIndex` exactly where `lock` is 64 or more, then with `Recursive` where the thread holds it; these are
+    /// noted as violations. `Held` where another thread does; else `Taken`.
+    pub fn lock(&mut self, thread: u16, lock: u8) -> LockAnswer
+        ensures answer { result ≡ lock_answer self.old.locks (Owner.Thread thread) lock 0 }
+        ensures steps { (meaning : Meaning) (now : ℕ) → CoreSteps meaning self.old
+            (record {
+              now = now;
+              event = Does thread (Lock lock);
+              answer = OfCall (Locked result);
+            }) self.new }
+    {
+        let answer = self.locks.lock(Owner::Thread(thread), lock, 0);
+        if let LockAnswer::Refused(fault) = answer {
+            self.note(thread, Fault::Lock(fault));
+        }
+        answer
+    }
+
+    /// Gives a handler-safe lock of a thread back (GASNet 1.8.1, core API, `gasnet_hsl_unlock`).
+    ///
+    /// `Refused` with `BadIndex` exactly where `lock` is 64 or more, then with `NotHeld` where the thread doesn't hold it, then
+    /// with `OutOfOrder` where it isn't the latest of its locks (profile); these are noted as violations. Else `Freed`.
+    pub fn unlock(&mut self, thread: u16, lock: u8) -> UnlockAnswer
+        ensures answer { result ≡ unlock_answer self.old.locks (Owner.Thread thread) lock }
+        ensures steps { (meaning : Meaning) (now : ℕ) → CoreSteps meaning self.old
+            (record {
+              now = now;
+              event = Does thread (Unlock lock);
+              answer = OfCall (Unlocked result);
+            }) self.new }
+    {
+        let answer = self.locks.unlock(Owner::Thread(thread), lock);
+        if let UnlockAnswer::Refused(fault) = answer {
+            self.note(thread, Fault::Lock(fault));
+        }
+        answer
+    }
+
+    /// Notes a violation of a thread.
+    fn note(&mut self, thread: u16, fault: Fault)
+        ensures { self.new ≡ noting self.old thread (fault ∷ []) }
+    {
+        self.log.note(Violation {
+            context: Context::Thread(thread),
+            fault,
+        });
     }
 }
 
@@ -199,9 +407,12 @@ impl Core {
         }
     }
 
-    /// How many message buffers are in use: one for each request that isn't back, and one for each slot with a reply.
+    /// How many message buffers are in use: one for each request that isn't back, and one for each slot with a reply; at most the
+    /// sum over the peers of the credits both ways.
     pub fn held(&self) -> usize
-        ensures { ForItsRecord self.now (λ node. result ≡ held self.now.settings self.now.me node) }
+        ensures is { ForItsRecord self.now (λ node. result ≡ held self.now.settings self.now.me node) }
+        ensures few { ForItsRecord self.now (λ node.
+            result ≤ greatest_holding self.now.settings self.now.me) }
     {
         self.requests.held() + self.replies.held()
     }
@@ -226,6 +437,23 @@ impl Core {
         self.requests.worn_out(to)
     }
 
+    /// The segment.
+    pub fn segment(&self) -> &Segment
+        ensures value { result.now ≡ self.now.segment }
+        ensures record_ { ForItsRecord self.now (λ node.
+            result.now ≡ segment_of self.now.settings node.local) }
+    {
+        &self.segment
+    }
+
+    /// The handler-safe locks.
+    pub fn locks(&self) -> &Locks
+        ensures value { result.now ≡ self.now.locks }
+        ensures record_ { ForItsRecord self.now (λ node. result.now ≡ node.local.locks) }
+    {
+        &self.locks
+    }
+
     /// The cells.
     pub fn cells(&self) -> &Cells
         ensures { ForItsRecord self.now (λ node. result.now ≡ node.local.cells) }
@@ -243,7 +471,18 @@ impl Core {
 
 impl Core {
     ghost use Rattle.std.specs.Borrow.{sem, Lends};
-    ghost use Rattle.am_core.specs.Lending.{core_row, cells_row, with_cells};
+    ghost use Rattle.raw_segment.specs.Lending.{segment_row};
+    ghost use Rattle.am_core.specs.Lending.{core_row, cells_row, with_cells, with_segment};
+
+    /// The segment, to be written: the core is then as it was, with the bytes that were written. Whoever writes leaves its length,
+    /// which the requests and `deliver` need.
+    pub fn segment_mut(&mut self) -> &mut Segment
+        ensures* writes_back { sem 𝓛 (Lends core_row segment_row self.entry result
+            (with_segment self.old)) }
+        ensures value { result.now ≡ self.old.segment }
+    {
+        &mut self.segment
+    }
 
     /// The cells, to be written: the core is then as it was, with the cells that were written.
     pub fn cells_mut(&mut self) -> &mut Cells

@@ -1,72 +1,70 @@
 //! What the calls of a core do, part by part.
 
-ghost use Rattle.std.specs.Prelude.{◌≡◌, ◌≢◌, ◌<◌, ◌≤◌, false, length};
-ghost use Rattle.datagram_grammar.specs.Message.{IsMessage};
-ghost use Rattle.datagram_grammar.specs.Content.{content_of, short_request};
+ghost use Rattle.std.specs.Prelude.{◌≡◌, ◌≢◌, ◌<◌, ◌≤◌, ◌+◌, length, IfNone, None};
+ghost use Rattle.datagram_grammar.specs.Content.{IsMessage, content_of};
 ghost use Rattle.datagram_grammar.specs.Reading.{viewed_message};
 ghost use Rattle.node_record.specs.Step.{slots_for, with_sender};
-ghost use Rattle.handler_rules.specs.Rules.{rule};
 ghost use Rattle.handler_rules.specs.Desks.{arrival_of};
-ghost use Rattle.handler_rules.specs.declared.rules.Context.TheVariants as context;
 ghost use Rattle.handler_rules.specs.declared.rules.Role.TheVariants as role;
 ghost use Rattle.reply_slots.specs.State.{JudgesAt};
 ghost use Rattle.reply_slots.specs.declared.Judged.TheVariants as judged;
-ghost use Rattle.am_core.specs.CoreStep.{AsksShort, Claims, DeliversMessage, IsOurRequest};
-ghost use Rattle.am_core.specs.CoreStep.{IsOurReply};
-ghost use Rattle.am_core.specs.CoreStep.{Runs, RunsHere, Resends, own_arrival, arrival, outcome_at};
-ghost use Rattle.am_core.specs.ClientRules.{short_ask};
-ghost use Rattle.am_core.specs.CoreStep.{after_judgement};
-ghost use Rattle.am_core.specs.CoreStep.{message_refusal, reply_outcome, short_fault, with_outcome};
-ghost use Rattle.am_core.specs.CoreStep.{with_own_run};
+ghost use Rattle.am_core.specs.AskedFor.{ask_of, asking_of, content_asked, content_with};
+ghost use Rattle.raw_segment.specs.Bytes.{part};
+ghost use Rattle.am_core.specs.ClientRules.{IsFine, busy_lock, content_refusal};
+ghost use Rattle.am_core.specs.CoreStep.{AsksFor, Claims, DeliversMessage, IsOurRequest, IsOurReply};
+ghost use Rattle.am_core.specs.CoreStep.{IsNewRequest, Runs, Resends, after_judgement, judged_at};
+ghost use Rattle.am_core.specs.CoreStep.{CanRunReply, asked_fault, claim_of, lock_at, message_refusal, with_own_run};
+ghost use Rattle.am_core.specs.CoreStep.{with_reply_ran};
+ghost use Rattle.am_core.specs.HandlerRuns.{arrival_in};
+ghost use Rattle.am_core.specs.Sizes.{HasSegment};
 
 use crate::answer::{Asked, Delivered, Side, SlotRef, Why};
 use crate::arguments::arguments;
-use crate::floor::Floor;
+use crate::asking::{Asking, Category, Payload};
+use crate::floor::{Floor, listed_for};
+use crate::landing::{land, lend_own};
 use crate::node::Core;
+use crate::own::place_asked;
 use crate::sealing::ask;
 use crate::slots::slots_of;
 use credit_slots::NoClaim;
 use datagram_grammar::{Address, Kind, View};
 use handler_rules::{
-    CallKind, Context, Fault, Forbidden, Handlers, Incoming, Reply, Role, Violation, Which, allowed,
+    CallKind, Context, Fault, Forbidden, Handlers, Incoming, Role, Violation, Which, allowed,
 };
 use reply_slots::Judged;
 
 impl Core {
-    /// A Short request of a thread.
-    pub(crate) fn short<H: Handlers>(
-        &mut self,
-        handlers: &H,
-        now: u64,
-        thread: u16,
-        to: u16,
-        handler: u8,
-        args: &[i32],
-    ) -> Asked
-        ensures { AsksShort (H.meaning handlers.now) self.old
-            (record { now = now; event = short_ask thread to handler args.now; answer = result })
+    /// A request of a thread.
+    pub(crate) fn ask<H: Handlers>(&mut self, handlers: &H, now: u64, asking: &Asking<'_>) -> Asked
+        requires { HasSegment self.old }
+        ensures { AsksFor (H.meaning handlers.now) self.old
+            (record { now = now; event = ask_of asking.now; answer = result })
             self.new }
     {
-        if let Err(forbidden) = self.judge(thread, CallKind::Request) {
+        if let Err(forbidden) = self.judge(asking.thread, CallKind::Request) {
             return Asked::Forbidden(forbidden);
         }
-        if let Some(which) = self.bad_argument(to, handler, args) {
+        if let Some(which) = self.bad_argument(asking) {
             return Asked::BadArg(which);
         }
-        if to == self.me {
-            self.run_here(handlers, handler, args);
-            return Asked::Ran;
+        if asking.to != self.me {
+            return self.claim(now, asking);
         }
-        self.claim_short(now, to, handler, args)
+        if let Some(lock) = self.busy(asking.handler) {
+            return Asked::LockBusy(lock);
+        }
+        self.run_here(handlers, asking);
+        Asked::Ran
     }
 
     /// Judges a call of a thread; where it is forbidden, a violation is noted.
     pub(crate) fn judge(&mut self, thread: u16, call: CallKind) -> Result<(), Forbidden>
-        ensures judged { result ≡ rule (context.Thread thread) false call }
+        ensures judged { result ≡ judged_at self.old thread call }
         ensures noted { self.new ≡ after_judgement self.old thread result }
     {
         let context = Context::Thread(thread);
-        let judged = allowed(context, false, call);
+        let judged = allowed(context, &self.locks, false, call);
         if let Err(forbidden) = judged {
             self.log.note(Violation {
                 context,
@@ -76,89 +74,113 @@ impl Core {
         judged
     }
 
-    /// The first argument of a Short request that is bad.
-    pub(crate) fn bad_argument(&self, to: u16, handler: u8, args: &[i32]) -> Option<Which>
-        ensures { result ≡ short_fault self.now to (short_request handler args.now) }
+    /// The first argument of a request that is bad.
+    pub(crate) fn bad_argument(&self, asking: &Asking<'_>) -> Option<Which>
+        requires { HasSegment self.now }
+        ensures first { result ≡ asked_fault self.now (ask_of asking.now) }
+        ensures fine { IfNone result (IsFine (length self.now.segment) (asking_of asking.now)) }
     {
-        if to >= self.settings.nodes() {
+        if asking.to >= self.settings.nodes() {
             return Some(Which::Node);
         }
-        if !self.table.has(Role::Request, handler) {
+        if !self.table.has(Role::Request, asking.handler) {
             return Some(Which::Handler);
         }
-        if args.len() > 16 {
+        if asking.args.len() > 16 {
             return Some(Which::Count);
+        }
+        if asking.category == Category::Short {
+            return None;
+        }
+        let len = asking.payload.len();
+        if len > 8192 {
+            return Some(Which::Payload);
+        }
+        if let Payload::Own { offset, len } = asking.payload {
+            if !self.segment.contains(offset, len) {
+                return Some(Which::Source);
+            }
+        }
+        if asking.category == Category::Long && !self.segment.contains(asking.offset, len) {
+            return Some(Which::Offset);
         }
         None
     }
 
-    /// A Short request to the own node: its handler runs, and then that of its reply where it sent one.
-    fn run_here<H: Handlers>(&mut self, handlers: &H, handler: u8, args: &[i32])
-        requires { length args.now ≤ 16 }
-        ensures { self.new ≡ with_own_run (H.meaning handlers.now) self.old
-            (short_request handler args.now) }
+    /// The smallest lock that a thread holds among those of the handler of this index and of all handlers of replies.
+    fn busy(&self, handler: u8) -> Option<u8>
+        ensures { result ≡ busy_lock self.now.table handler self.now.locks }
     {
-        let request = self.own_message(Role::Request, args);
-        let Some(reply) = self.run_handler(handlers, handler, request) else {
-            return;
-        };
-        let taken = self.own_message(Role::Reply, &reply.args[..reply.count as usize]);
-        let _ = self.run_handler(handlers, reply.handler, taken);
+        self.locks.blocked(listed_for(&self.table, handler) | self.table.reply_locks())
     }
 
-    /// A message of the own node, without a payload.
-    fn own_message<'a>(&self, role: Role, args: &'a [i32]) -> Incoming<'a>
-        ensures { arrival_of result ≡ own_arrival self.now role args.now }
+    /// A request to the own node: its handler runs, and then that of its reply where it sent one.
+    fn run_here<H: Handlers>(&mut self, handlers: &H, asking: &Asking<'_>)
+        requires segment { HasSegment self.old }
+        requires fine { IsFine (length self.old.segment) (asking_of asking.now) }
+        requires free { busy_lock self.old.table asking.now.handler self.old.locks ≡ None }
+        ensures { self.new ≡ with_own_run (H.meaning handlers.now) self.old
+            (content_asked self.old.segment asking.now) }
     {
-        Incoming {
-            role,
+        let shown = lend_own(&mut self.segment, &mut self.lent, asking);
+        let listed = listed_for(&self.table, asking.handler);
+        let request = Incoming {
+            role: Role::Request,
             me: self.me,
             source: self.me,
             slot: 0,
             number: 0,
-            args,
-            payload: &[],
-            place: None,
-        }
-    }
-
-    /// Runs the handler of this index for a message, at the core's own desk; its reply, where it sent one.
-    fn run_handler<H: Handlers>(
-        &mut self,
-        handlers: &H,
-        handler: u8,
-        message: Incoming<'_>,
-    ) -> Option<Reply>
-        requires few { length message.args.now ≤ 16 }
-        requires numbered { message.role ≡ role.Request → message.source ≢ message.me
-            → 1 ≤ message.number }
-        ensures { let arrival = arrival_of message.entry in
-            RunsHere self.old arrival (outcome_at (H.meaning handlers.now) self.old handler arrival)
-            result self.new }
-    {
+            args: asking.args,
+            payload: &self.lent[..shown],
+            place: place_asked(asking),
+        };
         let floor = Floor {
             cells: &mut self.cells,
+            segment: &mut self.segment,
+            locks: &mut self.locks,
             log: &mut self.log,
             settings: &self.settings,
             table: &self.table,
+            listed,
         };
-        floor.run(handlers, handler, message, &mut self.desk)
+        floor.run_own(handlers, asking.handler, request, &mut self.desk);
     }
 
-    /// A Short request to another node.
-    fn claim_short(&mut self, now: u64, to: u16, handler: u8, args: &[i32]) -> Asked
-        requires node { to < self.old.settings.nodes }
-        requires other { to ≢ self.old.me }
-        requires handler { 1 ≤ handler }
-        requires count { length args.now ≤ 16 }
+    /// A request to another node.
+    fn claim(&mut self, now: u64, asking: &Asking<'_>) -> Asked
+        requires node { asking.now.to < self.old.settings.nodes }
+        requires other { asking.now.to ≢ self.old.me }
+        requires fine { IsFine (length self.old.segment) (asking_of asking.now) }
+        ensures { Claims self.old
+            (claim_of self.old (record { now = now; event = ask_of asking.now; answer = result }))
+            self.new }
+    {
+        match (asking.category, asking.payload) {
+            (Category::Short, _) => self.claim_lent(now, asking, &[]),
+            (_, Payload::Lent(bytes)) => self.claim_lent(now, asking, bytes),
+            (_, Payload::Own { offset, len }) => self.claim_own(now, asking, offset, len),
+        }
+    }
+
+    /// A request to another node with this payload, which is written straight into its slot.
+    fn claim_lent(&mut self, now: u64, asking: &Asking<'_>, payload: &[u8]) -> Asked
+        requires node { asking.now.to < self.old.settings.nodes }
+        requires other { asking.now.to ≢ self.old.me }
+        requires handler { 1 ≤ asking.now.handler }
+        requires count { length asking.now.args.now ≤ 16 }
+        requires payload { length payload.now ≤ 8192 }
         ensures { Claims self.old
             (record {
               now = now;
-              event = record { to = to; content = short_request handler args.now };
+              event = record {
+                to = asking.now.to;
+                content = content_with asking.now payload.now;
+              };
               answer = result;
             })
             self.new }
     {
+        let to = asking.to;
         let way = Address {
             version: self.settings.version(),
             job: self.settings.job(),
@@ -167,7 +189,45 @@ impl Core {
             slot: 0,
             number: 0,
         };
-        match ask(&mut self.requests, way, now, handler, args) {
+        match ask(&mut self.requests, way, now, asking, payload) {
+            Ok((slot, number)) => Asked::Accepted { to, slot, number },
+            Err(NoClaim::WornOut) => Asked::WornOut,
+            Err(NoClaim::NotYet) => Asked::NotYet,
+        }
+    }
+
+    /// A request to another node with a range of the own segment as its payload, which is written straight into its slot.
+    fn claim_own(&mut self, now: u64, asking: &Asking<'_>, offset: u64, len: u64) -> Asked
+        requires node { asking.now.to < self.old.settings.nodes }
+        requires other { asking.now.to ≢ self.old.me }
+        requires handler { 1 ≤ asking.now.handler }
+        requires count { length asking.now.args.now ≤ 16 }
+        requires payload { len ≤ 8192 }
+        requires source { offset + len ≤ length self.old.segment }
+        ensures { Claims self.old
+            (record {
+              now = now;
+              event = record {
+                to = asking.now.to;
+                content = content_with asking.now (part self.old.segment offset len);
+              };
+              answer = result;
+            })
+            self.new }
+    {
+        let to = asking.to;
+        let way = Address {
+            version: self.settings.version(),
+            job: self.settings.job(),
+            from: self.me,
+            to,
+            slot: 0,
+            number: 0,
+        };
+        let Some(payload) = self.segment.part(offset, len) else {
+            unreachable!();
+        };
+        match ask(&mut self.requests, way, now, asking, payload) {
             Ok((slot, number)) => Asked::Accepted { to, slot, number },
             Err(NoClaim::WornOut) => Asked::WornOut,
             Err(NoClaim::NotYet) => Asked::NotYet,
@@ -178,7 +238,8 @@ impl Core {
 impl Core {
     /// A message that was delivered.
     pub(crate) fn receive<H: Handlers>(&mut self, handlers: &H, message: &View<'_>) -> Delivered
-        requires { IsMessage (viewed_message message.now) }
+        requires segment { HasSegment self.old }
+        requires message { IsMessage (viewed_message message.now) }
         ensures { DeliversMessage (H.meaning handlers.now) self.old
             (viewed_message message.now) result self.new }
     {
@@ -197,7 +258,8 @@ impl Core {
 
     /// Why a message is refused.
     fn refusal(&self, message: &View<'_>) -> Option<Why>
-        requires { IsMessage (viewed_message message.now) }
+        requires segment { HasSegment self.now }
+        requires message { IsMessage (viewed_message message.now) }
         ensures { result ≡ message_refusal self.now (viewed_message message.now) }
     {
         if message.job != self.settings.job() {
@@ -212,6 +274,16 @@ impl Core {
         if message.slot >= self.slots_for(message) {
             return Some(Why::Slot);
         }
+        self.content_refusal(message)
+    }
+
+    /// Why what a message says is refused.
+    fn content_refusal(&self, message: &View<'_>) -> Option<Why>
+        requires segment { HasSegment self.now }
+        requires message { IsMessage (viewed_message message.now) }
+        ensures { result ≡ content_refusal self.now.settings self.now.table
+            (content_of (viewed_message message.now)) }
+    {
         let is_handled = match message.kind {
             Kind::Ack => true,
             Kind::ShortRequest | Kind::MediumRequest | Kind::LongRequest => {
@@ -221,7 +293,16 @@ impl Core {
                 self.table.has(Role::Reply, message.handler)
             }
         };
-        if is_handled { None } else { Some(Why::Handler) }
+        if !is_handled {
+            return Some(Why::Handler);
+        }
+        let len = message.payload.len() as u64;
+        match message.kind {
+            Kind::LongRequest | Kind::LongReply if !self.segment.contains(message.offset, len) => {
+                Some(Why::Range)
+            }
+            _ => None,
+        }
     }
 
     /// How many slots the pair has on which a message goes.
@@ -236,9 +317,20 @@ impl Core {
         slots_of(&self.settings, self.me, side, message.from)
     }
 
-    /// A request that was delivered: unless it ran before, its handler runs, and its reply is kept.
+    /// The smallest lock that a thread holds among those that the handler of a message may take; none for an Ack.
+    fn awaited(&self, message: &View<'_>) -> Option<u8>
+        ensures { result ≡ lock_at self.now (viewed_message message.now) }
+    {
+        if message.kind == Kind::Ack {
+            return None;
+        }
+        self.locks.blocked(listed_for(&self.table, message.handler))
+    }
+
+    /// A request that was delivered: unless it ran before, or waits for a lock, its handler runs, and its reply is kept.
     fn run<H: Handlers>(&mut self, handlers: &H, message: &View<'_>) -> Delivered
-        requires { IsOurRequest self.old (viewed_message message.now) }
+        requires segment { HasSegment self.old }
+        requires ours { IsOurRequest self.old (viewed_message message.now) }
         ensures { DeliversMessage (H.meaning handlers.now) self.old
             (viewed_message message.now) result self.new }
     {
@@ -253,32 +345,41 @@ impl Core {
         {
             Judged::Again => Delivered::Again(at),
             Judged::Stale => Delivered::Stale,
-            Judged::New => {
-                self.run_new(handlers, message);
-                Delivered::Ran(at)
-            }
+            Judged::New => match self.awaited(message) {
+                Some(lock) => Delivered::Deferred(lock),
+                None => {
+                    self.run_new(handlers, message);
+                    Delivered::Ran(at)
+                }
+            },
         }
     }
 
     /// Runs a request whose number is greater than the last one of its slot, and keeps its reply there.
     fn run_new<H: Handlers>(&mut self, handlers: &H, message: &View<'_>)
-        requires ours { IsOurRequest self.old (viewed_message message.now) }
-        requires new { JudgesAt self.old.replies message.now.from message.now.slot
-            message.now.number judged.New }
+        requires segment { HasSegment self.old }
+        requires new { IsNewRequest self.old (viewed_message message.now) }
+        requires free { lock_at self.old (viewed_message message.now) ≡ None }
         ensures { Runs (H.meaning handlers.now) self.old (viewed_message message.now) self.new }
     {
         let (args, count) = arguments(message);
+        let listed = listed_for(&self.table, message.handler);
         let incoming = self.received(Role::Request, message, &args[..count], message.payload);
+        land(&mut self.segment, message);
         let floor = Floor {
             cells: &mut self.cells,
+            segment: &mut self.segment,
+            locks: &mut self.locks,
             log: &mut self.log,
             settings: &self.settings,
             table: &self.table,
+            listed,
         };
         floor.answer(handlers, message.handler, incoming, &mut self.replies);
     }
 
-    /// A message of another node, with these as its arguments and its payload.
+    /// A message of another node, with these as its arguments. Its payload, where it isn't a Long's, is lent out of the bytes that
+    /// were delivered.
     fn received<'a>(
         &self,
         role: Role,
@@ -288,8 +389,17 @@ impl Core {
     ) -> Incoming<'a>
         requires args { args.now ≡ (viewed_message message.now).args }
         requires payload { payload.now ≡ message.now.payload.now }
-        ensures { arrival_of result ≡ arrival self.now role (viewed_message message.now) }
+        ensures { arrival_of result ≡ arrival_in role
+            (with_sender self.now.me (viewed_message message.now))
+            (content_of (viewed_message message.now)) }
     {
+        let (payload, place) = match message.kind {
+            Kind::LongRequest | Kind::LongReply => {
+                let none: &[u8] = &[];
+                (none, Some((message.offset, message.payload.len() as u64)))
+            }
+            _ => (payload, None),
+        };
         Incoming {
             role,
             me: self.me,
@@ -298,17 +408,26 @@ impl Core {
             number: message.number,
             args,
             payload,
-            place: None,
+            place,
         }
     }
 
-    /// A reply that was delivered: where its request isn't back, its handler runs, and the credit is back.
+    /// A reply that was delivered: where its request isn't back, and it waits for no lock, its handler runs, and the credit is
+    /// back.
     fn take<H: Handlers>(&mut self, handlers: &H, message: &View<'_>) -> Delivered
-        requires { IsOurReply self.old (viewed_message message.now) }
+        requires segment { HasSegment self.old }
+        requires ours { IsOurReply self.old (viewed_message message.now) }
         ensures { DeliversMessage (H.meaning handlers.now) self.old
             (viewed_message message.now) result self.new }
     {
         let (peer, slot, number) = (message.from, message.slot, message.number);
+        if let Some(lock) = self.awaited(message) {
+            return if self.requests.is_taken(peer, slot, number) {
+                Delivered::Deferred(lock)
+            } else {
+                Delivered::Late
+            };
+        }
         if !self.requests.take_back(peer, slot, number) {
             return Delivered::Late;
         }
@@ -323,16 +442,27 @@ impl Core {
     }
 
     /// Runs the handler of a reply.
-    fn run_reply<H: Handlers>(&mut self, handlers: &H, message: &View<'_>)
-        requires { IsMessage (viewed_message message.now) }
-        ensures { self.new ≡ with_outcome self.old role.Reply
-            (reply_outcome (H.meaning handlers.now) self.old
-            (with_sender self.old.me (viewed_message message.now))
-            (content_of (viewed_message message.now))) }
+    fn run_reply<H: Handlers>(&mut self, handlers: &H, reply: &View<'_>)
+        requires segment { HasSegment self.old }
+        requires reply { CanRunReply self.old (viewed_message reply.now) }
+        ensures { self.new ≡ with_reply_ran (H.meaning handlers.now) self.old
+            (with_sender self.old.me (viewed_message reply.now))
+            (content_of (viewed_message reply.now)) }
     {
-        let (args, count) = arguments(message);
-        let incoming = self.received(Role::Reply, message, &args[..count], message.payload);
-        let _ = self.run_handler(handlers, message.handler, incoming);
+        let (args, count) = arguments(reply);
+        let listed = listed_for(&self.table, reply.handler);
+        let incoming = self.received(Role::Reply, reply, &args[..count], reply.payload);
+        land(&mut self.segment, reply);
+        let floor = Floor {
+            cells: &mut self.cells,
+            segment: &mut self.segment,
+            locks: &mut self.locks,
+            log: &mut self.log,
+            settings: &self.settings,
+            table: &self.table,
+            listed,
+        };
+        let _ = floor.run(handlers, reply.handler, incoming, &mut self.desk);
     }
 
     /// Notes that the request which is due at `now` is sent again, and tells its node and slot.

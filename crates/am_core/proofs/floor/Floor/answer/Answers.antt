@@ -14,8 +14,7 @@ returns g c =
     let sealed = rw (← ran.len_is) at
     (reply_sealed _ _ _ c.place-place.ensures.placed ran.buffer_is (spelling_fits _ ran.message).buffer) in
     record {
-      cells_are = ran.cells_are;
-      log_is = ran.log_is;
+      left = ran.left;
       message = ran.message;
       replies_are = search
           (rules, sealed);

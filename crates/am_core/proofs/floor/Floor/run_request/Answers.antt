@@ -8,8 +8,7 @@ returns g c = elim c.match-run.branch [
       let ran = rw w.in-Some.is at c.run.ensures in
       let answered = answered_by_reply _ _ w.in-Some.reply _ _ c.requires.other ran in
       rw (w.buffer-is, w.result-is) (record {
-        cells_are = c.run.ensures.cells_are;
-        log_is = c.run.ensures.log_is;
+        left = c.run.ensures.left;
         message = answered.message;
         len_is = answered.len_is;
         buffer_is = answered.buffer_is;
@@ -24,8 +23,7 @@ returns g c = elim c.match-run.branch [
       let answered = answered_by_ack _ _ c.args.buffer.now c.run.new.buffer w.spell.new.buffer w.spell.result
       ran message len written in
       rw (w.buffer-is, w.result-is) (record {
-        cells_are = c.run.ensures.cells_are;
-        log_is = c.run.ensures.log_is;
+        left = c.run.ensures.left;
         message = answered.message;
         len_is = answered.len_is;
         buffer_is = answered.buffer_is;

@@ -34,6 +34,8 @@ invariant_of-result c =
           (sym c.nodes-nodes.ensures.nodes) c.slots_by_peer-ran.ensures)
           c.in_ok-new.field-0 c.in_ok-new-2.field-0 asked_new ran_new,
       search rules,
+      search rules,
+      search rules,
     )
 
 pub returns-clause-stands : goal.returns-clause-stands
@@ -58,6 +60,8 @@ returns-clause-stands c =
           subst (λ (n : ℕ). AreSlots s c.args.me side.Reply (take n c.slots_by_peer-ran.result))
           (sym c.nodes-nodes.ensures.nodes) c.slots_by_peer-ran.ensures;
       replies = ran_new;
+      segment_is = search rules;
+      locks_are = search rules;
       cells_are = search rules;
       log_is = search rules;
     })

@@ -1,0 +1,77 @@
+use Rattle.std.proofs.Common.{ap, take, ◌≡◌, ◌∙◌, refl, sym, subst, rules, length, None}
+use Rattle.std.proofs.lemmas.List.{with_items_is}
+use Rattle.hsl_locks.proofs.Laws.{unblocked_parts}
+use Rattle.handler_rules.specs.Registered.{reply_locks}
+use Rattle.am_core.specs.HandlerRuns.{listed_for}
+use Rattle.am_core.specs.AskedFor.{asking_of}
+use Rattle.am_core.specs.ClientRules.{IsFine, busy_lock, said_in}
+use Rattle.am_core.specs.CoreState.{CoreState}
+use Rattle.am_core.specs.CoreStep.{with_own_run}
+use Rattle.am_core.specs.FloorRuns.{FloorRun, RunsOwn, Touched}
+use Rattle.am_core.proofs.OwnRuns.{asked_inside, own_found, own_run_is, with_touched}
+use Rattle.am_core.proofs.node.Core.run_here.Goals as goal
+
+pub run_own-requires-clause-replies : goal.run_own-requires-clause-replies
+run_own-requires-clause-replies g c =
+    (unblocked_parts c.self.inside.locks (listed_for c.self.inside.table c.args.asking.now.handler)
+    (reply_locks c.self.inside.table) (subst
+    (λ (core : CoreState). busy_lock core.table c.args.asking.now.handler core.locks ≡ None) (sym c.self.view_is)
+    c.requires.free)).1
+
+pub run_own-requires-clause-ready : goal.run_own-requires-clause-ready
+run_own-requires-clause-ready g c =
+    let free = (unblocked_parts c.self.inside.locks (listed_for c.self.inside.table c.args.asking.now.handler)
+    (reply_locks c.self.inside.table) (subst
+    (λ (core : CoreState). busy_lock core.table c.args.asking.now.handler core.locks ≡ None) (sym c.self.view_is)
+    c.requires.free)).0 in
+    let fine = subst (λ (core : CoreState). IsFine (length core.segment) (asking_of c.args.asking.now))
+    (sym c.self.view_is) c.requires.fine in
+    let landed = c.lend_own-shown.ensures.landed in
+    record {
+      ready = record {
+        few = c.requires.fine.few;
+        room = λ is. search rules;
+        numbered = λ is other. absurd (other refl);
+      };
+      free = record { unblocked = rw c.listed_for-listed.ensures free; unheld = c.self.invariant.3 };
+      sized =
+          landed.same_length ∙ subst (λ (core : CoreState). length core.segment ≡ core.settings.segment)
+          (sym c.self.view_is) c.requires.segment;
+      placed =
+          rw (c.place_asked.ensures, landed.same_length) (asked_inside _ (asking_of c.args.asking.now) fine);
+    }
+
+pub returns : goal.returns
+returns g c =
+    let meaning = g.H.Handlers.meaning c.args.handlers.now in
+    let inside : CoreState = record {
+      settings = c.self.inside.settings;
+      me = c.self.inside.me;
+      table = c.self.inside.table;
+      requests = c.self.inside.requests;
+      replies = c.self.inside.replies;
+      segment = c.self.inside.segment;
+      locks = c.self.inside.locks;
+      cells = c.self.inside.cells;
+      log = c.self.inside.log;
+    } in
+    let after : Touched = record {
+      cells = c.run_own.new.self.0;
+      segment = c.run_own.new.self.1.0;
+      locks = c.run_own.new.self.1.1.0;
+      log = c.run_own.new.self.1.1.1.0;
+    } in
+    let asking = asking_of c.args.asking.now in
+    let fine : IsFine (length inside.segment) asking =
+    subst (λ (core : CoreState). IsFine (length core.segment) asking) (sym c.self.view_is) c.requires.fine in
+    let whole = with_items_is c.self.inside.lent c.lend_own-shown.new.buffer
+    (c.lend_own-shown.ensures.room ∙ sym c.self.invariant.2) in
+    subst
+    (λ (core : CoreState). with_touched inside after ≡ with_own_run meaning core (said_in core.segment asking))
+    c.self.view_is
+    (own_run_is meaning inside (said_in inside.segment asking) after
+    (subst (λ (run : FloorRun). RunsOwn meaning run after)
+    (own_found meaning inside asking c.listed_for-listed.result c.lend_own-shown.result
+    c.lend_own-shown.new.segment c.lend_own-shown.new.buffer (take c.lend_own-shown.result c.deref.result.now)
+    c.place_asked.result fine c.listed_for-listed.ensures c.lend_own-shown.ensures.landed
+    (ap (take c.lend_own-shown.result) (c.deref.ensures.value ∙ whole)) c.place_asked.ensures) c.run_own.ensures))
