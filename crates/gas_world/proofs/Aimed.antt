@@ -1,16 +1,24 @@
 -- Each event of a world, by where it falls.
-use Rattle.std.proofs.Common.{◌≡◌, ℕ, ◌+◌, ◌*◌, ◌<◌, Some, None, refl, sym, subst, subst₂}
+use Rattle.std.proofs.Common.{◌≡◌, ℕ, ◌+◌, ◌*◌, ◌<◌, Some, None, refl, sym, subst, subst₂, List, length, get_or, set}
+use Rattle.std.specs.List.{slice_get}
+use Rattle.std.proofs.lemmas.Option.{slice_get_read}
 use Rattle.datagram_grammar.specs.Parameters.{Parameters}
 use Rattle.handler_rules.specs.Runs.{Meaning, IsLawfulMeaning}
-use Rattle.plain_world.specs.World.{IsAmong}
-use Rattle.gas_world.specs.CallRules.{transition}
+use Rattle.plain_world.specs.World.{IsAmong, world_after}
+use Rattle.gas_world.specs.CallRules.{transition, timed}
 use Rattle.gas_world.specs.Worlds.{WorldState}
-use Rattle.gas_world.specs.Scenes.{Scene, is_to_other, SceneSteps, node_of}
-use Rattle.gas_world.specs.Events.{Steps, called_at, event_of}
+use Rattle.gas_world.specs.Scenes.{Scene, SceneSteps, node_of, ChangesOne, IsHeld}
+use Rattle.gas_world.specs.Called.{Meant, Requests, Performs, meant, event_at, is_to_other}
+use Rattle.gas_world.specs.Events.{Steps, event_of, job_in}
+use Rattle.gas_world.specs.Stands.{IsFounded, IsWhole}
+use Rattle.gas_world.specs.Endpoints.{EndpointState}
+use Rattle.gas_world.specs.Exchanged.{ExchangesState}
+use Rattle.gas_world.proofs.Scenes.{falls_at, pair_place}
+use Rattle.gas_world.proofs.Lodgings.{event_held}
+use Rattle.plain_world.specs.MostHeld.{most_then}
 use Rattle.gas_world.specs.Aims.{AimsAt}
+use Rattle.node_record.specs.Transition.{Transition}
 use Rattle.gas_world.specs.declared.world.Aim.{Aim}
-use Rattle.gas_world.specs.declared.event.Call.{Call}
-use Rattle.gas_world.specs.declared.event.Call.TheVariants as call
 use Rattle.gas_world.specs.declared.event.WorldEvent.{WorldEvent}
 use Rattle.gas_world.specs.declared.event.WorldEvent.TheVariants as world_event
 use Rattle.gas_world.specs.declared.event.WorldAnswer.{WorldAnswer}
@@ -20,12 +28,9 @@ use Rattle.gas_world.proofs.Asks.{tick_steps, call_falls}
 use Rattle.gas_world.proofs.Deliveries.{request_steps, reply_steps, own_request_steps, own_reply_steps}
 
 -- the node of a call is there
-caller_in : (s : Parameters) (node thread : ℕ) (k : Call) → IsAmong s (called_at node thread k) → node < s.nodes
-caller_in s node thread (call.Short to handler args) l = l
-caller_in s node thread call.Poll l = l
-caller_in s node thread (call.Attempt kind) l = l
-caller_in s node thread (call.Cell c) l = l
-caller_in s node thread (call.SetCell c value) l = l
+caller_in : (s : Parameters) (node thread : ℕ) (m : Meant) → IsAmong s (event_at node thread m) → node < s.nodes
+caller_in s node thread (Requests to asking) l = l
+caller_in s node thread (Performs call) l = l
 
 -- an event that falls somewhere does to the world what it does to its scene
 pub aimed_steps : (meaning : Meaning) (v z : WorldState) (now : ℕ) (e : WorldEvent) (aim : Aim) (a : WorldAnswer)
@@ -33,8 +38,8 @@ pub aimed_steps : (meaning : Meaning) (v z : WorldState) (now : ℕ) (e : WorldE
     → Falls v z aim.node (aim.from * v.settings.nodes + aim.to) old new
     → SceneSteps meaning v.endpoints old (transition now e a) new → Steps meaning v (transition now (event_of e) a) z
 aimed_steps meaning v z now (world_event.Call node thread k) aim a old new lawful among at F C =
-    call_falls meaning v z now node aim.to thread k a old new lawful (caller_in v.settings node thread k among)
-    (at.to_in (caller_in v.settings node thread k among)) at.to_is
+    call_falls meaning v z now node aim.to thread k a old new lawful (caller_in v.settings node thread (meant k) among)
+    (at.target.to_in (caller_in v.settings node thread (meant k) among)) at.target.to_is
     (subst₂ (λ n m. Falls v z n (m * v.settings.nodes + aim.to) old new) at.node_is at.from_is F)
     (is_to_other node k) refl C
 aimed_steps meaning v z now (world_event.Request i j k) aim a old new lawful among at F C =
@@ -62,10 +67,10 @@ unaimed_steps meaning v now (world_event.Tick i) at = absurd at
 pub aim_among : (s : Parameters) (e : WorldEvent) (aim : Aim) → IsAmong s (event_of e) → AimsAt s e (Some aim)
     → (aim.node < s.nodes) × (aim.from < s.nodes) × (aim.to < s.nodes)
 aim_among s (world_event.Call node thread k) aim among at =
-    let l = caller_in s node thread k among in (
+    let l = caller_in s node thread (meant k) among in (
       subst (λ n. n < s.nodes) (sym at.node_is) l,
       subst (λ n. n < s.nodes) (sym at.from_is) l,
-      at.to_in l,
+      at.target.to_in l,
     )
 aim_among s (world_event.Request i j k) aim among at = (
   subst (λ n. n < s.nodes) (sym at.1.node_is) among.1,
@@ -89,3 +94,78 @@ aims_node s (world_event.Call node thread k) aim at = sym at.node_is
 aims_node s (world_event.Request i j k) aim at = sym at.1.node_is
 aims_node s (world_event.Reply i j k) aim at = sym at.1.node_is
 aims_node s (world_event.Tick i) aim at = sym at.node_is
+
+-- what a world stands for after a step
+pub founded_after : (meaning : Meaning) (old new : WorldState) (now : ℕ) (e : WorldEvent) (a : WorldAnswer)
+    → IsFounded old → Steps meaning old (transition now (event_of e) a) new → IsFounded new
+founded_after meaning old new now e (world_answers.Node answer) F steps = record {
+  records = world_after (job_in meaning old) F.records (timed now (event_of e));
+  most = most_then old.settings (world_after (job_in meaning old) F.records (timed now (event_of e))) F.most;
+  stands = (steps F.records F.most F.stands).1;
+}
+founded_after meaning old new now e world_answers.Unsent F steps = record {
+  records = world_after (job_in meaning old) F.records (timed now (event_of e));
+  most = most_then old.settings (world_after (job_in meaning old) F.records (timed now (event_of e))) F.most;
+  stands = (steps F.records F.most F.stands).1;
+}
+founded_after meaning old new now e world_answers.NoMemory F steps = record {
+  records = F.records;
+  most = F.most;
+  stands = steps.1 F.records F.most F.stands;
+}
+
+-- ---- the world that is written where an event falls
+
+-- what stood where the event falls
+pub record Spot (world : WorldState) (aim : Aim) (node place : ℕ) (exchanges : ExchangesState) (most : ℕ) : Type 0 where
+  pub node_is : node ≡ aim.node
+  pub place_is : place ≡ aim.from * world.settings.nodes + aim.to
+  pub exchanges_were : exchanges ≡ get_or world.exchanges place exchanges
+  pub most_was : most ≡ get_or world.most node most
+
+-- what happened where it falls
+pub record Happened (meaning : Meaning) (inside : WorldState) (old : Scene) (step : Transition WorldEvent WorldAnswer)
+    (new : Scene) (aim : Aim) (node place : ℕ) : Type 0 where
+  pub aims : AimsAt inside.settings step.event (Some aim)
+  pub spot : Spot inside aim node place old.exchanges old.most
+  pub steps : SceneSteps meaning inside.endpoints old step new
+
+-- what the event does to its scene it does to the world
+pub recorded : (meaning : Meaning) (inside v z : WorldState) (now : ℕ) (e : WorldEvent) (aim : Aim) (a : WorldAnswer)
+    (ends : List EndpointState) (node place : ℕ) (old new : Scene) → IsLawfulMeaning meaning → inside ≡ v
+    → IsWhole inside → IsAmong v.settings (event_of e)
+    → Happened meaning inside old (transition now e a) new aim node place
+    → ChangesOne inside.endpoints ends node old.endpoint new.endpoint
+    → record {
+      settings = inside.settings;
+      table = inside.table;
+      endpoints = ends;
+      exchanges = set inside.exchanges place new.exchanges;
+      most = set inside.most node new.most;
+    } ≡ z
+    → Steps meaning v (transition now (event_of e) a) z
+recorded meaning inside v z now e aim a ends node place old new lawful view whole among it changes after =
+    let at : AimsAt v.settings e (Some aim) =
+    subst (λ (w : WorldState). AimsAt w.settings e (Some aim)) view it.aims in
+    let low = aim_among v.settings e aim among at in
+    let falls = falls_at inside.settings inside.table v z inside.endpoints ends inside.exchanges inside.most aim.from
+    aim.to aim.node node place old new view whole.sized low.1 low.2 low.0 it.spot.node_is it.spot.place_is changes
+    it.spot.exchanges_were it.spot.most_was after in
+    aimed_steps meaning v z now e aim a old new lawful among at falls
+    (subst (λ (w : WorldState). SceneSteps meaning w.endpoints old (transition now e a) new) view it.steps)
+
+-- the message that it delivers was held
+pub spot_held : (meaning : Meaning) (inside v : WorldState) (e : WorldEvent) (aim : Aim) (node place : ℕ)
+    (exchanges : ExchangesState) (most : ℕ) → IsLawfulMeaning meaning → inside ≡ v → IsWhole inside
+    → IsAmong v.settings (event_of e) → AimsAt inside.settings e (Some aim)
+    → Spot inside aim node place exchanges most → IsHeld inside.endpoints exchanges.list e
+spot_held meaning inside v e aim node place exchanges most lawful view whole among aims spot =
+    let inner : IsAmong inside.settings (event_of e) =
+    subst (λ (w : WorldState). IsAmong w.settings (event_of e)) (sym view) among in
+    let low = aim_among inside.settings e aim inner aims in
+    let within : place < length inside.exchanges = subst₂ (λ p l. p < l) (sym spot.place_is)
+    (sym whole.sized.exchanges_are) (pair_place inside.settings.nodes aim.from aim.to low.1 low.2) in
+    let pair = slice_get_read inside.exchanges (length inside.exchanges) place exchanges refl within
+    spot.exchanges_were in
+    event_held meaning inside whole.founded.records whole.founded.most e aim exchanges lawful whole.founded.stands
+    inner aims (subst (λ p. slice_get inside.exchanges p ≡ Some exchanges) spot.place_is pair)

@@ -1,7 +1,7 @@
 -- Each delivery of a message that was sent, by what it did to its scene.
 use Rattle.std.proofs.Common.{◌≡◌, ◌≢◌, inl, inr, ℕ, zero, suc, ◌+◌, ◌*◌, ◌<◌, ◌≤◌, Bool, true, false, true≢false}
 use Rattle.std.proofs.Common.{List, [], ◌∷◌, ◌++◌, Option, None, Some, refl, sym, ap, ◌∙◌, subst, subst₂, arith}
-use Rattle.std.specs.Prelude.{is_some, if◌then◌else◌}
+use Rattle.std.specs.Prelude.{is_some, if◌then◌else◌, ◌==◌, nat_lt, ◌&&◌, not}
 use Rattle.std.specs.List.{slice_get}
 use Rattle.std.proofs.lemmas.Bool.{and_parts, cases_Bool, cases_order, eq-eqb, ne_eqb, lt-ltb}
 use Rattle.datagram_grammar.specs.Parameters.{Parameters, credits_of}
@@ -26,7 +26,6 @@ use Rattle.node_record.proofs.Puts.{put_same, put_other}
 use Rattle.am_core.specs.Kept.{Local, IsKept}
 use Rattle.handler_rules.specs.Runs.{Meaning, IsLawfulMeaning}
 use Rattle.am_core.specs.ClientRules.{content_refusal}
-use Rattle.am_core.specs.Known.{repeated}
 use Rattle.plain_world.specs.World.{RequestComes, ReplyComes, request_event, reply_event}
 use Rattle.plain_world.specs.Invariant.{WorldInvariant}
 use Rattle.plain_world.proofs.Laws.{none_ran}
@@ -37,8 +36,8 @@ use Rattle.gas_world.specs.State.{with_ran, with_returned}
 use Rattle.gas_world.specs.Endpoints.{EndpointState}
 use Rattle.gas_world.specs.Worlds.{WorldState}
 use Rattle.gas_world.specs.Scenes.{Scene, ran_list, returned_list, request_letter, reply_letter}
-use Rattle.gas_world.specs.Scenes.{RequestFalls, RequestRuns, RequestRepeats, ReplyFalls, ReplyReturns, ReplyIsLate}
-use Rattle.gas_world.specs.Scenes.{IsEmptySlot}
+use Rattle.gas_world.specs.Scenes.{RequestFalls, RequestRuns, RequestRepeats, repeated}
+use Rattle.gas_world.specs.Scenes.{ReplyFalls, ReplyReturns, ReplyIsLate}
 use Rattle.gas_world.specs.Stands.{StandsForPair, Stands}
 use Rattle.gas_world.specs.Events.{Steps, job_in}
 use Rattle.gas_world.specs.declared.exchanges.Exchange.{Exchange}
@@ -50,17 +49,17 @@ use Rattle.gas_world.proofs.PairStands.{pair_ran, pair_returned, sent_is, none_s
 use Rattle.gas_world.proofs.Standing.{Falls, Sends, only_asked, only_ran, same_stands}
 use Rattle.gas_world.proofs.Events.{Stepped, Stepping, scene_node, scene_pair, scene_steps, event_steps, quiet_sends}
 use Rattle.gas_world.proofs.Events.{same_quiet, still_steps, nowhere_steps, most_raised, other_node, at_home}
-use Rattle.gas_world.proofs.Messages.{request_stands, run_says, run_stands, node_invariant, carried, not_empty}
+use Rattle.gas_world.proofs.Messages.{request_stands, run_says, run_stands, node_invariant, carried}
 
 -- ---- whether a request ran
 
 -- what didn't run has no run
-not_ran : (o : Option Run) → false ≡ is_some o → o ≡ None
+pub not_ran : (o : Option Run) → false ≡ is_some o → o ≡ None
 not_ran None e = refl
 not_ran (Some r) e = absurd (true≢false (sym e))
 
 -- what ran has one
-did_run : (o : Option Run) → true ≡ is_some o → (r : Run) × (o ≡ Some r)
+pub did_run : (o : Option Run) → true ≡ is_some o → (r : Run) × (o ≡ Some r)
 did_run None e = absurd (true≢false e)
 did_run (Some r) e = (r, refl)
 
@@ -69,8 +68,8 @@ no_run : {r : Run} → None ≡ Some r → ⊥
 no_run e = cc
 
 -- what didn't run isn't back
-not_back : (s : Parameters) (refuses : Content → Option Why) (w : Records) (i j k : ℕ) (x : Request)
-    → WorldInvariant s refuses IsKept w → numbered ((w i).asked j) k ≡ Some x → run_of k ((w j).ran i) ≡ None
+pub not_back : (s : Parameters) (refuses : Content → Option Why) (w : Records) (i j k : ℕ) (x : Request)
+    → WorldInvariant s refuses (IsKept s) w → numbered ((w i).asked j) k ≡ Some x → run_of k ((w j).ran i) ≡ None
     → x.back ≡ false
 not_back s refuses w i j k x holds at none = elim (cases_Bool x.back) [
   | inl back ↦ (let ran = (holds.pair i j).back_ran k x at back in absurd (no_run (sym none ∙ ran.1)))
@@ -140,19 +139,19 @@ first_steps : (meaning : Meaning) (v z : WorldState) (now i j k : ℕ) (x : Requ
     → i < v.settings.nodes → j < v.settings.nodes → i ≢ j → Falls v z j (i * v.settings.nodes + j) old new
     → slice_get v.endpoints i ≡ Some sender → numbered ((w i).asked j) k ≡ Some x
     → run_of k ((w j).ran i) ≡ None
-    → RequestRuns meaning sender x.slot old (transition now (request_letter i j k) answer) new
+    → RequestRuns meaning (record { sender = sender; slot = x.slot }) old (transition now (request_letter i j k) answer) new
     → Stepped meaning v now (RequestComes i j k) (world_answers.Node answer) z w most
 first_steps meaning v z now i j k x sender answer old new w most lawful S i_in j_in apart F lent sent none R =
     let s = v.settings in
     let m = request_message s i j k x in
     let at = other_node v w most i sender S lent i_in in
     let here = scene_node v z w most j (i * s.nodes + j) old new S F j_in in
-    let found = request_stands s (content_refusal v.table) w i j k x S.invariant_ apart sent
-    (not_back s (content_refusal v.table) w i j k x S.invariant_ sent none) in
+    let found = request_stands s (content_refusal s v.table) w i j k x S.invariant_ apart sent
+    (not_back s (content_refusal s v.table) w i j k x S.invariant_ sent none) in
     let fits = (node_invariant s v.table i sender (w i) at.0 at.1).asked j k x sent in
     let N = scene_steps meaning v z w most now j (i * s.nodes + j) (Comes m) answer old new S F j_in
     (carried s v.table i sender (w i) (request_slot j x.slot) m meaning old.endpoint now answer new.endpoint at.0 at.1
-    found fits (ap (λ (t : Parameters). t.version) (sym here.0.settings)) R.carries) in
+    found fits (ap (λ (t : Parameters). t.version) (sym here.0.settings_are)) R.carries) in
     let request = (and_parts _ _ ((S.invariant_.pair i j).well k x sent)).0 in
     event_steps meaning v z now (RequestComes i j k) j i j (Comes m) answer old new w most lawful S (i_in, j_in) j_in
     j_in F (ap (request_event s i j k) sent) N
@@ -162,7 +161,7 @@ first_steps meaning v z now i j k x sender answer old new w most lawful S i_in j
 
 -- a number that isn't above the greatest one is answered by the numbers alone, and changes nothing
 repeats_by : (site : Site Local) (r : Node Local) (m : Message) (top : ℕ) (lock : Option ℕ) → m.number ≤ top
-    → (answer_by site.behaviour m (judged m.number top lock) ≡ repeated m.from m.slot m.number top)
+    → (answer_by site.behaviour m (judged m.number top lock) ≡ repeated m.from m.slot (m.number == top))
     × (after_delivery site r m (judged m.number top lock) ≡ r)
 repeats_by site r m top lock low = elim (cases_order m.number top) [
   | inl same ↦ rw (eq-eqb m.number top same) (refl, refl)
@@ -171,6 +170,12 @@ repeats_by site r m top lock low = elim (cases_order m.number top) [
     | inr more ↦ absurd (omega (arith, low, more))
   ]
 ]
+
+-- a slot of another node is there
+in_range : (from me slot nodes credits : ℕ) (is_last : Bool) → from < nodes → from ≢ me → slot < credits
+    → ((nat_lt from nodes && not (from == me)) && (nat_lt slot credits && is_last)) ≡ is_last
+in_range from me slot nodes credits is_last low other below =
+    rw (lt-ltb from nodes low, ne_eqb from me other, lt-ltb slot credits below) refl
 
 -- one that ran
 again_steps : (meaning : Meaning) (v z : WorldState) (now i j k : ℕ) (x : Request) (t : Run) (answer : Answer)
@@ -186,18 +191,18 @@ again_steps meaning v z now i j k x t answer old new w most lawful S i_in j_in a
     let rs = (w j).ran i in
     let top = greatest x.slot rs in
     let P = S.invariant_.pair i j in
-    let low = past (limits_of s i j) (content_refusal v.table) ((w i).asked j) rs k x t P sent ran in
-    let judged_is = request_judged job IsKept w i j k x S.invariant_ sent in
+    let low = past (limits_of s i j) (content_refusal v.settings v.table) ((w i).asked j) rs k x t P sent ran in
+    let judged_is = request_judged job (IsKept s) w i j k x S.invariant_ sent in
     let by = repeats_by (site_of job j) (w j) m top (job.behaviour.messages.waits x.content (w j).local) low in
     let here = scene_node v z w most j (i * s.nodes + j) old new S F j_in in
     let Q : Parameters → List (Option Entry) → ℕ → Type 0 =
-    λ p table n. i < p.nodes → i ≢ n → x.slot < credits_of p i n → R.answer ≡ repeated i x.slot k top in
-    let told_is = at_home s v.table j old.endpoint Q here.0 (R.repeats (w j) here.1) i_in apart
-    (P.orderly.low k x sent) in
+    λ p table n. R.is_last ≡ ((nat_lt i p.nodes && not (i == n)) && (nat_lt x.slot (credits_of p i n) && (k == top))) in
+    let last_is = at_home s v.table j old.endpoint Q here.0 (R.told (w j) here.1)
+    ∙ in_range i j x.slot s.nodes (credits_of s i j) (k == top) i_in apart (P.orderly.low k x sent) in
     still_steps meaning v z now (RequestComes i j k) j i j (Comes m) answer old new w most lawful S (i_in, j_in) j_in
     i_in j_in F (ap (request_event s i j k) sent)
     (R.is_answer ∙ ap (λ b. answers.Delivered b)
-    (told_is ∙ (sym by.0 ∙ ap (λ d. answer_by job.behaviour.messages m d) (sym judged_is))))
+    (ap (repeated i x.slot) last_is ∙ (sym by.0 ∙ ap (λ d. answer_by job.behaviour.messages m d) (sym judged_is))))
     (ap (λ d. after_delivery (site_of job j) (w j) m d) judged_is ∙ by.1) R.same
 
 -- a request that was sent
@@ -217,29 +222,15 @@ request_steps meaning v z now i j k sender (world_answers.Node answer) old new l
           (subst (λ q. RequestRepeats q old step new) it.stands.slot (R.repeats ran)))
       | inr new_one ↦ first_steps meaning v z now i j k it.x sender answer old new w most lawful S i_in j_in apart F
           lent it.at (not_ran (run_of k ((w j).ran i)) (sym new_one ∙ it.stands.ran))
-          (subst (λ q. RequestRuns meaning sender q old step new) it.stands.slot (R.runs new_one))
+          (subst (λ q. RequestRuns meaning (record { sender = sender; slot = q }) old step new) it.stands.slot (R.runs new_one))
     ]
 request_steps meaning v z now i j k sender world_answers.NoMemory old new lawful i_in j_in apart F lent R = absurd R
 request_steps meaning v z now i j k sender world_answers.Unsent old new lawful i_in j_in apart F lent R = λ w most S.
     nowhere_steps meaning v z now (RequestComes i j k) w most F.settings
     (same_stands v z w most j (i * v.settings.nodes + j) old new S F R.same)
-    (ap (request_event v.settings i j k) (none_there w most S (numbered old.exchanges.list k) refl))
-  where
-    none_there : (w : Records) (most : ℕ → ℕ) → Stands v w most → (o : Option Exchange)
-        → numbered old.exchanges.list k ≡ o → numbered ((w i).asked j) k ≡ None
-    none_there w most S None e =
-        none_sent old.exchanges.list ((w i).asked j) ((w j).ran i) k
-        (scene_pair v z w most j i j old new S F i_in j_in) e
-    none_there w most S (Some exchange) e =
-        let s = v.settings in
-        let it = sent_is old.exchanges.list ((w i).asked j) ((w j).ran i) k exchange
-        (scene_pair v z w most j i j old new S F i_in j_in) e in
-        let at = other_node v w most i sender S lent i_in in
-        let none = not_ran (run_of k ((w j).ran i)) (sym (R.ran exchange e) ∙ it.stands.ran) in
-        let found = request_stands s (content_refusal v.table) w i j k it.x S.invariant_ apart it.at
-        (not_back s (content_refusal v.table) w i j k it.x S.invariant_ it.at none) in
-        absurd (not_empty s v.table i sender (w i) (request_slot j it.x.slot) _ at.0 at.1 found
-        (subst (λ q. IsEmptySlot sender (request_slot j q)) it.stands.slot (R.empty exchange e)))
+    (ap (request_event v.settings i j k)
+    (none_sent old.exchanges.list ((w i).asked j) ((w j).ran i) k
+    (scene_pair v z w most j i j old new S F i_in j_in) R.unsent))
 
 -- ---- a reply is delivered
 
@@ -300,7 +291,7 @@ take_steps : (meaning : Meaning) (v z : WorldState) (now i j k : ℕ) (x : Reque
     → i < v.settings.nodes → j < v.settings.nodes → i ≢ j → Falls v z i (i * v.settings.nodes + j) old new
     → slice_get v.endpoints j ≡ Some sender → numbered ((w i).asked j) k ≡ Some x → x.back ≡ false
     → run_of k ((w j).ran i) ≡ Some r
-    → ReplyReturns meaning sender x.slot old (transition now (reply_letter i j k) answer) new
+    → ReplyReturns meaning (record { sender = sender; slot = x.slot }) old (transition now (reply_letter i j k) answer) new
     → Stepped meaning v now (ReplyComes i j k) (world_answers.Node answer) z w most
 take_steps meaning v z now i j k x r sender answer old new w most lawful S i_in j_in apart F lent sent out ran R =
     let s = v.settings in
@@ -312,7 +303,7 @@ take_steps meaning v z now i j k x r sender answer old new w most lawful S i_in 
     let fits = (node_invariant s v.table j sender (w j) at.0 at.1).replied i there.1.0 r there.1.1 in
     let N = scene_steps meaning v z w most now i (i * s.nodes + j) (Comes m) answer old new S F i_in
     (carried s v.table j sender (w j) (reply_slot i x.slot) m meaning old.endpoint now answer new.endpoint at.0 at.1
-    found fits (ap (λ (t : Parameters). t.version) (sym here.0.settings)) R.carries) in
+    found fits (ap (λ (t : Parameters). t.version) (sym here.0.settings_are)) R.carries) in
     let kind = no_request (is_request r.reply.kind) true
     (and_parts _ _ ((S.invariant_.pair i j).replies there.1.0 r there.1.1)).0 in
     event_steps meaning v z now (ReplyComes i j k) i i j (Comes m) answer old new w most lawful S (i_in, j_in) i_in
@@ -332,8 +323,8 @@ late_steps meaning v z now i j k x r answer old new w most lawful S i_in j_in F 
     let job = job_in meaning v in
     let m = reply_message s i j r in
     let there = run_of_there k ((w j).ran i) r ran in
-    let says = run_says s (content_refusal v.table) w i j k x r S.invariant_ sent ran in
-    let judged_is = reply_judged job IsKept w i j r x S.invariant_
+    let says = run_says s (content_refusal s v.table) w i j k x r S.invariant_ sent ran in
+    let judged_is = reply_judged job (IsKept s) w i j r x S.invariant_
     ((S.invariant_.pair i j).replies there.1.0 r there.1.1)
     (ap (numbered ((w i).asked j)) says.0 ∙ sent) says.1 in
     let missed : verdict (site_of job i) (w i) m ≡ Missed = judged_is ∙ rw back refl in
@@ -359,7 +350,7 @@ reply_steps meaning v z now i j k sender (world_answers.Node answer) old new law
           (sym it.stands.back ∙ back) r.1 (R.late back)
       | inr out ↦ take_steps meaning v z now i j k it.x r.0 sender answer old new w most lawful S i_in j_in apart F
           lent it.at (sym it.stands.back ∙ out) r.1
-          (subst (λ q. ReplyReturns meaning sender q old step new) it.stands.slot (R.returns out))
+          (subst (λ q. ReplyReturns meaning (record { sender = sender; slot = q }) old step new) it.stands.slot (R.returns out))
     ]
 reply_steps meaning v z now i j k sender world_answers.NoMemory old new lawful i_in j_in apart F lent R = absurd R
 reply_steps meaning v z now i j k sender world_answers.Unsent old new lawful i_in j_in apart F lent R = λ w most S.
@@ -371,17 +362,11 @@ reply_steps meaning v z now i j k sender world_answers.Unsent old new lawful i_i
         → run_of k ((w j).ran i) ≡ None
     none_there w most S None ran = ran
     none_there w most S (Some r) ran =
-        let s = v.settings in
         let there = run_of_there k ((w j).ran i) r ran in
         let x = (S.invariant_.pair i j).named there.1.0 r there.1.1 in
         let sent : numbered ((w i).asked j) k ≡ Some x.0 = ap (numbered ((w i).asked j)) (sym there.0) ∙ x.1 in
         let it = (scene_pair v z w most i i j old new S F i_in j_in).each k x.0 sent in
-        let did : it.0.ran ≡ true = it.2.ran ∙ ap is_some ran in
-        let at = other_node v w most j sender S lent j_in in
-        let found = run_stands meaning v w i j k x.0 r lawful S.invariant_ sent
-        (sym it.2.back ∙ R.back it.0 it.1 did) ran in
-        absurd (not_empty s v.table j sender (w j) (reply_slot i x.0.slot) _ at.0 at.1 found
-        (subst (λ q. IsEmptySlot sender (reply_slot i q)) it.2.slot (R.empty it.0 it.1 did)))
+        absurd (true≢false (sym (it.2.ran ∙ ap is_some ran) ∙ R.unsent it.0 it.1))
 
 -- ---- a node sends nothing to itself
 
@@ -403,5 +388,5 @@ pub own_reply_steps : (meaning : Meaning) (v : WorldState) (now i j k : ℕ) →
     → Steps meaning v (transition now (ReplyComes i j k) world_answers.Unsent) v
 own_reply_steps meaning v now i j k same = λ w most S. nowhere_steps meaning v v now (ReplyComes i j k) w most refl S
     (ap (λ rs. reply_event v.settings i j (run_of k rs))
-    (none_ran (limits_of v.settings i j) (content_refusal v.table) ((w i).asked j) ((w j).ran i)
+    (none_ran (limits_of v.settings i j) (content_refusal v.settings v.table) ((w i).asked j) ((w j).ran i)
     (ap (λ n. (w i).asked n) (sym same) ∙ S.invariant_.own i) (S.invariant_.pair i j)))

@@ -85,7 +85,7 @@ pub at_home : (s : Parameters) (table : List (Option Entry)) (me : ℕ) (e : End
     (P : Parameters → List (Option Entry) → ℕ → Type 0) → IsNodeOf s table me e
     → P e.core.settings e.core.table e.core.me → P s table me
 at_home s table me e P N p =
-    subst (λ x. P x table me) N.settings
+    subst (λ x. P x table me) N.settings_are
     (subst (λ x. P e.core.settings x me) N.table_is (subst (λ x. P e.core.settings e.core.table x) N.me_is p))
 
 -- the endpoint answers as the record of its node does, and stands for its next one
@@ -133,8 +133,8 @@ event_steps meaning v z now e i a b ne answer old new w most lawful S among i_in
     let after_is : world_after job w (timed now e) ≡ put w i x = ap (after_at job w now) at in
     let M : Moves v w most i x new = record {
       invariant_ =
-          subst (λ (y : Records). WorldInvariant s (content_refusal v.table) IsKept y) after_is
-          (step_keeps job IsKept w (timed now e) (rules_sound s v.table meaning lawful) S.invariant_ among);
+          subst (λ (y : Records). WorldInvariant s (content_refusal v.settings v.table) (IsKept v.settings) y) after_is
+          (step_keeps job (IsKept v.settings) w (timed now e) (rules_sound s v.table meaning lawful) S.invariant_ among);
       node = N.node;
       stands = N.stands;
       most_is =

@@ -11,13 +11,15 @@ use Rattle.plain_world.specs.Headline.{Headline, IsGreatest}
 use Rattle.plain_world.proofs.Headline.{headline as any_headline, run_greatest as any_greatest}
 use Rattle.gas_world.specs.CallRules.{OtherCall, job_of, at_the_opening}
 use Rattle.gas_world.proofs.Sound.{rules_sound}
+use Rattle.gas_world.proofs.Kept.{opening_kept}
 
 -- the headline, for lawful handlers
 pub headline : (s : Parameters) (table : List (Option Entry)) (meaning : Meaning) (es : List (Timed OtherCall))
     → IsLawfulMeaning meaning → AllByRecursion (λ (e : Timed OtherCall). IsAmong s e.event) es
     → Headline (job_of s table meaning) (λ i. nothing_done) es
 headline s table meaning es lawful among =
-    any_headline (job_of s table meaning) IsKept (λ i. nothing_done) es (rules_sound s table meaning lawful) (λ i. tt)
+    any_headline (job_of s table meaning) (IsKept s) (λ i. nothing_done) es (rules_sound s table meaning lawful)
+    (λ i. opening_kept s i)
     among
 
 -- the most that a node held in a run from the opening

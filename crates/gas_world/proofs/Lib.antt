@@ -1,4 +1,5 @@
 pub mod Halves
+pub mod Kept
 pub mod Sound
 pub mod Headline
 pub mod PairStands
@@ -8,6 +9,7 @@ pub mod Events
 pub mod Messages
 pub mod Asks
 pub mod Deliveries
+pub mod Lodgings
 pub mod Aimed
 pub mod Plainly
 pub mod Reading
@@ -18,3 +20,5 @@ pub mod FirstOut
 pub mod Moving
 pub mod Turns
 pub mod Among
+pub mod SentSlots
+pub mod Calling

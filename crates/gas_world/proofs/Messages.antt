@@ -34,7 +34,7 @@ use Rattle.gas_world.specs.Endpoints.{EndpointState, EndpointStands, NodeSteps}
 use Rattle.gas_world.specs.Events.{job_in}
 use Rattle.gas_world.specs.Sizes.{IsNodeOf}
 use Rattle.gas_world.specs.Worlds.{WorldState}
-use Rattle.gas_world.specs.Scenes.{Carries, IsEmptySlot}
+use Rattle.gas_world.specs.Scenes.{Carries, HoldsMessage}
 use Rattle.gas_world.specs.declared.event.Answer.{Answer}
 use Rattle.gas_world.proofs.Events.{at_home}
 use Rattle.gas_world.proofs.Sound.{rules_sound}
@@ -48,7 +48,7 @@ gate a b c o e f g = rw (e, f, g) refl
 
 -- the message of a request that isn't back stands in its slot
 pub request_stands : (s : Parameters) (refuses : Content → Option Why) (w : Records) (i j k : ℕ) (x : Request)
-    → WorldInvariant s refuses IsKept w → i ≢ j → numbered ((w i).asked j) k ≡ Some x → x.back ≡ false
+    → WorldInvariant s refuses (IsKept s) w → i ≢ j → numbered ((w i).asked j) k ≡ Some x → x.back ≡ false
     → message_at s i (w i) (request_slot j x.slot) ≡ Some (spelling (request_message s i j k x))
 request_stands s refuses w i j k x holds apart at out =
     let xs = (w i).asked j in
@@ -63,7 +63,7 @@ request_stands s refuses w i j k x holds apart at out =
 
 -- a run of a request, by its number and its slot
 pub run_says : (s : Parameters) (refuses : Content → Option Why) (w : Records) (i j k : ℕ) (x : Request) (r : Run)
-    → WorldInvariant s refuses IsKept w → numbered ((w i).asked j) k ≡ Some x → run_of k ((w j).ran i) ≡ Some r
+    → WorldInvariant s refuses (IsKept s) w → numbered ((w i).asked j) k ≡ Some x → run_of k ((w j).ran i) ≡ Some r
     → (r.number ≡ k) × (x.slot ≡ r.slot)
 run_says s refuses w i j k x r holds at ran =
     let there = run_of_there k ((w j).ran i) r ran in
@@ -73,17 +73,17 @@ run_says s refuses w i j k x r holds at ran =
 
 -- the reply of a run whose request isn't back stands in the slot of the request
 pub run_stands : (meaning : Meaning) (v : WorldState) (w : Records) (i j k : ℕ) (x : Request) (r : Run)
-    → IsLawfulMeaning meaning → WorldInvariant v.settings (content_refusal v.table) IsKept w
+    → IsLawfulMeaning meaning → WorldInvariant v.settings (content_refusal v.settings v.table) (IsKept v.settings) w
     → numbered ((w i).asked j) k ≡ Some x → x.back ≡ false → run_of k ((w j).ran i) ≡ Some r
     → message_at v.settings j (w j) (reply_slot i x.slot) ≡ Some (spelling (reply_message v.settings i j r))
 run_stands meaning v w i j k x r lawful holds at out ran =
     let s = v.settings in
     let job = job_in meaning v in
-    let says = run_says s (content_refusal v.table) w i j k x r holds at ran in
+    let says = run_says s (content_refusal s v.table) w i j k x r holds at ran in
     let is = numbered_map labelled ((w i).asked j) k x at in
-    let last = none_passes job IsKept w holds i j k (labelled x) is
+    let last = none_passes job (IsKept s) w holds i j k (labelled x) is
     (is_back_at (numbered ((w i).asked j) k) x at ∙ out) in
-    let stands = reply_stands job IsKept w (rules_sound s v.table meaning lawful) holds (named i j k) (labelled x)
+    let stands = reply_stands job (IsKept s) w (rules_sound s v.table meaning lawful) holds (named i j k) (labelled x)
     r.reply is (reply_of_from ((w j).ran i) k r ran) last in
     stands.message ∙ ap Some (same_spelling s r x.slot says.1 says.0)
   where
@@ -95,9 +95,9 @@ run_stands meaning v w i j k x r lawful holds at out ran =
 
 -- the invariant of an endpoint's node
 pub node_invariant : (s : Parameters) (table : List (Option Entry)) (i : ℕ) (e : EndpointState) (x : Node Local)
-    → IsNodeOf s table i e → EndpointStands e x → NodeInvariant s IsKept i x
+    → IsNodeOf s table i e → EndpointStands e x → NodeInvariant s (IsKept s) i x
 node_invariant s table i e x N S =
-    let P : Parameters → List (Option Entry) → ℕ → Type 0 = λ p t m. NodeInvariant p IsKept m x in
+    let P : Parameters → List (Option Entry) → ℕ → Type 0 = λ p t m. NodeInvariant p (IsKept p) m x in
     at_home s table i e P N S.invariant_
 
 -- the message that stands in the sender's slot comes
@@ -114,13 +114,17 @@ carried s table i sender r at m meaning old now answer new N S found fits versio
       is = same_Some _ _ (sym (at_home s table i sender P N (C.stands r S)) ∙ found);
     })
 
--- a slot where a message stands isn't empty
-pub not_empty : (s : Parameters) (table : List (Option Entry)) (i : ℕ) (sender : EndpointState) (r : Node Local)
+-- what stands in a slot by the world's record is held there
+pub held_there : (s : Parameters) (table : List (Option Entry)) (i : ℕ) (sender : EndpointState) (r : Node Local)
     (at : SlotRef) (message : List ℕ) → IsNodeOf s table i sender → EndpointStands sender r
-    → message_at s i r at ≡ Some message → IsEmptySlot sender at → ⊥
-not_empty s table i sender r at message N S found E =
-    let P : Parameters → List (Option Entry) → ℕ → Type 0 = λ p t n. message_at p n r at ≡ None in
-    none_some (sym (at_home s table i sender P N (E r S)) ∙ found)
-  where
-    none_some : None ≡ Some message → ⊥
-    none_some e = cc
+    → message_at s i r at ≡ Some message → HoldsMessage sender at
+held_there s table i sender r at message N S found =
+    let P : Parameters → List (Option Entry) → ℕ → Type 0 =
+    λ p t n. message_at p n r at ≡ Some message
+    → message_at sender.core.settings sender.core.me r at ≡ Some message in
+    record {
+      node = r;
+      stands = S;
+      bytes = message;
+      message = at_home s table i sender P N (λ e. e) found;
+    }

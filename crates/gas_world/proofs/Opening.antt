@@ -14,10 +14,11 @@ use Rattle.gas_world.specs.CallRules.{at_the_opening}
 use Rattle.gas_world.specs.Exchanged.{ExchangesState}
 use Rattle.gas_world.specs.Endpoints.{EndpointState, EndpointStands}
 use Rattle.gas_world.specs.Sizes.{IsWorldSized, IsNodeOf, AreOpening, AreEmpty}
-use Rattle.gas_world.specs.Stands.{Stands, StandsForPair}
+use Rattle.gas_world.specs.Stands.{Stands, StandsForPair, IsWhole}
 use Rattle.gas_world.specs.declared.exchanges.Exchange.{Exchange}
 use Rattle.plain_world.proofs.Worlds.{opening_keeps}
 use Rattle.gas_world.proofs.Scenes.{pair_place}
+use Rattle.gas_world.proofs.Kept.{opening_kept}
 
 -- one endpoint more
 pub opening_push : (s : Parameters) (table : List (Option Entry)) (es : List EndpointState) (e : EndpointState)
@@ -57,7 +58,7 @@ pub stands_opening : (s : Parameters) (table : List (Option Entry)) (es : List E
     at_the_opening (λ i. 0)
 stands_opening s table es xs most range count A pairs E zeros = record {
   range = range;
-  invariant_ = opening_keeps s (content_refusal table) IsKept (λ i. nothing_done) (λ i. tt);
+  invariant_ = opening_keeps s (content_refusal s table) (IsKept s) (λ i. nothing_done) (λ i. opening_kept s i);
   endpoints =
       λ i low. let it = item_in es i (omega (arith, low, count)) in let at = A i it.0 it.1 in (it.0, it.1, at.0, at.1);
   exchanges = λ i j i_in j_in.
@@ -78,4 +79,19 @@ sized_opening s table es xs most count A pairs zeros = record {
   nodes = λ i e at. (A i e at).0;
   exchanges_are = pairs;
   most_are = ap length zeros ∙ length-replicate s.nodes 0;
+}
+
+-- and so it is whole
+pub whole_opening : (s : Parameters) (table : List (Option Entry)) (es : List EndpointState)
+    (xs : List ExchangesState) (most : List ℕ)
+    → AreInRange s → length es ≡ s.nodes → AreOpening s table es → length xs ≡ s.nodes * s.nodes → AreEmpty xs
+    → most ≡ replicate s.nodes 0
+    → IsWhole (record { settings = s; table = table; endpoints = es; exchanges = xs; most = most })
+whole_opening s table es xs most range count A pairs E zeros = record {
+  sized = sized_opening s table es xs most count A pairs zeros;
+  founded = record {
+    records = at_the_opening;
+    most = λ i. 0;
+    stands = stands_opening s table es xs most range count A pairs E zeros;
+  };
 }

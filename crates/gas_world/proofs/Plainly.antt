@@ -25,7 +25,7 @@ answers_plainly : (meaning : Meaning) (v : WorldState) (now : ℕ) (e : RecordsE
     (plain_of (world_after (job_in meaning v) w (timed now e)))
 answers_plainly meaning v now e a w most lawful S is = (
   is,
-  step_plain (job_in meaning v) IsKept w (timed now e) (rules_sound v.settings v.table meaning lawful)
+  step_plain (job_in meaning v) (IsKept v.settings) w (timed now e) (rules_sound v.settings v.table meaning lawful)
       S.invariant_,
 )
 
@@ -43,4 +43,4 @@ plainly meaning old now e answers.Unsent new sound steps =
 pub stands_lawful : (meaning : Meaning) (v : WorldState) (w : Records) (most : ℕ → ℕ) → IsLawfulMeaning meaning
     → Stands v w most → IsLawful (job_in meaning v) w
 stands_lawful meaning v w most sound S =
-    lawful (job_in meaning v) IsKept w (rules_sound v.settings v.table meaning sound) S.invariant_
+    lawful (job_in meaning v) (IsKept v.settings) w (rules_sound v.settings v.table meaning sound) S.invariant_

@@ -85,7 +85,7 @@ falls_at s table v z es ends xs most i j node at place old new view sized i_in j
 pub node_kept : (s : Parameters) (table : List (Option Entry)) (i : ℕ) (e new : EndpointState) → IsNodeOf s table i e
     → IsSameNode e.core new.core → IsNodeOf s table i new
 node_kept s table i e new N I =
-    record { settings = I.settings ∙ N.settings; me_is = I.me_is ∙ N.me_is; table_is = I.table ∙ N.table_is }
+    record { settings_are = I.settings ∙ N.settings_are; me_is = I.me_is ∙ N.me_is; table_is = I.table ∙ N.table_is }
 
 -- the endpoints are those of the nodes still, where one is written that stays the same node's
 pub nodes_after : (s : Parameters) (table : List (Option Entry)) (es : List EndpointState) (at : ℕ)

@@ -167,7 +167,7 @@ quiet_pairs w i x Q c d list P =
 
 -- what changed at a node
 pub record Moves (v : WorldState) (w : Records) (most : ℕ → ℕ) (i : ℕ) (x : Node Local) (new : Scene) : Type 0 where
-  pub invariant_ : WorldInvariant v.settings (content_refusal v.table) IsKept (put w i x)
+  pub invariant_ : WorldInvariant v.settings (content_refusal v.settings v.table) (IsKept v.settings) (put w i x)
   pub node : IsNodeOf v.settings v.table i new.endpoint
   pub stands : EndpointStands new.endpoint x
   pub most_is : new.most ≡ max (most i) (held v.settings i x)
@@ -247,7 +247,7 @@ moves_stand v z w most i a b x old new S b_in F M A =
       held_le = λ k low. omega arith;
       most_few =
           λ k low. max_few (most k) (held s k (w' k)) (greatest_holding s k) (S.most_few k low)
-          (few_records s (content_refusal v.table) IsKept w' M.invariant_ k);
+          (few_records s (content_refusal v.settings v.table) (IsKept v.settings) w' M.invariant_ k);
     })
 
 -- ---- nothing changed

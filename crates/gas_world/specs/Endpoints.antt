@@ -9,19 +9,17 @@ use Rattle.handler_rules.specs.declared.rules.CallKind.{CallKind}
 use Rattle.node_record.specs.Record.{Node}
 use Rattle.node_record.specs.Behaviour.{Behaviour}
 use Rattle.node_record.specs.Step.{with_local}
-use Rattle.node_record.specs.NodeStep.{Job, Asks, Does, Comes, Ticks, node_answer, node_after}
+use Rattle.node_record.specs.NodeStep.{Job, Comes, Ticks, node_answer, node_after}
 use Rattle.am_core.specs.CoreState.{CoreState}
 use Rattle.am_core.specs.CoreContracts.{IsSameNode}
 use Rattle.am_core.specs.Stands.{Stands}
 use Rattle.am_core.specs.Known.{WouldAccept}
 use Rattle.am_core.specs.Kept.{Local}
 use Rattle.handler_rules.specs.Runs.{Meaning}
-use Rattle.am_core.specs.ClientRules.{short_ask}
-use Rattle.gas_world.specs.CallRules.{OtherCall, Poll, Attempt, Cell, SetCell, RecordEvent, job_of, told}
+use Rattle.gas_world.specs.CallRules.{OtherCall, RecordEvent, job_of, told}
 use Rattle.gas_world.specs.CallRules.{transition, if_allowed}
 use Rattle.node_record.specs.Transition.{Transition}
-use Rattle.gas_world.specs.declared.event.Call.{Call}
-use Rattle.gas_world.specs.declared.event.Call.TheVariants as call
+use Rattle.gas_world.specs.Called.{Meant, Requests, Performs, meant, called}
 use Rattle.gas_world.specs.declared.event.Event.{Event}
 use Rattle.gas_world.specs.declared.event.Event.TheVariants as event
 use Rattle.gas_world.specs.declared.event.Answer.{Answer}
@@ -32,15 +30,15 @@ pub record EndpointState : Type 0 where
 
 -- what the endpoint keeps is what the record of its node gives
 abbrev pub EndpointStands : EndpointState → Node Local → Type 0
-EndpointStands e r = Stands e.core r
+EndpointStands endpoint node = Stands endpoint.core node
 
 -- what the handlers and calls do at this endpoint
 abbrev pub job_here : Meaning → EndpointState → Job Local OtherCall Answer
-job_here meaning e = job_of e.core.settings e.core.table meaning
+job_here meaning endpoint = job_of endpoint.core.settings endpoint.core.table meaning
 
 -- this holds of every record for which the endpoint stands
 abbrev pub ForItsRecord : EndpointState → (Node Local → Type 0) → Type 0
-ForItsRecord e Holds = (node : Node Local) → EndpointStands e node → Holds node
+ForItsRecord endpoint Holds = (node : Node Local) → EndpointStands endpoint node → Holds node
 
 -- an event that falls on the node: of every record for which the endpoint stood, the answer is the record's, and the
 -- endpoint stands for the record's next one
@@ -79,14 +77,6 @@ pub record BytesCome
   pub refused : (reason : Refused) → first_refusal old.core.settings.version step.event ≡ Some reason
       → (step.answer ≡ answers.Delivered (delivered.Refused (why.Bytes reason))) × (new ≡ old)
 
--- a thread's call, as an event of the node
-abbrev pub called : (thread : ℕ) → Call → RecordEvent
-called thread (call.Short to handler args) = Asks (short_ask thread to handler args.now)
-called thread call.Poll = Does thread Poll
-called thread (call.Attempt kind) = Does thread (Attempt kind)
-called thread (call.Cell c) = Does thread (Cell c)
-called thread (call.SetCell c value) = Does thread (SetCell c value)
-
 -- what a step of the endpoint does
 abbrev pub EndpointSteps : Meaning → EndpointState → Transition Event Answer → EndpointState → Type 0
 EndpointSteps meaning old step new = elim step.event [
@@ -95,8 +85,13 @@ EndpointSteps meaning old step new = elim step.event [
   | event.Tick ↦ NodeSteps meaning old (transition step.now Ticks step.answer) new
 ]
 
+-- whether a thread's call would be accepted, if it is a request; no other call would
+abbrev pub WouldAcceptCall : EndpointState → (thread : ℕ) → Meant → Bool → Type 0
+WouldAcceptCall endpoint thread (Requests to asking) would =
+    WouldAccept endpoint.core (record { thread = thread; to = to; what = asking }) would
+WouldAcceptCall endpoint thread (Performs call) would = would ≡ false
+
 -- whether a request would be accepted; no other event would
 abbrev pub WouldAcceptAt : EndpointState → Event → Bool → Type 0
-WouldAcceptAt e (event.Call thread (call.Short to handler args)) would =
-    WouldAccept e.core (short_ask thread to handler args.now) would
-WouldAcceptAt e _ would = would ≡ false
+WouldAcceptAt endpoint (event.Call thread call) would = WouldAcceptCall endpoint thread (meant call) would
+WouldAcceptAt endpoint _ would = would ≡ false

@@ -1,46 +1,28 @@
 -- The events of the code, as those of the records, and what a step of a world does.
-use Rattle.std.specs.Prelude.{ℕ, ◌≡◌, List}
+use Rattle.std.specs.Prelude.{ℕ, ◌≡◌, ◌≢◌, List}
 use Rattle.std.specs.List.{AllByRecursion}
 use Rattle.am_core.specs.Kept.{Local, nothing_done}
 use Rattle.handler_rules.specs.Runs.{Meaning, IsLawfulMeaning}
-use Rattle.am_core.specs.ClientRules.{short_ask}
 use Rattle.node_record.specs.declared.answer.Asked.TheVariants as asked
 use Rattle.node_record.specs.declared.answer.Ticked.TheVariants as ticked
 use Rattle.node_record.specs.NodeStep.{Job, OfRequest, OfTick}
-use Rattle.plain_world.specs.World.{Asks, Does, RequestComes, ReplyComes, Ticks, Timed, world_answer, world_after}
+use Rattle.plain_world.specs.World.{Asks, RequestComes, ReplyComes, Ticks, Timed, world_answer, world_after}
 use Rattle.plain_world.specs.World.{IsAmong, WorldAnswer as RecordsAnswer, OfNode}
 use Rattle.plain_world.specs.MostHeld.{most_then}
 use Rattle.plain_world.specs.PlainStep.{PlainStep}
 use Rattle.plain_world.specs.Plain.{plain_of}
 use Rattle.plain_world.specs.Headline.{Headline}
-use Rattle.gas_world.specs.CallRules.{OtherCall, Poll, Attempt, Cell, SetCell, Records, RecordsEvent, timed, job_of}
+use Rattle.gas_world.specs.CallRules.{OtherCall, Records, RecordsEvent, timed, job_of}
 use Rattle.gas_world.specs.CallRules.{world_told}
 use Rattle.node_record.specs.Transition.{Transition}
 use Rattle.gas_world.specs.declared.event.Answer.{Answer}
 use Rattle.gas_world.specs.Worlds.{WorldState}
 use Rattle.gas_world.specs.Stands.{Stands}
-use Rattle.gas_world.specs.declared.event.Call.{Call}
-use Rattle.gas_world.specs.declared.event.Call.TheVariants as call
+use Rattle.gas_world.specs.Called.{called_at}
 use Rattle.gas_world.specs.declared.event.WorldEvent.{WorldEvent}
 use Rattle.gas_world.specs.declared.event.WorldEvent.TheVariants as event
 use Rattle.gas_world.specs.declared.event.WorldAnswer.{WorldAnswer}
 use Rattle.gas_world.specs.declared.event.WorldAnswer.TheVariants as answers
-
--- a thread's call, as an event of the world
-abbrev pub called_at : (node thread : ℕ) → Call → RecordsEvent
-called_at node thread (call.Short to handler args) = Asks node (short_ask thread to handler args.now)
-called_at node thread call.Poll = Does node thread Poll
-called_at node thread (call.Attempt kind) = Does node thread (Attempt kind)
-called_at node thread (call.Cell c) = Does node thread (Cell c)
-called_at node thread (call.SetCell c value) = Does node thread (SetCell c value)
-
--- the call is a request to that node
-abbrev pub HasTarget : Call → (to : ℕ) → Type 0
-HasTarget (call.Short to handler args) target = to ≡ target
-HasTarget call.Poll target = ⊥
-HasTarget (call.Attempt kind) target = ⊥
-HasTarget (call.Cell c) target = ⊥
-HasTarget (call.SetCell c value) target = ⊥
 
 abbrev pub event_of : WorldEvent → RecordsEvent
 event_of (event.Call node thread call) = called_at node thread call
@@ -50,18 +32,18 @@ event_of (event.Tick node) = Ticks node
 
 -- what the handlers and calls do in this world
 abbrev pub job_in : Meaning → WorldState → Job Local OtherCall Answer
-job_in meaning v = job_of v.settings v.table meaning
+job_in meaning world = job_of world.settings world.table meaning
 
 -- by any lawful handlers, each run from the opening by events among the nodes has the headline
 abbrev pub RunsHaveTheHeadline : WorldState → Type 0
-RunsHaveTheHeadline v =
-    (meaning : Meaning) (es : List (Timed OtherCall)) → IsLawfulMeaning meaning
-    → AllByRecursion (λ (e : Timed OtherCall). IsAmong v.settings e.event) es
-    → Headline (job_in meaning v) (λ i. nothing_done) es
+RunsHaveTheHeadline world =
+    (meaning : Meaning) (events : List (Timed OtherCall)) → IsLawfulMeaning meaning
+    → AllByRecursion (λ (timed : Timed OtherCall). IsAmong world.settings timed.event) events
+    → Headline (job_in meaning world) (λ node. nothing_done) events
 
 -- this holds of all records for which the world stands, and of what the nodes held at most
 abbrev pub ForItsRecords : WorldState → (Records → (ℕ → ℕ) → Type 0) → Type 0
-ForItsRecords v Holds = (records : Records) (most : ℕ → ℕ) → Stands v records most → Holds records most
+ForItsRecords world Holds = (records : Records) (most : ℕ → ℕ) → Stands world records most → Holds records most
 
 -- the event of a transition at its time
 abbrev pub timed_of : Transition RecordsEvent WorldAnswer → Timed OtherCall
@@ -81,10 +63,15 @@ Accepts (OfNode (OfTick (ticked.Note at))) = Unit {0}
 Accepts (OfNode (OfTick (ticked.Chunk at))) = Unit {0}
 Accepts _ = ⊥
 
--- the event wants memory: all records for which the world stands accept a request
-abbrev pub WantsMemory : Meaning → WorldState → Timed OtherCall → Type 0
-WantsMemory meaning old event =
-    ForItsRecords old (λ records most. Accepts (world_answer (job_in meaning old) records event))
+-- the event is a request of a node to another one
+abbrev pub IsToAnother : RecordsEvent → Type 0
+IsToAnother (Asks node ask) = ask.to ≢ node
+IsToAnother _ = ⊥
+
+-- the event wants memory: it is a request to another node, and all records for which the world stands accept it
+pub record WantsMemory (meaning : Meaning) (old : WorldState) (event : Timed OtherCall) : Type 0 where
+  pub request : IsToAnother event.event
+  pub accepts : ForItsRecords old (λ records most. Accepts (world_answer (job_in meaning old) records event))
 
 -- so it does for all records for which it stood; where memory ran out, they accept, and it stands for the same records
 abbrev pub Steps : Meaning → WorldState → Transition RecordsEvent WorldAnswer → WorldState → Type 0

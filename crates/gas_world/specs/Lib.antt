@@ -1,4 +1,6 @@
+pub mod Memory
 pub mod CallRules
+pub mod Called
 pub mod Exchanged
 pub mod State
 pub mod Endpoints

@@ -13,15 +13,15 @@ use Rattle.node_record.specs.Held.{held}
 use Rattle.am_core.specs.CoreContracts.{IsSameNode}
 use Rattle.am_core.specs.Kept.{Local}
 use Rattle.handler_rules.specs.Runs.{Meaning}
-use Rattle.am_core.specs.Known.{Repeats}
+use Rattle.am_core.specs.Known.{IsLastRun}
 use Rattle.gas_world.specs.CallRules.{transition}
 use Rattle.gas_world.specs.Exchanged.{ExchangesState}
 use Rattle.gas_world.specs.State.{requested, with_ran, with_returned}
 use Rattle.gas_world.specs.Endpoints.{EndpointState, EndpointStands, EndpointSteps, BytesCome, WouldAcceptAt}
+use Rattle.gas_world.specs.Endpoints.{ForItsRecord}
 use Rattle.gas_world.specs.declared.exchanges.Exchange.{Exchange}
 use Rattle.node_record.specs.Transition.{Transition}
-use Rattle.gas_world.specs.declared.event.Call.{Call}
-use Rattle.gas_world.specs.declared.event.Call.TheVariants as call
+use Rattle.gas_world.specs.Called.{is_to_other}
 use Rattle.gas_world.specs.declared.event.Event.{Event}
 use Rattle.gas_world.specs.declared.event.Event.TheVariants as event
 use Rattle.gas_world.specs.declared.event.WorldEvent.{WorldEvent}
@@ -60,7 +60,7 @@ pub record IsSame (old new : Scene) : Type 0 where
 
 -- the greatest number held was raised to what the endpoint holds
 abbrev pub MostIs : ℕ → EndpointState → ℕ → Type 0
-MostIs old e new = (r : Node Local) → EndpointStands e r → new ≡ max old (held e.core.settings e.core.me r)
+MostIs old endpoint new = ForItsRecord endpoint (λ node. new ≡ max old (held endpoint.core.settings endpoint.core.me node))
 
 -- ---- an event of one node
 
@@ -105,14 +105,21 @@ AskFalls meaning old step new = elim step.answer [
 pub record Carries (meaning : Meaning) (sender old : EndpointState) (step : Transition SlotRef Answer)
     (new : EndpointState) : Type 0 where
   pub bytes : List ℕ
-  pub stands : (r : Node Local) → EndpointStands sender r
-      → message_at sender.core.settings sender.core.me r step.event ≡ Some bytes
+  pub stands :
+      ForItsRecord sender (λ node. message_at sender.core.settings sender.core.me node step.event ≡ Some bytes)
   pub comes : BytesCome meaning old (transition step.now bytes step.answer) new
 
--- no message stands there
-abbrev pub IsEmptySlot : EndpointState → SlotRef → Type 0
-IsEmptySlot sender at = (r : Node Local) → EndpointStands sender r
-    → message_at sender.core.settings sender.core.me r at ≡ None
+-- a message stands there, by a record for which the sender stands
+pub record HoldsMessage (sender : EndpointState) (at : SlotRef) : Type 0 where
+  pub node : Node Local
+  pub stands : EndpointStands sender node
+  pub bytes : List ℕ
+  pub message : message_at sender.core.settings sender.core.me node at ≡ Some bytes
+
+-- a message that stands in this slot of its pair at its sender
+pub record Lodged : Type 0 where
+  pub sender : EndpointState
+  pub slot : ℕ
 
 -- what the answer to a delivered request leaves of the exchanges
 abbrev pub ran_list : List Exchange → (number : ℕ) → Answer → List Exchange
@@ -120,19 +127,24 @@ ran_list list number (answers.Delivered (delivered.Ran at)) = with_ran list numb
 ran_list list number _ = list
 
 -- a request that didn't run
-pub record RequestRuns (meaning : Meaning) (sender : EndpointState) (slot : ℕ) (old : Scene)
-    (step : Transition Letter Answer) (new : Scene) : Type 0 where
-  pub carries : Carries meaning sender old.endpoint
-      (transition step.now (request_slot step.event.receiver slot) step.answer) new.endpoint
+pub record RequestRuns (meaning : Meaning) (lodged : Lodged) (old : Scene) (step : Transition Letter Answer)
+    (new : Scene) : Type 0 where
+  pub carries : Carries meaning lodged.sender old.endpoint
+      (transition step.now (request_slot step.event.receiver lodged.slot) step.answer) new.endpoint
   pub list : new.exchanges.list ≡ ran_list old.exchanges.list step.event.number step.answer
   pub most_is : MostIs old.most new.endpoint new.most
+
+-- how a request that ran in this slot is answered when it comes again, by whether it is the last one that ran there
+abbrev pub repeated : (from slot : ℕ) → (is_last : Bool) → Delivered
+repeated from slot true = delivered.Again (reply_slot from slot)
+repeated from slot false = delivered.Stale
 
 -- a request that ran
 pub record RequestRepeats (slot : ℕ) (old : Scene) (step : Transition Letter Answer) (new : Scene) : Type 0 where
   pub same : IsSame old new
-  pub answer : Delivered
-  pub is_answer : step.answer ≡ answers.Delivered answer
-  pub repeats : Repeats old.endpoint.core step.event.sender slot step.event.number answer
+  pub is_last : Bool
+  pub told : IsLastRun old.endpoint.core step.event.sender slot step.event.number is_last
+  pub is_answer : step.answer ≡ answers.Delivered (repeated step.event.sender slot is_last)
 
 -- a request that was sent comes
 pub record RequestComes (meaning : Meaning) (sender : EndpointState) (old : Scene) (step : Transition Letter Answer)
@@ -140,21 +152,26 @@ pub record RequestComes (meaning : Meaning) (sender : EndpointState) (old : Scen
   pub exchange : Exchange
   pub sent : numbered old.exchanges.list step.event.number ≡ Some exchange
   pub repeats : exchange.ran ≡ true → RequestRepeats exchange.slot old step new
-  pub runs : exchange.ran ≡ false → RequestRuns meaning sender exchange.slot old step new
+  pub runs : exchange.ran ≡ false
+      → RequestRuns meaning (record { sender = sender; slot = exchange.slot }) old step new
 
--- none does: it wasn't sent, or nothing stands in its slot
-pub record NoRequest (sender : EndpointState) (old : Scene) (letter : Letter) (new : Scene) : Type 0 where
+-- it wasn't sent
+pub record NoRequest (old : Scene) (letter : Letter) (new : Scene) : Type 0 where
   pub same : IsSame old new
-  pub ran : (exchange : Exchange) → numbered old.exchanges.list letter.number ≡ Some exchange → exchange.ran ≡ false
-  pub empty : (exchange : Exchange) → numbered old.exchanges.list letter.number ≡ Some exchange
-      → IsEmptySlot sender (request_slot letter.receiver exchange.slot)
+  pub unsent : numbered old.exchanges.list letter.number ≡ None
+
+-- a request that was sent and didn't run stands in its slot at its sender
+abbrev pub HoldsRequest : List Exchange → EndpointState → Letter → Type 0
+HoldsRequest exchanges sender letter =
+    (exchange : Exchange) → numbered exchanges letter.number ≡ Some exchange → exchange.ran ≡ false
+    → HoldsMessage sender (request_slot letter.receiver exchange.slot)
 
 -- a request of that number comes, where it was sent
 abbrev pub RequestFalls : Meaning → EndpointState → Scene → Transition Letter WorldAnswer → Scene → Type 0
 RequestFalls meaning sender old step new = elim step.answer [
   | world_answers.Node answer ↦ RequestComes meaning sender old (transition step.now step.event answer) new
   | world_answers.NoMemory ↦ ⊥
-  | world_answers.Unsent ↦ NoRequest sender old step.event new
+  | world_answers.Unsent ↦ NoRequest old step.event new
 ]
 
 -- what the answer to a delivered reply leaves of the exchanges
@@ -163,10 +180,10 @@ returned_list list number (answers.Delivered (delivered.Returned to slot other))
 returned_list list number _ = list
 
 -- a reply to a request that isn't back
-pub record ReplyReturns (meaning : Meaning) (sender : EndpointState) (slot : ℕ) (old : Scene)
-    (step : Transition Letter Answer) (new : Scene) : Type 0 where
-  pub carries : Carries meaning sender old.endpoint
-      (transition step.now (reply_slot step.event.receiver slot) step.answer) new.endpoint
+pub record ReplyReturns (meaning : Meaning) (lodged : Lodged) (old : Scene) (step : Transition Letter Answer)
+    (new : Scene) : Type 0 where
+  pub carries : Carries meaning lodged.sender old.endpoint
+      (transition step.now (reply_slot step.event.receiver lodged.slot) step.answer) new.endpoint
   pub list : new.exchanges.list ≡ returned_list old.exchanges.list step.event.number step.answer
   pub most_is : MostIs old.most new.endpoint new.most
 
@@ -182,22 +199,28 @@ pub record ReplyComes (meaning : Meaning) (sender : EndpointState) (old : Scene)
   pub sent : numbered old.exchanges.list step.event.number ≡ Some exchange
   pub ran : exchange.ran ≡ true
   pub late : exchange.back ≡ true → ReplyIsLate old step.answer new
-  pub returns : exchange.back ≡ false → ReplyReturns meaning sender exchange.slot old step new
+  pub returns : exchange.back ≡ false
+      → ReplyReturns meaning (record { sender = sender; slot = exchange.slot }) old step new
 
--- none does: the request didn't run, or nothing stands in its slot
-pub record NoReply (sender : EndpointState) (old : Scene) (letter : Letter) (new : Scene) : Type 0 where
+-- it wasn't sent: the request didn't run
+pub record NoReply (old : Scene) (letter : Letter) (new : Scene) : Type 0 where
   pub same : IsSame old new
-  pub back : (exchange : Exchange) → numbered old.exchanges.list letter.number ≡ Some exchange
-      → exchange.ran ≡ true → exchange.back ≡ false
-  pub empty : (exchange : Exchange) → numbered old.exchanges.list letter.number ≡ Some exchange
-      → exchange.ran ≡ true → IsEmptySlot sender (reply_slot letter.receiver exchange.slot)
+  pub unsent : (exchange : Exchange) → numbered old.exchanges.list letter.number ≡ Some exchange
+      → exchange.ran ≡ false
+
+-- a reply that was sent, to a request that isn't back, stands in its slot at its sender
+abbrev pub HoldsReply : List Exchange → EndpointState → Letter → Type 0
+HoldsReply exchanges sender letter =
+    (exchange : Exchange) → numbered exchanges letter.number ≡ Some exchange
+    → exchange.ran ≡ true → exchange.back ≡ false
+    → HoldsMessage sender (reply_slot letter.receiver exchange.slot)
 
 -- the reply to the request of that number comes, where it was sent
 abbrev pub ReplyFalls : Meaning → EndpointState → Scene → Transition Letter WorldAnswer → Scene → Type 0
 ReplyFalls meaning sender old step new = elim step.answer [
   | world_answers.Node answer ↦ ReplyComes meaning sender old (transition step.now step.event answer) new
   | world_answers.NoMemory ↦ ⊥
-  | world_answers.Unsent ↦ NoReply sender old step.event new
+  | world_answers.Unsent ↦ NoReply old step.event new
 ]
 
 -- a message of the sender comes
@@ -207,12 +230,20 @@ LetterFalls meaning sender old step new = elim step.event.side [
   | side.Reply ↦ ReplyFalls meaning sender old step new
 ]
 
--- ---- an event of a world
+-- what its sender holds of it
+abbrev pub HoldsLetter : List Exchange → EndpointState → Letter → Type 0
+HoldsLetter exchanges sender letter = elim letter.side [
+  | side.Request ↦ HoldsRequest exchanges sender letter
+  | side.Reply ↦ HoldsReply exchanges sender letter
+]
 
--- the call is a request to another node
-abbrev pub is_to_other : (node : ℕ) → Call → Bool
-is_to_other node (call.Short to handler args) = not (to == node)
-is_to_other node _ = false
+-- that one of these endpoints holds
+abbrev pub HoldsAmong : List EndpointState → List Exchange → Letter → Type 0
+HoldsAmong endpoints exchanges letter =
+    (sender : EndpointState) → slice_get endpoints letter.sender ≡ Some sender
+    → HoldsLetter exchanges sender letter
+
+-- ---- an event of a world
 
 -- what an event that is no request to another node does, as an event of a world
 abbrev pub AloneFallsIn : Meaning → Scene → Transition Event WorldAnswer → Scene → Type 0
@@ -266,6 +297,15 @@ IsBetween count (world_event.Call node thread call) = node < count
 IsBetween count (world_event.Request from to number) = (from < count) × (to < count) × (from ≢ to)
 IsBetween count (world_event.Reply from to number) = (from < count) × (to < count) × (from ≢ to)
 IsBetween count (world_event.Tick node) = node < count
+
+-- the message that an event delivers is held
+abbrev pub IsHeld : List EndpointState → List Exchange → WorldEvent → Type 0
+IsHeld endpoints exchanges (world_event.Call node thread call) = Unit {0}
+IsHeld endpoints exchanges (world_event.Request from to number) =
+    HoldsAmong endpoints exchanges (request_letter from to number)
+IsHeld endpoints exchanges (world_event.Reply from to number) =
+    HoldsAmong endpoints exchanges (reply_letter from to number)
+IsHeld endpoints exchanges (world_event.Tick node) = Unit {0}
 
 -- the endpoints, with the exchanges of a pair and the greatest number that a node held
 pub record Stage : Type 0 where

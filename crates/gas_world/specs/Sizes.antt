@@ -8,25 +8,28 @@ use Rattle.gas_world.specs.Exchanged.{ExchangesState}
 use Rattle.gas_world.specs.Endpoints.{EndpointState, EndpointStands}
 
 -- the core is that of the node `me` of a job with these settings, with this table
-pub record IsNodeOf (s : Parameters) (table : List (Option Entry)) (me : ℕ) (e : EndpointState) : Type 0 where
-  pub settings : e.core.settings ≡ s
-  pub me_is : e.core.me ≡ me
-  pub table_is : e.core.table ≡ table
+pub record IsNodeOf (settings : Parameters) (table : List (Option Entry)) (me : ℕ) (endpoint : EndpointState) : Type 0
+  where
+    pub settings_are : endpoint.core.settings ≡ settings
+    pub me_is : endpoint.core.me ≡ me
+    pub table_is : endpoint.core.table ≡ table
 
 -- an endpoint for each node, a place for each pair of nodes, and a number for each node
-pub record IsWorldSized (s : Parameters) (table : List (Option Entry)) (endpoints : List EndpointState)
+pub record IsWorldSized (settings : Parameters) (table : List (Option Entry)) (endpoints : List EndpointState)
     (exchanges : List ExchangesState) (most : List ℕ) : Type 0 where
-  pub endpoints_are : length endpoints ≡ s.nodes
-  pub nodes : (i : ℕ) (e : EndpointState) → slice_get endpoints i ≡ Some e → IsNodeOf s table i e
-  pub exchanges_are : length exchanges ≡ s.nodes * s.nodes
-  pub most_are : length most ≡ s.nodes
+  pub endpoints_are : length endpoints ≡ settings.nodes
+  pub nodes : (node : ℕ) (endpoint : EndpointState) → slice_get endpoints node ≡ Some endpoint
+      → IsNodeOf settings table node endpoint
+  pub exchanges_are : length exchanges ≡ settings.nodes * settings.nodes
+  pub most_are : length most ≡ settings.nodes
 
 -- each node asked and ran nothing
 abbrev pub AreOpening : Parameters → List (Option Entry) → List EndpointState → Type 0
-AreOpening s table endpoints =
-    (i : ℕ) (e : EndpointState) → slice_get endpoints i ≡ Some e
-    → IsNodeOf s table i e × EndpointStands e (opening_node nothing_done)
+AreOpening settings table endpoints =
+    (node : ℕ) (endpoint : EndpointState) → slice_get endpoints node ≡ Some endpoint
+    → IsNodeOf settings table node endpoint × EndpointStands endpoint (opening_node nothing_done)
 
 -- no pair has exchanges
 abbrev pub AreEmpty : List ExchangesState → Type 0
-AreEmpty exchanges = (place : ℕ) (x : ExchangesState) → slice_get exchanges place ≡ Some x → x.list ≡ []
+AreEmpty exchanges =
+    (place : ℕ) (pair : ExchangesState) → slice_get exchanges place ≡ Some pair → pair.list ≡ []

@@ -10,38 +10,50 @@ use Rattle.plain_world.specs.Invariant.{WorldInvariant}
 use Rattle.node_record.specs.Credits.{greatest_holding}
 use Rattle.gas_world.specs.CallRules.{Records}
 use Rattle.gas_world.specs.Endpoints.{EndpointState, EndpointStands}
-use Rattle.gas_world.specs.Sizes.{IsNodeOf}
+use Rattle.gas_world.specs.Sizes.{IsNodeOf, IsWorldSized}
 use Rattle.gas_world.specs.Worlds.{WorldState}
 use Rattle.gas_world.specs.declared.exchanges.Exchange.{Exchange}
 
 -- ---- the requests of a pair
 
 -- an exchange says the slot of the request, whether it ran, and whether it is back
-pub record StandsForExchange (e : Exchange) (number : ℕ) (x : Request) (rs : List Run) : Type 0 where
-  pub slot : e.slot ≡ x.slot
-  pub ran : e.ran ≡ is_some (run_of number rs)
-  pub back : e.back ≡ x.back
+pub record StandsForExchange (exchange : Exchange) (number : ℕ) (request : Request) (runs : List Run) : Type 0 where
+  pub slot : exchange.slot ≡ request.slot
+  pub ran : exchange.ran ≡ is_some (run_of number runs)
+  pub back : exchange.back ≡ request.back
 
 -- the exchanges of a pair are those of the requests that were accepted
-pub record StandsForPair (list : List Exchange) (xs : List Request) (rs : List Run) : Type 0 where
-  pub count : length list ≡ length xs
-  pub each : (number : ℕ) (x : Request) → numbered xs number ≡ Some x
-      → (e : Exchange) × (numbered list number ≡ Some e) × StandsForExchange e number x rs
+pub record StandsForPair (exchanges : List Exchange) (requests : List Request) (runs : List Run) : Type 0 where
+  pub count : length exchanges ≡ length requests
+  pub each : (number : ℕ) (request : Request) → numbered requests number ≡ Some request
+      → (exchange : Exchange) × (numbered exchanges number ≡ Some exchange)
+      × StandsForExchange exchange number request runs
 
 -- ---- a world
 
 -- the world stands for these records, where each node holds at most so much, and that is at most the bound of
 -- that node (`greatest_holding`)
-pub record Stands (v : WorldState) (w : Records) (most : ℕ → ℕ) : Type 0 where
-  pub range : AreInRange v.settings
-  pub invariant_ : WorldInvariant v.settings (content_refusal v.table) IsKept w
-  pub endpoints : (i : ℕ) → i < v.settings.nodes
-      → (e : EndpointState) × (slice_get v.endpoints i ≡ Some e) × IsNodeOf v.settings v.table i e × EndpointStands e
-      (w i)
-  pub exchanges : (i j : ℕ) → i < v.settings.nodes → j < v.settings.nodes
-      → (list : List Exchange) × (room : ℕ) ×
-      (slice_get v.exchanges (i * v.settings.nodes + j) ≡ Some (record { list = list; room = room })) ×
-      StandsForPair list ((w i).asked j) ((w j).ran i)
-  pub most_is : (i : ℕ) → i < v.settings.nodes → slice_get v.most i ≡ Some (most i)
-  pub held_le : (i : ℕ) → i < v.settings.nodes → held v.settings i (w i) ≤ most i
-  pub most_few : (i : ℕ) → i < v.settings.nodes → most i ≤ greatest_holding v.settings i
+pub record Stands (world : WorldState) (records : Records) (most : ℕ → ℕ) : Type 0 where
+  pub range : AreInRange world.settings
+  pub invariant_ : WorldInvariant world.settings (content_refusal world.settings world.table) (IsKept world.settings) records
+  pub endpoints : (node : ℕ) → node < world.settings.nodes
+      → (endpoint : EndpointState) × (slice_get world.endpoints node ≡ Some endpoint)
+      × IsNodeOf world.settings world.table node endpoint × EndpointStands endpoint (records node)
+  pub exchanges : (from to : ℕ) → from < world.settings.nodes → to < world.settings.nodes
+      → (list : List Exchange) × (room : ℕ)
+      × (slice_get world.exchanges (from * world.settings.nodes + to) ≡ Some (record { list = list; room = room }))
+      × StandsForPair list ((records from).asked to) ((records to).ran from)
+  pub most_is : (node : ℕ) → node < world.settings.nodes → slice_get world.most node ≡ Some (most node)
+  pub held_le : (node : ℕ) → node < world.settings.nodes → held world.settings node (records node) ≤ most node
+  pub most_few : (node : ℕ) → node < world.settings.nodes → most node ≤ greatest_holding world.settings node
+
+-- some records for which the world stands
+pub record IsFounded (world : WorldState) : Type 0 where
+  pub records : Records
+  pub most : ℕ → ℕ
+  pub stands : Stands world records most
+
+-- the world has its sizes, and stands for some records
+pub record IsWhole (world : WorldState) : Type 0 where
+  pub sized : IsWorldSized world.settings world.table world.endpoints world.exchanges world.most
+  pub founded : IsFounded world

@@ -1,26 +1,34 @@
 //! One node: its active messages, and the other calls of its threads.
 
-ghost use Rattle.std.specs.Prelude.{◌≡◌, ◌<◌, IfOk, option_copied, true};
+ghost use Rattle.std.specs.Prelude.{◌≤◌, ℕ, ◌≡◌, ◌<◌, IfOk, None, option_copied, not};
 ghost use Rattle.handler_rules.specs.Logged.{log_of};
+ghost use Rattle.node_record.specs.Credits.{greatest_holding};
 ghost use Rattle.node_record.specs.Held.{held};
 ghost use Rattle.node_record.specs.Record.{opening_node};
 ghost use Rattle.handler_rules.specs.Runs.{Meaning};
 ghost use Rattle.am_core.specs.Kept.{nothing_done};
 ghost use Rattle.node_record.specs.SlotMessages.{message_at, number_at};
 ghost use Rattle.gas_world.specs.Endpoints.{EndpointStands, ForItsRecord, EndpointSteps};
-ghost use Rattle.am_core.specs.Known.{Repeats};
-ghost use Rattle.gas_world.specs.Endpoints.{NodeSteps, Judged, WouldAcceptAt, called};
+ghost use Rattle.am_core.specs.Known.{IsLastRun};
+ghost use Rattle.gas_world.specs.Endpoints.{NodeSteps, Judged, WouldAcceptAt};
+ghost use Rattle.gas_world.specs.Called.{called, IsMeantBy, IsOnSegment};
+ghost use Rattle.am_core.specs.Kept.{segment_of};
+ghost use Rattle.hsl_locks.specs.Locks.{holds};
+ghost use Rattle.gas_world.specs.Sends.{StepSends};
 ghost use Rattle.gas_world.specs.CallRules.{transition};
 ghost use Rattle.gas_world.specs.Sizes.{IsNodeOf};
 
 use crate::event::{Answer, Call, Event, Local, Ticked};
+use crate::memory;
 use am_core::{Core, Delivered, SlotRef};
 use datagram_grammar::Settings;
 use handler_rules::{CallKind, Cells, Handlers, Log, Table};
+use hsl_locks::Owner;
+use raw_segment::Segment;
 use std::alloc::{AllocError, Global};
 use std::marker::Model;
 
-/// One node of a job: its requests and runs, its cells and its violations.
+/// One node of a job: its requests and runs, its segment, cells and locks, and its violations.
 ///
 /// All memory is taken by `new`.
 #[derive(Drop)]
@@ -30,10 +38,13 @@ pub struct Endpoint {
 
 impl Model for Endpoint {
     ghost use Rattle.gas_world.specs.Endpoints.{EndpointState};
+    ghost use Rattle.am_core.specs.Sizes.{HasSegment};
 
     ghost Value = { EndpointState };
 
     ghost view = { λ e. record { core = e.core } };
+
+    ghost invariant = { λ e. HasSegment e.core };
 }
 
 impl Endpoint {
@@ -59,17 +70,17 @@ impl Endpoint {
     ///
     /// A library call that the rule table forbids is answered `Forbidden`, whatever the call, and
     /// noted once as a violation; nothing else happens. Else `Poll` is answered `Polled` and
-    /// `Attempt` `Allowed`, and they change nothing. `Cell` and `SetCell` are no library calls.
-    /// Requests, deliveries and ticks are those of `am_core::Core`.
+    /// `Attempt` `Allowed`, and they change nothing. `Cell` and `SetCell`, and the calls on the own
+    /// segment, are no library calls.
+    /// Requests, deliveries and ticks are those of `am_core::Core`. What the event sends is the
+    /// message of the slot that `Answer::sends` names.
     pub fn step<H: Handlers>(&mut self, handlers: &H, now: u64, event: &Event<'_>) -> Answer
-        ensures { EndpointSteps (H.meaning handlers.now) self.old
+        ensures steps { EndpointSteps (H.meaning handlers.now) self.old
             (transition now event.now result) self.new }
+        ensures sends { StepSends (H.meaning handlers.now) self.old
+            (transition now event.now result) }
     {
-        match event {
-            Event::Call { thread, call } => self.call(handlers, now, *thread, call),
-            Event::Deliver { bytes } => Answer::Delivered(self.core.deliver(handlers, bytes)),
-            Event::Tick => self.tick(now),
-        }
+        self.step_as_recorded(handlers, now, event)
     }
 
     /// The datagram of a slot: None exactly where the peer is no other node, the slot isn't among
@@ -89,12 +100,12 @@ impl Endpoint {
         self.core.number(at)
     }
 
-    /// How a request of the node `from` that ran in this slot is answered when it comes again:
-    /// `Again` where it is the last one that ran there, else `Stale`. It changes nothing.
-    pub fn repeat(&self, from: u16, slot: u16, number: u64) -> Delivered
-        ensures { Repeats self.now.core from slot number result }
+    /// Whether a request of this number is the last one that ran in a slot of the node `from`: false
+    /// where that is no other node, or its pair has no such slot. It changes nothing.
+    pub fn is_last_run(&self, from: u16, slot: u16, number: u64) -> bool
+        ensures { IsLastRun self.now.core from slot number result }
     {
-        self.core.repeat(from, slot, number)
+        self.core.is_last_run(from, slot, number)
     }
 
     /// Whether a request to another node would be accepted; false for every other event. It changes
@@ -105,10 +116,18 @@ impl Endpoint {
         let Event::Call { thread, call } = event else {
             return false;
         };
-        let Call::Short { to, handler, args } = call else {
-            return false;
-        };
-        self.core.would_accept_short(*thread, *to, *handler, args)
+        match call.asking(*thread) {
+            Some(asking) => self.core.would_accept(&asking),
+            None => false,
+        }
+    }
+
+    /// The segment.
+    pub fn segment(&self) -> &Segment
+        ensures { ForItsRecord self.now (λ node.
+            result.now ≡ segment_of self.now.core.settings node.local) }
+    {
+        self.core.segment()
     }
 
     /// The cells.
@@ -126,25 +145,39 @@ impl Endpoint {
     }
 
     /// How many message buffers are in use: one for each request that isn't back, and one for each
-    /// slot with a reply.
+    /// slot with a reply; at most the sum over the peers of the credits both ways.
     pub fn held(&self) -> usize
-        ensures { ForItsRecord self.now (λ node.
+        ensures is { ForItsRecord self.now (λ node.
             result ≡ held self.now.core.settings self.now.core.me node) }
+        ensures few { ForItsRecord self.now (λ node.
+            result ≤ greatest_holding self.now.core.settings self.now.core.me) }
     {
         self.core.held()
     }
 
-    /// Whether the thread may poll: it holds no lock. There are no locks so far.
+    /// Whether the thread may poll: exactly where it holds no lock.
     pub fn polls(&self, thread: u16) -> bool
-        ensures { result ≡ true }
+        ensures { ForItsRecord self.now (λ node.
+            result ≡ not (holds (Owner.Thread thread) node.local.locks)) }
     {
-        let _ = thread;
-        true
+        !self.core.locks().holds(Owner::Thread(thread))
     }
 }
 
 impl Endpoint {
     ghost use Rattle.node_record.specs.NodeStep.{Ticks};
+
+    /// One event at the time `now`, as the record of the node says it.
+    fn step_as_recorded<H: Handlers>(&mut self, handlers: &H, now: u64, event: &Event<'_>) -> Answer
+        ensures { EndpointSteps (H.meaning handlers.now) self.old
+            (transition now event.now result) self.new }
+    {
+        match event {
+            Event::Call { thread, call } => self.call(handlers, now, *thread, call),
+            Event::Deliver { bytes } => Answer::Delivered(self.core.deliver(handlers, bytes)),
+            Event::Tick => self.tick(now),
+        }
+    }
 
     /// A call of a thread.
     fn call<H: Handlers>(&mut self, handlers: &H, now: u64, thread: u16, call: &Call<'_>) -> Answer
@@ -152,20 +185,49 @@ impl Endpoint {
             (transition now (called thread call.now) result)
             self.new }
     {
+        match call.asking(thread) {
+            Some(asking) => Answer::of_request(self.core.request(handlers, now, &asking)),
+            None => self.other_call(thread, call),
+        }
+    }
+
+    /// A call of a thread that is no request.
+    fn other_call(&mut self, thread: u16, call: &Call<'_>) -> Answer
+        requires { IsMeantBy call.now thread None }
+        ensures { (meaning : Meaning) (now : ℕ) → NodeSteps meaning self.old
+            (transition now (called thread call.now) result) self.new }
+    {
         match call {
-            Call::Short { to, handler, args } => {
-                let asked = self
-                    .core
-                    .request_short(handlers, now, thread, *to, *handler, args);
-                Answer::of_request(asked)
-            }
             Call::Poll => self.judged(thread, CallKind::Poll, Answer::Polled),
             Call::Attempt { call } => self.judged(thread, *call, Answer::Allowed),
+            Call::Lock { k } => Answer::Lock(self.core.lock(thread, *k)),
+            Call::Unlock { k } => Answer::Unlock(self.core.unlock(thread, *k)),
             Call::Cell { c } => Answer::Local(Local::Cell(self.core.cells().get(*c))),
             Call::SetCell { c, value } => {
                 self.core.cells_mut().set(*c, *value);
                 Answer::Local(Local::Done)
             }
+            _ => Answer::Local(self.on_segment(thread, call)),
+        }
+    }
+
+    /// A call of a thread on the own segment.
+    fn on_segment(&mut self, thread: u16, call: &Call<'_>) -> Local
+        requires { IsOnSegment call.now }
+        ensures { (meaning : Meaning) (now : ℕ) → NodeSteps meaning self.old
+            (transition now (called thread call.now) (Answer.Local result)) self.new }
+    {
+        match call {
+            Call::Show { offset, len } => memory::show(self.core.segment(), *offset, *len),
+            Call::Set { offset, bytes } => memory::set(self.core.segment_mut(), *offset, bytes),
+            Call::Fill { offset, len, byte } => {
+                memory::fill(self.core.segment_mut(), *offset, *len, *byte)
+            }
+            Call::LoadWord { offset } => memory::load_word(self.core.segment(), *offset),
+            Call::SetWord { offset, value } => {
+                memory::set_word(self.core.segment_mut(), *offset, *value)
+            }
+            _ => unreachable!(),
         }
     }
 

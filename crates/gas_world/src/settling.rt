@@ -1,9 +1,9 @@
 //! Rounds of ticks and deliveries.
 
-ghost use Rattle.std.specs.Prelude.{◌≡◌, ◌<◌, ◌∷◌, [], OnOk};
+ghost use Rattle.std.specs.Prelude.{◌≡◌, ◌<◌, ◌∷◌, [], OnOk, OnErr, IsOk};
 ghost use Rattle.plain_world.specs.World.{IsAmong};
 ghost use Rattle.gas_world.specs.CallRules.{timed};
-ghost use Rattle.gas_world.specs.Events.{event_of, job_in};
+ghost use Rattle.gas_world.specs.Events.{event_of, job_in, IsToAnother};
 ghost use Rattle.gas_world.specs.Settling.{Moves, turn_events, row_events, pair_events};
 ghost use Rattle.gas_world.specs.Settling.{tick_events, round_events, settle_events};
 
@@ -18,10 +18,9 @@ impl World {
     /// one: each request of the pair that isn't back is delivered, in rising order of numbers, and
     /// then its reply, where it was sent.
     ///
-    /// Want of memory is its one error: it ends at the event that met it. Where it is Ok, its
-    /// events are those of `settle_events`, each by `step`. After an error nothing is said of the
-    /// world but its settings and its table; no event of a round accepts a request so far, which is
-    /// all for which `step` wants memory.
+    /// Its events are those of `settle_events`, each by `step`. Want of memory would be its one
+    /// error, but it comes only at a request of a thread to another node, and a round has none: so
+    /// it is never refused.
     pub fn settle<H: Handlers>(
         &mut self,
         handlers: &H,
@@ -30,6 +29,7 @@ impl World {
     ) -> Result<(), AllocError>
         ensures settings { self.new.settings ≡ self.old.settings }
         ensures table { self.new.table ≡ self.old.table }
+        ensures never { IsOk result }
         ensures moves { OnOk result (Moves (job_in (H.meaning handlers.now) self.old)
             (settle_events (job_in (H.meaning handlers.now) self.old) now rounds)
             self.old self.new) }
@@ -45,6 +45,7 @@ impl World {
     fn round<H: Handlers>(&mut self, handlers: &H, now: u64) -> Result<(), AllocError>
         ensures settings { self.new.settings ≡ self.old.settings }
         ensures table { self.new.table ≡ self.old.table }
+        ensures never { IsOk result }
         ensures moves { OnOk result (Moves (job_in (H.meaning handlers.now) self.old)
             (round_events (job_in (H.meaning handlers.now) self.old) now) self.old self.new) }
     {
@@ -56,6 +57,7 @@ impl World {
     fn ticks<H: Handlers>(&mut self, handlers: &H, now: u64) -> Result<(), AllocError>
         ensures settings { self.new.settings ≡ self.old.settings }
         ensures table { self.new.table ≡ self.old.table }
+        ensures never { IsOk result }
         ensures moves { OnOk result (Moves (job_in (H.meaning handlers.now) self.old)
             (tick_events (job_in (H.meaning handlers.now) self.old) now) self.old self.new) }
     {
@@ -69,6 +71,7 @@ impl World {
     fn pairs<H: Handlers>(&mut self, handlers: &H, now: u64) -> Result<(), AllocError>
         ensures settings { self.new.settings ≡ self.old.settings }
         ensures table { self.new.table ≡ self.old.table }
+        ensures never { IsOk result }
         ensures moves { OnOk result (Moves (job_in (H.meaning handlers.now) self.old)
             (pair_events (job_in (H.meaning handlers.now) self.old) now) self.old self.new) }
     {
@@ -83,6 +86,7 @@ impl World {
         requires { from < self.old.settings.nodes }
         ensures settings { self.new.settings ≡ self.old.settings }
         ensures table { self.new.table ≡ self.old.table }
+        ensures never { IsOk result }
         ensures moves { OnOk result (Moves (job_in (H.meaning handlers.now) self.old)
             (row_events (job_in (H.meaning handlers.now) self.old) now from) self.old self.new) }
     {
@@ -105,6 +109,7 @@ impl World {
         requires to { to < self.old.settings.nodes }
         ensures settings { self.new.settings ≡ self.old.settings }
         ensures table { self.new.table ≡ self.old.table }
+        ensures never { IsOk result }
         ensures moves { OnOk result (Moves (job_in (H.meaning handlers.now) self.old)
             (λ world. turn_events now from to ((world from).asked to)) self.old self.new) }
     {
@@ -124,7 +129,7 @@ impl World {
         Ok(())
     }
 
-    /// An event whose answer nobody asks for.
+    /// An event whose answer nobody asks for. It is refused at a request to another node alone.
     fn happens<H: Handlers>(
         &mut self,
         handlers: &H,
@@ -134,6 +139,7 @@ impl World {
         requires { IsAmong self.old.settings (event_of event.now) }
         ensures settings { self.new.settings ≡ self.old.settings }
         ensures table { self.new.table ≡ self.old.table }
+        ensures wants { OnErr result (IsToAnother (event_of event.now)) }
         ensures moves { OnOk result (Moves (job_in (H.meaning handlers.now) self.old)
             (λ world. timed now (event_of event.now) ∷ []) self.old self.new) }
     {

@@ -9,7 +9,7 @@ ghost use Rattle.plain_world.specs.Laws.{IsLawful};
 ghost use Rattle.node_record.specs.Credits.{greatest_holding};
 ghost use Rattle.gas_world.specs.Endpoints.{EndpointStands};
 ghost use Rattle.gas_world.specs.Stands.{Stands};
-ghost use Rattle.gas_world.specs.Aims.{AimsAt};
+ghost use Rattle.gas_world.specs.Aims.{AimsAt, IsTargetOf};
 ghost use Rattle.gas_world.specs.Events.{event_of, ForItsRecords, job_in, RunsHaveTheHeadline};
 ghost use Rattle.gas_world.specs.Events.{Steps, StepsPlainly};
 
@@ -38,7 +38,7 @@ pub struct World {
 
 impl Model for World {
     ghost use Rattle.gas_world.specs.Worlds.{WorldState};
-    ghost use Rattle.gas_world.specs.Sizes.{IsWorldSized};
+    ghost use Rattle.gas_world.specs.Stands.{IsWhole};
 
     ghost Value = { WorldState };
 
@@ -50,8 +50,13 @@ impl Model for World {
       most = w.most.items;
     } };
 
-    ghost invariant = { λ w.
-        IsWorldSized w.settings w.table w.endpoints.items w.exchanges.items w.most.items };
+    ghost invariant = { λ w. IsWhole (record {
+      settings = w.settings;
+      table = w.table;
+      endpoints = w.endpoints.items;
+      exchanges = w.exchanges.items;
+      most = w.most.items;
+    }) };
 }
 
 impl World {
@@ -79,8 +84,8 @@ impl World {
     /// One event at the time `now`.
     ///
     /// The node on which a call or a tick falls, and both nodes of a delivery, are there. `Unsent`
-    /// comes exactly where that message was never sent. `NoMemory` comes only where a request would
-    /// be accepted, and then the world stands for the same records. Else, read as a plain world,
+    /// comes exactly where that message was never sent. `NoMemory` comes only at a request to another
+    /// node that would be accepted, and then the world stands for the same records. Else, read as a plain world,
     /// one without buffers, kept replies and times, it steps by the same event with the same
     /// answer. The laws of the headline hold of each state that it comes to.
     pub fn step<H: Handlers>(
@@ -214,17 +219,24 @@ fn aim_of(settings: &Settings, event: &WorldEvent<'_>) -> Option<Aim>
     ensures { AimsAt settings.now event.now result }
 {
     let (node, from, to) = match event {
-        WorldEvent::Call {
-            node,
-            call: Call::Short { to, .. },
-            ..
-        } if *to < settings.nodes() => { (*node, *node, *to) }
-        WorldEvent::Call { node, .. } | WorldEvent::Tick { node } => (*node, *node, *node),
+        WorldEvent::Call { node, call, .. } => (*node, *node, target_of(settings, *node, call)),
+        WorldEvent::Tick { node } => (*node, *node, *node),
         WorldEvent::Request { from, to, .. } if *from != *to => (*to, *from, *to),
         WorldEvent::Reply { from, to, .. } if *from != *to => (*from, *from, *to),
         _ => return None,
     };
     Some(Aim { node, from, to })
+}
+
+/// The node of which a call is asked, where that is a request and the node is there; else the own
+/// node.
+fn target_of(settings: &Settings, node: u16, call: &Call<'_>) -> u16
+    ensures { IsTargetOf settings.now node call.now result }
+{
+    match call.asking(0) {
+        Some(asking) if asking.to < settings.nodes() => asking.to,
+        _ => node,
+    }
 }
 
 /// The place of an ordered pair of nodes among all pairs.

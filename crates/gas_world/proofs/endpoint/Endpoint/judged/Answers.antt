@@ -1,7 +1,7 @@
 use Rattle.std.proofs.Common.{◌≡◌, ap, sym, subst, ◌∙◌}
 use Rattle.gas_world.specs.Endpoints.{EndpointState, JudgedCall, Judged}
 use Rattle.gas_world.specs.declared.event.Answer.{Answer}
-use Rattle.gas_world.proofs.Calls.{by_judgement, judged_told}
+use Rattle.gas_world.proofs.Calls.{by_judgement, judged_told, nothing_runs, segment_kept}
 use Rattle.gas_world.proofs.endpoint.Endpoint.judged.Goals as goal
 use Rattle.gas_world.proofs.endpoint.Endpoint.judged.Goals.{in-Ok, in-Err}
 
@@ -15,4 +15,8 @@ returns c =
       | in-Err w ↦ w.result-is ∙ ap (by_judgement c.args.allowed) (sym w.in-Err.is)
     ] in
     subst (λ (e : EndpointState). Judged e call c.match-check.result new) c.self.view_is
-    (subst (λ (a : Answer). Judged old call a new) (sym is) (judged_told old call c.check.result new c.check.ensures))
+    (subst (λ (a : Answer). Judged old call a new) (sym is) (judged_told old call c.check.result new c.check.ensures.steps))
+
+pub invariant_of-self : goal.invariant_of-self
+invariant_of-self c =
+    segment_kept c.self.inside.core c.check.new.self (c.check.ensures.steps nothing_runs 0).same c.self.invariant

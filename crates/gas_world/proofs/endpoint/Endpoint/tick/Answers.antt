@@ -5,7 +5,7 @@ use Rattle.gas_world.specs.CallRules.{transition}
 use Rattle.gas_world.specs.Endpoints.{EndpointState, NodeSteps}
 use Rattle.gas_world.specs.declared.event.Answer.{Answer}
 use Rattle.gas_world.specs.declared.event.Answer.TheVariants as answers
-use Rattle.gas_world.proofs.Calls.{tick_told}
+use Rattle.gas_world.proofs.Calls.{tick_told, nothing_runs, segment_kept}
 use Rattle.gas_world.proofs.endpoint.Endpoint.tick.Goals as goal
 use Rattle.gas_world.proofs.endpoint.Endpoint.tick.Goals.{in-Some, in-None}
 
@@ -21,3 +21,7 @@ returns c = λ meaning.
     c.self.view_is
     (subst (λ (a : Answer). NodeSteps meaning old (transition c.args.now Ticks a) new) (sym is)
     (tick_told meaning old c.args.now (resends c.tick.result) new (c.tick.ensures meaning)))
+
+pub invariant_of-self : goal.invariant_of-self
+invariant_of-self c =
+    segment_kept c.self.inside.core c.tick.new.self (c.tick.ensures nothing_runs).same c.self.invariant

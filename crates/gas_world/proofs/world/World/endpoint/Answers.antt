@@ -5,4 +5,4 @@ pub returns-clause-stands : goal.returns-clause-stands
 returns-clause-stands c =
     endpoint_read c.self.inside.settings c.self.inside.table c.args.self.now c.self.inside.endpoints.items
     c.self.inside.exchanges.items c.self.inside.most.items c.args.node c.index.result.now
-    c.self.view_is c.self.invariant c.requires c.index.ensures
+    c.self.view_is c.self.invariant.sized c.requires c.index.ensures

@@ -1,6 +1,6 @@
 use Rattle.std.proofs.Common.{◌≡◌, ◌*◌, length, replicate, rules, sym, ◌∙◌, subst}
 use Rattle.gas_world.specs.Sizes.{AreOpening}
-use Rattle.gas_world.proofs.Opening.{stands_opening, sized_opening}
+use Rattle.gas_world.proofs.Opening.{stands_opening, whole_opening}
 use Rattle.gas_world.proofs.Headline.{headline}
 use Rattle.gas_world.proofs.world.World.new.Goals as goal
 
@@ -13,8 +13,9 @@ invariant_of-result c =
     let pairs : length c.in_ok-no_exchanges.field-0.items ≡ s.nodes * s.nodes = search rules in
     let copied : c.in_ok-copy.field-0 ≡ c.args.table.now = search rules in
     let open_ = subst (λ t. AreOpening s t endpoints) (sym copied) c.in_ok-opening_endpoints.ensures.each in
-    sized_opening s c.in_ok-copy.field-0 endpoints c.in_ok-no_exchanges.field-0.items c.in_ok-vec.field-0.items
-    c.in_ok-opening_endpoints.ensures.count open_ pairs zeros
+    whole_opening s c.in_ok-copy.field-0 endpoints c.in_ok-no_exchanges.field-0.items c.in_ok-vec.field-0.items
+    c.nodes-nodes.ensures.range c.in_ok-opening_endpoints.ensures.count open_ pairs c.in_ok-no_exchanges.ensures.1
+    zeros
 
 pub returns-clause-stands : goal.returns-clause-stands
 returns-clause-stands c =

@@ -1,0 +1,85 @@
+-- What a world delivers is held by its sender: a request that didn't run, and the reply to one that isn't back.
+use Rattle.std.proofs.Common.{◌≡◌, ◌≢◌, ℕ, ◌+◌, ◌*◌, ◌<◌, true, false, List, Some, refl, sym, ap, ◌∙◌, subst}
+use Rattle.std.specs.List.{slice_get}
+use Rattle.std.proofs.lemmas.Option.{same_Some}
+use Rattle.node_record.specs.Executed.{run_of}
+use Rattle.node_record.specs.Step.{request_slot, reply_slot}
+use Rattle.handler_rules.specs.Runs.{Meaning, IsLawfulMeaning}
+use Rattle.am_core.specs.ClientRules.{content_refusal}
+use Rattle.gas_world.specs.CallRules.{Records}
+use Rattle.gas_world.specs.Exchanged.{ExchangesState}
+use Rattle.gas_world.specs.Endpoints.{EndpointState}
+use Rattle.gas_world.specs.Worlds.{WorldState}
+use Rattle.gas_world.specs.Scenes.{HoldsMessage, HoldsRequest, HoldsReply, IsHeld, IsBetween}
+use Rattle.gas_world.specs.Scenes.{request_letter, reply_letter}
+use Rattle.gas_world.specs.Stands.{Stands, StandsForPair}
+use Rattle.gas_world.specs.declared.exchanges.Exchange.{Exchange}
+use Rattle.gas_world.specs.Aims.{AimsAt}
+use Rattle.gas_world.specs.Events.{event_of}
+use Rattle.gas_world.specs.declared.world.Aim.{Aim}
+use Rattle.gas_world.specs.declared.event.WorldEvent.{WorldEvent}
+use Rattle.gas_world.specs.declared.event.WorldEvent.TheVariants as world_event
+use Rattle.plain_world.specs.World.{IsAmong}
+use Rattle.gas_world.proofs.PairStands.{sent_is}
+use Rattle.gas_world.proofs.Events.{other_node}
+use Rattle.gas_world.proofs.Messages.{request_stands, run_stands, held_there}
+use Rattle.gas_world.proofs.Deliveries.{not_ran, did_run, not_back}
+
+-- the exchanges of a pair stand for it
+pair_there : (v : WorldState) (w : Records) (most : ℕ → ℕ) (i j : ℕ) (exchanges : ExchangesState) → Stands v w most
+    → i < v.settings.nodes → j < v.settings.nodes
+    → slice_get v.exchanges (i * v.settings.nodes + j) ≡ Some exchanges
+    → StandsForPair exchanges.list ((w i).asked j) ((w j).ran i)
+pair_there v w most i j exchanges S i_in j_in at =
+    let it = S.exchanges i j i_in j_in in
+    subst (λ (l : List Exchange). StandsForPair l ((w i).asked j) ((w j).ran i))
+    (ap (λ (x : ExchangesState). x.list) (same_Some _ _ (sym it.2 ∙ at))) it.3
+
+-- a request that didn't run
+pub request_held : (v : WorldState) (w : Records) (most : ℕ → ℕ) (i j k : ℕ) (exchanges : ExchangesState)
+    (sender : EndpointState) → Stands v w most → i < v.settings.nodes → j < v.settings.nodes → i ≢ j
+    → slice_get v.exchanges (i * v.settings.nodes + j) ≡ Some exchanges → slice_get v.endpoints i ≡ Some sender
+    → HoldsRequest exchanges.list sender (request_letter i j k)
+request_held v w most i j k exchanges sender S i_in j_in apart pair lent = λ exchange at out.
+    let s = v.settings in
+    let it = sent_is exchanges.list ((w i).asked j) ((w j).ran i) k exchange
+    (pair_there v w most i j exchanges S i_in j_in pair) at in
+    let here = other_node v w most i sender S lent i_in in
+    let none = not_ran (run_of k ((w j).ran i)) (sym out ∙ it.stands.ran) in
+    let found = request_stands s (content_refusal s v.table) w i j k it.x S.invariant_ apart it.at
+    (not_back s (content_refusal s v.table) w i j k it.x S.invariant_ it.at none) in
+    subst (λ q. HoldsMessage sender (request_slot j q)) (sym it.stands.slot)
+    (held_there s v.table i sender (w i) (request_slot j it.x.slot) _ here.0 here.1 found)
+
+-- the reply to a request that ran and isn't back
+pub reply_held : (meaning : Meaning) (v : WorldState) (w : Records) (most : ℕ → ℕ) (i j k : ℕ)
+    (exchanges : ExchangesState) (sender : EndpointState) → IsLawfulMeaning meaning → Stands v w most
+    → i < v.settings.nodes → j < v.settings.nodes
+    → slice_get v.exchanges (i * v.settings.nodes + j) ≡ Some exchanges → slice_get v.endpoints j ≡ Some sender
+    → HoldsReply exchanges.list sender (reply_letter i j k)
+reply_held meaning v w most i j k exchanges sender lawful S i_in j_in pair lent = λ exchange at did out.
+    let s = v.settings in
+    let it = sent_is exchanges.list ((w i).asked j) ((w j).ran i) k exchange
+    (pair_there v w most i j exchanges S i_in j_in pair) at in
+    let here = other_node v w most j sender S lent j_in in
+    let r = did_run (run_of k ((w j).ran i)) (sym did ∙ it.stands.ran) in
+    let found = run_stands meaning v w i j k it.x r.0 lawful S.invariant_ it.at (sym it.stands.back ∙ out) r.1 in
+    subst (λ q. HoldsMessage sender (reply_slot i q)) (sym it.stands.slot)
+    (held_there s v.table j sender (w j) (reply_slot i it.x.slot) _ here.0 here.1 found)
+
+-- what an event delivers, where it falls on this pair
+pub event_held : (meaning : Meaning) (v : WorldState) (w : Records) (most : ℕ → ℕ) (e : WorldEvent) (aim : Aim)
+    (exchanges : ExchangesState) → IsLawfulMeaning meaning → Stands v w most → IsAmong v.settings (event_of e)
+    → AimsAt v.settings e (Some aim)
+    → slice_get v.exchanges (aim.from * v.settings.nodes + aim.to) ≡ Some exchanges
+    → IsHeld v.endpoints exchanges.list e
+event_held meaning v w most (world_event.Call node thread k) aim exchanges lawful S among at pair = tt
+event_held meaning v w most (world_event.Request i j k) aim exchanges lawful S among at pair = λ sender lent.
+    request_held v w most i j k exchanges sender S among.0 among.1 at.0
+    (ap (λ n. slice_get v.exchanges (n * v.settings.nodes + j)) (sym at.1.from_is)
+    ∙ (ap (λ n. slice_get v.exchanges (aim.from * v.settings.nodes + n)) (sym at.1.to_is) ∙ pair)) lent
+event_held meaning v w most (world_event.Reply i j k) aim exchanges lawful S among at pair = λ sender lent.
+    reply_held meaning v w most i j k exchanges sender lawful S among.0 among.1
+    (ap (λ n. slice_get v.exchanges (n * v.settings.nodes + j)) (sym at.1.from_is)
+    ∙ (ap (λ n. slice_get v.exchanges (aim.from * v.settings.nodes + n)) (sym at.1.to_is) ∙ pair)) lent
+event_held meaning v w most (world_event.Tick i) aim exchanges lawful S among at pair = tt
