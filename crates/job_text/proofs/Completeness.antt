@@ -6,11 +6,11 @@ use Rattle.std.specs.List.{AllByRecursion, flat_map}
 use Rattle.std.proofs.lemmas.Bool.{eqb-true, le-leb, lt-leb, lt-ltb, le-ltb, and_from, ne_eqb, eq-eqb}
 use Rattle.std.proofs.lemmas.List.{map-append}
 use Rattle.std.proofs.Math.Nat.{mul-le-mul_right}
-use Rattle.handler_rules.specs.declared.rules.Role.{Role}
 use Rattle.datagram_grammar.specs.Message.{is_version}
 use Rattle.datagram_grammar.specs.Parameters.{Parameters, IsPair, ArePairs, own_credits, credits_in_all}
 use Rattle.datagram_grammar.specs.declared.pairs.PairCredits.{PairCredits}
 use Rattle.datagram_grammar.proofs.Credits.{even_sum, last_pair}
+use Rattle.job_text.specs.Forms.{IsSaid, U8}
 use Rattle.job_text.specs.Bodies.{action_text, IsAction}
 use Rattle.job_text.specs.Events.{IsTimed}
 use Rattle.job_text.specs.Places.{Setting, Version, Nodes, Credits, Threads, Segment, Last, Resend, Patience}
@@ -18,7 +18,7 @@ use Rattle.job_text.specs.Places as places
 use Rattle.job_text.specs.Places.{Place, AtSetting, AtSieve, AtPairs, AtHandlers, AtBody, AtSchedule, AtDone, Over}
 use Rattle.job_text.specs.Places.{Item, item_text, IsItem, OfPair, OfSection, least, greatest, setting_fits, in_place}
 use Rattle.job_text.specs.Places.{pair_fits}
-use Rattle.job_text.specs.JobReading.{State, least_job, start, with_number, behind_setting, with_handler}
+use Rattle.job_text.specs.JobReading.{State, least_job, start, with_number, behind_setting, with_body, with_handler}
 use Rattle.job_text.specs.JobReading.{total_rounds, next, has_index, has_pair, rounds_of, is_full, read}
 use Rattle.job_text.specs.JobText.{Line, spell, setting_line, sieve_line, pair_line, handler_lines, timed_lines}
 use Rattle.job_text.specs.JobText.{schedule_lines, head_lines, lines_with_pairs, job_lines, job_text, IsHandler}
@@ -29,6 +29,7 @@ use Rattle.job_text.specs.declared.job.Job.{Job}
 use Rattle.job_text.specs.declared.job.TimedEvent.{TimedEvent}
 use Rattle.job_text.specs.declared.sections.Section.TheVariants as section
 use Rattle.job_text.proofs.Freshness.{AreFresh, AreNew, apart_fresh, fresh_to}
+use Rattle.job_text.proofs.LockLaws.{AreLocks, listed_locks}
 use Rattle.job_text.proofs.LineRuns.{line_again, read_on, over_good}
 use Rattle.job_text.proofs.Ranges.{AreNumbers, sum_beside}
 use Rattle.job_text.proofs.StateLaws.{done_line, end_line}
@@ -364,46 +365,38 @@ pairs_reach job is front (pair ∷ rest) e =
 
 -- ---- handlers
 
-body_reach : (index : ℕ) (role : Role) (front rest : List Action) (job : Job) → AllByRecursion IsAction rest → length
+body_reach : (handler : HandlerText) (front rest : List Action) (job : Job) → AllByRecursion IsAction rest → length
     (front ++ rest) ≤ 64
-    → Reaches (record { place = AtBody (record { index = index; role = role; body = front }); job = job })
-    (map action_text rest ++ end_line ∷ []) (record {
-      place = AtHandlers;
-      job = with_handler
-          (record { index = index; role = role; body = front ++ rest }) job;
-    })
-body_reach index role front [] job all le = record {
+    → Reaches (record { place = AtBody (with_body front handler); job = job }) (map action_text rest ++ end_line ∷ [])
+    (record { place = AtHandlers; job = with_handler (with_body (front ++ rest) handler) job })
+body_reach handler front [] job all few = record {
   item = None;
-  to = record { place = AtHandlers; job = with_handler (record { index = index; role = role; body = front }) job };
+  to = record { place = AtHandlers; job = with_handler (with_body front handler) job };
   text = refl;
   is = tt;
   goes = refl;
   behind = ap (λ (body : List Action). record {
     place = AtHandlers;
-    job = with_handler
-        (record { index = index; role = role; body = body }) job;
+    job = with_handler (with_body body handler) job;
   }) (sym (append-nil front));
 }
-body_reach index role front (a ∷ rest) job all le =
-    let many : length (front ++ a ∷ rest) ≡ length front + suc (length rest) = simp length-append in
+body_reach handler front (action ∷ rest) job all few =
+    let many : length (front ++ action ∷ rest) ≡ length front + suc (length rest) = simp length-append in
     record {
-      item = Some a;
-      to = record { place = AtBody (record { index = index; role = role; body = front ++ a ∷ [] }); job = job };
+      item = Some action;
+      to = record { place = AtBody (with_body (front ++ action ∷ []) handler); job = job };
       text = refl;
       is = all.0;
       goes = rw (lt-leb 64 (length front) (omega (arith, many))) refl;
       behind = subst (λ (body : List Action). Reaches (record {
-        place = AtBody
-            (record { index = index; role = role; body = front ++ a ∷ [] });
+        place = AtBody (with_body (front ++ action ∷ []) handler);
         job = job;
-      }) (map action_text rest
-          ++ end_line ∷ []) (record {
-            place = AtHandlers;
-            job = with_handler
-                (record { index = index; role = role; body = body }) job;
-          })) (append_assoc front (a ∷ []) rest)
-          (body_reach index role (front ++ a ∷ []) rest job all.1 (subst (λ (body : List Action). length body ≤ 64)
-          (sym (append_assoc front (a ∷ []) rest)) le));
+      }) (map action_text rest ++ end_line ∷ []) (record {
+        place = AtHandlers;
+        job = with_handler (with_body body handler) job;
+      })) (append_assoc front (action ∷ []) rest)
+          (body_reach handler (front ++ action ∷ []) rest job all.1 (subst (λ (body : List Action). length body ≤ 64)
+          (sym (append_assoc front (action ∷ []) rest)) few));
     }
 
 -- the test of an index
@@ -415,18 +408,26 @@ index_high : (index : ℕ) → (index ≡ 0) ⊎ ((128 ≤ index) × (index < 25
 index_high index (inl e) = omega arith
 index_high index (inr h) = let lt = h.1 in omega arith
 
+-- locks can be said
+locks_said : (locks : List ℕ) → AreLocks locks → AllByRecursion (IsSaid U8) locks
+locks_said [] are = tt
+locks_said (lock ∷ locks) are = let high = are.0 in ((omega arith, omega arith, omega arith), locks_said locks are.1)
+
 handler_reach : (h : HandlerText) (job : Job) → IsHandler h → has_index job.handlers h.index ≡ false
     → length job.handlers < 128 → Reaches (record { place = AtHandlers; job = job }) (handler_lines h)
     (record { place = AtHandlers; job = with_handler h job })
 handler_reach h job is new few =
     let high = index_high h.index is.index in
     record {
-      item = section.Handler h.index h.role;
-      to = record { place = AtBody (record { index = h.index; role = h.role; body = [] }); job = job };
+      item = section.Handler h.index h.role h.locks;
+      to = record { place = AtBody (with_body [] h); job = job };
       text = refl;
-      is = (((omega arith, high, omega arith), (tt, tt)), index_test h.index is.index);
+      is = (
+        ((omega arith, high, omega arith), (tt, locks_said h.locks (listed_locks 0 h.locks is.locks))),
+        and_from _ _ (index_test h.index is.index) is.locks,
+      );
       goes = rw (new, lt-leb 128 (length job.handlers) few) refl;
-      behind = body_reach h.index h.role [] h.body job is.actions is.count;
+      behind = body_reach h [] h.body job is.actions is.count;
     }
 
 abbrev pub with_handlers : Job → List HandlerText → Job

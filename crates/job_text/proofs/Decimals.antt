@@ -5,6 +5,7 @@ use Rattle.std.proofs.Common.{decimal}
 use Rattle.std.specs.Int.{IsInRange}
 use Rattle.std.specs.Str.Parse.{digits_value, AllDigits}
 use Rattle.std.proofs.lemmas.Str.Parse.{IsNumeralModel, numerals_by_value, tells_digits, digit_at, digits_value-take-le}
+use Rattle.std.proofs.lemmas.Str.Parse.{digits_value_short}
 use Rattle.std.proofs.lemmas.Fmt.{digits_decimal, digits_value-decimal, decimal-digits_value, decimal_nonempty}
 use Rattle.std.proofs.lemmas.Fmt.{decimal_digit, first_decimal}
 use Rattle.std.proofs.lemmas.Slice.Eq.{bytes_eq-Decides}
@@ -14,7 +15,7 @@ use Rattle.std.proofs.lemmas.Str.{digit_value_digit}
 use Rattle.std.proofs.lemmas.Int.Digits.{digits_more, digits_value_more}
 use Rattle.std.proofs.lemmas.Bool.{and_parts, and_from, lt-ltb, ltb-true, ltb-false, ne_eqb}
 use Rattle.job_text.specs.Lines.{is_stop, front}
-use Rattle.job_text.specs.Words.{number_of, number_read, fitting}
+use Rattle.job_text.specs.Words.{BeginWith, number_of, number_read, fitting}
 use Rattle.job_text.proofs.Fronts.{Runs, StopsAt, parted, front_takes, front_len, front_at, cond_yes}
 
 -- decimal numerals, by their value
@@ -80,7 +81,7 @@ upto_by bs i k true e r s l = r k (ltb-true k i e)
 upto_by bs i k false e r s l = let ge = ltb-false k i e in let same : k ≡ i = omega arith in rw same s
 
 -- no word ends before a place, nor there
-upto : (bs : List ℕ) (i k : ℕ) → Runs bs i → is_stop (get_or bs i 0) ≡ false → k < suc i → is_stop (get_or bs k 0)
+pub upto : (bs : List ℕ) (i k : ℕ) → Runs bs i → is_stop (get_or bs i 0) ≡ false → k < suc i → is_stop (get_or bs k 0)
     ≡ false
 upto bs i k r s l = upto_by bs i k (ltb k i) refl r s l
 
@@ -176,3 +177,10 @@ overflows bs i n h r d is e =
     let s = step bs i n h r d is in
     let big = fitting_none _ e in
     too_great bs (i + 1) (omega arith) s.0 (omega (arith, s.1))
+
+-- few digits have a small number
+pub few_digits : (bytes : List ℕ) (number count : ℕ) → BeginWith bytes number count → count ≤ 18 → number < 10 ^ 18
+few_digits bytes number count begin few =
+    let same : length (take count bytes) ≡ count = length-take-le count bytes begin.within in
+    let below = digits_value_short own (take count bytes) 18 begin.digits (omega (arith, same)) in
+    let is = begin.value in omega (arith, below, is)

@@ -1,17 +1,19 @@
 -- Reading by a table of forms is the inverse of writing.
-use Rattle.std.proofs.Common.{◌≡◌, ℕ, zero, suc, ◌≤◌, List, [], ◌∷◌, ◌++◌, length, Bool, true, false, cond, eqb}
-use Rattle.std.proofs.Common.{Option, Some, refl, ap, sym, subst, ◌∙◌, arith, append_assoc}
+use Rattle.std.proofs.Common.{◌≡◌, ℕ, zero, suc, ◌+◌, ◌≤◌, List, [], ◌∷◌, ◌++◌, length, Bool, true, false, cond, eqb}
+use Rattle.std.proofs.Common.{Option, Some, refl, ap, sym, subst, ◌∙◌, arith, append_assoc, length-append}
 use Rattle.std.specs.List.{AllByRecursion, flat_map}
 use Rattle.std.specs.Str.{bytes_eq}
 use Rattle.std.proofs.lemmas.Bool.{leb-true, le-leb, eqb-true, or_parts}
 use Rattle.job_text.specs.Lines.{Word, is_stop, front, back, spaced, ended}
 use Rattle.job_text.specs.Forms.{Part, Meaning, word_text, IsSaid, word_at, part_at, has_space, parts_at, many_at}
-use Rattle.job_text.specs.Forms.{Shape, End, ◌▸◌, Many, Inner, Values, made, values_at, values_text, AreSaid}
+use Rattle.job_text.specs.Forms.{Shape, End, ◌▸◌, Many, Any, Inner, Values, made, values_at, values_text}
+use Rattle.job_text.specs.Forms.{AreSaid}
 use Rattle.job_text.specs.Forms.{Row, Entry, row_at, named_at, table_at, entry_text, IsEntry, IsOf, none_at}
 use Rattle.job_text.specs.Forms.{none_text, none_fits}
 use Rattle.job_text.proofs.Fronts.{cond_yes, cond_no}
 use Rattle.job_text.proofs.Takes.{Takes, takes_some, takes_none, takes_then, takes_if, takes_weaker}
-use Rattle.job_text.proofs.WordLaws.{IsRun, same_word, word_takes, word_again, word_run}
+use Rattle.job_text.proofs.WordRuns.{IsRun}
+use Rattle.job_text.proofs.WordLaws.{same_word, word_takes, word_again, word_run}
 
 -- ---- where words end
 
@@ -114,6 +116,15 @@ parts_end : (p : Part) (xs : List (Meaning p)) (rest : List ℕ) → is_end (par
 parts_end p [] rest = refl
 parts_end p (x ∷ xs) rest = refl
 
+-- there are no more words than bytes
+parts_long : (p : Part) (words : List (Meaning p)) (rest : List ℕ) → length words ≤ length (parts_text p words ++ rest)
+parts_long p [] rest = omega arith
+parts_long p (word ∷ words) rest =
+    let more = parts_long p words rest in
+    let grown : length (word_text p word ++ (parts_text p words ++ rest))
+    ≡ length (word_text p word) + length (parts_text p words ++ rest) = length-append _ _ in
+    rw (append_assoc (word_text p word) (parts_text p words) rest) (omega (arith, more, grown))
+
 pub parts_at_again : (p : Part) (most : ℕ) (xs : List (Meaning p)) (rest : List ℕ) → length xs ≤ most
     → AllByRecursion (IsSaid p) xs → parts_at p most (parts_text p xs ++ 10 ∷ rest) ≡ Some (xs, 10 ∷ rest)
 unfolding parts_at
@@ -184,6 +195,9 @@ values_takes {X} at text fits exact (p ▸ s) bytes =
 values_takes at text fits exact (Many least most p) bytes =
     takes_then (ArePartsOf p most bytes) (parts_at_takes p most bytes) (λ xs h.
     takes_if (λ t. takes_some (h.0, (leb-true least (length xs.0) t, h.1, h.2))) (λ t. takes_none))
+values_takes at text fits exact (Any p) bytes =
+    takes_weaker (ArePartsOf p (length bytes) bytes) (parts_at_takes p (length bytes) bytes) (λ said are.
+    (are.0, are.2))
 values_takes {X} at text fits exact Inner bytes =
     takes_then (λ rest. bytes ≡ 32 ∷ rest) (spaced_takes bytes) (λ rest e.
     takes_weaker (λ (x : X × List ℕ). (rest ≡ text x.0 ++ x.1) × fits x.0) (exact.takes rest) (λ x h.
@@ -195,6 +209,7 @@ values_end : {X : Type 0} (text : X → List ℕ) (s : Shape) (v : Values X s) (
 values_end text End v rest = refl
 values_end text (p ▸ s) v rest = refl
 values_end text (Many least most p) v rest = parts_end p v rest
+values_end text (Any p) v rest = parts_end p v rest
 values_end text Inner v rest = refl
 
 pub values_again : {X : Type 0} (at : List ℕ → Option (X × List ℕ)) (text : X → List ℕ) (fits : X → Type 0)
@@ -211,6 +226,8 @@ values_again at text fits exact (p ▸ s) v rest h =
     ) refl
 values_again at text fits exact (Many least most p) v rest h =
     rw (parts_at_again p most v rest h.1 h.2, le-leb least (length v) h.0) refl
+values_again at text fits exact (Any p) v rest h =
+    parts_at_again p (length (parts_text p v ++ 10 ∷ rest)) v rest (parts_long p v (10 ∷ rest)) h
 values_again at text fits exact Inner v rest h = exact.again v rest h
 
 -- the values of a line end no line
@@ -223,6 +240,7 @@ values_flat at text fits exact (p ▸ s) v h = (
       (values_flat at text fits exact s v.1 h.1),
 )
 values_flat at text fits exact (Many least most p) v h = parts_flat p v h.2
+values_flat at text fits exact (Any p) v h = parts_flat p v h
 values_flat at text fits exact Inner v h = (refl, exact.flat v h)
 
 -- ---- tables

@@ -75,22 +75,23 @@ section_done job line bytes rest h = read_on AtHandlers job line bytes rest sect
     (behind_handlers false job) h refl
 
 -- the handler whose lines come next
-abbrev pub begun : (index : ℕ) → Role → HandlerText
-begun index role = record { index = index; role = role; body = [] }
+abbrev pub begun : (index : ℕ) → Role → (locks : List ℕ) → HandlerText
+begun index role locks = record { index = index; role = role; locks = locks; body = [] }
 
-pub section_handler : (job : Job) (line : ℕ) (bytes rest : List ℕ) (index : ℕ) (role : Role) → lined section_at bytes
-    ≡ Some (section.Handler index role, rest) → handler_why job.handlers index ≡ None
+pub section_handler : (job : Job) (line : ℕ) (bytes rest : List ℕ) (index : ℕ) (role : Role) (locks : List ℕ)
+    → lined section_at bytes ≡ Some (section.Handler index role locks, rest) → handler_why job.handlers index ≡ None
     → read (record { place = AtHandlers; job = job }) line bytes ≡ read
-    (record { place = AtBody (begun index role); job = job }) (line + 1) rest
-section_handler job line bytes rest index role h w =
-    read_on AtHandlers job line bytes rest (section.Handler index role)
-    (record { place = AtBody (begun index role); job = job }) h (rw w refl)
+    (record { place = AtBody (begun index role locks); job = job }) (line + 1) rest
+section_handler job line bytes rest index role locks found free =
+    read_on AtHandlers job line bytes rest (section.Handler index role locks)
+    (record { place = AtBody (begun index role locks); job = job }) found (rw free refl)
 
-pub section_full : (job : Job) (line : ℕ) (bytes rest : List ℕ) (index : ℕ) (role : Role) (why : JobWhy)
-    → lined section_at bytes ≡ Some (section.Handler index role, rest) → handler_why job.handlers index ≡ Some why
+pub section_full : (job : Job) (line : ℕ) (bytes rest : List ℕ) (index : ℕ) (role : Role) (locks : List ℕ)
+    (why : JobWhy) → lined section_at bytes ≡ Some (section.Handler index role locks, rest)
+    → handler_why job.handlers index ≡ Some why
     → read (record { place = AtHandlers; job = job }) line bytes ≡ Err (record { line = line; why = why })
-section_full job line bytes rest index role why h w = read_full AtHandlers job line bytes rest
-    (section.Handler index role) why h (rw w refl)
+section_full job line bytes rest index role locks why found taken = read_full AtHandlers job line bytes rest
+    (section.Handler index role locks) why found (rw taken refl)
 
 -- there is room for one more handler
 room_by : (t u : Bool) (a b : JobWhy) → cond t (Some a) (cond u (Some b) None) ≡ None → u ≡ false

@@ -2,8 +2,14 @@ pub mod Fronts
 pub mod Decimals
 pub mod Takes
 pub mod Integers
+pub mod WordRuns
+pub mod BytePairs
+pub mod ByteLaws
+pub mod PayloadLaws
 pub mod WordLaws
 pub mod FormLaws
+pub mod WholeNumbers
+pub mod Names
 pub mod CallLaws
 pub mod EventLaws
 pub mod BodyLaws
@@ -14,6 +20,7 @@ pub mod LineRuns
 pub mod PairSums
 pub mod Ranges
 pub mod PairLines
+pub mod LockLaws
 pub mod HandlerRuns
 pub mod HeadRuns
 pub mod JobRuns

@@ -152,7 +152,7 @@ either (inl a) f g = inl (f a)
 either (inr b) f g = inr (g b)
 
 opened_kind : (job : Job) (s : Section) (why : JobWhy) → opened job s ≡ Err why → IsCounted AtHandlers job s why
-opened_kind job (section.Handler index role) why h =
+opened_kind job (section.Handler index role locks) why h =
     either (two_by (has_index job.handlers index) (leb 128 (length job.handlers)) why
     (unless_err (handler_why job.handlers index) _ why h)) (λ t. t) (λ u. (u.0, leb-true 128 (length job.handlers) u.1))
 opened_kind job section.Schedule why h = absurd (cc)
@@ -164,7 +164,8 @@ paired_kind job (OfPair pair) why h =
     either (two_by (has_pair job.settings.pairs pair) (leb 64 (length job.settings.pairs)) why
     (unless_err (pair_why job.settings.pairs pair) _ why h)) (λ t. t) (λ u.
     (u.0, leb-true 64 (length job.settings.pairs) u.1))
-paired_kind job (OfSection (section.Handler index role)) why h = opened_kind job (section.Handler index role) why h
+paired_kind job (OfSection (section.Handler index role locks)) why h =
+    opened_kind job (section.Handler index role locks) why h
 paired_kind job (OfSection section.Schedule) why h = absurd (cc)
 paired_kind job (OfSection section.Done) why h = absurd (cc)
 

@@ -63,7 +63,7 @@ pair_table : (settings : Parameters) → IsTable (pair_row ∷ []) pair_entry (p
 pair_table settings = record { makes = (λ v. refl, tt); again = λ pair h. pair_again pair }
 
 section_again : (s : Section) → IsEntryOf sections section_entry s
-section_again (section.Handler index role) = entry_of refl refl refl
+section_again (section.Handler index role locks) = entry_of refl refl refl
 section_again section.Schedule = entry_of refl refl refl
 section_again section.Done = entry_of refl refl refl
 
@@ -86,7 +86,7 @@ sections_exact = table_exact none_at none_text none_fits sections section_entry 
 -- a line that begins with no `pair`
 section_other : (s : Section) (rest : List ℕ) → bytes_eq (front (entry_text none_text (section_entry s) ++ rest))
     (codes "pair") ≡ false
-section_other (section.Handler index role) rest = refl
+section_other (section.Handler index role locks) rest = refl
 section_other section.Schedule [] = refl
 section_other section.Schedule (b ∷ rest) = refl
 section_other section.Done [] = refl
@@ -168,6 +168,10 @@ action_other : IsOther action_text IsAction
 action_other (action.Add cell operand) rest h = refl
 action_other (action.SetCell cell operand) rest h = refl
 action_other (action.Source cell) rest h = refl
+action_other (action.Sum cell) rest h = refl
+action_other (action.Keep offset) rest h = refl
+action_other (action.Lock lock) rest h = refl
+action_other (action.Unlock lock) rest h = refl
 action_other (action.Attempt kind) rest h = refl
 action_other (action.Reply reply) rest h = refl
 

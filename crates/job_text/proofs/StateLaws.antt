@@ -153,9 +153,9 @@ none_schedule settings (Some lines) front e = absurd (cc)
 
 opened_more : (job : Job) (s : Section) (state : State) → IsUnread AtHandlers job → opened job s ≡ Ok state
     → SaysMore AtHandlers job s state
-opened_more job (section.Handler index role) state u h =
+opened_more job (section.Handler index role locks) state u h =
     let p = unless_ok (handler_why job.handlers index) _ state h in
-    subst (λ (x : State). SaysMore AtHandlers job (section.Handler index role) x) p.1 (refl, u)
+    subst (λ (x : State). SaysMore AtHandlers job (section.Handler index role locks) x) p.1 (refl, u)
 opened_more job section.Schedule state u h = subst (λ (x : State). SaysMore AtHandlers job section.Schedule x)
     (ok_same h) (refl, ([], refl))
 opened_more job section.Done state u h = subst (λ (x : State). SaysMore AtHandlers job section.Done x) (ok_same h)

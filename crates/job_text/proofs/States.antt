@@ -1,7 +1,8 @@
 -- What is known wherever a text was read up to.
 use Rattle.std.proofs.Common.{◌≡◌, inl, inr, ℕ, ◌<◌, ◌≤◌, ◌⊎◌, ◌||◌, Bool, true, false, eqb, leb, cond, List, [], ◌∷◌}
 use Rattle.std.proofs.Common.{◌++◌, length, Option, Some, None, Ok, refl, subst, arith, length-append}
-use Rattle.std.proofs.lemmas.Bool.{eqb-true, leb-true, leb-false}
+use Rattle.std.proofs.lemmas.Bool.{and_parts, eqb-true, leb-true, leb-false}
+use Rattle.job_text.specs.Locks.{are_listed}
 use Rattle.job_text.specs.Bodies.{IsAction}
 use Rattle.job_text.specs.Places.{Setting, Version, Nodes, Credits, Threads, Segment, Last, Resend, Patience}
 use Rattle.job_text.specs.Places as places
@@ -156,13 +157,15 @@ action_free handler h = leb-false 64 (length handler.body) (free_by (leb 64 (len
 
 opened_state : (job : Job) (s : Section) (state : State) → IsState AtHandlers job → IsItem AtHandlers job.settings s
     → opened job s ≡ Ok state → IsState state.place state.job
-opened_state job (section.Handler index role) state is item h =
+opened_state job (section.Handler index role locks) state is item h =
     let p = unless_ok (handler_why job.handlers index) _ state h in
     let free = pair_free_by (has_index job.handlers index) (leb 128 (length job.handlers)) Entry Count p.0 in
-    let begun : HandlerText = record { index = index; role = role; body = [] } in
+    let begun : HandlerText = record { index = index; role = role; locks = locks; body = [] } in
+    let tests = and_parts (eqb index 0 || leb 128 index) (are_listed 0 locks) item.1 in
     let one : IsBegun begun job = record {
       is = record {
-        index = index_by (eqb index 0) (leb 128 index) index refl refl item.1 item.0.0.1;
+        index = index_by (eqb index 0) (leb 128 index) index refl refl tests.0 item.0.0.1;
+        locks = tests.1;
         count = omega arith;
         actions = tt;
       };
@@ -198,6 +201,7 @@ acted_state handler job (Some a) state is item h =
     let one : IsBegun (with_action a handler) job = record {
       is = record {
         index = is.2.is.index;
+        locks = is.2.is.locks;
         count = simp length-append (omega arith);
         actions = all_more IsAction handler.body a is.2.is.actions item;
       };

@@ -19,33 +19,16 @@ use Rattle.job_text.specs.declared.job.Operand.TheVariants as operand
 use Rattle.job_text.specs.Lines.{Word, is_stop}
 use Rattle.job_text.specs.Words.{number_in, schedule_operand, body_operand, operand_word, IsBodyOperand}
 use Rattle.job_text.specs.Words.{IsScheduleOperand, kind_of, kind_word, IsNamed, role_of, role_word}
+use Rattle.job_text.specs.Forms.{Bytes, Payload, BodyPayload}
 use Rattle.job_text.specs.Forms.{Part, Number, Value, BodyValue, Kind, Role, Meaning, word_text, IsSaid, word_says}
 use Rattle.job_text.proofs.Fronts.{cond_yes, cond_no}
 use Rattle.job_text.proofs.Decimals.{own, number_of-decimal}
 use Rattle.job_text.proofs.Integers.{IsInteger, number_takes, integer_takes, integer_again, first_is}
+use Rattle.job_text.proofs.WordRuns.{IsRun, high_run, decimal_run, integer_run}
+use Rattle.job_text.proofs.ByteLaws.{bytes_take, bytes_again, bytes_run}
+use Rattle.job_text.proofs.PayloadLaws.{payload_takes, payload_again, payload_run, also_in_body}
+use Rattle.job_text.proofs.PayloadLaws.{body_payload_takes, body_payload_again}
 use Rattle.job_text.proofs.Takes.{Takes, takes_some, takes_none, takes_then, takes_if, takes_weaker}
-
--- bytes at which no word ends
-abbrev pub IsRun : Word → Type 0
-IsRun word = AllByRecursion (λ b. is_stop b ≡ false) word
-
--- a byte above a space ends no word
-high_run : (b : ℕ) → 33 ≤ b → is_stop b ≡ false
-high_run b h = rw (ne_eqb b 32 (λ e. omega arith), ne_eqb b 10 (λ e. omega arith)) refl
-
--- digits end no word
-digits_run : (ds : List ℕ) → AllDigits 10 ds → IsRun ds
-digits_run [] h = tt
-digits_run (d ∷ ds) h = (let r = digit_from_value d h.0 in high_run d (omega arith), digits_run ds h.1)
-
--- a number ends no word
-pub decimal_run : (n : ℕ) → n < 2 ^ 64 → IsRun (decimal n)
-decimal_run n h = digits_run (decimal n) (digits_decimal own n h)
-
--- nor does an integer
-integer_run : (z : ℤ) → FitsSigned w32 z → IsRun (signed_decimal z)
-integer_run (pos n) h = let lt : n < 2 ^ 31 = h.sfits in decimal_run n (omega arith)
-integer_run (negsuc n) h = let lt : n < 2 ^ 31 = h.sfits in (refl, decimal_run (suc n) (omega arith))
 
 -- ---- numbers of a range
 
@@ -216,6 +199,9 @@ word_takes Value word = schedule_takes word
 word_takes BodyValue word = body_takes word
 word_takes Kind word = kind_takes word
 word_takes Role word = takes_weaker (λ w. word ≡ role_word w) (role_takes word) (λ w h. (h, tt))
+word_takes Bytes word = bytes_take word
+word_takes Payload word = payload_takes word
+word_takes BodyPayload word = body_payload_takes word
 
 -- a word is read again
 pub word_again : (p : Part) (x : Meaning p) → IsSaid p x → word_says p (word_text p x) ≡ Some x
@@ -224,6 +210,9 @@ word_again Value x h = schedule_again x h
 word_again BodyValue x h = body_again x h
 word_again Kind x h = kind_again x h
 word_again Role x h = role_again x
+word_again Bytes x h = bytes_again x h
+word_again Payload x h = payload_again x h
+word_again BodyPayload x h = body_payload_again x h
 
 -- no word ends within it
 pub word_run : (p : Part) (x : Meaning p) → IsSaid p x → IsRun (word_text p x)
@@ -232,3 +221,6 @@ word_run Value x h = body_run x (wider x h)
 word_run BodyValue x h = body_run x h
 word_run Kind x h = kind_run x h
 word_run Role x h = role_run x
+word_run Bytes x h = bytes_run x
+word_run Payload x h = payload_run x (also_in_body x h)
+word_run BodyPayload x h = payload_run x h

@@ -1,8 +1,8 @@
 -- The forms of actions in a handler's body.
 use Rattle.std.specs.Prelude.{ℕ, List, [], ◌∷◌, Option, Bool, true, false, codes}
 use Rattle.job_text.specs.Lines.{Word}
-use Rattle.job_text.specs.Forms.{BodyValue, Kind, Shape, End, ◌▸◌, Many, Inner, Maker, Values, Row, Entry}
-use Rattle.job_text.specs.Forms.{table_at, entry_text, IsOf, none_at, none_text, none_fits, U8}
+use Rattle.job_text.specs.Forms.{BodyValue, BodyPayload, Kind, Shape, End, ◌▸◌, Many, Inner, Maker, Values, Row, Entry}
+use Rattle.job_text.specs.Forms.{table_at, entry_text, IsOf, none_at, none_text, none_fits, U64, U8}
 use Rattle.job_text.specs.Reasons.{table_form}
 use Rattle.job_text.specs.declared.job.ReplyAction.{ReplyAction}
 use Rattle.job_text.specs.declared.job.ReplyAction.TheVariants as reply
@@ -14,13 +14,31 @@ use Rattle.job_text.specs.declared.job.Action.TheVariants as action
 abbrev pub short_reply : Row ⊥ ReplyAction
 short_reply = record { name = codes "short"; shape = U8 ▸ Many 0 17 BodyValue; make = reply.Short }
 
+abbrev pub medium_reply : Row ⊥ ReplyAction
+medium_reply = record {
+  name = codes "medium";
+  shape = U8 ▸ BodyPayload ▸ Many 0 17 BodyValue;
+  make = reply.Medium;
+}
+
+abbrev pub long_reply : Row ⊥ ReplyAction
+long_reply = record {
+  name = codes "long";
+  shape = U8 ▸ BodyPayload ▸ U64 ▸ Many 0 17 BodyValue;
+  make = reply.Long;
+}
+
 -- the forms of replies
 abbrev pub replies : List (Row ⊥ ReplyAction)
-replies = short_reply ∷ []
+replies = short_reply ∷ medium_reply ∷ long_reply ∷ []
 
 -- how a reply is written
 abbrev pub reply_entry : ReplyAction → Entry ⊥ ReplyAction
 reply_entry (reply.Short handler operands) = record { row = short_reply; values = (handler, operands) }
+reply_entry (reply.Medium handler payload operands) =
+    record { row = medium_reply; values = (handler, (payload, operands)) }
+reply_entry (reply.Long handler payload offset operands) =
+    record { row = long_reply; values = (handler, (payload, (offset, operands))) }
 
 -- what reads a reply
 unfoldable pub reply_at : List ℕ → Option (ReplyAction × List ℕ)
@@ -52,15 +70,31 @@ set_cell_row = form (codes "set-cell") (U8 ▸ BodyValue ▸ End) action.SetCell
 abbrev pub source_row : Row ReplyAction Action
 source_row = form (codes "source") (U8 ▸ End) action.Source
 
+abbrev pub sum_row : Row ReplyAction Action
+sum_row = form (codes "sum") (U8 ▸ End) action.Sum
+
+abbrev pub keep_row : Row ReplyAction Action
+keep_row = form (codes "keep") (U64 ▸ End) action.Keep
+
+abbrev pub lock_row : Row ReplyAction Action
+lock_row = form (codes "lock") (U8 ▸ End) action.Lock
+
+abbrev pub unlock_row : Row ReplyAction Action
+unlock_row = form (codes "unlock") (U8 ▸ End) action.Unlock
+
 abbrev pub attempt_row : Row ReplyAction Action
 attempt_row = form (codes "attempt") (Kind ▸ End) action.Attempt
 
 abbrev pub reply_row : Row ReplyAction Action
 reply_row = form (codes "reply") Inner action.Reply
 
+-- the forms of actions from `lock` on
+unfoldable pub desk_actions : List (Row ReplyAction Action)
+desk_actions = lock_row ∷ unlock_row ∷ attempt_row ∷ reply_row ∷ []
+
 -- the forms of actions
-abbrev pub actions : List (Row ReplyAction Action)
-actions = add_row ∷ set_cell_row ∷ source_row ∷ attempt_row ∷ reply_row ∷ []
+unfoldable pub actions : List (Row ReplyAction Action)
+actions = add_row ∷ set_cell_row ∷ source_row ∷ sum_row ∷ keep_row ∷ desk_actions
 
 -- the words of an action
 abbrev pub words : (row : Row ReplyAction Action) → Values ReplyAction row.shape → Entry ReplyAction Action
@@ -71,6 +105,10 @@ abbrev pub action_entry : Action → Entry ReplyAction Action
 action_entry (action.Add cell operand) = words add_row (cell, (operand, tt))
 action_entry (action.SetCell cell operand) = words set_cell_row (cell, (operand, tt))
 action_entry (action.Source cell) = words source_row (cell, tt)
+action_entry (action.Sum cell) = words sum_row (cell, tt)
+action_entry (action.Keep offset) = words keep_row (offset, tt)
+action_entry (action.Lock lock) = words lock_row (lock, tt)
+action_entry (action.Unlock lock) = words unlock_row (lock, tt)
 action_entry (action.Attempt kind) = words attempt_row (kind, tt)
 action_entry (action.Reply reply) = words reply_row reply
 

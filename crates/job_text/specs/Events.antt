@@ -30,10 +30,13 @@ tick_row nodes = form (codes "tick") (Below nodes ▸ End) event.Tick
 abbrev pub settle_row : Row ScheduledCall ScheduledEvent
 settle_row = form (codes "settle") (Number 1 4096 ▸ End) event.Settle
 
+-- from `tick` on
+abbrev pub later_events : (nodes : ℕ) → List (Row ScheduledCall ScheduledEvent)
+later_events nodes = tick_row nodes ∷ settle_row ∷ []
+
 -- the forms of events
 abbrev pub events : (nodes threads : ℕ) → List (Row ScheduledCall ScheduledEvent)
-events nodes threads =
-    call_row nodes threads ∷ request_row nodes ∷ reply_row nodes ∷ tick_row nodes ∷ settle_row ∷ []
+events nodes threads = call_row nodes threads ∷ request_row nodes ∷ reply_row nodes ∷ later_events nodes
 
 -- the words of an event
 abbrev pub words : (row : Row ScheduledCall ScheduledEvent) → Values ScheduledCall row.shape
@@ -53,6 +56,10 @@ abbrev pub is_apart : ScheduledEvent → Bool
 is_apart (event.Request from to number) = not (from == to)
 is_apart (event.Reply from to number) = not (from == to)
 is_apart event = true
+
+-- what reads an event from `tick` on
+abbrev pub later_event_at : (nodes : ℕ) → List ℕ → Option (ScheduledEvent × List ℕ)
+later_event_at nodes bytes = table_at call_at (later_events nodes) is_apart bytes
 
 -- what reads an event
 unfoldable pub event_at : (nodes threads : ℕ) → List ℕ → Option (ScheduledEvent × List ℕ)

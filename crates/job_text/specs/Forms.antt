@@ -7,8 +7,11 @@ use Rattle.std.specs.Str.{bytes_eq}
 use Rattle.job_text.specs.Lines.{Word, ◌>>=◌, front, back, spaced}
 use Rattle.job_text.specs.Words.{integer_read, number_in, schedule_operand, body_operand, operand_word}
 use Rattle.job_text.specs.Words.{IsScheduleOperand, IsBodyOperand, kind_of, kind_word, IsNamed, role_of, role_word}
+use Rattle.job_text.specs.Payloads.{payload_of, body_payload_of, payload_word, IsPayload, IsBodyPayload, bytes_of}
+use Rattle.job_text.specs.Payloads.{bytes_word, AreBytes}
 use Rattle.job_text.specs.declared.job.Operand.{Operand}
 use Rattle.job_text.specs.declared.job.Operand.TheVariants as operand
+use Rattle.job_text.specs.declared.job.Payload.{Payload as PayloadValue}
 use Rattle.handler_rules.specs.declared.rules.CallKind.{CallKind}
 use Rattle.handler_rules.specs.declared.rules.Role.{Role as HandlerRole}
 
@@ -21,6 +24,9 @@ pub data Part : Type 0 where
   BodyValue : Part  -- a number of a handler's body: also `aN`
   Kind : Part  -- a kind of call
   Role : Part  -- a handler's role
+  Bytes : Part  -- bytes, as `x` and two digits for each
+  Payload : Part  -- a payload of a schedule: bytes, or `OFF+LEN`
+  BodyPayload : Part  -- a payload of a handler's body: also `p`
 
 -- what such a word says
 abbrev pub Meaning : Part → Type 0
@@ -29,6 +35,9 @@ Meaning Value = Operand
 Meaning BodyValue = Operand
 Meaning Kind = CallKind
 Meaning Role = HandlerRole
+Meaning Bytes = List ℕ
+Meaning Payload = PayloadValue
+Meaning BodyPayload = PayloadValue
 
 -- the word that says it
 abbrev pub word_text : (p : Part) → Meaning p → Word
@@ -37,6 +46,9 @@ word_text Value v = operand_word v
 word_text BodyValue v = operand_word v
 word_text Kind k = kind_word k
 word_text Role r = role_word r
+word_text Bytes bytes = bytes_word bytes
+word_text Payload said = payload_word said
+word_text BodyPayload said = payload_word said
 
 -- what can be said so
 abbrev pub IsSaid : (p : Part) → Meaning p → Type 0
@@ -45,6 +57,9 @@ IsSaid Value v = IsScheduleOperand v
 IsSaid BodyValue v = IsBodyOperand v
 IsSaid Kind k = IsNamed k
 IsSaid Role r = Unit {0}
+IsSaid Bytes bytes = AreBytes bytes
+IsSaid Payload said = IsPayload said
+IsSaid BodyPayload said = IsBodyPayload said
 
 -- what a word says
 abbrev pub word_says : (p : Part) → Word → Option (Meaning p)
@@ -53,6 +68,9 @@ word_says Value word = schedule_operand word
 word_says BodyValue word = body_operand word
 word_says Kind word = kind_of word
 word_says Role word = role_of word
+word_says Bytes word = bytes_of word
+word_says Payload word = payload_of word
+word_says BodyPayload word = body_payload_of word
 
 -- what the first word says, and the bytes after it
 unfoldable pub word_at : (p : Part) → List ℕ → Option (Meaning p × List ℕ)
@@ -102,6 +120,7 @@ pub data Shape : Type 0 where
   End : Shape  -- nothing
   ◌▸◌ : Part → Shape → Shape  -- a word, and more
   Many : (least most : ℕ) → Part → Shape  -- such words to the end of the line
+  Any : Part → Shape  -- such words to the end of the line, however many
   Inner : Shape  -- a line of another table
 
 -- what they say together, where X is what the other table says
@@ -109,6 +128,7 @@ abbrev pub Values : Type 0 → Shape → Type 0
 Values X End = Unit {0}
 Values X (p ▸ s) = Meaning p × Values X s
 Values X (Many least most p) = List (Meaning p)
+Values X (Any p) = List (Meaning p)
 Values X Inner = X
 
 -- what makes an A of them
@@ -116,6 +136,7 @@ abbrev pub Maker : Type 0 → Shape → Type 0 → Type 0
 Maker X End A = A
 Maker X (p ▸ s) A = Meaning p → Maker X s A
 Maker X (Many least most p) A = List (Meaning p) → A
+Maker X (Any p) A = List (Meaning p) → A
 Maker X Inner A = X → A
 
 -- the A that it makes
@@ -123,6 +144,7 @@ abbrev pub made : (X : Type 0) → {A : Type 0} → (s : Shape) → Maker X s A 
 made X End make v = make
 made X (p ▸ s) make v = made X s (make v.0) v.1
 made X (Many least most p) make v = make v
+made X (Any p) make v = make v
 made X Inner make v = make v
 
 -- what the bytes say, and the bytes after them, where at reads a line of the other table
@@ -131,6 +153,7 @@ abbrev pub values_at : {X : Type 0} → (at : List ℕ → Option (X × List ℕ
 values_at at End bytes = Some (tt, bytes)
 values_at at (p ▸ s) bytes = part_at p bytes >>= λ x. values_at at s x.1 >>= λ xs. Some ((x.0, xs.0), xs.1)
 values_at at (Many least most p) bytes = many_at least most p bytes
+values_at at (Any p) bytes = parts_at p (length bytes) bytes
 values_at at Inner bytes = spaced bytes >>= at
 
 -- the bytes that say it, where text writes a line of the other table
@@ -138,6 +161,7 @@ abbrev pub values_text : {X : Type 0} → (text : X → List ℕ) → (s : Shape
 values_text text End v = []
 values_text text (p ▸ s) v = 32 ∷ (word_text p v.0 ++ values_text text s v.1)
 values_text text (Many least most p) v = flat_map (λ x. 32 ∷ word_text p x) v
+values_text text (Any p) v = flat_map (λ x. 32 ∷ word_text p x) v
 values_text text Inner v = 32 ∷ text v
 
 -- what can be said so
@@ -145,6 +169,7 @@ abbrev pub AreSaid : {X : Type 0} → (fits : X → Type 0) → (s : Shape) → 
 AreSaid fits End v = Unit {0}
 AreSaid fits (p ▸ s) v = IsSaid p v.0 × AreSaid fits s v.1
 AreSaid fits (Many least most p) v = (least ≤ length v) × (length v ≤ most) × AllByRecursion (IsSaid p) v
+AreSaid fits (Any p) v = AllByRecursion (IsSaid p) v
 AreSaid fits Inner v = fits v
 
 -- ---- tables

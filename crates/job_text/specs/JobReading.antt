@@ -98,6 +98,10 @@ with_own pair job = record job { settings = with_pair job.settings pair }
 abbrev pub with_action : Action → HandlerText → HandlerText
 with_action action handler = record handler { body = handler.body ++ action ∷ [] }
 
+-- a handler's actions, in place of those that it had
+abbrev pub with_body : List Action → HandlerText → HandlerText
+with_body body handler = record handler { body = body }
+
 -- a handler
 abbrev pub with_handler : HandlerText → Job → Job
 with_handler handler job = record job { handlers = job.handlers ++ handler ∷ [] }
@@ -175,9 +179,9 @@ behind_handlers false job = record { place = Over; job = job }
 
 -- behind a line that begins a part
 abbrev pub opened : Job → Section → Result State JobWhy
-opened job (section.Handler index role) =
+opened job (section.Handler index role locks) =
     unless (handler_why job.handlers index)
-    (record { place = AtBody (record { index = index; role = role; body = [] }); job = job })
+    (record { place = AtBody (record { index = index; role = role; locks = locks; body = [] }); job = job })
 opened job section.Schedule = Ok (behind_handlers true job)
 opened job section.Done = Ok (behind_handlers false job)
 

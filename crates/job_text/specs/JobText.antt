@@ -1,6 +1,6 @@
 -- The one text of a job.
 use Rattle.std.specs.Prelude.{◌≡◌, ◌≢◌, ℕ, ◌<◌, ◌≤◌, ◌*◌, ◌^◌, ◌⊎◌, ◌++◌, List, [], ◌∷◌, length, map, take, codes}
-use Rattle.std.specs.Prelude.{Option, Some, None, slice_get}
+use Rattle.std.specs.Prelude.{Option, Some, None, slice_get, true}
 use Rattle.std.specs.List.{AllByRecursion, flat_map}
 use Rattle.datagram_grammar.specs.Parameters.{Parameters, AreInRange, credits_in_all}
 use Rattle.datagram_grammar.specs.declared.pairs.PairCredits.{PairCredits}
@@ -10,6 +10,7 @@ use Rattle.job_text.specs.Events.{timed_text, IsTimed}
 use Rattle.job_text.specs.Places.{Setting, Version, Nodes, Credits, Threads, Segment, Last, Resend, Patience}
 use Rattle.job_text.specs.Places as places
 use Rattle.job_text.specs.Places.{setting_entry, sieve_entry, pair_entry, section_entry}
+use Rattle.job_text.specs.Locks.{are_listed}
 use Rattle.job_text.specs.JobReading.{total_rounds, limit}
 use Rattle.job_text.specs.declared.job.HandlerText.{HandlerText}
 use Rattle.job_text.specs.declared.job.Job.{Job}
@@ -52,7 +53,7 @@ abbrev pub pair_line : PairCredits → Line
 pair_line pair = entry_text none_text (pair_entry pair)
 
 abbrev pub header_line : HandlerText → Line
-header_line handler = entry_text none_text (section_entry (section.Handler handler.index handler.role))
+header_line handler = entry_text none_text (section_entry (section.Handler handler.index handler.role handler.locks))
 
 -- the lines of a handler
 abbrev pub handler_lines : HandlerText → List Line
@@ -83,9 +84,10 @@ job_lines job = lines_with_handlers job ++ (schedule_lines job.settings job.sche
 
 -- ---- ranges
 
--- a handler whose index is 0 or a client's, with at most 64 actions
+-- a handler whose index is 0 or a client's, whose locks rise strictly up to 63, with at most 64 actions
 pub record IsHandler (handler : HandlerText) : Type 0 where
   pub index : (handler.index ≡ 0) ⊎ ((128 ≤ handler.index) × (handler.index < 256))
+  pub locks : are_listed 0 handler.locks ≡ true
   pub count : length handler.body ≤ 64
   pub actions : AllByRecursion IsAction handler.body
 

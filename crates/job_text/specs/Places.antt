@@ -5,8 +5,9 @@ use Rattle.std.specs.Str.{bytes_eq}
 use Rattle.datagram_grammar.specs.Parameters.{Parameters, credits_in_all}
 use Rattle.datagram_grammar.specs.declared.pairs.PairCredits.{PairCredits}
 use Rattle.job_text.specs.Lines.{Word, ◌>>=◌, front, back}
-use Rattle.job_text.specs.Forms.{Number, Role, Shape, End, ◌▸◌, Maker, Row, Entry}
+use Rattle.job_text.specs.Forms.{Number, Role, Shape, End, ◌▸◌, Any, Maker, Row, Entry}
 use Rattle.job_text.specs.Forms.{table_at, entry_text, IsOf, none_at, none_text, none_fits, U8}
+use Rattle.job_text.specs.Locks.{are_listed}
 use Rattle.job_text.specs.Reasons.{table_form, words_left}
 use Rattle.job_text.specs.Bodies.{action_at, action_form, action_text, IsAction}
 use Rattle.job_text.specs.Events.{timed_at, timed_form, timed_text, IsTimed}
@@ -144,7 +145,7 @@ abbrev pub form : Word → (shape : Shape) → Maker ⊥ shape Section → Row �
 form name shape make = record { name = name; shape = shape; make = make }
 
 abbrev pub handler_row : Row ⊥ Section
-handler_row = form (codes "handler") (U8 ▸ Role ▸ End) section.Handler
+handler_row = form (codes "handler") (U8 ▸ Role ▸ Any U8) section.Handler
 
 abbrev pub schedule_row : Row ⊥ Section
 schedule_row = form (codes "schedule") End section.Schedule
@@ -157,13 +158,13 @@ sections = handler_row ∷ schedule_row ∷ done_row ∷ []
 
 -- how such a line is written
 abbrev pub section_entry : Section → Entry ⊥ Section
-section_entry (section.Handler index role) = record { row = handler_row; values = (index, (role, tt)) }
+section_entry (section.Handler index role locks) = record { row = handler_row; values = (index, (role, locks)) }
 section_entry section.Schedule = record { row = schedule_row; values = tt }
 section_entry section.Done = record { row = done_row; values = tt }
 
--- the index of a handler is 0, or one of a client's
+-- the index of a handler is 0, or one of a client's; its locks rise strictly, and none is above 63
 abbrev pub section_fits : Section → Bool
-section_fits (section.Handler index role) = (index == 0) || nat_le 128 index
+section_fits (section.Handler index role locks) = ((index == 0) || nat_le 128 index) && are_listed 0 locks
 section_fits other = true
 
 -- what reads such a line

@@ -3,7 +3,7 @@ use Rattle.std.specs.Prelude.{ℕ, zero, suc, ◌+◌, List, [], ◌∷◌, leng
 use Rattle.std.specs.Prelude.{true, false, not, ◌&&◌, nat_le, ◌==◌, if◌then◌else◌}
 use Rattle.std.specs.Str.{bytes_eq}
 use Rattle.job_text.specs.Lines.{Word, front, back, spaced}
-use Rattle.job_text.specs.Forms.{Shape, End, ◌▸◌, Many, Inner, Row}
+use Rattle.job_text.specs.Forms.{Shape, End, ◌▸◌, Many, Any, Inner, Row}
 use Rattle.job_text.specs.declared.fault.JobWhy.{JobWhy}
 use Rattle.job_text.specs.declared.fault.JobWhy.TheVariants.{Early, Text, Form, Value as BadValue}
 
@@ -53,6 +53,7 @@ shape_form form n End bytes = words_left bytes == n
 shape_form form n (p ▸ s) bytes = shape_form form (n + 1) s bytes
 shape_form form n (Many least most p) bytes = nat_le (n + least) (words_left bytes) && nat_le (words_left bytes)
     (n + most)
+shape_form form n (Any p) bytes = nat_le n (words_left bytes)
 shape_form form n Inner bytes = behind form (spaced (after_words n bytes))
 
 -- whether a row has this name, and the bytes after it have the words of its shape

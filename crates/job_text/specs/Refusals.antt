@@ -64,7 +64,7 @@ Says place settings rest item =
 
 -- the index, or the pair, stood in a line before
 abbrev pub IsTakenIndex : Job → Section → Type 0
-IsTakenIndex job (section.Handler index role) = has_index job.handlers index ≡ true
+IsTakenIndex job (section.Handler index role locks) = has_index job.handlers index ≡ true
 IsTakenIndex job other = ⊥
 
 abbrev pub IsTaken : (place : Place) → Job → Item place → Type 0

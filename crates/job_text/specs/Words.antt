@@ -1,11 +1,12 @@
 -- What a word says, and the word that says it.
-use Rattle.std.specs.Prelude.{◌≡◌, ℕ, ℤ, pos, neg_ℤ, ◌<◌, ◌^◌, List, [], ◌∷◌, length, Option, Some, None, false, ◌&&◌}
-use Rattle.std.specs.Prelude.{nat_lt, nat_le, ◌==◌, if◌then◌else◌, codes, decimal, slice_index, drop}
+use Rattle.std.specs.Prelude.{◌≡◌, ℕ, ℤ, pos, neg_ℤ, ◌<◌, ◌≤◌, ◌^◌, List, [], ◌∷◌, length, Option, Some, None, false}
+use Rattle.std.specs.Prelude.{◌&&◌}
+use Rattle.std.specs.Prelude.{nat_lt, nat_le, ◌==◌, if◌then◌else◌, codes, decimal, slice_index, drop, take}
 use Rattle.std.specs.Int.{w32}
 use Rattle.std.specs.Int.RustNames.{FitsSigned}
 use Rattle.std.specs.Fmt.{signed_decimal}
 use Rattle.std.specs.Str.{bytes_eq}
-use Rattle.std.specs.Str.Parse.{digits_value}
+use Rattle.std.specs.Str.Parse.{digits_value, AllDigits}
 use Rattle.std.specs.Int.{IsInRange}
 use Rattle.job_text.specs.Lines.{Word, ◌>>=◌, is_stop, front, back}
 use Rattle.job_text.specs.declared.job.Operand.{Operand}
@@ -28,6 +29,22 @@ number_read bytes = number_of (front bytes) >>= λ n. Some (n, back bytes)
 abbrev pub HasDigit : List ℕ → ℕ → Type 0
 HasDigit bytes i = (i < length bytes) × IsInRange 48 57 (slice_index bytes i)
 
+-- a digit is at the front, and none behind it
+abbrev pub HasOneDigit : List ℕ → Type 0
+HasOneDigit bytes = HasDigit bytes 0 × (HasDigit bytes 1 → ⊥)
+
+-- so many digits are at the front, and this is their number
+pub record BeginWith (bytes : List ℕ) (number count : ℕ) : Type 0 where
+  pub within : count ≤ length bytes
+  pub digits : AllDigits 10 (take count bytes)
+  pub value : number ≡ digits_value 10 (take count bytes)
+  pub fits : number < 2 ^ 64
+
+-- no digit is behind them
+pub record AreDigits (bytes : List ℕ) (number count : ℕ) : Type 0 where
+  pub begin : BeginWith bytes number count
+  pub last : HasDigit bytes count → ⊥
+
 -- a number of 64 bits
 abbrev pub fitting : ℕ → Option ℕ
 fitting n = if nat_lt n (2 ^ 64) then Some n else None
@@ -39,6 +56,13 @@ IsPadded bytes end = (slice_index bytes 0 ≡ 48) × (1 < end)
 -- the word goes on at a place
 abbrev pub GoesOn : List ℕ → ℕ → Type 0
 GoesOn bytes i = (i < length bytes) × (is_stop (slice_index bytes i) ≡ false)
+
+-- the word goes on at a place with the byte that a name has there
+pub record GoesWith (bytes name : List ℕ) (place : ℕ) : Type 0 where
+  pub within : place < length bytes
+  pub more : place < length name
+  pub same : slice_index bytes place ≡ slice_index name place
+  pub runs : is_stop (slice_index bytes place) ≡ false
 
 -- a number of a range
 abbrev pub within : (low high : ℕ) → ℕ → Option ℕ

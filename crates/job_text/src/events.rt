@@ -1,7 +1,7 @@
 //! Reading lines of a schedule.
 
 ghost use Rattle.std.specs.Prelude.{◌≡◌, ◌-◌};
-ghost use Rattle.job_text.specs.Events.{event_at, timed_at, event_form, timed_form};
+ghost use Rattle.job_text.specs.Events.{later_event_at, event_at, timed_at, event_form, timed_form};
 ghost use Rattle.job_text.specs.Forms.{Number, part_at};
 ghost use Rattle.job_text.specs.Reading.{Finds, Reads};
 
@@ -10,7 +10,7 @@ use crate::fault::{Miss, Other};
 use crate::job::{ScheduledEvent, TimedEvent};
 use crate::numbers::{number_at, number_here, short_at};
 use crate::reasons::{skipped, words_left};
-use crate::words::{is_name, name_of, spaced};
+use crate::words::{behind_name, is_name, name_of, spaced};
 use std::alloc::Global;
 
 /// A number below a count behind a space; 0 alone where there is none below it.
@@ -18,6 +18,26 @@ fn index_at(bytes: &[u8], count: u16) -> Result<(u16, &[u8]), Other>
     ensures { Finds (λ x. (x.0, x.1.now)) result (part_at (Number 0 (count - 1)) bytes.now) }
 {
     short_at(bytes, count.saturating_sub(1))
+}
+
+/// The event that a line says, from `tick` on, and the bytes after it.
+fn later_event_at(nodes: u16, bytes: &[u8]) -> Result<(ScheduledEvent, &[u8]), Other>
+    ensures { Finds (λ x. (x.0, x.1.now)) result (later_event_at nodes bytes.now) }
+{
+    if let Some(rest) = behind_name(bytes, b"tick") {
+        let (node, rest) = index_at(rest, nodes)?;
+        return Ok((ScheduledEvent::Tick { node }, rest));
+    }
+    if let Some(rest) = behind_name(bytes, b"settle") {
+        let (rounds, rest) = number_at(rest, 1, 4_096)?;
+        return Ok((
+            ScheduledEvent::Settle {
+                rounds: rounds as u32,
+            },
+            rest,
+        ));
+    }
+    Err(Other)
 }
 
 /// The event that a line says, and the bytes after it.
@@ -30,14 +50,13 @@ fn event_at(
 ) -> Result<(ScheduledEvent, &[u8]), Miss>
     ensures { Reads (λ x. (x.0, x.1.now)) result (event_at nodes threads bytes.now) }
 {
-    let (name, rest) = name_of(bytes);
-    if is_name(name, b"call") {
+    if let Some(rest) = behind_name(bytes, b"call") {
         let (node, rest) = index_at(rest, nodes)?;
         let (thread, rest) = index_at(rest, threads)?;
         let (call, rest) = call_at(alloc, spaced(rest)?)?;
         return Ok((ScheduledEvent::Call { node, thread, call }, rest));
     }
-    if is_name(name, b"request") {
+    if let Some(rest) = behind_name(bytes, b"request") {
         let (from, rest) = index_at(rest, nodes)?;
         let (to, rest) = index_at(rest, nodes)?;
         let (number, rest) = number_at(rest, 1, u64::MAX)?;
@@ -46,7 +65,7 @@ fn event_at(
         }
         return Ok((ScheduledEvent::Request { from, to, number }, rest));
     }
-    if is_name(name, b"reply") {
+    if let Some(rest) = behind_name(bytes, b"reply") {
         let (from, rest) = index_at(rest, nodes)?;
         let (to, rest) = index_at(rest, nodes)?;
         let (number, rest) = number_at(rest, 1, u64::MAX)?;
@@ -55,20 +74,8 @@ fn event_at(
         }
         return Ok((ScheduledEvent::Reply { from, to, number }, rest));
     }
-    if is_name(name, b"tick") {
-        let (node, rest) = index_at(rest, nodes)?;
-        return Ok((ScheduledEvent::Tick { node }, rest));
-    }
-    if is_name(name, b"settle") {
-        let (rounds, rest) = number_at(rest, 1, 4_096)?;
-        return Ok((
-            ScheduledEvent::Settle {
-                rounds: rounds as u32,
-            },
-            rest,
-        ));
-    }
-    Err(Miss::Unlike)
+    let (event, rest) = later_event_at(nodes, bytes)?;
+    Ok((event, rest))
 }
 
 /// The line of a schedule that bytes begin with, and the bytes after it.

@@ -3,23 +3,23 @@
 ghost use Rattle.std.specs.Prelude.{◌≡◌, ◌+◌, ◌≤◌, ◌==◌, [], length, map, IfOk};
 ghost use Rattle.job_text.specs.Places.{AtHandlers, AtBody, end_or};
 ghost use Rattle.job_text.specs.Bodies.{action_at};
-ghost use Rattle.job_text.specs.JobReading.{State, lined, has_index, job_of_head, with_handler, handler_why, read};
+ghost use Rattle.job_text.specs.JobReading.{State, lined, has_index, job_of_head, with_body, with_handler, handler_why, read};
 ghost use Rattle.job_text.specs.Lines.{front};
 ghost use Rattle.job_text.specs.Reading.{Reads, Continues, GivesAt};
 ghost use Rattle.job_text.specs.declared.job.Job.{Job as JobState};
+ghost use Rattle.job_text.specs.declared.job.HandlerText.{HandlerText as HandlerValue};
 ghost use Rattle.std.specs.List.{list_any};
 ghost use Rattle.std.specs.Str.{bytes_eq};
 ghost use Rattle.std.specs.Prelude.{codes};
 
 use crate::bodies::{action_at, action_form};
 use crate::endings::{job_with, tail_at};
-use crate::fault::{JobFault, JobWhy, Miss, Other};
+use crate::fault::{JobFault, JobWhy, Miss};
 use crate::job::{Action, Body, HandlerText, Head, Job};
 use crate::operands::starts;
 use crate::reasons::reason_of;
 use crate::sections::{Section, section_form, section_line};
 use crate::words::{ended, is_name, name_of};
-use handler_rules::Role;
 use std::alloc::Global;
 
 /// The most handlers of a job.
@@ -54,17 +54,14 @@ fn next_action(alloc: Global, bytes: &[u8]) -> Result<(Option<Action>, &[u8]), M
 }
 
 /// The actions of a handler up to the line `end`, with the next line's number and the bytes after it.
-fn body_at(
-    alloc: Global,
-    index: u8,
-    role: Role,
-    first: u32,
-    bytes: &[u8],
-) -> Result<(Body, u32, &[u8]), JobFault>
+fn body_at(alloc: Global, first: u32, bytes: &[u8]) -> Result<(Body, u32, &[u8]), JobFault>
     requires { first ≤ 1000000 }
-    ensures value { (job : JobState) →
-        Continues (λ x. read (record { place = AtHandlers; job = with_handler (record { index = index; role = role; body = x.0 }) job }) x.1 x.2.now)
-        result (read (record { place = AtBody (record { index = index; role = role; body = [] }); job = job }) first bytes.now) }
+    ensures value { (handler : HandlerValue) (job : JobState) →
+        Continues (λ x. read (record {
+          place = AtHandlers;
+          job = with_handler (with_body x.0 handler) job;
+        }) x.1 x.2.now)
+        result (read (record { place = AtBody (with_body [] handler); job = job }) first bytes.now) }
     ensures later { IfOk result (λ x. x.1 ≤ first + 65) }
 {
     let mut actions = Vec::new(alloc);
@@ -129,23 +126,30 @@ pub fn handlers_at(alloc: Global, head: Head, first: u32, bytes: &[u8]) -> Resul
     let mut rest = bytes;
     let mut line = first;
     loop {
-        let (section, after) = match section_line(rest) {
+        let (section, after) = match section_line(alloc, rest) {
             Ok(read) => read,
-            Err(Other) => {
+            Err(Miss::NoMemory) => return Err(JobFault::NoMemory),
+            Err(Miss::Unlike) => {
                 let why = reason_of(section_form(rest), rest);
                 return Err(JobFault::Bad { line, why });
             }
         };
         match section {
-            Section::Handler { index, role } => {
+            Section::Handler { index, role, locks } => {
                 if let Some(why) = why_not(&texts, index) {
                     return Err(JobFault::Bad { line, why });
                 }
-                let (body, later, after) = match body_at(alloc, index, role, line + 1, after) {
+                let (body, later, after) = match body_at(alloc, line + 1, after) {
                     Ok(read) => read,
                     Err(fault) => return Err(fault),
                 };
-                texts.push(HandlerText { index, role, body })?;
+                let handler = HandlerText {
+                    index,
+                    role,
+                    locks,
+                    body,
+                };
+                texts.push(handler)?;
                 rest = after;
                 line = later;
             }

@@ -1,8 +1,10 @@
 //! What the text of a job says, as values.
 
-ghost use Rattle.std.specs.Prelude.{◌≡◌, ◌≤◌, length};
+ghost use Rattle.std.specs.Prelude.{◌≡◌, ◌≤◌, length, true};
+ghost use Rattle.job_text.specs.Locks.{are_listed, listed_by};
 ghost use Rattle.job_text.specs.JobReading.{lines_of};
 
+use crate::locks::listed_by;
 use datagram_grammar::Settings;
 use handler_rules::{CallKind, Role};
 use std::marker::Model;
@@ -35,6 +37,107 @@ impl Model for Operands {
     ghost invariant = { λ v. length v.items.items ≤ 17 };
 }
 
+/// Bytes of a line, at most 8,193, in an allocation of their own.
+#[derive(Debug, Drop)]
+pub struct Bytes {
+    pub(crate) inside: Box<Vec<u8>>,
+}
+
+impl Model for Bytes {
+    ghost use Rattle.std.specs.Prelude.{ℕ, List};
+    ghost use Rattle.std.specs.Box.{box_value};
+
+    ghost Value = { List ℕ };
+
+    ghost view = { λ b. (box_value b.inside).items };
+}
+
+/// The payload of a message, as an action has it.
+#[derive(Debug, Drop)]
+pub enum Payload {
+    /// These bytes.
+    Bytes { bytes: Bytes },
+    /// A range of the own segment, in bytes.
+    Range { offset: u64, len: u64 },
+    /// The payload of the message that a handler runs for, and of a Long its place; in a handler's body alone.
+    Message,
+}
+
+/// A Medium request of a schedule.
+#[derive(Debug, Drop)]
+pub struct MediumText {
+    /// The node that it is sent to.
+    pub to: u16,
+    /// The handler that is to run there.
+    pub handler: u8,
+    /// What the handler sees.
+    pub payload: Payload,
+    /// The arguments.
+    pub operands: Operands,
+}
+
+/// A Long request of a schedule.
+#[derive(Debug, Drop)]
+pub struct LongText {
+    /// The node that it is sent to.
+    pub to: u16,
+    /// The handler that is to run there.
+    pub handler: u8,
+    /// What is written into the segment of that node.
+    pub payload: Payload,
+    /// Where it is written, in bytes from the segment's begin.
+    pub offset: u64,
+    /// The arguments.
+    pub operands: Operands,
+}
+
+/// A Medium request in an allocation of its own, so that a line of a schedule stays small.
+#[derive(Debug, Drop)]
+pub struct BoxedMedium {
+    pub(crate) inside: Box<MediumText>,
+}
+
+impl Model for BoxedMedium {
+    ghost use Rattle.std.specs.Box.{box_value};
+    ghost use Rattle.job_text.specs.declared.job.MediumText.{MediumText};
+
+    ghost Value = { MediumText };
+
+    ghost view = { λ b. box_value b.inside };
+}
+
+/// A Long request in an allocation of its own, so that a line of a schedule stays small.
+#[derive(Debug, Drop)]
+pub struct BoxedLong {
+    pub(crate) inside: Box<LongText>,
+}
+
+impl Model for BoxedLong {
+    ghost use Rattle.std.specs.Box.{box_value};
+    ghost use Rattle.job_text.specs.declared.job.LongText.{LongText};
+
+    ghost Value = { LongText };
+
+    ghost view = { λ b. box_value b.inside };
+}
+
+/// The locks that a handler lists, each 0 to 63, in rising order.
+#[derive(Debug, Drop)]
+pub struct ListedLocks {
+    pub(crate) items: Vec<u8>,
+}
+
+impl Model for ListedLocks {
+    ghost use Rattle.std.specs.Prelude.{◌≡◌, ℕ, List, true};
+    ghost use Rattle.job_text.specs.Locks.{are_listed};
+
+    ghost Value = { List ℕ };
+
+    ghost view = { λ l. l.items.items };
+
+    ghost invariant = { λ l. are_listed 0 l.items.items ≡ true };
+}
+
 /// What a handler's body does; each action in its turn.
 #[derive(Debug, Drop)]
 pub enum Action {
@@ -44,6 +147,14 @@ pub enum Action {
     SetCell { cell: u8, operand: Operand },
     /// The cell becomes the number of the node that sent the message.
     Source { cell: u8 },
+    /// The cell rises by the sum of the payload's bytes, and of a Long of the bytes at its place, wrapping.
+    Sum { cell: u8 },
+    /// The payload of a Medium is written there, in bytes from the begin of the own segment.
+    Keep { offset: u64 },
+    /// Locks a lock.
+    Lock { lock: u8 },
+    /// Unlocks a lock.
+    Unlock { lock: u8 },
     /// A call that does nothing but be judged.
     Attempt { call: CallKind },
     /// A reply.
@@ -54,7 +165,23 @@ pub enum Action {
 #[derive(Debug, Drop)]
 pub enum ReplyAction {
     /// A Short one.
-    Short { handler: u8, operands: Operands },
+    Short {
+        handler: u8,
+        operands: Operands,
+    },
+    /// A Medium one.
+    Medium {
+        handler: u8,
+        payload: Payload,
+        operands: Operands,
+    },
+    /// A Long one, written at the offset of the segment of the node that asked.
+    Long {
+        handler: u8,
+        payload: Payload,
+        offset: u64,
+        operands: Operands,
+    },
 }
 
 /// A call of a thread in a schedule.
@@ -65,6 +192,26 @@ pub enum ScheduledCall {
         to: u16,
         handler: u8,
         operands: Operands,
+    },
+    /// A Medium request.
+    Medium {
+        text: BoxedMedium,
+    },
+    /// A Long request.
+    Long {
+        text: BoxedLong,
+    },
+    /// A Long request whose payload may be taken later.
+    LongAsync {
+        text: BoxedLong,
+    },
+    /// Locks a lock.
+    Lock {
+        lock: u8,
+    },
+    /// Unlocks a lock.
+    Unlock {
+        lock: u8,
     },
     /// A poll.
     Poll,
@@ -80,6 +227,31 @@ pub enum ScheduledCall {
     SetCell {
         cell: u8,
         operand: Operand,
+    },
+    /// The bytes of a range of the own segment, at most 8,192 where the job was read.
+    Show {
+        offset: u64,
+        len: u16,
+    },
+    /// Puts bytes into the own segment.
+    Set {
+        offset: u64,
+        bytes: Bytes,
+    },
+    /// Puts the same byte at each place of a range of the own segment.
+    Fill {
+        offset: u64,
+        len: u64,
+        byte: u8,
+    },
+    /// The number of 64 bits at a place of the own segment.
+    Word {
+        offset: u64,
+    },
+    /// Puts a number of 64 bits at a place of the own segment.
+    SetWord {
+        offset: u64,
+        number: u64,
     },
 }
 
@@ -145,6 +317,8 @@ pub struct HandlerText {
     pub index: u8,
     /// Whether it runs for requests or for replies.
     pub role: Role,
+    /// The locks that it lists.
+    pub locks: ListedLocks,
     /// What it does.
     pub body: Body,
 }
@@ -223,6 +397,50 @@ impl Operands {
         ensures few { length result.now ≤ 17 }
     {
         &self.items
+    }
+}
+
+impl Bytes {
+    /// The bytes, at most 8,193 where the job was read.
+    pub fn items(&self) -> &[u8]
+        ensures { result.now ≡ self.now }
+    {
+        &self.inside
+    }
+}
+
+impl BoxedMedium {
+    /// The request.
+    pub fn text(&self) -> &MediumText
+        ensures { result.now ≡ self.now }
+    {
+        &self.inside
+    }
+}
+
+impl BoxedLong {
+    /// The request.
+    pub fn text(&self) -> &LongText
+        ensures { result.now ≡ self.now }
+    {
+        &self.inside
+    }
+}
+
+impl ListedLocks {
+    /// The locks, each 0 to 63, in rising order.
+    pub fn items(&self) -> &[u8]
+        ensures items { result.now ≡ self.now }
+        ensures listed { are_listed 0 result.now ≡ true }
+    {
+        &self.items
+    }
+
+    /// The locks as a number, of which each lock has the bit of its number.
+    pub fn listed(&self) -> u64
+        ensures { result ≡ listed_by self.now }
+    {
+        listed_by(&self.items)
     }
 }
 

@@ -1,8 +1,17 @@
-//! The text of a job: its values, and reading it.
+//! The text of a job: its values, the forms of its lines as tables, and reading it.
+//!
+//! What is proved of `read_job` [`found`, `one`, `bad`, `meant`, `none`]: a job that is read has the bytes as its text
+//! (`JobText`: the printing of the job's value, and the ranges), and is the one job that has them; else the fault names the
+//! first bad line and the first reason that applies to it, as the reading function on lines says (`job_of`), and no job has
+//! the bytes as its text; or memory ran out. What a refusal means apart from that function [`meant`: `Means`]: some job's
+//! text, its size apart, begins with the lines before the bad one, and none begins with these and the bad one, in which its
+//! reason is wrong by the line and what came before it (`IsAtFault`); or the bytes end too early, the line is none of
+//! words, or there are too many bytes.
 #![tactic(auto)]
 
 mod bodies;
 mod calls;
+mod digits;
 mod endings;
 mod events;
 mod fault;
@@ -10,10 +19,12 @@ mod handler_lines;
 mod head;
 mod job;
 mod kinds;
+mod locks;
 mod numbers;
 mod operand_lists;
 mod operands;
 mod pair_lines;
+mod payloads;
 mod reading;
 mod reasons;
 mod schedules;
@@ -22,10 +33,8 @@ mod words;
 
 pub use fault::{JobFault, JobWhy};
 pub use job::{
-    Action, Body, HandlerText, HandlerTexts, Job, Operand, Operands, ReplyAction, Schedule,
-    ScheduledCall, ScheduledEvent, SieveRule, TimedEvent,
+    Action, Body, BoxedLong, BoxedMedium, Bytes, HandlerText, HandlerTexts, Job, ListedLocks,
+    LongText, MediumText, Operand, Operands, Payload, ReplyAction, Schedule, ScheduledCall,
+    ScheduledEvent, SieveRule, TimedEvent,
 };
 pub use reading::read_job;
-
-#[cfg(test)]
-mod tests;

@@ -14,19 +14,11 @@ use crate::fault::{JobFault, JobWhy, Other};
 use crate::job::Head;
 use crate::numbers::{number_at, short_at};
 use crate::reasons::{reason_of, words_left};
-use crate::words::{ended, is_name, name_of};
+use crate::words::{begins, ended, is_name, name_of};
 use datagram_grammar::{PairCredits, Settings};
 
 /// The most pairs with credits of their own.
 const PAIRS: usize = 64;
-
-/// Whether bytes begin with this word.
-pub fn begins(name: &[u8], bytes: &[u8]) -> bool
-    ensures { result ≡ bytes_eq (front bytes.now) name.now }
-{
-    let (word, _) = name_of(bytes);
-    is_name(word, name)
-}
 
 /// Whether two nodes are there and differ, and all pairs have at most 65,536 credits where this one has these.
 #[tactic(auto, using(crate::proofs::PairSums::sum_in_place))]

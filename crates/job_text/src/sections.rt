@@ -3,20 +3,27 @@
 ghost use Rattle.std.specs.Prelude.{◌≡◌, ◌||◌, ◌==◌, nat_le};
 ghost use Rattle.job_text.specs.Places.{section_at, section_form};
 ghost use Rattle.job_text.specs.JobReading.{lined};
-ghost use Rattle.job_text.specs.Reading.{Finds};
+ghost use Rattle.job_text.specs.Reading.{Reads};
 
-use crate::fault::Other;
+use crate::fault::Miss;
+use crate::job::ListedLocks;
 use crate::kinds::role_at;
+use crate::locks::{are_listed, locks_at};
 use crate::numbers::byte_at;
 use crate::reasons::words_left;
 use crate::words::{ended, is_name, name_of};
 use handler_rules::Role;
+use std::alloc::Global;
 
 /// A line that begins a part of a job's text.
-#[derive(Clone, Copy, Debug, PartialEq, Eq)]
+#[derive(Debug, Drop)]
 pub enum Section {
     /// A handler.
-    Handler { index: u8, role: Role },
+    Handler {
+        index: u8,
+        role: Role,
+        locks: ListedLocks,
+    },
     /// The schedule.
     Schedule,
     /// The end of the text.
@@ -32,17 +39,22 @@ fn is_index(index: u8) -> bool
 
 /// What begins a part, and the bytes after its words.
 #[tactic(auto, unfolding(crate::specs::Places::section_at))]
-fn section_at(bytes: &[u8]) -> Result<(Section, &[u8]), Other>
-    ensures { Finds (λ x. (x.0, x.1.now)) result (section_at bytes.now) }
+fn section_at(alloc: Global, bytes: &[u8]) -> Result<(Section, &[u8]), Miss>
+    ensures { Reads (λ x. (x.0, x.1.now)) result (section_at bytes.now) }
 {
     let (name, rest) = name_of(bytes);
     if is_name(name, b"handler") {
         let (index, rest) = byte_at(rest, 255)?;
         let (role, rest) = role_at(rest)?;
+        let (items, rest) = locks_at(alloc, rest)?;
         if !is_index(index) {
-            return Err(Other);
+            return Err(Miss::Unlike);
         }
-        return Ok((Section::Handler { index, role }, rest));
+        if !are_listed(&items) {
+            return Err(Miss::Unlike);
+        }
+        let locks = ListedLocks { items };
+        return Ok((Section::Handler { index, role, locks }, rest));
     }
     if is_name(name, b"schedule") {
         return Ok((Section::Schedule, rest));
@@ -50,14 +62,14 @@ fn section_at(bytes: &[u8]) -> Result<(Section, &[u8]), Other>
     if is_name(name, b"done") {
         return Ok((Section::Done, rest));
     }
-    Err(Other)
+    Err(Miss::Unlike)
 }
 
 /// What begins a part, and the bytes after its line.
-pub fn section_line(bytes: &[u8]) -> Result<(Section, &[u8]), Other>
-    ensures { Finds (λ x. (x.0, x.1.now)) result (lined section_at bytes.now) }
+pub fn section_line(alloc: Global, bytes: &[u8]) -> Result<(Section, &[u8]), Miss>
+    ensures { Reads (λ x. (x.0, x.1.now)) result (lined section_at bytes.now) }
 {
-    let (section, rest) = section_at(bytes)?;
+    let (section, rest) = section_at(alloc, bytes)?;
     let rest = ended(rest)?;
     Ok((section, rest))
 }
@@ -70,7 +82,7 @@ pub fn section_form(bytes: &[u8]) -> bool
     let (name, rest) = name_of(bytes);
     let count = words_left(rest);
     if is_name(name, b"handler") {
-        return count == 2;
+        return 2 <= count;
     }
     if is_name(name, b"schedule") {
         return count == 0;

@@ -1,10 +1,10 @@
 //! The parts of a line that are the same in each form.
 
-ghost use Rattle.std.specs.Prelude.{◌≡◌, IsTrue, ◌↔◌};
+ghost use Rattle.std.specs.Prelude.{◌≡◌, IsTrue, ◌↔◌, is_some, IfSome};
 ghost use Rattle.std.specs.Str.{bytes_eq};
 ghost use Rattle.job_text.specs.Lines.{is_stop, front, back, spaced, ended};
 ghost use Rattle.job_text.specs.Forms.{has_space, has_more};
-ghost use Rattle.job_text.specs.Words.{GoesOn};
+ghost use Rattle.job_text.specs.Words.{GoesOn, GoesWith};
 ghost use Rattle.job_text.specs.Reading.{Finds};
 
 use crate::fault::Other;
@@ -40,6 +40,39 @@ pub fn name_of(bytes: &[u8]) -> (&[u8], &[u8])
         end += 1;
     }
     bytes.split_at(end)
+}
+
+/// Whether the first word goes on at a place with the byte that a name has there.
+fn goes_with(bytes: &[u8], name: &[u8], i: usize) -> bool
+    ensures { IsTrue result ↔ GoesWith bytes.now name.now i }
+{
+    i < name.len() && i < bytes.len() && bytes[i] == name[i] && !is_stop(name[i])
+}
+
+/// Whether the first word is this one.
+pub fn begins(name: &[u8], bytes: &[u8]) -> bool
+    ensures { result ≡ bytes_eq (front bytes.now) name.now }
+{
+    let mut end = 0;
+    while goes_with(bytes, name, end) {
+        end += 1;
+    }
+    if end < name.len() {
+        return false;
+    }
+    !goes_on(bytes, end)
+}
+
+/// The bytes after the first word, where it is this one.
+pub fn behind_name<'a>(bytes: &'a [u8], name: &[u8]) -> Option<&'a [u8]>
+    ensures name { is_some result ≡ bytes_eq (front bytes.now) name.now }
+    ensures rest { IfSome result (λ rest. rest.now ≡ back bytes.now) }
+{
+    if !begins(name, bytes) {
+        return None;
+    }
+    let (_, rest) = bytes.split_at(name.len());
+    Some(rest)
 }
 
 /// Whether a space comes next.

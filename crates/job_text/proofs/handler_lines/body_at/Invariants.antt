@@ -1,21 +1,15 @@
 use Rattle.std.proofs.Common.{◌≡◌, ◌≤◌, ◌+◌, ◌-◌, length, []}
-use Rattle.job_text.specs.JobReading.{read}
+use Rattle.job_text.specs.JobReading.{read, with_body}
 use Rattle.job_text.specs.Places.{AtBody}
+use Rattle.job_text.specs.declared.job.HandlerText.{HandlerText}
 use Rattle.job_text.specs.declared.job.Job.{Job}
 use Rattle.job_text.proofs.handler_lines.body_at.Given as goal
 
 abbrev pub invariant-loop-read : goal.invariant-loop-read
 invariant-loop-read l = record {
-  so_far : (job : Job) → read (record {
-    place = AtBody (record {
-      index = l.index;
-      role = l.fn.role;
-      body = l.actions.items;
-    });
-    job = job;
-  }) l.line l.rest
-      ≡ read (record { place = AtBody (record { index = l.index; role = l.fn.role; body = [] }); job = job }) l.first
-      l.bytes;
+  so_far : (handler : HandlerText) (job : Job) →
+      read (record { place = AtBody (with_body l.actions.items handler); job = job }) l.line l.rest
+      ≡ read (record { place = AtBody (with_body [] handler); job = job }) l.first l.bytes;
   line : l.line ≡ l.first + length l.actions.items;
   few : length l.actions.items ≤ 64;
 }

@@ -6,14 +6,15 @@ use Rattle.job_text.specs.declared.job.HandlerText.{HandlerText}
 use Rattle.job_text.specs.declared.job.Job.{Job}
 use Rattle.job_text.proofs.LineRuns.{handlers_bad}
 use Rattle.job_text.proofs.HandlerRuns.{told_by, reason_by, none_else, section_schedule, section_done}
-use Rattle.job_text.proofs.HandlerRuns.{section_handler, section_full, room_for}
+use Rattle.job_text.proofs.HandlerRuns.{begun, section_handler, section_full, room_for}
 use Rattle.job_text.proofs.handler_lines.handlers_at.Goals as goal
 
-pub returns-in-Err : goal.returns-in-Err
-returns-in-Err c =
+pub returns-in-Err-Unlike : goal.returns-in-Err-Unlike
+returns-in-Err-Unlike c =
     let job : Job = record (job_of_head c.args.head) { handlers = c.loop-read.texts.items } in
     told_by _ c.loop-read.line _ c.reason_of-why.result
-    (sym c.loop-read.invariant.so_far ∙ handlers_bad job c.loop-read.line c.loop-read.rest.now c.in-Err.ensures)
+    (sym c.loop-read.invariant.so_far ∙ handlers_bad job c.loop-read.line c.loop-read.rest.now
+    (rw c.in-Err-Unlike.field-0-is at c.in-Err-Unlike.ensures))
     (reason_by section_form c.loop-read.rest.now c.section_form.result c.reason_of-why.result c.section_form.ensures
     c.reason_of-why.ensures)
 
@@ -22,18 +23,20 @@ returns-in-Some c =
     let job : Job = record (job_of_head c.args.head) { handlers = c.loop-read.texts.items } in
     sym c.loop-read.invariant.so_far
     ∙ section_full job c.loop-read.line c.loop-read.rest.now c.in-Ok.read.1.now c.in-Handler.index c.in-Handler.role
-    c.in-Some.why (rw c.in-Handler.is at c.in-Ok.ensures)
+    c.in-Handler.locks c.in-Some.why (rw c.in-Handler.is at c.in-Ok.ensures)
     (ap (λ (texts : List HandlerText). handler_why texts c.in-Handler.index) (sym c.deref.ensures.value)
     ∙ sym c.why_not.ensures ∙ c.in-Some.is)
 
-pub returns-in-Err-body_at : goal.returns-in-Err-body_at
-returns-in-Err-body_at c =
+pub returns-in-Err : goal.returns-in-Err
+returns-in-Err c =
     let job : Job = record (job_of_head c.args.head) { handlers = c.loop-read.texts.items } in
     let none = ap (λ (texts : List HandlerText). handler_why texts c.in-Handler.index) (sym c.deref.ensures.value)
     ∙ sym c.why_not.ensures ∙ none_else c.why_not.result (λ w e. c.in_default.not-Some w e) in
     let same = sym c.loop-read.invariant.so_far ∙ section_handler job c.loop-read.line c.loop-read.rest.now
-    c.in-Ok.read.1.now c.in-Handler.index c.in-Handler.role (rw c.in-Handler.is at c.in-Ok.ensures) none in
-    subst (λ (r : Result Job BadLine). FailsAt c.in-Err-body_at.fault r) (sym same) (c.in-Err-body_at.ensures.value job)
+    c.in-Ok.read.1.now c.in-Handler.index c.in-Handler.role c.in-Handler.locks
+    (rw c.in-Handler.is at c.in-Ok.ensures) none in
+    subst (λ (r : Result Job BadLine). FailsAt c.in-Err.fault r) (sym same)
+    (c.in-Err.ensures.value (begun c.in-Handler.index c.in-Handler.role c.in-Handler.locks) job)
 
 pub returns-in-Schedule : goal.returns-in-Schedule
 returns-in-Schedule c =
@@ -66,9 +69,9 @@ loop-read-preserved c =
             (job_of_head c.args.head) { handlers = texts };
       }) c.in-Ok-body_at.read.1 c.in-Ok-body_at.read.2.now)
           c.in_ok-push-in-Handler.ensures.items
-          ∙ sym (c.in-Ok-body_at.ensures.value job)
+          ∙ sym (c.in-Ok-body_at.ensures.value (begun c.in-Handler.index c.in-Handler.role c.in-Handler.locks) job)
           ∙ sym (section_handler job c.loop-read.line c.loop-read.rest.now c.in-Ok.read.1.now c.in-Handler.index
-          c.in-Handler.role (rw c.in-Handler.is at c.in-Ok.ensures) none)
+          c.in-Handler.role c.in-Handler.locks (rw c.in-Handler.is at c.in-Ok.ensures) none)
           ∙ c.loop-read.invariant.so_far;
       line = rw c.in_ok-push-in-Handler.ensures.items (simp length-append (omega
           (arith, c.loop-read.invariant.line, c.in-Ok-body_at.ensures.later)));

@@ -1,0 +1,11 @@
+use Rattle.std.proofs.Common.{◌≡◌, ◌≤◌, ◌^◌, drop, bit_or, true}
+use Rattle.std.specs.List.{fold}
+use Rattle.job_text.specs.Locks.{are_listed, listed_by}
+use Rattle.job_text.proofs.LockLaws.{AreLocks}
+use Rattle.job_text.proofs.locks.listed_by.Given as goal
+
+abbrev pub invariant-loop-lock : goal.invariant-loop-lock
+invariant-loop-lock l = record {
+  so_far : fold (λ listed lock. bit_or listed (2 ^ lock)) l.listed (drop l.lock-index l.locks) ≡ listed_by l.locks;
+  later : AreLocks (drop l.lock-index l.locks);
+}
