@@ -1,2 +1,6 @@
 mod Placing
 pub mod ScheduleNodes
+mod LineTexts
+pub mod SentNumbers
+mod RepliesAsked
+pub mod CallsAmong

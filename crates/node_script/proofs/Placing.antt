@@ -23,8 +23,8 @@ use Rattle.job_text.specs.declared.job.Action.{Action}
 use Rattle.job_text.specs.declared.job.HandlerText.{HandlerText}
 use Rattle.node_script.specs.Registration.{Registry, body_among, entry_of, no_handlers, register, registered}
 use Rattle.node_script.specs.Registration.{with_index}
-use Rattle.node_script.specs.Places.{AreBodies, ArePlaced, AtRegistering, body_at, found_body, is_in_turn, place_at}
-use Rattle.node_script.specs.Places.{register_turn}
+use Rattle.node_script.specs.Places.{AreBodies, ArePlaced, AtRegistering, Placing, body_at, found_body, is_in_turn}
+use Rattle.node_script.specs.Places.{place_at, register_turn}
 
 -- ---- one of 128, by its index from 128 up
 
@@ -259,24 +259,23 @@ turn_without any texts i h r lt e test =
 
 -- the turn goes on with a text that was registered
 pub goes_with : (any : Bool) (texts : List HandlerText) (i : ℕ) (h : HandlerText)
-    (first table next : List (Option Entry)) (before places now : List (Option ℕ)) →
+    (first so_far next : Placing) →
     i < length texts → h ≡ get_or texts i h → is_in_turn any h ≡ true →
-    AtRegistering texts (register_turn any (take i texts)) first before table places →
-    ((all : List HandlerText) → slice_get all i ≡ Some h → AtRegistering all (λ r. register r h) table places next now)
-    →
-    AtRegistering texts (register_turn any (take (i + 1) texts)) first before next now
-goes_with any texts i h first table next before places now lt e test so_far one r P =
-    subst (λ (s : Registry). ArePlaced texts s next now) (sym (turn_with any texts i h r lt e test))
-    (one texts (slice_get_read texts (length texts) i h refl lt e) (register_turn any (take i texts) r) (so_far r P))
+    AtRegistering texts (register_turn any (take i texts)) first so_far →
+    ((all : List HandlerText) → slice_get all i ≡ Some h → AtRegistering all (λ r. register r h) so_far next) →
+    AtRegistering texts (register_turn any (take (i + 1) texts)) first next
+goes_with any texts i h first so_far next lt e test before one r P =
+    subst (λ (s : Registry). ArePlaced texts s next.table next.places) (sym (turn_with any texts i h r lt e test))
+    (one texts (slice_get_read texts (length texts) i h refl lt e) (register_turn any (take i texts) r) (before r P))
 
 -- the turn goes on past a text of the other one
-pub goes_without : (any : Bool) (texts : List HandlerText) (i : ℕ) (h : HandlerText) (first table : List (Option Entry))
-    (before places : List (Option ℕ)) →
+pub goes_without : (any : Bool) (texts : List HandlerText) (i : ℕ) (h : HandlerText) (first so_far : Placing) →
     i < length texts → h ≡ get_or texts i h → is_in_turn any h ≡ false →
-    AtRegistering texts (register_turn any (take i texts)) first before table places →
-    AtRegistering texts (register_turn any (take (i + 1) texts)) first before table places
-goes_without any texts i h first table before places lt e test so_far r P =
-    subst (λ (s : Registry). ArePlaced texts s table places) (sym (turn_without any texts i h r lt e test)) (so_far r P)
+    AtRegistering texts (register_turn any (take i texts)) first so_far →
+    AtRegistering texts (register_turn any (take (i + 1) texts)) first so_far
+goes_without any texts i h first so_far lt e test before r P =
+    subst (λ (s : Registry). ArePlaced texts s so_far.table so_far.places) (sym (turn_without any texts i h r lt e test))
+    (before r P)
 
 -- ---- bodies by their places
 
@@ -332,15 +331,15 @@ none_placed texts = record {
     ]
 
 -- both turns, one after the other, are all
-pub both_turns : (texts : List HandlerText) (first second third : List (Option Entry))
-    (places middle now : List (Option ℕ)) →
-    AtRegistering texts (register_turn false texts) first places second middle
-    → AtRegistering texts (register_turn true texts) second middle third now →
-    first ≡ no_entries → places ≡ replicate 128 None → ArePlaced texts (registered texts) third now
-both_turns texts first second third places middle now one two table_is places_are =
-    let start : ArePlaced texts no_handlers first places =
-    subst (λ (t : List (Option Entry)). ArePlaced texts no_handlers t places) (sym table_is)
+pub both_turns : (texts : List HandlerText) (first second third : Placing) →
+    AtRegistering texts (register_turn false texts) first second
+    → AtRegistering texts (register_turn true texts) second third →
+    first.table ≡ no_entries → first.places ≡ replicate 128 None
+    → ArePlaced texts (registered texts) third.table third.places
+both_turns texts first second third one two table_is places_are =
+    let start : ArePlaced texts no_handlers first.table first.places =
+    subst (λ (t : List (Option Entry)). ArePlaced texts no_handlers t first.places) (sym table_is)
     (subst (λ (p : List (Option ℕ)). ArePlaced texts no_handlers no_entries p) (sym places_are) (none_placed texts)) in
-    subst (λ (s : Registry). ArePlaced texts s third now)
+    subst (λ (s : Registry). ArePlaced texts s third.table third.places)
     (sym (fold-append register no_handlers (filter (is_in_turn false) texts) (filter (is_in_turn true) texts)))
     (two (register_turn false texts no_handlers) (one no_handlers start))

@@ -1,18 +1,32 @@
 -- What the code of a body of a handler ensures of each action.
-use Rattle.std.specs.Prelude.{ℤ, List}
+use Rattle.std.specs.Prelude.{◌≡◌}
+use Rattle.datagram_grammar.specs.Content.{Content}
 use Rattle.handler_rules.specs.declared.desk.Desk.{Desk}
-use Rattle.handler_rules.specs.Desks.{At, scene_of}
-use Rattle.handler_rules.specs.Runs.{Outcome}
+use Rattle.handler_rules.specs.Desks.{At, Stage, frame_of, leaving, start_of}
+use Rattle.handler_rules.specs.Runs.{IsSpelled, Outcome, replying}
 use Rattle.job_text.specs.declared.job.Action.{Action}
 use Rattle.job_text.specs.declared.job.ReplyAction.{ReplyAction}
 use Rattle.node_script.specs.Bodies.{act, replied}
 
--- an action goes from any outcome so far to the next, at any desk that the run began with
-abbrev pub AtAction : Action → (old_cells : List ℤ) → (old : Desk) → (new_cells : List ℤ) → (new : Desk) → Type 0
-AtAction action old_cells old new_cells new =
-    (desk : Desk) (o : Outcome) → At desk o old_cells old → At desk (act (scene_of desk) o action) new_cells new
+-- an action goes from any outcome so far to the next, wherever the run began
+abbrev pub AtAction : Action → (old new : Stage) → Type 0
+AtAction action old new =
+    (opening : Stage) (outcome : Outcome) → At opening outcome old
+    → At opening (act (frame_of opening.desk) (start_of opening) outcome action) new
 
--- so does a reply, which changes no cell
-abbrev pub AtReply : ReplyAction → (cells : List ℤ) → (old new : Desk) → Type 0
-AtReply reply cells old new =
-    (desk : Desk) (o : Outcome) → At desk o cells old → At desk (replied (scene_of desk) o reply) cells new
+-- so does a reply
+abbrev pub AtReply : ReplyAction → (old new : Stage) → Type 0
+AtReply asked old new =
+    (opening : Stage) (outcome : Outcome) → At opening outcome old
+    → At opening (replied (frame_of opening.desk) (start_of opening) outcome asked) new
+
+-- a desk that was left so is left with this reply asked for
+pub record LeavesReply (content : Content) (desk : Desk) (outcome : Outcome) (new : Desk) : Type 0 where
+  pub desk_is : new ≡ leaving (replying (frame_of desk) content outcome) desk
+  pub spelled : IsSpelled (frame_of desk) (replying (frame_of desk) content outcome).reply
+
+-- a desk goes from any outcome so far to that with this reply
+abbrev pub AsksReply : Content → (old new : Desk) → Type 0
+AsksReply content old new =
+    (desk : Desk) (outcome : Outcome) → old ≡ leaving outcome desk → IsSpelled (frame_of desk) outcome.reply
+    → LeavesReply content desk outcome new

@@ -1,6 +1,15 @@
 -- The words of an answer.
-use Rattle.std.specs.Prelude.{ℕ, [], ◌∷◌, codes, decimal, unwrap_or}
+use Rattle.std.specs.Prelude.{ℕ, List, [], ◌∷◌, codes, decimal, unwrap_or}
 use Rattle.std.specs.Fmt.{signed_decimal}
+use Rattle.std.specs.List.{flat_map}
+use Rattle.raw_segment.specs.Bytes.{part}
+use Rattle.hsl_locks.specs.declared.answer.LockFault.{LockFault}
+use Rattle.hsl_locks.specs.declared.answer.LockFault.TheVariants as lock_fault
+use Rattle.hsl_locks.specs.declared.answer.LockAnswer.{LockAnswer}
+use Rattle.hsl_locks.specs.declared.answer.LockAnswer.TheVariants as locking
+use Rattle.hsl_locks.specs.declared.answer.UnlockAnswer.{UnlockAnswer}
+use Rattle.hsl_locks.specs.declared.answer.UnlockAnswer.TheVariants as unlocking
+use Rattle.job_text.specs.Payloads.{hex_byte}
 use Rattle.handler_rules.specs.declared.message.Which.{Which}
 use Rattle.handler_rules.specs.declared.message.Which.TheVariants as which
 use Rattle.handler_rules.specs.declared.rules.Forbidden.{Forbidden}
@@ -8,7 +17,7 @@ use Rattle.handler_rules.specs.declared.rules.Forbidden.TheVariants as forbidden
 use Rattle.datagram_grammar.specs.Parameters.{Parameters}
 use Rattle.node_record.specs.Record.{Node}
 use Rattle.node_record.specs.SlotMessages.{number_at}
-use Rattle.am_core.specs.Kept.{Local}
+use Rattle.am_core.specs.Kept.{Local, segment_of}
 use Rattle.node_record.specs.declared.answer.Asked.{Asked}
 use Rattle.node_record.specs.declared.answer.Asked.TheVariants as asked
 use Rattle.node_record.specs.declared.answer.Delivered.{Delivered}
@@ -43,6 +52,14 @@ rule_word forbidden.ReplyUnderLock = codes "reply-under-lock"
 rule_word forbidden.UnderLock = codes "under-lock"
 rule_word forbidden.LockHeldAtReturn = codes "lock-held-at-return"
 
+-- the word of what is wrong with a call on a lock
+abbrev pub lock_fault_word : LockFault → Word
+lock_fault_word lock_fault.BadIndex = codes "bad-index"
+lock_fault_word lock_fault.NotListed = codes "not-listed"
+lock_fault_word lock_fault.Recursive = codes "recursive"
+lock_fault_word lock_fault.NotHeld = codes "not-held"
+lock_fault_word lock_fault.OutOfOrder = codes "out-of-order"
+
 -- the word of why bytes are refused
 abbrev pub refusal_word : Why → Word
 refusal_word (why.Bytes refused) = codes "bytes"
@@ -51,6 +68,7 @@ refusal_word why.Receiver = codes "receiver"
 refusal_word why.Sender = codes "sender"
 refusal_word why.Slot = codes "slot"
 refusal_word why.Handler = codes "handler"
+refusal_word why.Range = codes "range"
 
 -- the words of a call that the rule table forbids
 abbrev pub forbidden_words : Forbidden → Line
@@ -77,10 +95,32 @@ delivered_words delivered.Late = codes "late" ∷ []
 delivered_words (delivered.Deferred lock) = codes "deferred" ∷ decimal lock ∷ []
 delivered_words (delivered.Refused reason) = codes "refused" ∷ refusal_word reason ∷ []
 
--- the words of the answer to a call on the node's own cells
-abbrev pub local_words : LocalAnswer → Line
-local_words local.Done = codes "ok" ∷ []
-local_words (local.Cell value) = codes "cell" ∷ signed_decimal value ∷ []
+-- the words of the answer to taking a lock
+abbrev pub lock_words : LockAnswer → Line
+lock_words locking.Taken = codes "taken" ∷ []
+lock_words locking.Held = codes "held" ∷ []
+lock_words (locking.Refused fault) = codes "lock-fault" ∷ lock_fault_word fault ∷ []
+
+-- the words of the answer to giving a lock back
+abbrev pub unlock_words : UnlockAnswer → Line
+unlock_words unlocking.Freed = codes "freed" ∷ []
+unlock_words (unlocking.Refused fault) = codes "lock-fault" ∷ lock_fault_word fault ∷ []
+
+-- ---- the own cells and segment
+
+-- the word of bytes that are shown: two digits for each
+abbrev pub shown_word : List ℕ → Word
+shown_word [] = codes "-"
+shown_word (byte ∷ bytes) = flat_map hex_byte (byte ∷ bytes)
+
+-- the words of the answer to a call on the node's own cells or segment, which has these bytes
+abbrev pub local_words : (segment : List ℕ) → LocalAnswer → Line
+local_words segment local.Done = codes "ok" ∷ []
+local_words segment local.Outside = codes "outside" ∷ []
+local_words segment local.Unaligned = codes "unaligned" ∷ []
+local_words segment (local.Shown offset len) = codes "bytes" ∷ shown_word (part segment offset len) ∷ []
+local_words segment (local.Number number) = codes "word" ∷ decimal number ∷ []
+local_words segment (local.Cell value) = codes "cell" ∷ signed_decimal value ∷ []
 
 -- ---- ticks
 
@@ -101,12 +141,24 @@ ticked_words numbers ticked.Nothing = codes "nothing" ∷ []
 
 -- ---- all answers
 
--- the words of the answer of a node, by the number at each of its slots after it
-abbrev pub answer_words : (SlotRef → ℕ) → Answer → Line
-answer_words numbers (answers.Asked answer) = asked_words answer
-answer_words numbers answers.Polled = codes "ok" ∷ []
-answer_words numbers answers.Allowed = codes "allowed" ∷ []
-answer_words numbers (answers.Forbidden rule) = forbidden_words rule
-answer_words numbers (answers.Local answer) = local_words answer
-answer_words numbers (answers.Delivered answer) = delivered_words answer
-answer_words numbers (answers.Ticked sent) = ticked_words numbers sent
+-- what an answer names of its node: the number at each slot, and the bytes of the segment
+pub record Sight : Type 0 where
+  pub numbers : SlotRef → ℕ
+  pub segment : List ℕ
+
+-- that of the node `me`, which has this record
+abbrev pub sight_of : Parameters → (me : ℕ) → Node Local → Sight
+sight_of settings me node =
+    record { numbers = numbers_of settings me node; segment = segment_of settings node.local }
+
+-- the words of the answer of a node, by what it names as it stands after it
+abbrev pub answer_words : Sight → Answer → Line
+answer_words sight (answers.Asked answer) = asked_words answer
+answer_words sight answers.Polled = codes "ok" ∷ []
+answer_words sight answers.Allowed = codes "allowed" ∷ []
+answer_words sight (answers.Forbidden rule) = forbidden_words rule
+answer_words sight (answers.Lock answer) = lock_words answer
+answer_words sight (answers.Unlock answer) = unlock_words answer
+answer_words sight (answers.Local answer) = local_words sight.segment answer
+answer_words sight (answers.Delivered answer) = delivered_words answer
+answer_words sight (answers.Ticked sent) = ticked_words sight.numbers sent

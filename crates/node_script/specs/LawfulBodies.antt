@@ -1,37 +1,82 @@
--- Whatever a body says, its reply is one that the rule table and its parts let through.
-use Rattle.std.specs.Prelude.{ℕ, List, [], ◌∷◌, map}
-use Rattle.handler_rules.specs.Runs.{Scene, Start, Outcome, IsLawful, untouched}
-use Rattle.handler_rules.proofs.Laws.{IsLawful-replying}
+-- Whatever a body says, its run is lawful.
+use Rattle.std.specs.Prelude.{ℕ, ◌≡◌, ◌+◌, ◌==◌, ◌||◌, nat_lt, List, [], ◌∷◌, length, map, Option, Some, None}
+use Rattle.std.specs.Option.{option_map}
+use Rattle.std.proofs.Common.{Bool, true, false, refl, if◌then◌else◌}
+use Rattle.std.proofs.lemmas.Bool.{ltb-false}
+use Rattle.datagram_grammar.specs.Content.{Content, long_reply, medium_reply}
+use Rattle.handler_rules.specs.Runs.{Frame, Start, Outcome, IsLawfulRun, IsReplyContent, untouched}
+use Rattle.handler_rules.proofs.Lawful.{lawful-attempted, lawful-cells, lawful-gave_lock, lawful-replying}
+use Rattle.handler_rules.proofs.Lawful.{lawful-took_lock, lawful-untouched, lawful-writing, long_reply-content}
+use Rattle.handler_rules.proofs.Lawful.{medium_reply-content, short_reply-content}
 use Rattle.job_text.specs.declared.job.Action.{Action}
 use Rattle.job_text.specs.declared.job.Action.TheVariants as action
 use Rattle.job_text.specs.declared.job.ReplyAction.{ReplyAction}
 use Rattle.job_text.specs.declared.job.ReplyAction.TheVariants as reply
 use Rattle.job_text.specs.declared.job.HandlerText.{HandlerText}
-use Rattle.node_script.specs.Bodies.{act, acts, operand_at, replied, script_meaning}
+use Rattle.node_script.specs.Bodies.{act, acts, operand_at, payload_bytes, replied, replying_if, segment_at}
+use Rattle.node_script.specs.Bodies.{script_meaning, writing_if}
 use Rattle.node_script.specs.Registration.{body_for}
 
--- a reply keeps it
-pub IsLawful-replied : (scene : Scene) (o : Outcome) (a : ReplyAction) → IsLawful scene o.reply
-    → IsLawful scene (replied scene o a).reply
-IsLawful-replied scene o (reply.Short handler xs) h =
-    IsLawful-replying scene handler (map (operand_at scene o) xs) o h
+-- a payload that is kept fits
+lawful-keep_by : (frame : Frame) (start : Start) (outcome : Outcome) (offset : ℕ) (bytes : List ℕ) (none far : Bool)
+    → nat_lt (length start.segment) (offset + length bytes) ≡ far → IsLawfulRun frame start outcome
+    → IsLawfulRun frame start
+    (writing_if (if none || far then None else Some (record { offset = offset; bytes = bytes })) outcome)
+lawful-keep_by frame start outcome offset bytes true far test lawful = lawful
+lawful-keep_by frame start outcome offset bytes false true test lawful = lawful
+lawful-keep_by frame start outcome offset bytes false false test lawful =
+    lawful-writing frame start outcome (record { offset = offset; bytes = bytes })
+    (ltb-false (length start.segment) (offset + length bytes) test) lawful
 
--- an action keeps it
-pub IsLawful-act : (scene : Scene) (o : Outcome) (a : Action) → IsLawful scene o.reply
-    → IsLawful scene (act scene o a).reply
-IsLawful-act scene o (action.Add cell x) h = h
-IsLawful-act scene o (action.SetCell cell x) h = h
-IsLawful-act scene o (action.Source cell) h = h
-IsLawful-act scene o (action.Attempt kind) h = h
-IsLawful-act scene o (action.Reply reply) h = IsLawful-replied scene o reply h
+-- a reply with a payload that is asked for, where the payload's range is inside the segment
+lawful-loaded : (frame : Frame) (start : Start) (outcome : Outcome) (make : List ℕ → Content)
+    (load : Option (List ℕ)) → ((bytes : List ℕ) → IsReplyContent (make bytes)) → IsLawfulRun frame start outcome
+    → IsLawfulRun frame start (replying_if frame (option_map make load) outcome)
+lawful-loaded frame start outcome make None is_reply lawful = lawful
+lawful-loaded frame start outcome make (Some bytes) is_reply lawful =
+    lawful-replying frame start (make bytes) outcome (is_reply bytes) lawful
+
+-- a reply keeps a run lawful
+lawful-replied : (frame : Frame) (start : Start) (outcome : Outcome) (asked : ReplyAction)
+    → IsLawfulRun frame start outcome → IsLawfulRun frame start (replied frame start outcome asked)
+lawful-replied frame start outcome (reply.Short handler operands) lawful =
+    lawful-replying frame start _ outcome
+    (short_reply-content handler (map (operand_at frame outcome) operands)) lawful
+lawful-replied frame start outcome (reply.Medium handler load operands) lawful =
+    lawful-loaded frame start outcome
+    (λ bytes. medium_reply handler (map (operand_at frame outcome) operands) bytes)
+    (payload_bytes frame.arrival (segment_at start outcome) load)
+    (λ bytes. medium_reply-content handler (map (operand_at frame outcome) operands) bytes) lawful
+lawful-replied frame start outcome (reply.Long handler load offset operands) lawful =
+    lawful-loaded frame start outcome
+    (λ bytes. long_reply handler (map (operand_at frame outcome) operands) offset bytes)
+    (payload_bytes frame.arrival (segment_at start outcome) load)
+    (λ bytes. long_reply-content handler (map (operand_at frame outcome) operands) offset bytes) lawful
+
+-- an action keeps a run lawful
+lawful-act : (frame : Frame) (start : Start) (outcome : Outcome) (done : Action)
+    → IsLawfulRun frame start outcome → IsLawfulRun frame start (act frame start outcome done)
+lawful-act frame start outcome (action.Add cell operand) lawful = lawful-cells frame start outcome _ lawful
+lawful-act frame start outcome (action.SetCell cell operand) lawful = lawful-cells frame start outcome _ lawful
+lawful-act frame start outcome (action.Source cell) lawful = lawful-cells frame start outcome _ lawful
+lawful-act frame start outcome (action.Sum cell) lawful = lawful-cells frame start outcome _ lawful
+lawful-act frame start outcome (action.Keep offset) lawful =
+    lawful-keep_by frame start outcome offset frame.arrival.payload (length frame.arrival.payload == 0)
+    (nat_lt (length start.segment) (offset + length frame.arrival.payload)) refl lawful
+lawful-act frame start outcome (action.Lock lock) lawful = lawful-took_lock frame start outcome lock lawful
+lawful-act frame start outcome (action.Unlock lock) lawful = lawful-gave_lock frame start outcome lock lawful
+lawful-act frame start outcome (action.Attempt kind) lawful = lawful-attempted frame start outcome kind lawful
+lawful-act frame start outcome (action.Reply asked) lawful = lawful-replied frame start outcome asked lawful
 
 -- so do actions in order
-pub IsLawful-acts : (scene : Scene) (o : Outcome) (actions : List Action) → IsLawful scene o.reply
-    → IsLawful scene (acts scene o actions).reply
-IsLawful-acts scene o [] h = h
-IsLawful-acts scene o (a ∷ actions) h = IsLawful-acts scene (act scene o a) actions (IsLawful-act scene o a h)
+lawful-acts : (frame : Frame) (start : Start) (outcome : Outcome) (actions : List Action)
+    → IsLawfulRun frame start outcome → IsLawfulRun frame start (acts frame start outcome actions)
+lawful-acts frame start outcome [] lawful = lawful
+lawful-acts frame start outcome (first ∷ rest) lawful =
+    lawful-acts frame start (act frame start outcome first) rest (lawful-act frame start outcome first lawful)
 
--- the reply of each handler of a job
-pub IsLawful-script : (it : List HandlerText) (handler : ℕ) (scene : Scene) (start : Start)
-    → IsLawful scene (script_meaning it handler scene start).reply
-IsLawful-script it handler scene start = IsLawful-acts scene (untouched start) (body_for it handler) tt
+-- each run of a handler of a job is lawful
+pub lawful-script : (handlers : List HandlerText) (handler : ℕ) (frame : Frame) (start : Start)
+    → IsLawfulRun frame start (script_meaning handlers handler frame start)
+lawful-script handlers handler frame start =
+    lawful-acts frame start (untouched start) (body_for handlers handler) (lawful-untouched frame start)

@@ -2,7 +2,8 @@ pub mod Lines
 pub mod Registration
 pub mod Bodies
 pub mod AnswerWords
-pub mod EndpointNumbers
+pub mod AnswersTold
+pub mod ScheduledCalls
 pub mod Schedules
 pub mod ActionResult
 pub mod LawfulBodies

@@ -23,6 +23,11 @@ joined (word ∷ words) = word ++ flat_map spaced words
 abbrev pub line_text : Line → List ℕ
 line_text words = joined words ++ 10 ∷ []
 
+-- what stands behind the first word of a line: the other words with a space before each, and byte 10
+abbrev pub ending : Line → List ℕ
+ending [] = 10 ∷ []
+ending (word ∷ words) = spaced word ++ ending words
+
 -- lines, one after the other
 abbrev pub spell : List Line → List ℕ
 spell lines = flat_map line_text lines

@@ -10,12 +10,13 @@ use Rattle.node_script.specs.Registration.{Registry, body_for, register}
 
 -- the place among the texts of the one that is registered for the index; none for an index below 128
 abbrev pub place_at : List (Option ℕ) → (index : ℕ) → Option ℕ
-place_at places index = if nat_lt index 128 then None else option_and_then (λ p. p) (slice_get places (index - 128))
+place_at places index =
+    if nat_lt index 128 then None else option_and_then (λ place. place) (slice_get places (index - 128))
 
 -- the body of a text, if there is one
 abbrev pub body_of : Option HandlerText → List Action
 body_of None = []
-body_of (Some h) = h.body
+body_of (Some text) = text.body
 
 -- the body of the text at the place; none, which does nothing, where no place is given
 abbrev pub body_at : List HandlerText → Option ℕ → List Action
@@ -30,30 +31,39 @@ pub record AreBodies (texts : List HandlerText) (places : List (Option ℕ)) : T
 -- the body that is registered for the index, if there is one
 abbrev pub found_body : List (ℕ × List Action) → (index : ℕ) → Option (List Action)
 found_body [] index = None
-found_body (b ∷ bs) index = if b.0 == index then Some b.1 else found_body bs index
+found_body (body ∷ bodies) index = if body.0 == index then Some body.1 else found_body bodies index
 
 -- table and places are those of a registry: nothing has a place that isn't registered
-pub record ArePlaced (texts : List HandlerText) (r : Registry) (table : List (Option Entry))
+pub record ArePlaced (texts : List HandlerText) (registry : Registry) (table : List (Option Entry))
     (places : List (Option ℕ)) : Type 0 where
-  pub table_is : table ≡ r.table
+  pub table_is : table ≡ registry.table
   pub long : length places ≡ 128
   pub rows : length table ≡ 128
   pub found : (index : ℕ) → index < 2 ^ 8
-      → found_body r.bodies index ≡ option_map (λ p. body_at texts (Some p)) (place_at places index)
+      → found_body registry.bodies index ≡ option_map (λ place. body_at texts (Some place)) (place_at places index)
   pub known : (index : ℕ) → index < 2 ^ 8 → is_none (entry_at table index) ≡ true → place_at places index ≡ None
 
 -- whether a handler asks for its index in this turn: those with an index of their own in the first, those that ask for
 -- any in the second
 abbrev pub is_in_turn : (any : Bool) → HandlerText → Bool
-is_in_turn true h = h.index == 0
-is_in_turn false h = not (h.index == 0)
+is_in_turn true text = text.index == 0
+is_in_turn false text = not (text.index == 0)
+
+-- a table as the code keeps it: its entries, and the place of the text that is registered for each index
+pub record Placing : Type 0 where
+  pub table : List (Option Entry)
+  pub places : List (Option ℕ)
+
+-- what the code keeps, in one
+abbrev pub placing : List (Option Entry) → List (Option ℕ) → Placing
+placing table places = record { table = table; places = places }
 
 -- a registration goes from any registry so far to the next
-abbrev pub AtRegistering : List HandlerText → (Registry → Registry) → (old_table : List (Option Entry))
-    → (old_places : List (Option ℕ)) → (table : List (Option Entry)) → (places : List (Option ℕ)) → Type 0
-AtRegistering texts next old_table old_places table places =
-    (r : Registry) → ArePlaced texts r old_table old_places → ArePlaced texts (next r) table places
+abbrev pub AtRegistering : List HandlerText → (Registry → Registry) → (old new : Placing) → Type 0
+AtRegistering texts next old new =
+    (registry : Registry) → ArePlaced texts registry old.table old.places
+    → ArePlaced texts (next registry) new.table new.places
 
 -- those of one turn registered, in order
 abbrev pub register_turn : (any : Bool) → List HandlerText → Registry → Registry
-register_turn any hs r = fold register r (filter (is_in_turn any) hs)
+register_turn any texts registry = fold register registry (filter (is_in_turn any) texts)

@@ -12,16 +12,17 @@ use Rattle.node_script.specs.declared.line.Line.TheVariants as lines
 
 -- a line of a schedule, where the nodes have these records: its time, and its event or its rounds
 abbrev pub IsLineOf : Records → TimedEvent → Line → Type 0
-IsLineOf w e (lines.Event now event) = (now ≡ e.time) × (scheduled_event w e.event ≡ Some (event_of event))
-IsLineOf w e (lines.Settle now rounds) = (now ≡ e.time) × (e.event ≡ scheduled.Settle rounds)
+IsLineOf records timed (lines.Event now event) =
+    (now ≡ timed.time) × (scheduled_event records timed.event ≡ Some (event_of event))
+IsLineOf records timed (lines.Settle now rounds) = (now ≡ timed.time) × (timed.event ≡ scheduled.Settle rounds)
 
 -- none exactly where there is no such line
 abbrev pub IsLine : Records → Option TimedEvent → Option Line → Type 0
-IsLine w None None = Unit {0}
-IsLine w (Some e) (Some line) = IsLineOf w e line
-IsLine w _ _ = ⊥
+IsLine records None None = Unit {0}
+IsLine records (Some timed) (Some line) = IsLineOf records timed line
+IsLine records _ _ = ⊥
 
 -- the nodes that the line names are there, as a step of a world wants
 abbrev pub NamesNodes : Parameters → Line → Type 0
-NamesNodes s (lines.Event now event) = IsAmong s (event_of event)
-NamesNodes s (lines.Settle now rounds) = Unit {0}
+NamesNodes settings (lines.Event now event) = IsAmong settings (event_of event)
+NamesNodes settings (lines.Settle now rounds) = Unit {0}

@@ -1,14 +1,16 @@
 //! The words of the parts of an answer.
 
-ghost use Rattle.std.specs.Prelude.{◌≡◌};
-ghost use Rattle.node_script.specs.AnswerWords.{bad_word, rule_word, refusal_word};
+ghost use Rattle.std.specs.Prelude.{◌≡◌, ◌≤◌, length};
+ghost use Rattle.node_script.specs.AnswerWords.{bad_word, lock_fault_word, rule_word, refusal_word};
 
 use am_core::Why;
 use handler_rules::{Forbidden, Which};
+use hsl_locks::LockFault;
 
 /// The word of the part of a call that is bad.
 pub fn bad_word(part: Which) -> &'static [u8]
-    ensures { result.now ≡ bad_word part }
+    ensures word { result.now ≡ bad_word part }
+    ensures short { length result.now ≤ 20 }
 {
     match part {
         Which::Node => b"node",
@@ -22,7 +24,8 @@ pub fn bad_word(part: Which) -> &'static [u8]
 
 /// The word of the rule that forbids a call.
 pub fn rule_word(rule: Forbidden) -> &'static [u8]
-    ensures { result.now ≡ rule_word rule }
+    ensures word { result.now ≡ rule_word rule }
+    ensures short { length result.now ≤ 20 }
 {
     match rule {
         Forbidden::InHandler => b"in-handler",
@@ -35,9 +38,24 @@ pub fn rule_word(rule: Forbidden) -> &'static [u8]
     }
 }
 
+/// The word of what is wrong with a call on a lock.
+pub fn lock_fault_word(fault: LockFault) -> &'static [u8]
+    ensures word { result.now ≡ lock_fault_word fault }
+    ensures short { length result.now ≤ 20 }
+{
+    match fault {
+        LockFault::BadIndex => b"bad-index",
+        LockFault::NotListed => b"not-listed",
+        LockFault::Recursive => b"recursive",
+        LockFault::NotHeld => b"not-held",
+        LockFault::OutOfOrder => b"out-of-order",
+    }
+}
+
 /// The word of why bytes are refused.
 pub fn refusal_word(reason: Why) -> &'static [u8]
-    ensures { result.now ≡ refusal_word reason }
+    ensures word { result.now ≡ refusal_word reason }
+    ensures short { length result.now ≤ 20 }
 {
     match reason {
         Why::Bytes(_) => b"bytes",
@@ -46,5 +64,6 @@ pub fn refusal_word(reason: Why) -> &'static [u8]
         Why::Sender => b"sender",
         Why::Slot => b"slot",
         Why::Handler => b"handler",
+        Why::Range => b"range",
     }
 }

@@ -1,207 +1,86 @@
 //! The lines of answers.
 
-ghost use Rattle.std.specs.Prelude.{◌≡◌, ◌≤◌, ◌∷◌, [], codes, decimal};
-ghost use Rattle.std.specs.Fmt.{signed_decimal};
+ghost use Rattle.std.specs.Prelude.{◌≡◌, ◌≤◌, ◌∷◌, length};
 ghost use Rattle.gas_outside.specs.Buffered.{GathersAll, outbox};
-ghost use Rattle.gas_outside.specs.Faults.{Rose};
-ghost use Rattle.gas_outside.specs.Whole.{IsWriteFault};
-ghost use Rattle.node_script.specs.Lines.{line_text};
+ghost use Rattle.node_script.specs.Lines.{Line, ending, line_text};
 ghost use Rattle.gas_world.specs.Endpoints.{ForItsRecord};
-ghost use Rattle.node_script.specs.AnswerWords.{answer_words, asked_words, delivered_words, local_words, sent_words};
-ghost use Rattle.node_script.specs.AnswerWords.{ticked_words};
-ghost use Rattle.node_script.specs.EndpointNumbers.{numbers_at};
+ghost use Rattle.node_script.specs.AnswerWords.{answer_words, local_words, sent_words, ticked_words};
+ghost use Rattle.node_script.specs.AnswersTold.{HasNumber, NamesItsBytes, NamesWhatIs, TicksItsNumbers, sight_at};
 
-use crate::answer_words::{bad_word, refusal_word, rule_word};
-use crate::line_writer::write_line;
-use am_core::{Asked, Delivered, SlotRef};
+use crate::answer_texts::{
+    asked_text, cell_text, delivered_text, lock_text, numbered_text, reason_text, request_text,
+    unlock_text, word_text,
+};
+use crate::answer_words::rule_word;
+use crate::line_text::LineText;
+use crate::shown::write_shown;
+use am_core::SlotRef;
 use gas_outside::{BufferedSink, Sink, Wrote};
 use gas_world::{Answer, Endpoint, Local, Ticked};
-use itoa::Buffer;
 
-/// Writes a line of two words.
-fn write_word<K: Sink>(sink: &mut BufferedSink<K>, first: &[u8], word: &[u8]) -> Wrote
-    ensures bytes { GathersAll (outbox K.taken sink.old) (outbox K.taken sink.new)
-        (line_text (first.now ∷ word.now ∷ [])) result }
-    ensures later { K.faults sink.old.inner ≤ K.faults sink.new.inner }
-    ensures fault { IsWriteFault result → Rose (K.faults sink.old.inner) (K.faults sink.new.inner) }
+/// The text of a request that a tick sent from this slot.
+fn sent_text(word: &[u8], at: SlotRef, endpoint: &Endpoint) -> LineText
+    requires word { length word.now ≤ 10 }
+    requires number { HasNumber endpoint.now at }
+    ensures { ForItsRecord endpoint.now (λ node.
+        result ≡ ending (sent_words word.now at ((sight_at endpoint.now node).numbers at))) }
 {
-    write_line(sink, first, &[word])
+    request_text(word, at.peer, at.slot, endpoint.number(at).unwrap())
 }
 
-/// Writes a line of three words.
-fn write_reason<K: Sink>(
-    sink: &mut BufferedSink<K>,
-    first: &[u8],
-    word: &[u8],
-    reason: &[u8],
-) -> Wrote
-    ensures bytes { GathersAll (outbox K.taken sink.old) (outbox K.taken sink.new)
-        (line_text (first.now ∷ word.now ∷ reason.now ∷ [])) result }
-    ensures later { K.faults sink.old.inner ≤ K.faults sink.new.inner }
-    ensures fault { IsWriteFault result → Rose (K.faults sink.old.inner) (K.faults sink.new.inner) }
-{
-    write_line(sink, first, &[word, reason])
-}
-
-/// Writes the line of an answer that names a lock.
-fn write_lock<K: Sink>(sink: &mut BufferedSink<K>, first: &[u8], word: &[u8], lock: u8) -> Wrote
-    ensures bytes { GathersAll (outbox K.taken sink.old) (outbox K.taken sink.new)
-        (line_text (first.now ∷ word.now ∷ decimal lock ∷ [])) result }
-    ensures later { K.faults sink.old.inner ≤ K.faults sink.new.inner }
-    ensures fault { IsWriteFault result → Rose (K.faults sink.old.inner) (K.faults sink.new.inner) }
-{
-    let mut text = Buffer::new();
-    write_reason(sink, first, word, text.format(lock).as_bytes())
-}
-
-/// Writes the line of a request that was accepted.
-fn write_accepted<K: Sink>(
-    sink: &mut BufferedSink<K>,
-    first: &[u8],
-    to: u16,
-    slot: u16,
-    request: u64,
-) -> Wrote
-    ensures bytes { GathersAll (outbox K.taken sink.old) (outbox K.taken sink.new)
-        (line_text (first.now ∷ codes "accepted" ∷ decimal to ∷ decimal slot
-        ∷ decimal request ∷ [])) result }
-    ensures later { K.faults sink.old.inner ≤ K.faults sink.new.inner }
-    ensures fault { IsWriteFault result → Rose (K.faults sink.old.inner) (K.faults sink.new.inner) }
-{
-    let mut to_text = Buffer::new();
-    let mut slot_text = Buffer::new();
-    let mut request_text = Buffer::new();
-    write_line(
-        sink,
-        first,
-        &[
-            b"accepted".as_slice(),
-            to_text.format(to).as_bytes(),
-            slot_text.format(slot).as_bytes(),
-            request_text.format(request).as_bytes(),
-        ],
-    )
-}
-
-/// Writes the line of the answer to a request.
-fn write_asked<K: Sink>(sink: &mut BufferedSink<K>, first: &[u8], answer: Asked) -> Wrote
-    ensures bytes { GathersAll (outbox K.taken sink.old) (outbox K.taken sink.new)
-        (line_text (first.now ∷ asked_words answer)) result }
-    ensures later { K.faults sink.old.inner ≤ K.faults sink.new.inner }
-    ensures fault { IsWriteFault result → Rose (K.faults sink.old.inner) (K.faults sink.new.inner) }
+/// The text of the answer to a tick.
+fn ticked_text(answer: Ticked, endpoint: &Endpoint) -> LineText
+    requires { TicksItsNumbers endpoint.now answer }
+    ensures { ForItsRecord endpoint.now (λ node.
+        result ≡ ending (ticked_words (sight_at endpoint.now node).numbers answer)) }
 {
     match answer {
-        Asked::Accepted {
-            to,
-            slot,
-            number: request,
-        } => write_accepted(sink, first, to, slot, request),
-        Asked::Ran => write_word(sink, first, b"ran"),
-        Asked::BadArg(part) => write_reason(sink, first, b"bad-arg", bad_word(part)),
-        Asked::Forbidden(rule) => write_reason(sink, first, b"forbidden", rule_word(rule)),
-        Asked::LockBusy(lock) => write_lock(sink, first, b"lock-busy", lock),
-        Asked::WornOut => write_word(sink, first, b"worn-out"),
-        Asked::NotYet => write_word(sink, first, b"not-yet"),
+        Ticked::Resend(at) => sent_text(b"resend", at, endpoint),
+        Ticked::Note(at) => sent_text(b"note", at, endpoint),
+        Ticked::Chunk(at) => sent_text(b"chunk", at, endpoint),
+        Ticked::Nothing => word_text(b"nothing"),
     }
 }
 
-/// Writes the line of the answer to bytes that were delivered.
-fn write_delivered<K: Sink>(sink: &mut BufferedSink<K>, first: &[u8], answer: Delivered) -> Wrote
-    ensures bytes { GathersAll (outbox K.taken sink.old) (outbox K.taken sink.new)
-        (line_text (first.now ∷ delivered_words answer)) result }
-    ensures later { K.faults sink.old.inner ≤ K.faults sink.new.inner }
-    ensures fault { IsWriteFault result → Rose (K.faults sink.old.inner) (K.faults sink.new.inner) }
+/// Writes a line: its first word, and the text behind it.
+fn write_text<K: Sink>(first: &[u8], text: &LineText, sink: &mut BufferedSink<K>) -> Wrote
+    ensures { (words : Line) → text.now ≡ ending words
+        → GathersAll (outbox K.taken K.faults sink.old) (outbox K.taken K.faults sink.new)
+        (line_text (first.now ∷ words)) result }
+{
+    if let Wrote::Fault = sink.write_all(first) {
+        return Wrote::Fault;
+    }
+    sink.write_all(text.bytes())
+}
+
+/// Writes the line of the answer to a call on what the node itself has.
+fn write_local<K: Sink>(
+    first: &[u8],
+    answer: Local,
+    endpoint: &Endpoint,
+    sink: &mut BufferedSink<K>,
+) -> Wrote
+    requires { NamesItsBytes endpoint.now answer }
+    ensures { ForItsRecord endpoint.now (λ node.
+        GathersAll (outbox K.taken K.faults sink.old) (outbox K.taken K.faults sink.new)
+        (line_text (first.now ∷ local_words (sight_at endpoint.now node).segment answer)) result) }
 {
     match answer {
-        Delivered::Ran(_) => write_word(sink, first, b"ran"),
-        Delivered::Again(_) => write_word(sink, first, b"again"),
-        Delivered::Stale => write_word(sink, first, b"stale"),
-        Delivered::Returned { .. } => write_word(sink, first, b"returned"),
-        Delivered::Late => write_word(sink, first, b"late"),
-        Delivered::Deferred(lock) => write_lock(sink, first, b"deferred", lock),
-        Delivered::Refused(reason) => {
-            write_reason(sink, first, b"refused", refusal_word(reason))
+        Local::Done => write_text(first, &word_text(b"ok"), sink),
+        Local::Outside => write_text(first, &word_text(b"outside"), sink),
+        Local::Unaligned => write_text(first, &word_text(b"unaligned"), sink),
+        Local::Shown { offset, len } => {
+            let bytes = endpoint.segment().part(offset, len).unwrap();
+            write_shown(first, bytes, sink)
         }
-    }
-}
-
-/// Writes the line of the number in a cell.
-fn write_cell<K: Sink>(sink: &mut BufferedSink<K>, first: &[u8], value: i32) -> Wrote
-    ensures bytes { GathersAll (outbox K.taken sink.old) (outbox K.taken sink.new)
-        (line_text (first.now ∷ codes "cell" ∷ signed_decimal value ∷ [])) result }
-    ensures later { K.faults sink.old.inner ≤ K.faults sink.new.inner }
-    ensures fault { IsWriteFault result → Rose (K.faults sink.old.inner) (K.faults sink.new.inner) }
-{
-    let mut text = Buffer::new();
-    write_reason(sink, first, b"cell", text.format(value).as_bytes())
-}
-
-/// Writes the line of the answer to a call on the node's own cells.
-fn write_local<K: Sink>(sink: &mut BufferedSink<K>, first: &[u8], answer: Local) -> Wrote
-    ensures bytes { GathersAll (outbox K.taken sink.old) (outbox K.taken sink.new)
-        (line_text (first.now ∷ local_words answer)) result }
-    ensures later { K.faults sink.old.inner ≤ K.faults sink.new.inner }
-    ensures fault { IsWriteFault result → Rose (K.faults sink.old.inner) (K.faults sink.new.inner) }
-{
-    match answer {
-        Local::Done => write_word(sink, first, b"ok"),
-        Local::Cell(value) => write_cell(sink, first, value),
-    }
-}
-
-/// Writes the line of a request that a tick sent from this slot.
-fn write_sent<K: Sink>(
-    sink: &mut BufferedSink<K>,
-    first: &[u8],
-    word: &[u8],
-    at: SlotRef,
-    endpoint: &Endpoint,
-) -> Wrote
-    ensures bytes { ForItsRecord endpoint.now (λ node.
-        GathersAll (outbox K.taken sink.old) (outbox K.taken sink.new)
-        (line_text (first.now ∷ sent_words word.now at (numbers_at endpoint.now node at))) result) }
-    ensures later { K.faults sink.old.inner ≤ K.faults sink.new.inner }
-    ensures fault { IsWriteFault result → Rose (K.faults sink.old.inner) (K.faults sink.new.inner) }
-{
-    let mut to_text = Buffer::new();
-    let mut slot_text = Buffer::new();
-    let mut number_text = Buffer::new();
-    write_line(
-        sink,
-        first,
-        &[
-            word,
-            to_text.format(at.peer).as_bytes(),
-            slot_text.format(at.slot).as_bytes(),
-            number_text
-                .format(endpoint.number(at).unwrap_or(0))
-                .as_bytes(),
-        ],
-    )
-}
-
-/// Writes the line of the answer to a tick.
-fn write_ticked<K: Sink>(
-    sink: &mut BufferedSink<K>,
-    first: &[u8],
-    answer: Ticked,
-    endpoint: &Endpoint,
-) -> Wrote
-    ensures bytes { ForItsRecord endpoint.now (λ node.
-        GathersAll (outbox K.taken sink.old) (outbox K.taken sink.new)
-        (line_text (first.now ∷ ticked_words (numbers_at endpoint.now node) answer)) result) }
-    ensures later { K.faults sink.old.inner ≤ K.faults sink.new.inner }
-    ensures fault { IsWriteFault result → Rose (K.faults sink.old.inner) (K.faults sink.new.inner) }
-{
-    match answer {
-        Ticked::Resend(at) => write_sent(sink, first, b"resend", at, endpoint),
-        Ticked::Note(at) => write_sent(sink, first, b"note", at, endpoint),
-        Ticked::Chunk(at) => write_sent(sink, first, b"chunk", at, endpoint),
-        Ticked::Nothing => write_word(sink, first, b"nothing"),
+        Local::Number(number) => write_text(first, &numbered_text(b"word", number), sink),
+        Local::Cell(value) => write_text(first, &cell_text(value), sink),
     }
 }
 
 /// Writes the line of an answer of an endpoint as it stands after it: the words `first`, and then those of the answer.
+/// Where the answer names a request that was sent, its slot has it; a range that it shows is inside the segment.
 ///
 /// `Fault` comes only where the sink failed; a front of the line went in then. It takes no memory.
 pub fn write_answer<K: Sink>(
@@ -210,19 +89,22 @@ pub fn write_answer<K: Sink>(
     endpoint: &Endpoint,
     sink: &mut BufferedSink<K>,
 ) -> Wrote
-    ensures bytes { ForItsRecord endpoint.now (λ node.
-        GathersAll (outbox K.taken sink.old) (outbox K.taken sink.new)
-        (line_text (first.now ∷ answer_words (numbers_at endpoint.now node) answer.now)) result) }
-    ensures later { K.faults sink.old.inner ≤ K.faults sink.new.inner }
-    ensures fault { IsWriteFault result → Rose (K.faults sink.old.inner) (K.faults sink.new.inner) }
+    requires { NamesWhatIs endpoint.now answer.now }
+    ensures { ForItsRecord endpoint.now (λ node.
+        GathersAll (outbox K.taken K.faults sink.old) (outbox K.taken K.faults sink.new)
+        (line_text (first.now ∷ answer_words (sight_at endpoint.now node) answer.now)) result) }
 {
     match answer {
-        Answer::Asked(asked) => write_asked(sink, first, *asked),
-        Answer::Polled => write_word(sink, first, b"ok"),
-        Answer::Allowed => write_word(sink, first, b"allowed"),
-        Answer::Forbidden(rule) => write_reason(sink, first, b"forbidden", rule_word(*rule)),
-        Answer::Local(local) => write_local(sink, first, *local),
-        Answer::Delivered(delivered) => write_delivered(sink, first, *delivered),
-        Answer::Ticked(sent) => write_ticked(sink, first, *sent, endpoint),
+        Answer::Asked(asked) => write_text(first, &asked_text(*asked), sink),
+        Answer::Polled => write_text(first, &word_text(b"ok"), sink),
+        Answer::Allowed => write_text(first, &word_text(b"allowed"), sink),
+        Answer::Forbidden(rule) => {
+            write_text(first, &reason_text(b"forbidden", rule_word(*rule)), sink)
+        }
+        Answer::Lock(answer) => write_text(first, &lock_text(*answer), sink),
+        Answer::Unlock(answer) => write_text(first, &unlock_text(*answer), sink),
+        Answer::Local(answer) => write_local(first, *answer, endpoint, sink),
+        Answer::Delivered(delivered) => write_text(first, &delivered_text(*delivered), sink),
+        Answer::Ticked(sent) => write_text(first, &ticked_text(*sent, endpoint), sink),
     }
 }

@@ -3,12 +3,13 @@
 ghost use Rattle.std.specs.Prelude.{◌≡◌, IfOk, List, None, Some, length, replicate, slice_get};
 ghost use Rattle.job_text.specs.declared.job.HandlerText.{HandlerText};
 ghost use Rattle.handler_rules.specs.Registered.{no_entries};
-ghost use Rattle.node_script.specs.Registration.{body_for, register, registered};
-ghost use Rattle.node_script.specs.Places.{ArePlaced, AtRegistering, body_at, place_at, register_turn};
+ghost use Rattle.node_script.specs.Registration.{body_for, entry_of, register, registered};
+ghost use Rattle.node_script.specs.Places.{ArePlaced, AtRegistering, body_at, place_at, placing, register_turn};
 
 use crate::body::do_all;
 use handler_rules::{Cells, Desk, Entry, Handlers, Table};
 use job_text::{Action, HandlerText, HandlerTexts};
+use raw_segment::Segment;
 use std::alloc::{AllocError, Global};
 use std::marker::Model;
 
@@ -102,8 +103,8 @@ fn register_all(texts: &[HandlerText], table: &mut Table, places: &mut [Option<u
 /// Registers those that ask for any index, or the others, in order.
 fn register_those(texts: &[HandlerText], any: bool, table: &mut Table, places: &mut [Option<usize>])
     requires { length places.old ≡ 128 }
-    ensures at { AtRegistering texts.now (register_turn any texts.now) table.old places.old
-        table.new places.new }
+    ensures at { AtRegistering texts.now (register_turn any texts.now)
+        (placing table.old places.old) (placing table.new places.new) }
     ensures long { length places.new ≡ 128 }
 {
     for (place, text) in texts.iter().enumerate() {
@@ -113,32 +114,39 @@ fn register_those(texts: &[HandlerText], any: bool, table: &mut Table, places: &
     }
 }
 
+/// The entry that a handler asks for, with the locks that it lists.
+fn entry_of(text: &HandlerText) -> Entry
+    ensures { result ≡ entry_of text.now }
+{
+    Entry {
+        index: text.index,
+        role: text.role,
+        locks: text.locks.listed(),
+    }
+}
+
 /// Registers the handler that stands at this place.
 fn register_one(text: &HandlerText, place: usize, table: &mut Table, places: &mut [Option<usize>])
     requires { length places.old ≡ 128 }
     ensures at { (texts : List HandlerText) → slice_get texts place ≡ Some text.now
-        → AtRegistering texts (λ r. register r text.now) table.old places.old table.new places.new }
+        → AtRegistering texts (λ registry. register registry text.now)
+        (placing table.old places.old) (placing table.new places.new) }
     ensures long { length places.new ≡ 128 }
 {
-    let entry = Entry {
-        index: text.index,
-        role: text.role,
-        locks: 0,
-    };
-    if let Ok(index) = table.register(entry) {
+    if let Ok(index) = table.register(entry_of(text)) {
         places[(index - LOWEST) as usize] = Some(place);
     }
 }
 
 impl Handlers for ScriptHandlers {
     ghost use Rattle.node_script.specs.Bodies.{script_meaning};
-    ghost use Rattle.node_script.specs.LawfulBodies.{IsLawful-script};
+    ghost use Rattle.node_script.specs.LawfulBodies.{lawful-script};
 
     ghost meaning = { script_meaning };
 
-    ghost is_lawful = { IsLawful-script };
+    ghost is_lawful = { lawful-script };
 
-    fn run(&self, handler: u8, cells: &mut Cells, desk: &mut Desk<'_>) {
-        do_all(self.actions(handler), cells, desk);
+    fn run(&self, handler: u8, segment: &mut Segment, cells: &mut Cells, desk: &mut Desk<'_>) {
+        do_all(self.actions(handler), segment, cells, desk);
     }
 }

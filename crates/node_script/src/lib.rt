@@ -1,26 +1,35 @@
 //! A job as it is run: its handlers' bodies, the lines of its schedule, and the words of its answers.
 //!
-//! What a job's text is, and reading it, is `job_text`'s. Here its handlers are registered and run (`ScriptHandlers`),
-//! the lines of its schedule become events of a world (`Script::line`), and the answers become lines of words
-//! (`write_answer`).
+//! What a job's text is, and reading it, is `job_text`'s. What is proved here:
+//!
+//! - `Script::new` keeps the job, with its handlers and their locks registered; indexes are given as `registered` says.
+//!   `Script::line` gives the event or the rounds of a schedule line (`IsLine`), with each `cN` read from its node's cells
+//!   in the world; None exactly where there is no such line.
+//! - `ScriptHandlers` is a `Handlers` whose meaning is the body of the text (`script_meaning`): `run` leaves what its
+//!   actions leave, in order. It is lawful: what a body writes lies inside the segment, the locks of threads stay theirs,
+//!   and a reply is one that was let through.
+//! - `write_answer` writes a line: the words that its caller gives, and those of an answer (`answer_words`) by the numbers
+//!   at the endpoint's slots and its segment, for every record for which the endpoint stands; at a fault of the sink a
+//!   front of it. `write_line` writes any line.
 #![tactic(auto)]
 
+mod answer_texts;
 mod answer_words;
 mod answers;
 mod body;
+mod body_bytes;
+mod body_numbers;
+mod body_replies;
 mod handlers;
 mod line;
+mod line_text;
 mod line_writer;
 mod script;
+mod shown;
 
-pub use answer_words::rule_word;
+pub use answer_words::{lock_fault_word, rule_word};
 pub use answers::write_answer;
 pub use handlers::ScriptHandlers;
 pub use line::Line;
 pub use line_writer::write_line;
 pub use script::Script;
-
-#[cfg(test)]
-mod body_tests;
-#[cfg(test)]
-mod line_tests;

@@ -1,20 +1,16 @@
 //! Writing lines of words.
 
-ghost use Rattle.std.specs.Prelude.{◌≤◌, ◌∷◌, map};
+ghost use Rattle.std.specs.Prelude.{◌∷◌, map};
 ghost use Rattle.std.specs.List.{flat_map};
 ghost use Rattle.gas_outside.specs.Buffered.{GathersAll, outbox};
-ghost use Rattle.gas_outside.specs.Faults.{Rose};
-ghost use Rattle.gas_outside.specs.Whole.{IsWriteFault};
 ghost use Rattle.node_script.specs.Lines.{line_text, spaced};
 
 use gas_outside::{BufferedSink, Sink, Wrote};
 
 /// Writes a space and the word, for each of them.
 fn write_spaced<K: Sink>(sink: &mut BufferedSink<K>, words: &[&[u8]]) -> Wrote
-    ensures bytes { GathersAll (outbox K.taken sink.old) (outbox K.taken sink.new)
+    ensures { GathersAll (outbox K.taken K.faults sink.old) (outbox K.taken K.faults sink.new)
         (flat_map spaced (map (λ w. w.now) words.now)) result }
-    ensures later { K.faults sink.old.inner ≤ K.faults sink.new.inner }
-    ensures fault { IsWriteFault result → Rose (K.faults sink.old.inner) (K.faults sink.new.inner) }
 {
     for word in words {
         if let Wrote::Fault = sink.write_all(b" ") {
@@ -31,10 +27,8 @@ fn write_spaced<K: Sink>(sink: &mut BufferedSink<K>, words: &[&[u8]]) -> Wrote
 ///
 /// `Fault` comes only where the sink failed; a front of the line went in then. It takes no memory.
 pub fn write_line<K: Sink>(sink: &mut BufferedSink<K>, first: &[u8], others: &[&[u8]]) -> Wrote
-    ensures bytes { GathersAll (outbox K.taken sink.old) (outbox K.taken sink.new)
+    ensures { GathersAll (outbox K.taken K.faults sink.old) (outbox K.taken K.faults sink.new)
         (line_text (first.now ∷ map (λ w. w.now) others.now)) result }
-    ensures later { K.faults sink.old.inner ≤ K.faults sink.new.inner }
-    ensures fault { IsWriteFault result → Rose (K.faults sink.old.inner) (K.faults sink.new.inner) }
 {
     if let Wrote::Fault = sink.write_all(first) {
         return Wrote::Fault;

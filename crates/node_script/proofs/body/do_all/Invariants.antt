@@ -1,14 +1,17 @@
-use Rattle.std.proofs.Common.{take}
-use Rattle.handler_rules.specs.Desks.{At, IsReadyDesk, scene_of, start_of}
-use Rattle.handler_rules.specs.Runs.{untouched}
+use Rattle.std.proofs.Common.{length, take}
+use Rattle.handler_rules.specs.Desks.{At, IsReadyDesk, arrival_at, frame_of, stage, start_of}
+use Rattle.handler_rules.specs.Runs.{IsPlaced, untouched}
 use Rattle.node_script.specs.Bodies.{acts}
 use Rattle.node_script.proofs.body.do_all.Given as goal
 
--- cells and desk are what the actions so far leave
+-- segment, cells and desk are what the actions so far leave
 abbrev pub invariant-loop-action : goal.invariant-loop-action
 invariant-loop-action l = record {
-  at : At l.initial.desk
-      (acts (scene_of l.initial.desk) (untouched (start_of l.initial.cells)) (take l.action-index l.actions)) l.cells
-      l.desk;
+  at : (let opening = stage l.initial.segment l.initial.cells l.initial.desk in
+      At opening
+      (acts (frame_of l.initial.desk) (start_of opening) (untouched (start_of opening))
+      (take l.action-index l.actions))
+      (stage l.segment l.cells l.desk));
+  placed : IsPlaced (length l.segment) (arrival_at l.desk).place;
   ready : IsReadyDesk l.desk;
 }

@@ -1,5 +1,7 @@
-use Rattle.std.proofs.Common.{refl, sym, ap, Some}
-use Rattle.gas_world.specs.CallRules.{RecordsEvent}
+use Rattle.std.proofs.Common.{◌∙◌, refl, sym, ap, Some, List, ℤ}
+use Rattle.gas_world.specs.Called.{Meant, event_at}
+use Rattle.node_script.specs.ScheduledCalls.{meant_by}
+use Rattle.node_script.proofs.CallsAmong.{call_among}
 use Rattle.node_script.proofs.line.line_of.Goals.{in-Call, in-Request, in-Reply, in-Tick}
 use Rattle.node_script.proofs.line.line_of.Goals as goal
 
@@ -9,8 +11,9 @@ returns-clause-line c w most stands = (
   elim c.match-timed.branch [
     | in-Call v ↦
         rw (v.in-Call.is, v.event-is)
-        (ap (λ (e : RecordsEvent). Some e)
-        (sym (v.call_of.ensures.call w v.in-Call.node v.in-Call.thread
+        (ap (λ (call : Meant). Some (event_at v.in-Call.node v.in-Call.thread call))
+        (sym (v.call_of.ensures
+        ∙ ap (λ (cells : List ℤ). meant_by cells v.in-Call.call)
         (v.cells.ensures (w v.in-Call.node) (v.endpoint.ensures.stands w most stands)))))
     | in-Request v ↦ rw (v.in-Request.is, v.event-is) refl
     | in-Reply v ↦ rw (v.in-Reply.is, v.event-is) refl
@@ -22,8 +25,7 @@ pub returns-clause-nodes : goal.returns-clause-nodes
 returns-clause-nodes c = elim c.match-timed.branch [
   | in-Call v ↦
       rw v.event-is
-      (v.call_of.ensures.nodes c.args.world.now.settings v.in-Call.node v.in-Call.thread
-      (rw v.in-Call.is at c.requires))
+      (call_among c.args.world.now.settings v.in-Call.node v.in-Call.thread _ (rw v.in-Call.is at c.requires).0)
   | in-Request v ↦ rw v.event-is (rw v.in-Request.is at c.requires)
   | in-Reply v ↦ rw v.event-is (rw v.in-Reply.is at c.requires)
   | in-Tick v ↦ rw v.event-is (rw v.in-Tick.is at c.requires)

@@ -9,19 +9,19 @@ parts : (first : List ℕ) (others : List (Bor (List ℕ)))
     → line_text (first ∷ map (λ w. w.now) others) ≡ first ++ (flat_map spaced (map (λ w. w.now) others) ++ 10 ∷ [])
 parts first others = append_assoc first (flat_map spaced (map (λ w. w.now) others)) (10 ∷ [])
 
-pub returns-in-Fault-clause-bytes : goal.returns-in-Fault-clause-bytes
-returns-in-Fault-clause-bytes g c =
-    past_fault _ _ _ _ _ _ _ (parts c.args.first.now c.args.others.now) (nothing_yet _ _) c.in-Fault.ensures.bytes
+pub returns-in-Fault : goal.returns-in-Fault
+returns-in-Fault g c =
+    past_fault _ _ _ _ _ _ _ (parts c.args.first.now c.args.others.now) (nothing_yet _ _) c.in-Fault.ensures
 
-pub returns-in-Fault-write_spaced-clause-bytes : goal.returns-in-Fault-write_spaced-clause-bytes
-returns-in-Fault-write_spaced-clause-bytes g c =
+pub returns-in-Fault-write_spaced : goal.returns-in-Fault-write_spaced
+returns-in-Fault-write_spaced g c =
     past_fault _ _ _ _ _ _ _ refl
     (past_done _ _ _ _ _ _ _ (parts c.args.first.now c.args.others.now) (nothing_yet _ _)
-    c.in_default.ensures.bytes) c.in-Fault-write_spaced.ensures.bytes
+    c.in_default.ensures) c.in-Fault-write_spaced.ensures
 
-pub returns-clause-bytes : goal.returns-clause-bytes
-returns-clause-bytes g c =
+pub returns : goal.returns
+returns g c =
     past_last _ _ _ _ _ _
     (past_done _ _ _ _ _ _ _ refl
     (past_done _ _ _ _ _ _ _ (parts c.args.first.now c.args.others.now) (nothing_yet _ _)
-    c.in_default.ensures.bytes) c.in_default-write_spaced.ensures.bytes) c.write_all-2.ensures.bytes
+    c.in_default.ensures) c.in_default-write_spaced.ensures) c.write_all-2.ensures

@@ -1,4 +1,4 @@
-use Rattle.std.proofs.Common.{◌≤◌, map, drop}
+use Rattle.std.proofs.Common.{map, drop}
 use Rattle.std.specs.List.{flat_map}
 use Rattle.gas_outside.specs.Buffered.{GathersUpTo, outbox}
 use Rattle.node_script.specs.Lines.{spaced}
@@ -6,7 +6,6 @@ use Rattle.node_script.proofs.line_writer.write_spaced.Given as goal
 
 abbrev pub invariant-loop-word : goal.invariant-loop-word
 invariant-loop-word g l = record {
-  taken : GathersUpTo (outbox g.K.Sink.taken l.initial.sink) (outbox g.K.Sink.taken l.sink)
+  taken : GathersUpTo (outbox g.K.Sink.taken g.K.Sink.faults l.initial.sink) (outbox g.K.Sink.taken g.K.Sink.faults l.sink)
       (flat_map spaced (map (λ w. w.now) l.words)) (flat_map spaced (map (λ w. w.now) (drop l.word-index l.words)));
-  later : g.K.Sink.faults l.initial.sink.inner ≤ g.K.Sink.faults l.sink.inner;
 }

@@ -1,0 +1,49 @@
+-- What an answer names, of an endpoint as it stands after it.
+use Rattle.std.specs.Prelude.{◌≡◌, ◌+◌, ◌≤◌, ℕ, length, Some}
+use Rattle.node_record.specs.Record.{Node}
+use Rattle.node_record.specs.SlotMessages.{number_at}
+use Rattle.node_record.specs.declared.answer.SlotRef.{SlotRef}
+use Rattle.node_record.specs.declared.answer.Ticked.{Ticked}
+use Rattle.node_record.specs.declared.answer.Ticked.TheVariants as ticked
+use Rattle.am_core.specs.Kept.{Local, segment_of}
+use Rattle.gas_world.specs.Endpoints.{EndpointState, EndpointStands}
+use Rattle.gas_world.specs.declared.event.Answer.{Answer}
+use Rattle.gas_world.specs.declared.event.Answer.TheVariants as answers
+use Rattle.gas_world.specs.declared.event.Local.{Local as LocalAnswer}
+use Rattle.gas_world.specs.declared.event.Local.TheVariants as local
+use Rattle.node_script.specs.AnswerWords.{Sight, sight_of}
+
+-- what an answer names of the endpoint, whose node has this record
+abbrev pub sight_at : EndpointState → Node Local → Sight
+sight_at endpoint node = sight_of endpoint.core.settings endpoint.core.me node
+
+-- the slot of the endpoint has a message, with its number
+pub record HasNumber (endpoint : EndpointState) (at : SlotRef) : Type 0 where
+  pub node : Node Local
+  pub stands : EndpointStands endpoint node
+  pub number : ℕ
+  pub there : number_at endpoint.core.settings endpoint.core.me node at ≡ Some number
+
+-- the range lies inside the segment of the endpoint
+pub record HasRange (endpoint : EndpointState) (offset len : ℕ) : Type 0 where
+  pub node : Node Local
+  pub stands : EndpointStands endpoint node
+  pub inside : offset + len ≤ length (segment_of endpoint.core.settings node.local)
+
+-- the slot of what a tick sent has it
+abbrev pub TicksItsNumbers : EndpointState → Ticked → Type 0
+TicksItsNumbers endpoint (ticked.Resend at) = HasNumber endpoint at
+TicksItsNumbers endpoint (ticked.Note at) = HasNumber endpoint at
+TicksItsNumbers endpoint (ticked.Chunk at) = HasNumber endpoint at
+TicksItsNumbers endpoint ticked.Nothing = Unit {0}
+
+-- the range that is shown lies inside the segment
+abbrev pub NamesItsBytes : EndpointState → LocalAnswer → Type 0
+NamesItsBytes endpoint (local.Shown offset len) = HasRange endpoint offset len
+NamesItsBytes endpoint _ = Unit {0}
+
+-- what an answer names is there at the endpoint as it stands after it
+abbrev pub NamesWhatIs : EndpointState → Answer → Type 0
+NamesWhatIs endpoint (answers.Local answer) = NamesItsBytes endpoint answer
+NamesWhatIs endpoint (answers.Ticked sent) = TicksItsNumbers endpoint sent
+NamesWhatIs endpoint _ = Unit {0}

@@ -1,0 +1,76 @@
+-- What the calls of a schedule are to the records of the nodes.
+use Rattle.std.specs.Prelude.{ℤ, List, [], map}
+use Rattle.node_record.specs.Behaviour.{PayloadFrom, Lent, Own}
+use Rattle.am_core.specs.ClientRules.{short_asking, medium_asking, long_asking}
+use Rattle.gas_world.specs.CallRules.{Poll, Attempt, Lock, Unlock, Cell, SetCell, OnSegment}
+use Rattle.gas_world.specs.Memory.{Show, Set, Fill, LoadWord, SetWord}
+use Rattle.gas_world.specs.Called.{Meant, Requests, Performs}
+use Rattle.job_text.specs.Payloads.{IsPayload}
+use Rattle.job_text.specs.declared.job.LongText.{LongText}
+use Rattle.job_text.specs.declared.job.MediumText.{MediumText}
+use Rattle.job_text.specs.declared.job.Payload.{Payload}
+use Rattle.job_text.specs.declared.job.Payload.TheVariants as payload
+use Rattle.job_text.specs.declared.job.ScheduledCall.{ScheduledCall}
+use Rattle.job_text.specs.declared.job.ScheduledCall.TheVariants as call
+use Rattle.node_script.specs.Bodies.{operand_value}
+
+-- where a payload is. No schedule has that of a message, which would have no bytes
+abbrev pub given_from : Payload → PayloadFrom
+given_from (payload.Bytes bytes) = Lent bytes
+given_from (payload.Range offset len) = Own offset len
+given_from payload.Message = Lent []
+
+-- a Medium request, by the cells of its node
+abbrev pub meant_medium : (cells : List ℤ) → MediumText → Meant
+meant_medium cells text =
+    Requests text.to
+    (medium_asking text.handler (map (operand_value cells []) text.operands) (given_from text.payload))
+
+-- a Long request, by the cells of its node
+abbrev pub meant_long : (cells : List ℤ) → LongText → Meant
+meant_long cells text =
+    Requests text.to
+    (long_asking text.handler (map (operand_value cells []) text.operands) (given_from text.payload) text.offset)
+
+-- a call, by the cells of its node
+abbrev pub meant_by : (cells : List ℤ) → ScheduledCall → Meant
+meant_by cells (call.Short to handler operands) =
+    Requests to (short_asking handler (map (operand_value cells []) operands))
+meant_by cells (call.Medium text) = meant_medium cells text
+meant_by cells (call.Long text) = meant_long cells text
+meant_by cells (call.LongAsync text) = meant_long cells text
+meant_by cells (call.Lock lock) = Performs (Lock lock)
+meant_by cells (call.Unlock lock) = Performs (Unlock lock)
+meant_by cells call.Poll = Performs Poll
+meant_by cells (call.Attempt kind) = Performs (Attempt kind)
+meant_by cells (call.Cell cell) = Performs (Cell cell)
+meant_by cells (call.SetCell cell operand) = Performs (SetCell cell (operand_value cells [] operand))
+meant_by cells (call.Show offset len) = Performs (OnSegment (Show offset len))
+meant_by cells (call.Set offset bytes) = Performs (OnSegment (Set (record { offset = offset; bytes = bytes })))
+meant_by cells (call.Fill offset len byte) = Performs (OnSegment (Fill offset len byte))
+meant_by cells (call.Word offset) = Performs (OnSegment (LoadWord offset))
+meant_by cells (call.SetWord offset number) = Performs (OnSegment (SetWord offset number))
+
+-- the payload of a request is one of a schedule
+abbrev pub IsGiven : ScheduledCall → Type 0
+IsGiven (call.Medium text) = IsPayload text.payload
+IsGiven (call.Long text) = IsPayload text.payload
+IsGiven (call.LongAsync text) = IsPayload text.payload
+IsGiven _ = Unit {0}
+
+-- the call is no request
+abbrev pub IsOwn : ScheduledCall → Type 0
+IsOwn (call.Short to handler operands) = ⊥
+IsOwn (call.Medium text) = ⊥
+IsOwn (call.Long text) = ⊥
+IsOwn (call.LongAsync text) = ⊥
+IsOwn _ = Unit {0}
+
+-- the call is one on the own segment
+abbrev pub IsOnSegment : ScheduledCall → Type 0
+IsOnSegment (call.Show offset len) = Unit {0}
+IsOnSegment (call.Set offset bytes) = Unit {0}
+IsOnSegment (call.Fill offset len byte) = Unit {0}
+IsOnSegment (call.Word offset) = Unit {0}
+IsOnSegment (call.SetWord offset number) = Unit {0}
+IsOnSegment _ = ⊥
