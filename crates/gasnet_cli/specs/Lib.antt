@@ -1,6 +1,0 @@
-pub mod LinesWritten
-pub mod RunText
-pub mod ScheduleRun
-pub mod RunLaws
-pub mod TopCall
-pub mod TopParts

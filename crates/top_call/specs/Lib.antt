@@ -1,0 +1,3 @@
+pub mod TopCall
+pub mod TopParts
+pub mod Standard

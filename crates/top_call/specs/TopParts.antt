@@ -1,0 +1,50 @@
+-- The parts of the top call.
+use Rattle.std.specs.Prelude.{◌≡◌, ◌⊎◌, Option, None, ⊤}
+use Rattle.gas_outside.specs.Buffered.{Outbox, Gathers, GathersAll, GathersFront, Flushes}
+use Rattle.gas_outside.specs.declared.writing.Wrote.TheVariants as wrote
+use Rattle.gas_world.specs.Worlds.{WorldState}
+use Rattle.job_text.specs.declared.job.Job.{Job as JobState}
+use Rattle.gas_outside.specs.Faults.{Rose}
+use Rattle.node_script.specs.Lines.{line_text}
+use Rattle.top_call.specs.TopCall.{Input, Command, ReadsJob, ReadsNoJob, Means, status_line}
+use Rattle.top_call.specs.declared.ending.End.{End}
+use Rattle.top_call.specs.declared.ending.End.TheVariants as ends
+use Rattle.top_call.specs.declared.ending.Ended.{Ended}
+use Rattle.top_call.specs.declared.command.JobRead.{JobRead}
+use Rattle.top_call.specs.declared.command.JobRead.TheVariants as reads
+
+-- what reading a job gave, by its source before and after
+abbrev pub ReadsOrNot : (old new : Input) → JobRead → Type 0
+ReadsOrNot old new (reads.Job job) = ReadsJob old.left new.left job
+ReadsOrNot old new (reads.NoJob line why) = ReadsNoJob old.left new.left line why
+ReadsOrNot old new reads.Fault = Rose old.faults new.faults
+ReadsOrNot old new reads.NoMemory = ⊤
+
+-- how a command ends whose sink failed
+abbrev pub cut : Ended
+cut = record { end = ends.WriteFault; world = None }
+
+-- the job, unless memory ran out
+abbrev pub IsReadJob : JobState → JobRead → Type 0
+IsReadJob job (reads.Job read) = read ≡ job
+IsReadJob job (reads.NoJob line why) = ⊥
+IsReadJob job reads.Fault = ⊥
+IsReadJob job reads.NoMemory = ⊤
+
+-- the status line of this end went in, and so the command ended, with this world; or the sink failed, and a front of that
+-- line went in
+abbrev pub Says : End → Option WorldState → (old new : Outbox) → Ended → Type 0
+Says end world old new ended =
+    ((ended ≡ record { end = end; world = world }) × Gathers old new (line_text (status_line end)))
+    ⊎ ((ended ≡ cut) × GathersFront old new (line_text (status_line end)))
+
+-- what waited was given on, and the end stays; or the sink failed at that. After a fault nothing more is given on
+abbrev pub GivesOn : (old new : Outbox) → (before after : Ended) → Type 0
+GivesOn old new before after =
+    ((before.end ≡ ends.WriteFault) × (after ≡ before) × (new ≡ old))
+    ⊎ (((before.end ≡ ends.WriteFault → ⊥) × (after ≡ before) × Flushes old new wrote.Done)
+    ⊎ ((before.end ≡ ends.WriteFault → ⊥) × (after ≡ cut) × Flushes old new wrote.Fault))
+
+-- how a command ended, by what went into a sink that gathers
+abbrev pub EndsBy : Command → (old new : Outbox) → Ended → Type 0
+EndsBy command old new ended = Means command (GathersAll old new) ended.world ended.end

@@ -1,0 +1,71 @@
+//! Writing status lines.
+
+ghost use Rattle.std.specs.Prelude.{◌≡◌, ◌∷◌, [], codes, decimal};
+ghost use Rattle.gas_outside.specs.Buffered.{GathersAll, outbox};
+ghost use Rattle.node_script.specs.Lines.{line_text};
+ghost use Rattle.top_call.specs.TopCall.{status_line, why_word};
+ghost use Rattle.top_call.specs.TopParts.{Says};
+
+use crate::ending::{End, Ended, why_word};
+use gas_outside::{BufferedSink, Sink, Wrote};
+use gas_world::World;
+use itoa::Buffer;
+use job_text::JobWhy;
+use node_script::write_line;
+
+/// Writes a status line of a number and a name.
+fn write_named<K: Sink>(sink: &mut BufferedSink<K>, code: &[u8], name: &[u8]) -> Wrote
+    ensures { GathersAll (outbox K.taken K.faults sink.old) (outbox K.taken K.faults sink.new)
+        (line_text (codes "status" ∷ code.now ∷ name.now ∷ [])) result }
+{
+    write_line(sink, b"status", &[code, name])
+}
+
+/// Writes the status line of a bad job: the line, and the reason.
+fn write_bad_job<K: Sink>(sink: &mut BufferedSink<K>, line: u32, why: JobWhy) -> Wrote
+    ensures { GathersAll (outbox K.taken K.faults sink.old) (outbox K.taken K.faults sink.new)
+        (line_text (codes "status" ∷ codes "3" ∷ codes "bad-job" ∷ decimal line
+        ∷ why_word why ∷ [])) result }
+{
+    let mut line_text = Buffer::new();
+    write_line(
+        sink,
+        b"status",
+        &[
+            b"3".as_slice(),
+            b"bad-job".as_slice(),
+            line_text.format(line).as_bytes(),
+            why_word(why),
+        ],
+    )
+}
+
+/// Writes the status line of an end. There is none for `WriteFault`, of which no line is written.
+pub fn write_status<K: Sink>(sink: &mut BufferedSink<K>, end: End) -> Wrote
+    ensures { GathersAll (outbox K.taken K.faults sink.old) (outbox K.taken K.faults sink.new)
+        (line_text (status_line end)) result }
+{
+    match end {
+        End::Done => write_named(sink, b"0", b"ok"),
+        End::Violations => write_named(sink, b"1", b"violations"),
+        End::Usage => write_named(sink, b"2", b"usage"),
+        End::BadJob { line, why } => write_bad_job(sink, line, why),
+        End::ReadFault => write_named(sink, b"4", b"read-fault"),
+        End::WriteFault => write_named(sink, b"5", b"write-fault"),
+        End::NoMemory => write_named(sink, b"8", b"no-memory"),
+    }
+}
+
+/// Writes the status line of an end behind what was written before, and answers how the command ended: so, with this world;
+/// or, without one, as the sink failed.
+pub fn say<K: Sink>(sink: &mut BufferedSink<K>, end: End, world: Option<World>) -> Ended
+    ensures { Says end world (outbox K.taken K.faults sink.old) (outbox K.taken K.faults sink.new) result }
+{
+    match write_status(sink, end) {
+        Wrote::Done => Ended { end, world },
+        Wrote::Fault => Ended {
+            end: End::WriteFault,
+            world: None,
+        },
+    }
+}

@@ -1,0 +1,10 @@
+pub mod LinesWritten
+pub mod Halfway
+pub mod ScheduleRuns
+pub mod ScheduleLines
+pub mod ScheduleAmong
+pub mod ToldAnswers
+pub mod LinesTell
+pub mod RunLaws
+pub mod Newest
+pub mod EndText

@@ -1,0 +1,55 @@
+-- Each event of a schedule whose nodes are there is one of the world.
+use Rattle.std.proofs.Common.{◌≡◌, ℕ, suc, ◌<◌, List, [], ◌∷◌, Some, refl, subst}
+use Rattle.std.proofs.lemmas.Option.{same_Some}
+use Rattle.datagram_grammar.specs.Parameters.{Parameters}
+use Rattle.plain_world.specs.World.{Asks, Does, RequestComes, ReplyComes, Ticks, IsAmong, run}
+use Rattle.gas_world.specs.CallRules.{Records, RecordsEvent}
+use Rattle.node_script.specs.ScriptInvariant.{IsWithin, AreWithin}
+use Rattle.gas_world.specs.Settling.{WorldJob}
+use Rattle.gas_world.proofs.Among.{AreAmong, both_among, settle_among}
+use Rattle.node_script.specs.Schedules.{scheduled_event, line_events, schedule_events}
+use Rattle.node_script.specs.ScheduledCalls.{meant_by}
+use Rattle.node_script.proofs.CallsAmong.{call_among}
+use Rattle.job_text.specs.declared.job.ScheduledEvent.{ScheduledEvent}
+use Rattle.job_text.specs.declared.job.ScheduledEvent.TheVariants as scheduled
+use Rattle.job_text.specs.declared.job.TimedEvent.{TimedEvent}
+use Rattle.world_run.specs.RunText.{node_of}
+
+-- ---- one event
+
+-- the one event of a line that is no `settle`
+pub event_among : (s : Parameters) (w : Records) (e : ScheduledEvent) (x : RecordsEvent) → IsWithin s.nodes e
+    → scheduled_event w e ≡ Some x → IsAmong s x
+event_among s w (scheduled.Call node thread c) x h is =
+    subst (IsAmong s) (same_Some _ x is) (call_among s node thread (meant_by (w node).local.cells c) h.0)
+event_among s w (scheduled.Request from to number) x h is = subst (IsAmong s) (same_Some _ x is) h
+event_among s w (scheduled.Reply from to number) x h is = subst (IsAmong s) (same_Some _ x is) h
+event_among s w (scheduled.Tick node) x h is = subst (IsAmong s) (same_Some _ x is) h
+event_among s w (scheduled.Settle rounds) x h is = absurd (cc)
+
+-- the node on which an event of the world falls is there
+pub node_among : (s : Parameters) (e : RecordsEvent) → IsAmong s e → node_of e < s.nodes
+node_among s (Asks node ask) h = h
+node_among s (Does node thread c) h = h
+node_among s (RequestComes from to number) h = h.1
+node_among s (ReplyComes from to number) h = h.0
+node_among s (Ticks node) h = h
+
+-- ---- lines
+
+-- of a line
+line_among : (job : WorldJob) (w : Records) (now : ℕ) (e : ScheduledEvent) → IsWithin job.settings.nodes e
+    → AreAmong job.settings (line_events job w now e)
+line_among job w now (scheduled.Call node thread c) h = (call_among job.settings node thread (meant_by (w node).local.cells c) h.0, tt)
+line_among job w now (scheduled.Request from to number) h = (h, tt)
+line_among job w now (scheduled.Reply from to number) h = (h, tt)
+line_among job w now (scheduled.Tick node) h = (h, tt)
+line_among job w now (scheduled.Settle rounds) h = settle_among job now rounds w
+
+-- of the lines of a schedule
+pub lines_among : (job : WorldJob) (es : List TimedEvent) (w : Records) → AreWithin job.settings.nodes es
+    → AreAmong job.settings (schedule_events job es w)
+lines_among job [] w h = tt
+lines_among job (e ∷ es) w h =
+    both_among job.settings (line_events job w e.time e.event) _ (line_among job w e.time e.event (h 0 e refl))
+    (lines_among job es (run job (line_events job w e.time e.event) w) (λ i x at. h (suc i) x at))

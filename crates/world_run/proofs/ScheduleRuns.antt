@@ -1,0 +1,239 @@
+-- Runs of a schedule, line by line.
+use Rattle.std.proofs.Common.{◌≡◌, ℕ, ◌+◌, List, [], ◌∷◌, drop, Some, refl, sym, ap, subst, ◌∙◌}
+use Rattle.std.proofs.Common.{codes, decimal}
+use Rattle.gas_outside.specs.Buffered.{Outbox, Gathers, GathersAll}
+use Rattle.gas_outside.specs.declared.writing.Wrote.{Wrote}
+use Rattle.handler_rules.specs.Runs.{Meaning}
+use Rattle.plain_world.specs.World.{Timed, world_answer, world_after}
+use Rattle.gas_world.specs.CallRules.{OtherCall, Records, RecordsEvent, timed, transition, world_told}
+use Rattle.gas_world.specs.Events.{ForItsRecords, Steps, job_in}
+use Rattle.gas_world.specs.Worlds.{WorldState}
+use Rattle.gas_world.specs.declared.event.WorldAnswer.{WorldAnswer}
+use Rattle.gas_world.specs.declared.event.WorldAnswer.TheVariants as answers
+use Rattle.node_script.specs.AnswerWords.{sight_of}
+use Rattle.node_script.specs.Lines.{Line, spell, line_text}
+use Rattle.gas_world.specs.Settling.{WorldJob, Moves, settle_events}
+use Rattle.node_script.specs.Schedules.{scheduled_event, line_events, schedule_events}
+use Rattle.job_text.specs.declared.job.ScheduledEvent.{ScheduledEvent}
+use Rattle.job_text.specs.declared.job.ScheduledEvent.TheVariants as scheduled
+use Rattle.job_text.specs.declared.job.TimedEvent.{TimedEvent}
+use Rattle.world_run.specs.RunText.{node_of, world_words, event_words, words_by, answer_lines}
+use Rattle.world_run.specs.ScheduleRun.{Stood, StandsAfter, Stage, Plan, event_plan, settle_plan, line_plan}
+use Rattle.world_run.specs.ScheduleRun.{planned, RunsPlan, Writes, answer_text}
+use Rattle.world_run.specs.LinesWritten.{LinesUpTo, Says, OnDone, said_of}
+use Rattle.world_run.specs.declared.said.Said.{Said}
+use Rattle.world_run.specs.declared.said.Said.TheVariants.{Done, NoMemory}
+use Rattle.world_run.proofs.Halfway.{Halfway, halfway_none, halfway_more, halfway_all}
+use Rattle.world_run.proofs.LinesWritten.{no_lines_yet, lines_done, lines_all, lines_said, one_line, on_done}
+use Rattle.world_run.proofs.ScheduleLines.{one_event}
+
+-- ---- what is planned
+
+-- from these records the one plan says and does what the other does
+pub record IsSamePlan (job : WorldJob) (plan other : Plan) (records : Records) : Type 0 where
+  pub number : plan.number ≡ other.number
+  pub words : plan.words job records ≡ other.words job records
+  pub events : plan.events job records ≡ other.events job records
+
+-- so it is run alike
+pub same_plan : (job : WorldJob) (plan other : Plan) (old new : Stage) (said : Said)
+    → ForItsRecords old.world (λ records most. IsSamePlan job plan other records)
+    → RunsPlan job plan old new said → RunsPlan job other old new said
+same_plan job plan other old new said same ran = λ records most stands.
+    let it = same records most stands in
+    let line : planned job plan records ≡ planned job other records =
+    ap (λ (n : ℕ). decimal n ∷ plan.words job records) it.number
+    ∙ ap (λ (words : Line). decimal other.number ∷ words) it.words
+    in
+    let said_so = ran records most stands in
+    let after = λ (events : List (Timed OtherCall)). OnDone said (StandsAfter job new.world events records most) in
+    (subst (λ (l : Line). Says old.out new.out (l ∷ []) said) line said_so.0, subst after it.events said_so.1)
+
+-- the plan of a line that has one event is that of the event
+pub event_is_line : (job : WorldJob) (number now : ℕ) (event : RecordsEvent) (line : TimedEvent) (records : Records)
+    → (now ≡ line.time) × (scheduled_event records line.event ≡ Some event)
+    → IsSamePlan job (event_plan number (timed now event)) (line_plan number line) records
+event_is_line job number now event line records h = record {
+  number = refl;
+  words =
+      ap (λ t. event_words job records (timed t event)) h.0
+      ∙ sym (ap (words_by job records line.time) h.1);
+  events =
+      ap (λ t. timed t event ∷ []) h.0
+      ∙ sym (one_event job records line.time line.event event h.1);
+}
+
+-- that of a line of rounds is that of the rounds
+pub settle_is_line : (job : WorldJob) (number now rounds : ℕ) (line : TimedEvent) (records : Records)
+    → (now ≡ line.time) × (line.event ≡ scheduled.Settle rounds)
+    → IsSamePlan job (settle_plan number now rounds) (line_plan number line) records
+settle_is_line job number now rounds line records h = record {
+  number = refl;
+  words = sym (ap (λ (e : ScheduledEvent). words_by job records line.time (scheduled_event records e)) h.1);
+  events =
+      ap (λ t. settle_events job t rounds records) h.0
+      ∙ sym (ap (λ (e : ScheduledEvent). line_events job records line.time e) h.1);
+}
+
+-- ---- one line
+
+-- an event was run and its line was written
+told : (meaning : Meaning) (old new : Stage) (number : ℕ) (event : Timed OtherCall) (answer : WorldAnswer)
+    (wrote : Wrote)
+    → ForItsRecords old.world (λ records most.
+    (answer ≡ world_told (world_answer (job_in meaning old.world) records event))
+    × StandsAfter (job_in meaning old.world) new.world (event ∷ []) records most)
+    → Writes new.world (answer_text old.world.settings number (node_of event.event) answer) old.out new.out wrote
+    → RunsPlan (job_in meaning old.world) (event_plan number event) old new (said_of wrote)
+told meaning old new number event answer wrote steps writes = λ records most stands.
+    let job = job_in meaning old.world in
+    let after = world_after job records event in
+    let stepped = steps records most stands in
+    let node = node_of event.event in
+    let sight = sight_of old.world.settings node (after node) in
+    let text = λ (a : WorldAnswer). line_text (decimal number ∷ world_words sight a) in
+    let line =
+    subst (λ (a : WorldAnswer). GathersAll old.out new.out (text a) wrote) stepped.0 (writes _ _ stepped.1)
+    in (
+      one_line old.out new.out (decimal number ∷ event_words job records event) wrote line,
+      on_done wrote (StandsAfter job new.world (event ∷ []) records most) stepped.1,
+    )
+
+pub event_told : (meaning : Meaning) (old new : Stage) (number now : ℕ) (event : RecordsEvent) (answer : WorldAnswer)
+    (wrote : Wrote)
+    → (answer ≡ answers.NoMemory → ⊥) → Steps meaning old.world (transition now event answer) new.world
+    → Writes new.world (answer_text old.world.settings number (node_of event) answer) old.out new.out wrote
+    → RunsPlan (job_in meaning old.world) (event_plan number (timed now event)) old new (said_of wrote)
+event_told meaning old new number now event (answers.Node answer) wrote n steps writes =
+    told meaning old new number (timed now event) (answers.Node answer) wrote steps writes
+event_told meaning old new number now event answers.Unsent wrote n steps writes =
+    told meaning old new number (timed now event) answers.Unsent wrote steps writes
+event_told meaning old new number now event answers.NoMemory wrote n steps writes = absurd (n refl)
+
+-- rounds were run, and their line was written
+pub settle_told : (job : WorldJob) (old new : Stage) (number now rounds : ℕ) (wrote : Wrote)
+    → Moves job (settle_events job now rounds) old.world new.world
+    → GathersAll old.out new.out (line_text (decimal number ∷ codes "settled" ∷ [])) wrote
+    → RunsPlan job (settle_plan number now rounds) old new (said_of wrote)
+settle_told job old new number now rounds wrote moves line = λ records most stands. (
+  one_line old.out new.out (decimal number ∷ codes "settled" ∷ []) wrote line,
+  on_done wrote (StandsAfter job new.world (settle_events job now rounds records) records most)
+      (moves records most stands),
+)
+
+-- memory ran out before a line was written
+pub nothing_told : (job : WorldJob) (plan : Plan) (old new : WorldState) (out : Outbox)
+    → RunsPlan job plan (record { world = old; out = out }) (record { world = new; out = out }) NoMemory
+nothing_told job plan old new out = λ records most stands. ((_, no_lines_yet out _), tt)
+
+-- ---- the lines of a schedule
+
+-- the lines of a schedule, those of them that are left, and the number of the first of these
+pub record Progress : Type 0 where
+  pub all : List TimedEvent
+  pub rest : List TimedEvent
+  pub number : ℕ
+
+-- before the line at that place
+abbrev pub progress : List TimedEvent → (place : ℕ) → Progress
+progress all place = record { all = all; rest = drop place all; number = place + 1 }
+
+-- how far a schedule was run, from these records
+pub record HasRun (job : WorldJob) (lines : Progress) (old new : Stage) (from : Stood old.world) : Type 0 where
+  pub half :
+      Halfway job new.world from.records from.most (schedule_events job lines.all from.records)
+      (schedule_events job lines.rest)
+  pub said :
+      LinesUpTo old.out new.out (answer_lines job 1 lines.all from.records)
+      (answer_lines job lines.number lines.rest half.records)
+
+pub has_run_nothing : (job : WorldJob) (all : List TimedEvent) (old : Stage) (from : Stood old.world)
+    → HasRun job (progress all 0) old old from
+has_run_nothing job all old from = record {
+  half = halfway_none job old.world from.records from.most (schedule_events job all) from.stands;
+  said = no_lines_yet old.out _;
+}
+
+-- a line that is next is the first of the rest
+abbrev before_line : (all more : List TimedEvent) (line : TimedEvent) (number : ℕ) → Progress
+before_line all more line number = record { all = all; rest = line ∷ more; number = number }
+
+-- one line more was run
+more_run : (job : WorldJob) (all more : List TimedEvent) (line : TimedEvent) (number : ℕ) (old mid new : Stage)
+    (from : Stood old.world)
+    → HasRun job (before_line all more line number) old mid from
+    → RunsPlan job (line_plan number line) mid new Done
+    → HasRun job (record { all = all; rest = more; number = number + 1 }) old new from
+more_run job all more line number old mid new from h ran =
+    let records = h.half.records in
+    let lines = answer_lines job 1 all from.records in
+    let now = ran records h.half.most_now h.half.stands in
+    record {
+      half =
+          halfway_more job mid.world new.world from.records from.most (schedule_events job all from.records)
+          (schedule_events job (line ∷ more)) (λ w. line_events job w line.time line.event) (schedule_events job more)
+          h.half refl (λ w most stands. (ran w most stands).1);
+      said =
+          lines_done old.out mid.out new.out lines (answer_lines job number (line ∷ more) records)
+          (answer_lines job number (line ∷ []) records) _ refl h.said now.0;
+    }
+
+-- the next line ended the run
+ended_run : (job : WorldJob) (all more : List TimedEvent) (line : TimedEvent) (number : ℕ) (old mid new : Stage)
+    (from : Stood old.world) (said : Said)
+    → (said ≡ Done → ⊥) → HasRun job (before_line all more line number) old mid from
+    → RunsPlan job (line_plan number line) mid new said
+    → Says old.out new.out (answer_lines job 1 all from.records) said
+ended_run job all more line number old mid new from said n h ran =
+    let records = h.half.records in
+    let now = ran records h.half.most_now h.half.stands in
+    lines_said old.out mid.out new.out (answer_lines job 1 all from.records)
+    (answer_lines job number (line ∷ more) records) (answer_lines job number (line ∷ []) records) _ said n refl h.said
+    now.0
+
+-- the place where the line is next
+at_line : (job : WorldJob) (all : List TimedEvent) (place : ℕ) (line : TimedEvent) (old mid : Stage)
+    (from : Stood old.world)
+    → drop place all ≡ line ∷ drop (place + 1) all → HasRun job (progress all place) old mid from
+    → HasRun job (before_line all (drop (place + 1) all) line (place + 1)) old mid from
+at_line job all place line old mid from is h =
+    subst
+    (λ (rest : List TimedEvent). HasRun job (record { all = all; rest = rest; number = place + 1 }) old mid from) is h
+
+-- the line at a place was run
+pub has_run_more : (job : WorldJob) (all : List TimedEvent) (place : ℕ) (line : TimedEvent) (old mid new : Stage)
+    (from : Stood old.world)
+    → drop place all ≡ line ∷ drop (place + 1) all → HasRun job (progress all place) old mid from
+    → RunsPlan job (line_plan (place + 1) line) mid new Done
+    → HasRun job (progress all (place + 1)) old new from
+has_run_more job all place line old mid new from is h ran =
+    more_run job all (drop (place + 1) all) line (place + 1) old mid new from
+    (at_line job all place line old mid from is h) ran
+
+-- it ended the run
+pub has_run_up_to : (job : WorldJob) (all : List TimedEvent) (place : ℕ) (line : TimedEvent) (old mid new : Stage)
+    (from : Stood old.world) (said : Said)
+    → (said ≡ Done → ⊥) → drop place all ≡ line ∷ drop (place + 1) all → HasRun job (progress all place) old mid from
+    → RunsPlan job (line_plan (place + 1) line) mid new said
+    → Says old.out new.out (answer_lines job 1 all from.records) said
+has_run_up_to job all place line old mid new from said n is h ran =
+    ended_run job all (drop (place + 1) all) line (place + 1) old mid new from said n
+    (at_line job all place line old mid from is h) ran
+
+-- all lines were run
+pub has_run_all : (job : WorldJob) (all : List TimedEvent) (place : ℕ) (old new : Stage) (from : Stood old.world)
+    → drop place all ≡ [] → HasRun job (progress all place) old new from
+    → Gathers old.out new.out (spell (answer_lines job 1 all from.records))
+    × StandsAfter job new.world (schedule_events job all from.records) from.records from.most
+has_run_all job all place old new from none h = whole _ none h
+  where
+    whole : (rest : List TimedEvent) → rest ≡ []
+        → HasRun job (record { all = all; rest = rest; number = place + 1 }) old new from
+        → Gathers old.out new.out (spell (answer_lines job 1 all from.records))
+        × StandsAfter job new.world (schedule_events job all from.records) from.records from.most
+    whole [] none k = (
+      lines_all old.out new.out (answer_lines job 1 all from.records) [] refl k.said,
+      halfway_all job new.world from.records from.most (schedule_events job all from.records) (schedule_events job [])
+          k.half refl,
+    )
+    whole (line ∷ rest) none k = absurd (cc)

@@ -1,0 +1,51 @@
+use Rattle.gas_outside.specs.Buffered.{outbox}
+use Rattle.std.proofs.Common.{List, subst}
+use Rattle.gas_world.specs.CallRules.{timed, transition}
+use Rattle.gas_world.specs.Events.{Steps, event_of, job_in}
+use Rattle.node_script.specs.Bodies.{script_meaning}
+use Rattle.job_text.specs.declared.job.HandlerText.{HandlerText}
+use Rattle.datagram_grammar.specs.Parameters.{Parameters}
+use Rattle.world_run.specs.RunText.{node_of}
+use Rattle.world_run.specs.ScheduleRun.{stage, event_plan, Writes, answer_text}
+use Rattle.world_run.proofs.ScheduleRuns.{event_told, nothing_told}
+use Rattle.world_run.proofs.ToldAnswers.{step_names}
+use Rattle.world_run.proofs.run.run_event.Goals as goal
+
+pub write_event_answer-requires-clause-told : goal.write_event_answer-requires-clause-told
+write_event_answer-requires-clause-told g c =
+    rw c.node_of.ensures
+    (step_names (script_meaning c.handlers.result.now) c.args.world.now c.step.new.self c.args.at.now (event_of c.args.event.now) c.step.result
+    c.requires.stood c.requires.among c.step.ensures.settings c.step.ensures.steps)
+
+pub returns-in-NoMemory-clause-runs : goal.returns-in-NoMemory-clause-runs
+returns-in-NoMemory-clause-runs g c =
+    let old = c.args.world.now in
+    let plan = event_plan c.args.at.number (timed c.args.at.now (event_of c.args.event.now)) in
+    nothing_told (job_in (script_meaning c.args.script.now.handlers) old) plan old c.step.new.self
+    (outbox g.K.Sink.taken g.K.Sink.faults c.args.sink.now)
+
+pub returns-in_default : goal.returns-in_default
+returns-in_default g c =
+    let event = event_of c.args.event.now in
+    let steps =
+    subst
+    (λ (texts : List HandlerText). Steps (script_meaning texts) c.args.world.now
+    (transition c.args.at.now event c.step.result) c.step.new.self) c.handlers.ensures c.step.ensures.steps
+    in
+    let written_there = rw c.node_of.ensures at c.write_event_answer.ensures in
+    let old = stage g.K.Sink.taken g.K.Sink.faults c.args.world.now c.args.sink.now in
+    let new = stage g.K.Sink.taken g.K.Sink.faults c.step.new.self c.write_event_answer.new.sink in
+    let wrote = c.write_event_answer.result in
+    let written =
+    subst
+    (λ (settings : Parameters). Writes new.world (answer_text settings c.args.at.number (node_of event) c.step.result)
+    old.out new.out wrote) c.step.ensures.settings written_there
+    in
+    record {
+      settings = c.step.ensures.settings;
+      table = c.step.ensures.table;
+      runs =
+          rw c.from_wrote.ensures
+          (event_told (script_meaning c.args.script.now.handlers) old new c.args.at.number c.args.at.now
+          (event_of c.args.event.now) c.step.result wrote c.in_default.not-NoMemory steps written);
+    }

@@ -1,0 +1,68 @@
+use Rattle.std.proofs.Common.{◌+◌, sym, subst}
+use Rattle.std.specs.List.{slice_get}
+use Rattle.datagram_grammar.specs.Parameters.{Parameters}
+use Rattle.plain_world.specs.World.{IsAmong}
+use Rattle.gas_world.specs.CallRules.{timed}
+use Rattle.gas_world.specs.Events.{event_of, job_in}
+use Rattle.node_script.specs.Bodies.{script_meaning}
+use Rattle.job_text.specs.JobReading.{lines_of}
+use Rattle.world_run.specs.ScheduleRun.{stage, event_plan, settle_plan, line_plan}
+use Rattle.world_run.proofs.ScheduleAmong.{event_among}
+use Rattle.node_script.proofs.ScheduleNodes.{job_within}
+use Rattle.world_run.proofs.ScheduleRuns.{same_plan, event_is_line, settle_is_line}
+use Rattle.world_run.proofs.ScheduleLines.{timed_there, event_line, settle_line, never_none}
+use Rattle.world_run.proofs.run.run_line.Goals as goal
+
+pub run_event-requires-clause-among : goal.run_event-requires-clause-among
+run_event-requires-clause-among g c =
+    let j = c.args.script.now in
+    let lines = lines_of j.schedule in
+    let there = timed_there lines c.args.place c.requires.line in
+    let stood = c.requires.stood in
+    let event = event_of c.in-Some-Event.event in
+    let line =
+    event_line stood.records (slice_get lines c.args.place) there.0 c.line.result c.in-Some-Event.field-0
+    c.in-Some-Event.now c.in-Some-Event.event there.1 c.in-Some-Event.is c.in-Some-Event.field-0-is
+    (c.line.ensures.line stood.records stood.most stood.stands)
+    in
+    let within = job_within j c.requires.job c.args.place there.0 there.1 in
+    subst (λ (settings : Parameters). IsAmong settings event) (sym c.requires.settings)
+    (event_among j.settings stood.records there.0.event event within line.1)
+
+pub returns-in-Some-Event-clause-runs : goal.returns-in-Some-Event-clause-runs
+returns-in-Some-Event-clause-runs g c = λ line at.
+    let job = job_in (script_meaning c.args.script.now.handlers) c.args.world.now in
+    let lines = lines_of c.args.script.now.schedule in
+    let number = c.args.place + 1 in
+    let now = c.in-Some-Event.now in
+    let event = event_of c.in-Some-Event.event in
+    same_plan job (event_plan number (timed now event)) (line_plan number line)
+    (stage g.K.Sink.taken g.K.Sink.faults c.args.world.now c.args.sink.now)
+    (stage g.K.Sink.taken g.K.Sink.faults c.run_event.new.world c.run_event.new.sink) c.run_event.result
+    (λ w most h.
+    event_is_line job number now event line w
+    (event_line w (slice_get lines c.args.place) line c.line.result c.in-Some-Event.field-0 now c.in-Some-Event.event
+    at c.in-Some-Event.is c.in-Some-Event.field-0-is (c.line.ensures.line w most h))) c.run_event.ensures.runs
+
+pub returns-in-Some-Settle-clause-runs : goal.returns-in-Some-Settle-clause-runs
+returns-in-Some-Settle-clause-runs g c = λ line at.
+    let job = job_in (script_meaning c.args.script.now.handlers) c.args.world.now in
+    let lines = lines_of c.args.script.now.schedule in
+    let number = c.args.place + 1 in
+    let now = c.in-Some-Settle.now in
+    let rounds = c.in-Some-Settle.rounds in
+    same_plan job (settle_plan number now rounds) (line_plan number line)
+    (stage g.K.Sink.taken g.K.Sink.faults c.args.world.now c.args.sink.now)
+    (stage g.K.Sink.taken g.K.Sink.faults c.run_settle.new.world c.run_settle.new.sink) c.run_settle.result
+    (λ w most h.
+    settle_is_line job number now rounds line w
+    (settle_line w (slice_get lines c.args.place) line c.line.result c.in-Some-Settle.field-0 now rounds at
+    c.in-Some-Settle.is c.in-Some-Settle.field-0-is (c.line.ensures.line w most h))) c.run_settle.ensures.runs
+
+pub unreachable-requires : goal.unreachable-requires
+unreachable-requires g c =
+    let lines = lines_of c.args.script.now.schedule in
+    let there = timed_there lines c.args.place c.requires.line in
+    let stood = c.requires.stood in
+    never_none stood.records (slice_get lines c.args.place) there.0 c.line.result there.1 c.in-None.is
+    (c.line.ensures.line stood.records stood.most stood.stands)

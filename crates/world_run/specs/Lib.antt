@@ -1,0 +1,5 @@
+pub mod LinesWritten
+pub mod RunText
+pub mod ScheduleRun
+pub mod RunLaws
+pub mod RunEnds

@@ -1,0 +1,24 @@
+-- How the run of a job ends.
+use Rattle.std.specs.Prelude.{◌≡◌, List, Bool}
+use Rattle.gas_outside.specs.Buffered.{Outbox, Gathers, GathersFront}
+use Rattle.gas_world.specs.Worlds.{WorldState}
+use Rattle.node_script.specs.Lines.{Line, spell}
+use Rattle.job_text.specs.declared.job.Job.{Job as JobState}
+use Rattle.world_run.specs.LinesWritten.{LinesUpTo}
+use Rattle.world_run.specs.RunText.{is_violated, run_lines}
+use Rattle.world_run.specs.ScheduleRun.{StandsForRun}
+use Rattle.world_run.specs.declared.run.RunEnd.{RunEnd}
+use Rattle.world_run.specs.declared.run.RunEnd.TheVariants.{Done, Fault, NoMemory}
+
+-- the run came to its end: its lines went in, and the world stands for its end
+pub record IsRun (job : JobState) (old new : Outbox) (violated : Bool) (world : WorldState) : Type 0 where
+  pub lines : Gathers old new (spell (run_lines job))
+  pub violated_is : violated ≡ is_violated job
+  pub stands : StandsForRun job world
+
+-- how far the lines of the job's run went in: all; at a fault of the sink, a front of their text; where memory ran out,
+-- some whole lines
+abbrev pub RunEnds : JobState → (old new : Outbox) → RunEnd → Type 0
+RunEnds job old new (Done violated world) = IsRun job old new violated world
+RunEnds job old new Fault = GathersFront old new (spell (run_lines job))
+RunEnds job old new NoMemory = (rest : List Line) × LinesUpTo old new (run_lines job) rest

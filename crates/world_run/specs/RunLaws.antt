@@ -1,0 +1,70 @@
+-- What holds of the run of a job.
+use Rattle.std.specs.Prelude.{ℕ, ◌≡◌, ◌+◌, [], ◌∷◌, Some, slice_get, codes, decimal}
+use Rattle.am_core.specs.Kept.{nothing_done}
+use Rattle.gas_world.specs.CallRules.{Records, RecordsEvent, at_the_opening, timed}
+use Rattle.plain_world.specs.Headline.{Headline, IsGreatest, after_first}
+use Rattle.job_text.specs.declared.job.Job.{Job as JobState}
+use Rattle.node_script.specs.Lines.{Line}
+use Rattle.node_script.specs.Schedules.{world_job, scheduled_event}
+use Rattle.job_text.specs.JobReading.{lines_of}
+use Rattle.job_text.specs.declared.job.ScheduledEvent.{ScheduledEvent}
+use Rattle.job_text.specs.declared.job.ScheduledEvent.TheVariants as scheduled
+use Rattle.job_text.specs.declared.job.TimedEvent.{TimedEvent}
+use Rattle.world_run.specs.RunText.{event_words, run_events, run_lines, run_most}
+
+-- ---- what the lines tell
+
+-- the records after the first events of the run
+abbrev pub records_at : JobState → (count : ℕ) → Records
+records_at job count = after_first (world_job job) (run_events job) at_the_opening count
+
+-- a line of the schedule, counted from 0, that is one event: where the event stands in the run, and that the line of
+-- the output at its place says its number and the answer to it there
+pub record IsTold (job : JobState) (line : ℕ) (entry : TimedEvent) : Type 0 where
+  pub place : ℕ
+  pub event : RecordsEvent
+  pub is : scheduled_event (records_at job place) entry.event ≡ Some event
+  pub at : slice_get (run_events job) place ≡ Some (timed entry.time event)
+  pub told : slice_get (run_lines job) line
+      ≡ Some (decimal (line + 1) ∷ event_words (world_job job) (records_at job place) (timed entry.time event))
+
+-- the line is one event, and not rounds of them
+abbrev pub IsOneEvent : ScheduledEvent → Type 0
+IsOneEvent (scheduled.Settle rounds) = ⊥
+IsOneEvent _ = Unit {0}
+
+-- so is each line of the schedule that is one event
+abbrev pub LinesTell : JobState → Type 0
+LinesTell job =
+    (line : ℕ) (entry : TimedEvent) → slice_get (lines_of job.schedule) line ≡ Some entry → IsOneEvent entry.event
+    → IsTold job line entry
+
+-- the line of the schedule at that place, counted from 0, is this event, and the line of the output at that place says
+-- these words to it
+pub record Tells (job : JobState) (place : ℕ) (event : ScheduledEvent) (words : Line) : Type 0 where
+  pub time : ℕ
+  pub line : slice_get (lines_of job.schedule) place ≡ Some (record { time = time; event = event })
+  pub told : slice_get (run_lines job) place ≡ Some (decimal (place + 1) ∷ words)
+
+-- of the lines that deliver one request at most one is told that it ran
+abbrev pub RanToldOnce : JobState → Type 0
+RanToldOnce job =
+    (from to number place other : ℕ) → Tells job place (scheduled.Request from to number) (codes "ran" ∷ [])
+    → Tells job other (scheduled.Request from to number) (codes "ran" ∷ []) → place ≡ other
+
+-- of the lines that deliver one reply at most one is told that it brought its request back
+abbrev pub ReturnedToldOnce : JobState → Type 0
+ReturnedToldOnce job =
+    (from to number place other : ℕ) → Tells job place (scheduled.Reply from to number) (codes "returned" ∷ [])
+    → Tells job other (scheduled.Reply from to number) (codes "returned" ∷ []) → place ≡ other
+
+-- ---- all of them
+
+-- the headline holds of it; its lines tell the answers of its events, so that no line tells again that a request ran or
+-- came back; and the most that the end lines tell of a node is the greatest number of message buffers that it held
+pub record RunLaws (job : JobState) : Type 0 where
+  pub headline : Headline (world_job job) (λ node. nothing_done) (run_events job)
+  pub told : LinesTell job
+  pub ran : RanToldOnce job
+  pub returned : ReturnedToldOnce job
+  pub most : (node : ℕ) → IsGreatest (world_job job) (run_events job) at_the_opening node (run_most job node)

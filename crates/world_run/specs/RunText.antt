@@ -1,0 +1,141 @@
+-- The lines of the output of a run.
+use Rattle.std.specs.Prelude.{ℕ, zero, suc, ◌+◌, ◌==◌, ◌||◌, Bool, false, not, List, [], ◌∷◌, ◌++◌, map}
+use Rattle.std.specs.Prelude.{Option, None, Some, codes, decimal}
+use Rattle.datagram_grammar.specs.Parameters.{Parameters}
+use Rattle.handler_rules.specs.Logged.{log_of}
+use Rattle.handler_rules.specs.declared.rules.Context.{Context}
+use Rattle.handler_rules.specs.declared.rules.Context.TheVariants as context
+use Rattle.handler_rules.specs.declared.rules.Fault.{Fault}
+use Rattle.handler_rules.specs.declared.rules.Fault.TheVariants as fault
+use Rattle.handler_rules.specs.declared.rules.Violation.{Violation}
+use Rattle.node_record.specs.Record.{Node}
+use Rattle.node_record.specs.Held.{held}
+use Rattle.am_core.specs.Kept.{Local}
+use Rattle.plain_world.specs.World.{Asks, Does, RequestComes, ReplyComes, Ticks, Timed, world_answer, world_after, run}
+use Rattle.plain_world.specs.MostHeld.{most_after}
+use Rattle.gas_world.specs.CallRules.{OtherCall, Records, RecordsEvent, at_the_opening, timed, world_told}
+use Rattle.gas_world.specs.declared.event.WorldAnswer.{WorldAnswer}
+use Rattle.gas_world.specs.declared.event.WorldAnswer.TheVariants as answers
+use Rattle.node_script.specs.Lines.{Word, Line}
+use Rattle.job_text.specs.declared.job.Job.{Job as JobState}
+use Rattle.node_script.specs.AnswerWords.{Sight, sight_of, answer_words, lock_fault_word, rule_word}
+use Rattle.gas_world.specs.Settling.{WorldJob}
+use Rattle.node_script.specs.Schedules.{world_job, scheduled_event, line_events, schedule_events}
+use Rattle.job_text.specs.JobReading.{lines_of}
+use Rattle.job_text.specs.declared.job.TimedEvent.{TimedEvent}
+
+-- ---- answers
+
+-- the node on which an event falls
+abbrev pub node_of : RecordsEvent → ℕ
+node_of (Asks node ask) = node
+node_of (Does node thread call) = node
+node_of (RequestComes from to number) = to
+node_of (ReplyComes from to number) = from
+node_of (Ticks node) = node
+
+-- the words of the answer of a world, by what it names of the node on which the event fell. The records never answer
+-- that memory ran out
+abbrev pub world_words : Sight → WorldAnswer → Line
+world_words sight (answers.Node answer) = answer_words sight answer
+world_words sight answers.Unsent = codes "unsent" ∷ []
+world_words sight answers.NoMemory = codes "no-memory" ∷ []
+
+-- the words of the answer to an event
+abbrev pub event_words : WorldJob → Records → Timed OtherCall → Line
+event_words job records event =
+    let node = node_of event.event in
+    world_words (sight_of job.settings node (world_after job records event node))
+    (world_told (world_answer job records event))
+
+-- the words of the answer to a line of a schedule, by its one event; a line of rounds has none
+abbrev pub words_by : WorldJob → Records → (now : ℕ) → Option RecordsEvent → Line
+words_by job records now None = codes "settled" ∷ []
+words_by job records now (Some event) = event_words job records (timed now event)
+
+-- the words of the answer to a line of a schedule
+abbrev pub line_words : WorldJob → Records → TimedEvent → Line
+line_words job records entry = words_by job records entry.time (scheduled_event records entry.event)
+
+-- a line for each line of a schedule: its number, and the words of its answer
+abbrev pub answer_lines : WorldJob → (number : ℕ) → List TimedEvent → Records → List Line
+answer_lines job number [] records = []
+answer_lines job number (entry ∷ entries) records =
+    (decimal number ∷ line_words job records entry)
+    ∷ answer_lines job (number + 1) entries (run job (line_events job records entry.time entry.event) records)
+
+-- ---- nodes
+
+-- how many violations a node noted; it stands still at 2 ^ 64 - 1
+abbrev pub violations : Node Local → ℕ
+violations kept = (log_of kept.local.violations).count
+
+-- the last 64 violations that a node noted, the oldest first
+abbrev pub last_violations : Node Local → List Violation
+last_violations kept = (log_of kept.local.violations).newest
+
+-- the words of who made a call
+abbrev pub context_words : Context → Line
+context_words (context.Thread thread) = codes "thread" ∷ decimal thread ∷ []
+context_words context.RequestHandler = codes "request" ∷ []
+context_words context.ReplyHandler = codes "reply" ∷ []
+
+-- the word of what was wrong with a call
+abbrev pub fault_word : Fault → Word
+fault_word (fault.Rule rule) = rule_word rule
+fault_word (fault.Lock lock_fault) = lock_fault_word lock_fault
+
+-- the line of a violation of a node
+abbrev pub violation_line : (node : ℕ) → Violation → Line
+violation_line node violation =
+    codes "violation" ∷ decimal node ∷ (context_words violation.context ++ fault_word violation.fault ∷ [])
+
+-- the line of a node: what it holds, the most that it held, and how many violations it noted
+abbrev pub node_line : (node now most violations : ℕ) → Line
+node_line node now most violations =
+    codes "node" ∷ decimal node ∷ codes "held" ∷ decimal now ∷ codes "most" ∷ decimal most
+    ∷ codes "violations" ∷ decimal violations ∷ []
+
+-- the lines of a node with this record, which held at most so much: its own, and those of its last violations
+abbrev pub lines_of_node : Parameters → (node most : ℕ) → Node Local → List Line
+lines_of_node settings node most kept =
+    node_line node (held settings node kept) most (violations kept) ∷ map (violation_line node) (last_violations kept)
+
+-- the lines of the nodes from this one on, of which there are so many
+abbrev pub node_lines : Parameters → Records → (ℕ → ℕ) → ℕ → ℕ → List Line
+node_lines settings records most node zero = []
+node_lines settings records most node (suc count) =
+    lines_of_node settings node (most node) (records node) ++ node_lines settings records most (node + 1) count
+
+-- one of the nodes from this one on, of which there are so many, noted a violation
+abbrev pub any_violation : Records → ℕ → ℕ → Bool
+any_violation records node zero = false
+any_violation records node (suc count) = not (violations (records node) == 0) || any_violation records (node + 1) count
+
+-- ---- a run
+
+-- the lines at the end of a run: those of each node
+abbrev pub end_lines : Parameters → Records → (ℕ → ℕ) → List Line
+end_lines settings records most = node_lines settings records most 0 settings.nodes
+
+-- the events of a job's run
+abbrev pub run_events : JobState → List (Timed OtherCall)
+run_events job = schedule_events (world_job job) (lines_of job.schedule) at_the_opening
+
+-- the records at the end of a job's run
+abbrev pub run_records : JobState → Records
+run_records job = run (world_job job) (run_events job) at_the_opening
+
+-- the most that each node held in a job's run
+abbrev pub run_most : JobState → ℕ → ℕ
+run_most job = most_after (world_job job) (run_events job) at_the_opening (λ node. 0)
+
+-- a node noted a violation in a job's run
+abbrev pub is_violated : JobState → Bool
+is_violated job = any_violation (run_records job) 0 job.settings.nodes
+
+-- the lines of a job's run: the answers, and the lines at the end
+abbrev pub run_lines : JobState → List Line
+run_lines job =
+    answer_lines (world_job job) 1 (lines_of job.schedule) at_the_opening
+    ++ end_lines job.settings (run_records job) (run_most job)

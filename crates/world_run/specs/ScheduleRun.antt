@@ -1,0 +1,150 @@
+-- How the world runs the lines of a schedule, and what is written of it.
+use Rattle.std.specs.Prelude.{◌≡◌, ℕ, Bool, List, [], ◌∷◌, Option, codes, decimal}
+use Rattle.datagram_grammar.specs.Parameters.{Parameters}
+use Rattle.gas_outside.specs.Buffered.{Gathering, Outbox, outbox, GathersAll}
+use Rattle.gas_outside.specs.declared.writing.Wrote.{Wrote}
+use Rattle.plain_world.specs.World.{Timed, run}
+use Rattle.plain_world.specs.MostHeld.{most_after}
+use Rattle.gas_world.specs.CallRules.{OtherCall, Records}
+use Rattle.gas_world.specs.Events.{ForItsRecords, job_in}
+use Rattle.gas_world.specs.Stands.{Stands}
+use Rattle.gas_world.specs.Endpoints.{EndpointState, EndpointStands}
+use Rattle.gas_world.specs.Sizes.{IsNodeOf}
+use Rattle.gas_world.specs.Worlds.{WorldState}
+use Rattle.gas_world.specs.declared.event.WorldAnswer.{WorldAnswer}
+use Rattle.gas_world.specs.declared.event.WorldAnswer.TheVariants as answers
+use Rattle.node_script.specs.AnswerWords.{sight_of}
+use Rattle.node_script.specs.AnswersTold.{NamesWhatIs}
+use Rattle.node_script.specs.Bodies.{script_meaning}
+use Rattle.node_script.specs.Lines.{Line, line_text, spell}
+use Rattle.job_text.specs.declared.job.Job.{Job as JobState}
+use Rattle.node_script.specs.Registration.{registered}
+use Rattle.gas_world.specs.Settling.{WorldJob, settle_events}
+use Rattle.node_script.specs.Schedules.{line_events, schedule_events}
+use Rattle.job_text.specs.declared.job.TimedEvent.{TimedEvent}
+use Rattle.world_run.specs.RunText.{world_words, event_words, line_words, answer_lines, any_violation, lines_of_node}
+use Rattle.world_run.specs.RunText.{end_lines, run_records, run_most}
+use Rattle.world_run.specs.LinesWritten.{Says, OnDone}
+use Rattle.world_run.specs.declared.said.Said.{Said}
+
+-- ---- a world that stands
+
+-- the world stands for some records
+pub record Stood (world : WorldState) : Type 0 where
+  pub records : Records
+  pub most : ℕ → ℕ
+  pub stands : Stands world records most
+
+-- the world stands for what these events leave of the records
+abbrev pub StandsAfter : WorldJob → WorldState → List (Timed OtherCall) → Records → (ℕ → ℕ) → Type 0
+StandsAfter job world events records most =
+    Stands world (run job events records) (most_after job events records most)
+
+-- ---- lines of a schedule
+
+-- the world of a run, and what went into its sink
+pub record Stage : Type 0 where
+  pub world : WorldState
+  pub out : Outbox
+
+abbrev pub stage : {K : Type 0} → (taken : K → Option (List ℕ)) → (faults : K → ℕ) → WorldState → Gathering K → Stage
+stage taken faults world sink = record { world = world; out = outbox taken faults sink }
+
+-- a line of the output: its number, and by what the nodes do and their records its words and the events before it
+pub record Plan : Type 0 where
+  pub number : ℕ
+  pub words : WorldJob → Records → Line
+  pub events : WorldJob → Records → List (Timed OtherCall)
+
+-- that of one event
+abbrev pub event_plan : (number : ℕ) → Timed OtherCall → Plan
+event_plan number event =
+    record {
+      number = number;
+      words = λ job records. event_words job records event;
+      events = λ job records. event ∷ [];
+    }
+
+-- that of rounds
+abbrev pub settle_plan : (number now rounds : ℕ) → Plan
+settle_plan number now rounds =
+    record {
+      number = number;
+      words = λ job records. codes "settled" ∷ [];
+      events = λ job. settle_events job now rounds;
+    }
+
+-- that of a line of the schedule
+abbrev pub line_plan : (number : ℕ) → TimedEvent → Plan
+line_plan number line =
+    record {
+      number = number;
+      words = λ job records. line_words job records line;
+      events = λ job records. line_events job records line.time line.event;
+    }
+
+-- the line that is planned, from these records
+abbrev pub planned : WorldJob → Plan → Records → Line
+planned job plan records = decimal plan.number ∷ plan.words job records
+
+-- of all records for which the world stood: the line that is planned was said, and where it was, the world stands for
+-- the records after the events
+abbrev pub RunsPlan : WorldJob → Plan → (old new : Stage) → Said → Type 0
+RunsPlan job plan old new said =
+    ForItsRecords old.world (λ records most.
+    Says old.out new.out (planned job plan records ∷ []) said
+    × OnDone said (StandsAfter job new.world (plan.events job records) records most))
+
+-- by what the nodes of the world do with the handlers of this job
+abbrev pub RunsByScript : JobState → Plan → (old new : Stage) → Said → Type 0
+RunsByScript text plan old new said = RunsPlan (job_in (script_meaning text.handlers) old.world) plan old new said
+
+-- of all records for which the world stood: the answers to these lines were said, numbered from 1, and where they all
+-- were, the world stands for the records after them
+abbrev pub RunsLines : WorldJob → List TimedEvent → (old new : Stage) → Said → Type 0
+RunsLines job lines old new said =
+    ForItsRecords old.world (λ records most.
+    Says old.out new.out (answer_lines job 1 lines records) said
+    × OnDone said (StandsAfter job new.world (schedule_events job lines records) records most))
+
+-- ---- what is written
+
+-- a text, by the records of the nodes and the most that each held
+abbrev pub TextOf : Type 0
+TextOf = Records → (ℕ → ℕ) → List ℕ
+
+-- of all records for which the world stands: this text went in
+abbrev pub Writes : WorldState → TextOf → (before after : Outbox) → Wrote → Type 0
+Writes world text before after wrote =
+    ForItsRecords world (λ records most. GathersAll before after (text records most) wrote)
+
+-- the line of the answer to an event on this node
+abbrev pub answer_text : Parameters → (number node : ℕ) → WorldAnswer → TextOf
+answer_text settings number node answer = λ records most.
+    line_text (decimal number ∷ world_words (sight_of settings node (records node)) answer)
+
+-- what an answer of this node names is there, at whatever endpoint stands for the node
+abbrev pub TellsWhatIs : WorldState → (node : ℕ) → WorldAnswer → Type 0
+TellsWhatIs world node (answers.Node answer) =
+    (endpoint : EndpointState) → IsNodeOf world.settings world.table node endpoint
+    → ForItsRecords world (λ records most. EndpointStands endpoint (records node)) → NamesWhatIs endpoint answer
+TellsWhatIs world node _ = Unit {0}
+
+-- the lines of a node of this world
+abbrev pub node_text : WorldState → (node : ℕ) → TextOf
+node_text world node records most = spell (lines_of_node world.settings node (most node) (records node))
+
+-- the lines of all its nodes
+abbrev pub nodes_text : WorldState → TextOf
+nodes_text world records most = spell (end_lines world.settings records most)
+
+-- of all records for which the world stands: whether a node noted a violation
+abbrev pub TellsViolation : WorldState → Bool → Type 0
+TellsViolation world violated =
+    ForItsRecords world (λ records most. violated ≡ any_violation records 0 world.settings.nodes)
+
+-- the world stands for the end of the job's run
+pub record StandsForRun (job : JobState) (world : WorldState) : Type 0 where
+  pub settings : world.settings ≡ job.settings
+  pub table : world.table ≡ (registered job.handlers).table
+  pub stands : Stands world (run_records job) (run_most job)

@@ -1,0 +1,198 @@
+//! Running a job in a world.
+
+ghost use Rattle.std.specs.Prelude.{◌≡◌, ◌<◌, ◌+◌, length, Some, slice_get};
+ghost use Rattle.gas_outside.specs.Buffered.{outbox};
+ghost use Rattle.gas_world.specs.CallRules.{at_the_opening, timed};
+ghost use Rattle.gas_world.specs.Events.{event_of, job_in};
+ghost use Rattle.gas_world.specs.Stands.{Stands};
+ghost use Rattle.plain_world.specs.World.{IsAmong};
+ghost use Rattle.node_script.specs.Bodies.{script_meaning};
+ghost use Rattle.job_text.specs.JobText.{IsJob};
+ghost use Rattle.node_script.specs.Registration.{registered};
+ghost use Rattle.job_text.specs.JobReading.{lines_of};
+ghost use Rattle.job_text.specs.declared.job.TimedEvent.{TimedEvent};
+ghost use Rattle.world_run.specs.RunText.{node_of, run_lines};
+ghost use Rattle.world_run.specs.RunLaws.{RunLaws};
+ghost use Rattle.world_run.specs.ScheduleRun.{Stood, stage, event_plan, settle_plan, line_plan};
+ghost use Rattle.world_run.specs.ScheduleRun.{RunsByScript, RunsLines, StandsForRun};
+ghost use Rattle.world_run.specs.LinesWritten.{Says, OnDone};
+ghost use Rattle.world_run.specs.RunEnds.{RunEnds};
+
+use crate::output::{any_violation, write_event_answer, write_nodes, write_numbered};
+use crate::said::Said;
+use gas_outside::{BufferedSink, Sink};
+use gas_world::{World, WorldAnswer, WorldEvent};
+use node_script::{Line, Script};
+use std::alloc::{AllocError, Global};
+
+/// The node on which an event falls.
+fn node_of(event: &WorldEvent<'_>) -> u16
+    ensures { result ≡ node_of (event_of event.now) }
+{
+    match event {
+        WorldEvent::Call { node, .. } => *node,
+        WorldEvent::Request { to, .. } => *to,
+        WorldEvent::Reply { from, .. } => *from,
+        WorldEvent::Tick { node } => *node,
+    }
+}
+
+/// Where a line of the output stands.
+#[derive(Clone, Copy, Debug)]
+struct Place {
+    /// Its number, from 1.
+    number: u64,
+    /// The time of its events.
+    now: u64,
+}
+
+/// Runs one event, and writes the line of its answer.
+fn run_event<K: Sink>(
+    world: &mut World,
+    script: &Script,
+    at: Place,
+    event: &WorldEvent<'_>,
+    sink: &mut BufferedSink<K>,
+) -> Said
+    requires among { IsAmong world.old.settings (event_of event.now) }
+    requires stood { Stood world.old }
+    ensures settings { world.new.settings ≡ world.old.settings }
+    ensures table { world.new.table ≡ world.old.table }
+    ensures runs { RunsByScript script.now (event_plan at.number (timed at.now (event_of event.now)))
+        (stage K.taken K.faults world.old sink.old) (stage K.taken K.faults world.new sink.new) result }
+{
+    match world.step(script.handlers(), at.now, event) {
+        WorldAnswer::NoMemory => Said::NoMemory,
+        answer => Said::from_wrote(write_event_answer(
+            world,
+            node_of(event),
+            at.number,
+            &answer,
+            sink,
+        )),
+    }
+}
+
+/// Runs so many rounds, and writes the line of their answer.
+fn run_settle<K: Sink>(
+    world: &mut World,
+    script: &Script,
+    at: Place,
+    rounds: u32,
+    sink: &mut BufferedSink<K>,
+) -> Said
+    ensures settings { world.new.settings ≡ world.old.settings }
+    ensures table { world.new.table ≡ world.old.table }
+    ensures runs { RunsByScript script.now (settle_plan at.number at.now rounds)
+        (stage K.taken K.faults world.old sink.old) (stage K.taken K.faults world.new sink.new) result }
+{
+    match world.settle(script.handlers(), at.now, rounds) {
+        Err(AllocError) => Said::NoMemory,
+        Ok(()) => Said::from_wrote(write_numbered(sink, at.number, b"settled")),
+    }
+}
+
+/// Runs line `place` of the schedule, from 0, and writes its line, whose number is one more.
+fn run_line<K: Sink>(
+    world: &mut World,
+    script: &Script,
+    place: usize,
+    sink: &mut BufferedSink<K>,
+) -> Said
+    requires job { IsJob script.now }
+    requires settings { world.old.settings ≡ script.now.settings }
+    requires stood { Stood world.old }
+    requires line { place < length (lines_of script.now.schedule) }
+    ensures settings { world.new.settings ≡ world.old.settings }
+    ensures table { world.new.table ≡ world.old.table }
+    ensures runs { (line : TimedEvent) → slice_get (lines_of script.now.schedule) place ≡ Some line
+        → RunsByScript script.now (line_plan (place + 1) line)
+        (stage K.taken K.faults world.old sink.old) (stage K.taken K.faults world.new sink.new) result }
+{
+    let number = place as u64 + 1;
+    let mut args = [0; 17];
+    match script.line(place, world, &mut args) {
+        Some(Line::Event { now, event }) => {
+            run_event(world, script, Place { number, now }, &event, sink)
+        }
+        Some(Line::Settle { now, rounds }) => {
+            run_settle(world, script, Place { number, now }, rounds, sink)
+        }
+        None => unreachable!(),
+    }
+}
+
+/// Runs the lines of the schedule in order, and writes a line for each, numbered from 1.
+fn run_schedule<K: Sink>(world: &mut World, script: &Script, sink: &mut BufferedSink<K>) -> Said
+    requires job { IsJob script.now }
+    requires settings { world.old.settings ≡ script.now.settings }
+    requires stood { Stood world.old }
+    ensures settings { world.new.settings ≡ world.old.settings }
+    ensures table { world.new.table ≡ world.old.table }
+    ensures runs { RunsLines (job_in (script_meaning script.now.handlers) world.old)
+        (lines_of script.now.schedule)
+        (stage K.taken K.faults world.old sink.old) (stage K.taken K.faults world.new sink.new) result }
+{
+    for place in 0..script.lines() {
+        match run_line(world, script, place, sink) {
+            Said::Done => {}
+            ended => return ended,
+        }
+    }
+    Said::Done
+}
+
+/// Runs a job in its world, which is at the opening, and writes its lines.
+fn run_in<K: Sink>(world: &mut World, script: &Script, sink: &mut BufferedSink<K>) -> Said
+    requires job { IsJob script.now }
+    requires settings { world.old.settings ≡ script.now.settings }
+    requires table { world.old.table ≡ (registered script.now.handlers).table }
+    requires stands { Stands world.old at_the_opening (λ i. 0) }
+    ensures lines { Says (outbox K.taken K.faults sink.old) (outbox K.taken K.faults sink.new)
+        (run_lines script.now) result }
+    ensures world { OnDone result (StandsForRun script.now world.new) }
+{
+    match run_schedule(world, script, sink) {
+        Said::Done => Said::from_wrote(write_nodes(world, sink)),
+        ended => ended,
+    }
+}
+
+/// How the run of a job ended.
+#[derive(Drop)]
+pub enum RunEnd {
+    /// All its lines were written.
+    Done {
+        /// Whether a node noted a violation.
+        violated: bool,
+        /// The world after the run.
+        world: World,
+    },
+    /// The sink failed: a front of the text of its lines was written.
+    Fault,
+    /// Memory ran out: whole lines of it were written, or none.
+    NoMemory,
+}
+
+/// Runs a job in a new world, and writes its lines: the answer to each line of the schedule, then the lines of each node.
+///
+/// The laws hold of its run, however far it came.
+#[tactic(auto, using(crate::proofs::RunLaws::run_laws))]
+pub fn run_job<K: Sink>(alloc: Global, script: &Script, sink: &mut BufferedSink<K>) -> RunEnd
+    requires { IsJob script.now }
+    ensures run { RunEnds script.now (outbox K.taken K.faults sink.old)
+        (outbox K.taken K.faults sink.new) result }
+    ensures laws { RunLaws script.now }
+{
+    let Ok(mut world) = World::new(alloc, script.settings(), script.table()) else {
+        return RunEnd::NoMemory;
+    };
+    match run_in(&mut world, script, sink) {
+        Said::Done => {
+            let violated = any_violation(&world);
+            RunEnd::Done { violated, world }
+        }
+        Said::Fault => RunEnd::Fault,
+        Said::NoMemory => RunEnd::NoMemory,
+    }
+}
