@@ -1,0 +1,10 @@
+pub mod Words
+pub mod RoundLaws
+pub mod Combining
+pub mod Covering
+pub mod Runs
+pub mod Meaning
+pub mod Phases
+pub mod Standing
+pub mod Stepping
+pub mod Within

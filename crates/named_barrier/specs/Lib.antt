@@ -1,0 +1,10 @@
+pub mod Masks
+pub mod Combinations
+pub mod Record
+pub mod Route
+pub mod World
+pub mod Within
+pub mod Together
+pub mod State
+pub mod Views
+pub mod Stands

@@ -1,0 +1,31 @@
+-- A barrier's fields as its state.
+use Rattle.std.specs.Prelude.{◌≡◌, ◌+◌, ◌^◌, ◌<◌, ◌≤◌, true, is_some}
+use Rattle.datagram_grammar.specs.Notes.{mask_number}
+use Rattle.named_barrier.specs.declared.barrier.Barrier.TheInside.{Inside}
+use Rattle.named_barrier.specs.declared.known.Known.{Known}
+use Rattle.named_barrier.specs.Record.{Part}
+use Rattle.named_barrier.specs.State.{State}
+
+-- the words of the mask as one number
+abbrev pub part : Known → Part
+part known = record { mask = mask_number known.mask; combined = known.combined }
+
+abbrev pub fields_view : Inside → State
+fields_view inside =
+    record {
+      nodes = inside.nodes;
+      me = inside.me;
+      phase = inside.phase;
+      own = inside.own;
+      present = part inside.present;
+      next = part inside.next;
+      last = part inside.last;
+      sent_now = mask_number inside.sent_now;
+      sent_last = mask_number inside.sent_last;
+    }
+
+pub record IsBarrier (inside : Inside) : Type 0 where
+  pub few : inside.nodes ≤ 256
+  pub in_range : inside.me < inside.nodes
+  -- the last phase is never notified
+  pub left : is_some inside.own ≡ true → inside.phase + 1 < 2 ^ 64

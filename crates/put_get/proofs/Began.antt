@@ -1,0 +1,138 @@
+-- The records stand where an operation begins.
+use Rattle.std.proofs.Common.{◌≡◌, ◌≢◌, ◌⊎◌, inl, inr, ℕ, zero, suc, ◌+◌, ◌<◌, ◌≤◌, Bool, true, false, true≢false, replicate, nat_le, ◌||◌, List, [], ◌∷◌, ◌++◌, Option, None, Some, Ok, Err, length, set, refl, sym, ap, ◌∙◌, subst, arith}
+use Rattle.std.specs.List.{slice_get}
+use Rattle.std.proofs.lemmas.Bool.{cases_Bool, lt-leb, le-leb}
+use Rattle.std.proofs.lemmas.List.{length-set, length-append}
+use Rattle.std.proofs.lemmas.Option.{same_Some, slice_get_within}
+use Rattle.lists.specs.Numbered.{numbered}
+use Rattle.lists.proofs.Indexes.{get-set_same, get-set_other, replicate-is}
+use Rattle.lists.proofs.Places.{slice_get_last}
+use Rattle.lists.proofs.Numbered.{numbered_nil, numbered_push, numbered_kept, numbered_in}
+use Rattle.put_get.specs.declared.operation.Transfer.{Transfer}
+use Rattle.put_get.specs.declared.operation.Mode.{Mode}
+use Rattle.put_get.specs.declared.table.Standing.{Standing}
+use Rattle.put_get.specs.declared.transfers.Transfers.{Transfers}
+use Rattle.put_get.specs.Operation.{Operation, standing, is_full, begin_answer, after_begin, fresh}
+use Rattle.put_get.specs.Stands.{taken, kept, Keeps, Stands}
+use Rattle.put_get.proofs.Tests.{get_set}
+use Rattle.put_get.proofs.Counts.{count_from}
+
+pub taken_all : {X : Type 0} (xs : List (Option X)) → ((p : ℕ) → p < length xs → slice_get xs p ≡ Some None → ⊥)
+    → taken xs ≡ length xs
+taken_all [] n = refl
+taken_all (None ∷ xs) n = absurd (n 0 (omega arith) refl)
+taken_all (Some x ∷ xs) n = ap suc (taken_all xs (λ p l e. n (suc p) (omega arith) e))
+
+taken_le : {X : Type 0} (xs : List (Option X)) → taken xs ≤ length xs
+taken_le [] = omega arith
+taken_le (None ∷ xs) = let ih = taken_le xs in omega arith
+taken_le (Some x ∷ xs) = let ih = taken_le xs in omega arith
+
+pub taken_less : {X : Type 0} (xs : List (Option X)) (p : ℕ) → slice_get xs p ≡ Some None → taken xs < length xs
+taken_less [] p e = absurd (cc)
+taken_less (None ∷ xs) p e = let l = taken_le xs in omega arith
+taken_less (Some x ∷ xs) zero e = absurd (cc)
+taken_less (Some x ∷ xs) (suc p) e = let ih = taken_less xs p e in omega arith
+
+pub keeps_begun : (places : List (Option Standing)) (operations : List Operation) (place : ℕ) (operation : Operation)
+    → slice_get places place ≡ Some None
+    → operation.synced ≡ false → Keeps places operations
+    → Keeps (set places place (Some (kept (suc (length operations)) operation))) (operations ++ operation ∷ [])
+keeps_begun places operations place operation blank fresh K =
+    record { many = length-set places place (Some new) ∙ K.many; each = each; all = all; once = once; count = count_from (set places place (Some new)) (operations ++ operation ∷ []) each all once }
+  where
+    new : Standing
+    new = kept (suc (length operations)) operation
+
+    apart : (there : Standing) → ◌≡◌ {A = Option (Option Standing)} (Some None) (Some (Some there)) → ⊥
+    apart there is = cc
+
+    old : (other : ℕ) (there : Standing) → slice_get places other ≡ Some (Some there)
+        → there.number ≢ suc (length operations)
+    old other there at same = let was = K.each other there at in let in_list = numbered_in operations there.number was.0 was.1 in omega (arith, same, in_list)
+
+    each : (other : ℕ) (there : Standing) → slice_get (set places place (Some new)) other ≡ Some (Some there)
+        → (o : Operation) × (numbered (operations ++ operation ∷ []) there.number ≡ Some o) × (o.synced ≡ false)
+        × (there ≡ kept there.number o)
+    each other there at = elim (get_set places place (Some new) other (Some there) at) [
+      | inl here ↦ (
+          let is : new ≡ there = same_Some _ _ here.1 in
+          (operation, ap (numbered (operations ++ operation ∷ [])) (ap (λ (z : Standing). z.number) (sym is)) ∙ slice_get_last operations operation, fresh, sym is ∙ ap (λ n. kept n operation) (ap (λ (z : Standing). z.number) is)))
+      | inr apart_from ↦ (let was = K.each other there apart_from.1 in (was.0, numbered_kept operations operation there.number was.0 was.1, was.2, was.3))
+    ]
+
+    all : (number : ℕ) (o : Operation) → numbered (operations ++ operation ∷ []) number ≡ Some o → o.synced ≡ false
+        → (other : ℕ) × (slice_get (set places place (Some new)) other ≡ Some (Some (kept number o)))
+    all number o at stands = elim (numbered_push operations operation number o at) [
+      | inl was ↦ (let it = K.all number o was stands in (it.0, get-set_other places place (Some new) it.0 (λ same. apart (kept number o) (sym blank ∙ (ap (slice_get places) (sym same) ∙ it.1))) ∙ it.1))
+      | inr it ↦ (place, get-set_same places place (Some new) (slice_get_within places place None blank) ∙ ap (λ (y : Standing). Some (Some y)) (ap (λ n. kept n operation) (sym it.0) ∙ ap (kept number) it.1))
+    ]
+
+    once : (one other : ℕ) (first second : Standing) → slice_get (set places place (Some new)) one ≡ Some (Some first)
+        → slice_get (set places place (Some new)) other ≡ Some (Some second) → first.number ≡ second.number
+        → one ≡ other
+    once one other first second at there same = elim (get_set places place (Some new) one (Some first) at) [
+      | inl here ↦ elim (get_set places place (Some new) other (Some second) there) [
+        | inl too ↦ here.0 ∙ sym too.0
+        | inr isnt ↦ absurd (old other second isnt.1 (sym same ∙ ap (λ (z : Standing). z.number) (sym (same_Some new first here.1))))
+      ]
+      | inr isnt ↦ elim (get_set places place (Some new) other (Some second) there) [
+        | inl too ↦ absurd (old one first isnt.1 (same ∙ ap (λ (z : Standing). z.number) (sym (same_Some new second too.1))))
+        | inr neither ↦ K.once one other first second isnt.1 neither.1 same
+      ]
+    ]
+
+-- whether an operation may begin
+pub full_by_places : (operations : List Operation) → standing operations ≡ 256 → is_full operations ≡ true
+full_by_places operations many = rw many refl
+
+pub full_by_numbers : (operations : List Operation) → length operations ≡ 18446744073709551615
+    → is_full operations ≡ true
+full_by_numbers operations many = elim (cases_Bool (nat_le 256 (standing operations))) [
+  | inl is ↦ rw is refl
+  | inr isnt ↦ rw (isnt, many) refl
+]
+
+pub not_full : (operations : List Operation) → standing operations < 256 → length operations < 18446744073709551615
+    → is_full operations ≡ false
+not_full operations room left = rw (lt-leb 256 (standing operations) room, lt-leb 18446744073709551615 (length operations) left) refl
+
+-- ---- the table
+
+pub stands_none : (places : List (Option Standing)) → places ≡ replicate 256 None
+    → Stands (record { given = 0; table = places }) []
+stands_none places is = record {
+  keeps = rw is (record {
+    many = refl;
+    each = λ place there at. absurd (blank place there at);
+    all = λ number operation at. absurd (numbered_nil number operation at);
+    once = λ place other first second at. absurd (blank place first at);
+    count = refl;
+  });
+  given = refl;
+  settled = λ number operation at. absurd (numbered_nil number operation at);
+}
+  where
+    blank : (place : ℕ) (there : Standing) → slice_get (replicate 256 None) place ≡ Some (Some there) → ⊥
+    blank place there at = let is_none : Some there ≡ None = replicate-is 256 place None (Some there) at in cc
+
+pub stands_begun : (table : Transfers) (operations : List Operation) (place : ℕ) (thread : ℕ) (transfer : Transfer)
+    (mode : Mode)
+    → Stands table operations → slice_get table.table place ≡ Some None
+    → length operations < 18446744073709551615
+    → Stands (record { given = table.given + 1; table = set table.table place (Some (kept (table.given + 1) (fresh thread transfer mode (table.given + 1)))) }) (after_begin thread transfer mode operations)
+stands_begun table operations place thread transfer mode S blank left =
+    let less = taken_less table.table place blank in
+    let count = S.keeps.count in
+    let many = S.keeps.many in
+    let number : suc (length operations) ≡ table.given + 1 = omega (arith, S.given) in
+    let new = fresh thread transfer mode (suc (length operations)) in
+    rw (not_full operations (omega (arith, less, count, many)) left) (record {
+      keeps = subst (λ n. Keeps (set table.table place (Some (kept n (fresh thread transfer mode n)))) (operations ++ new ∷ [])) number
+          (keeps_begun table.table operations place new blank refl S.keeps);
+      given = omega (arith, number, length-append operations (new ∷ []));
+      settled = λ n operation at synced. elim (numbered_push operations new n operation at) [
+        | inl was ↦ S.settled n operation was synced
+        | inr it ↦ absurd (true≢false (sym synced ∙ ap (λ (z : Operation). z.synced) (sym it.1)))
+      ];
+    })

@@ -1,0 +1,12 @@
+pub mod Places
+pub mod Tests
+pub mod Counts
+pub mod Began
+pub mod Changed
+pub mod Members
+pub mod Marks
+pub mod Worn
+pub mod Lists
+pub mod Oldest
+pub mod Gone
+pub mod Whole

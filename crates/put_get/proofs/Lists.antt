@@ -1,0 +1,95 @@
+-- Syncs of lists of handles.
+use Rattle.std.proofs.Common.{◌≡◌, inl, inr, ℕ, zero, suc, ◌+◌, ◌==◌, Bool, true, false, true≢false, not, ◌&&◌, ◌||◌, if◌then◌else◌, List, [], ◌∷◌, Option, None, Some, take, drop, length, get_or, ◌<◌, refl, sym, ap, ap₂, ◌∙◌, arith}
+use Rattle.std.specs.List.{slice_get, list_any}
+use Rattle.std.proofs.lemmas.Bool.{cases_Bool, and_parts}
+use Rattle.std.proofs.lemmas.Option.{same_Some}
+use Rattle.put_get.specs.declared.table.Standing.{Standing}
+use Rattle.put_get.specs.declared.operation.Handle.{Handle}
+use Rattle.put_get.specs.Operation.{Operation}
+use Rattle.std.specs.Option.{option_or}
+use Rattle.put_get.specs.declared.operation.Synced.{Synced}
+use Rattle.put_get.specs.declared.operation.Synced.TheVariants as synced
+use Rattle.put_get.specs.declared.transfers.Transfers.{Transfers}
+use Rattle.put_get.specs.Syncs.{Choice, chosen, is_empty, is_other, members, members_of, fault_of, fault_here, left_by}
+use Rattle.put_get.specs.Stands.{kept, Keeps, Stands, Agrees, member_in, member_of_any}
+use Rattle.put_get.proofs.Members.{members_agree}
+
+any_next : {X : Type 0} (test : X → Bool) (xs : List X) (index : ℕ) (x : X) → slice_get xs index ≡ Some x
+    → list_any test (take (suc index) xs) ≡ (list_any test (take index xs) || test x)
+any_next test [] index x at = absurd (cc)
+any_next test (first ∷ xs) zero x at = or_none (test first) ∙ ap test (same_Some first x at)
+  where
+    or_none : (one : Bool) → (one || false) ≡ one
+    or_none true = refl
+    or_none false = refl
+any_next test (first ∷ xs) (suc index) x at = let later = any_next test xs index x at in elim (cases_Bool (test first)) [ inl is ↦ rw is refl | inr isnt ↦ rw isnt later ]
+
+pub any_take : {X : Type 0} (test : X → Bool) (xs : List X) (index : ℕ) (x : X) → slice_get xs index ≡ Some x
+    → list_any test (take (index + 1) xs) ≡ (list_any test (take index xs) || test x)
+any_take test xs index x at = let same : index + 1 ≡ suc index = omega arith in ap (λ n. list_any test (take n xs)) same ∙ any_next test xs index x at
+
+pub or_assoc : (one two three : Bool) → ((one || two) || three) ≡ (one || (two || three))
+or_assoc true two three = refl
+or_assoc false two three = refl
+
+pub any_agrees : (places : List (Option Standing)) (operations : List Operation) (handles : List Handle)
+    → Keeps places operations → Agrees (members_of handles operations) (member_of_any places handles)
+any_agrees places operations handles K = record { chosen = chosen_so handles; open_only = open_so handles }
+  where
+    chosen_so : (hs : List Handle) (number : ℕ) (operation : Operation) → operation.synced ≡ false
+        → members_of hs operations number operation ≡ member_of_any places hs (kept number operation)
+    chosen_so [] number operation stands = refl
+    chosen_so (handle ∷ hs) number operation stands = ap₂ (λ here later. (not (handle.serial == 0) && here) || later) ((members_agree places operations handle.serial K).chosen number operation stands) (chosen_so hs number operation stands)
+
+    open_so : (hs : List Handle) (number : ℕ) (operation : Operation) → members_of hs operations number operation ≡ true
+        → operation.synced ≡ false
+    open_so [] number operation is = absurd (true≢false (sym is))
+    open_so (handle ∷ hs) number operation is = elim (cases_Bool (not (handle.serial == 0) && members handle.serial operations number operation)) [
+      | inl here ↦ (members_agree places operations handle.serial K).open_only number operation (and_parts (not (handle.serial == 0)) (members handle.serial operations number operation) here).1
+      | inr isnt ↦ open_so hs number operation (rw isnt at is)
+    ]
+
+pub or_false : (one : Bool) → (one || false) ≡ one
+or_false true = refl
+or_false false = refl
+
+-- a fault is no Ok
+never_ok : (thread : ℕ) (operations : List Operation) (handles : List Handle)
+    → fault_of thread operations handles ≡ Some synced.Ok → ⊥
+never_ok thread operations [] is = absurd (cc)
+never_ok thread operations (handle ∷ later) is = elim (cases_Bool (handle.serial == 0)) [
+  | inl invalid ↦ never_ok thread operations later (rw invalid at is)
+  | inr valid ↦ here (chosen (members handle.serial operations) 1 operations) (never_ok thread operations later) (rw valid at is)
+]
+  where
+    bad : synced.BadHandle ≡ synced.Ok → ⊥
+    bad same = cc
+
+    worse : synced.NotYours ≡ synced.Ok → ⊥
+    worse same = cc
+
+    here : (ms : List Operation) → (fault_of thread operations later ≡ Some synced.Ok → ⊥)
+        → option_or (fault_here thread ms) (fault_of thread operations later) ≡ Some synced.Ok → ⊥
+    here ms rest is = elim (cases_Bool (is_empty ms)) [
+      | inl none ↦ bad (same_Some synced.BadHandle synced.Ok (rw none at is))
+      | inr some ↦ elim (cases_Bool (list_any (is_other thread) ms)) [
+        | inl other ↦ worse (same_Some synced.NotYours synced.Ok (rw (some, other) at is))
+        | inr own ↦ rest (rw (some, own) at is)
+      ]
+    ]
+
+pub fault_stays : (table : Transfers) (operations : List Operation) (thread : ℕ) (handles : List Handle)
+    (choice : Choice) (fault : Synced)
+    → fault_of thread operations handles ≡ Some fault → Stands table operations
+    → Stands table (left_by fault choice operations)
+fault_stays table operations thread handles choice synced.Ok is S = absurd (never_ok thread operations handles is)
+fault_stays table operations thread handles choice synced.NotReady is S = S
+fault_stays table operations thread handles choice synced.NotYours is S = S
+fault_stays table operations thread handles choice synced.BadHandle is S = S
+fault_stays table operations thread handles choice (synced.WornOut node) is S = S
+
+pub at_get : {X : Type 0} (xs : List X) (index : ℕ) (default : X) → index < length xs
+    → slice_get xs index ≡ Some (get_or xs index default)
+at_get [] index default less = absurd (omega (arith, less))
+at_get (first ∷ xs) zero default less = refl
+at_get (first ∷ xs) (suc index) default less = at_get xs index default (omega (arith, less))

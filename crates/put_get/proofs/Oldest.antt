@@ -1,0 +1,149 @@
+-- The least number among the records that are ready is that of the oldest operation.
+use Rattle.std.proofs.Common.{◌≡◌, ◌⊎◌, inl, inr, ℕ, zero, suc, ◌+◌, ◌<◌, ◌≤◌, Bool, true, false, true≢false, not, ◌&&◌, if◌then◌else◌, List, [], ◌∷◌, Option, None, Some, length, refl, sym, ap, ap₂, ◌∙◌, arith, nat_lt, IfSome, lt-ltb, le-ltb}
+use Rattle.std.specs.List.{slice_get, list_all}
+use Rattle.std.proofs.lemmas.Bool.{cases_Bool, cases_eq, cases_lt, and_parts, not-true}
+use Rattle.std.proofs.lemmas.Option.{same_Some, slice_get_within}
+use Rattle.lists.specs.Numbered.{numbered}
+use Rattle.put_get.specs.declared.operation.Next.{Next}
+use Rattle.put_get.specs.declared.transfers.Transfers.{Transfers}
+use Rattle.put_get.specs.declared.table.Standing.{Standing}
+use Rattle.put_get.specs.Operation.{Operation, Sent, target, has_next, next_chunk, chunk_of}
+use Rattle.put_get.specs.Stands.{kept, Keeps, Stands, is_ready, is_unissued, IsLeast, better, older, next_of, CanNote}
+use Rattle.put_get.proofs.Counts.{number_at}
+
+none_is : (can : ℕ → Bool) (number : ℕ) (operations : List Operation)
+    → ((place : ℕ) (operation : Operation) → slice_get operations place ≡ Some operation → (has_next operation && can (target operation.transfer)) ≡ false)
+    → next_chunk can number operations ≡ None
+none_is can number [] none = refl
+none_is can number (operation ∷ operations) none = rw (none 0 operation refl) (none_is can (suc number) operations (λ place later at. none (suc place) later at))
+
+first_is : (can : ℕ → Bool) (number : ℕ) (operations : List Operation) (place : ℕ) (operation : Operation)
+    → slice_get operations place ≡ Some operation → (has_next operation && can (target operation.transfer)) ≡ true
+    → ((before : ℕ) (earlier : Operation) → before < place → slice_get operations before ≡ Some earlier → (has_next earlier && can (target earlier.transfer)) ≡ false)
+    → next_chunk can number operations ≡ Some (chunk_of (number + place) operation)
+first_is can number [] place operation at is none = absurd (cc)
+first_is can number (first ∷ operations) zero operation at is none =
+    let same : first ≡ operation = same_Some first operation at in
+    rw (ap (λ (y : Operation). has_next y && can (target y.transfer)) same ∙ is) (ap Some (ap₂ chunk_of (omega arith) same))
+first_is can number (first ∷ operations) (suc place) operation at is none =
+    rw (none 0 first (omega arith) refl)
+    (first_is can (suc number) operations place operation at is (λ before earlier less was. none (suc before) earlier (omega (arith, less)) was) ∙ ap (λ n. Some (chunk_of n operation)) (omega arith))
+
+-- an operation that is ready stands
+stands_ready : (can : ℕ → Bool) (table : Transfers) (operations : List Operation) (place : ℕ) (operation : Operation)
+    → Stands table operations → slice_get operations place ≡ Some operation
+    → (has_next operation && can (target operation.transfer)) ≡ true
+    → (at : ℕ) × (slice_get table.table at ≡ Some (Some (kept (suc place) operation)))
+stands_ready can table operations place operation S at is = elim (cases_Bool operation.synced) [
+  | inl synced ↦ absurd (true≢false (sym (and_parts (has_next operation) (can (target operation.transfer)) is).0 ∙ not-true (has_next operation) (and_parts (not (has_next operation)) (list_all (λ (sent : Sent). sent.back) operation.sent) (S.settled (suc place) operation at synced)).0))
+  | inr stands ↦ S.keeps.all (suc place) operation at stands
+]
+
+abbrev pub answer : Option Standing → Option Next
+answer None = None
+answer (Some best) = Some (next_of best)
+
+pub oldest_is : (can : ℕ → Bool) (table : Transfers) (operations : List Operation) (best : Option Standing)
+    → Stands table operations → IsLeast can table.table 256 best → answer best ≡ next_chunk can 1 operations
+oldest_is can table operations None S least = sym (none_is can 1 operations (λ place operation at. elim (cases_Bool (has_next operation && can (target operation.transfer))) [
+  | inl is ↦ (
+      let found = stands_ready can table operations place operation S at is in
+      absurd (true≢false (sym is ∙ least found.0 (kept (suc place) operation) (let within = slice_get_within table.table found.0 (Some (kept (suc place) operation)) found.1 in let many = S.keeps.many in omega (arith, within, many)) found.1)))
+  | inr isnt ↦ isnt
+]))
+oldest_is can table operations (Some best) S least =
+    let o = S.keeps.each least.0.0 best least.0.1 in
+    let a = number_at operations best.number o.0 o.1 in
+    let ready : (has_next o.0 && can (target o.0.transfer)) ≡ true = ap (is_ready can) (sym o.3) ∙ least.0.2 in
+    sym (first_is can 1 operations a.0 o.0 a.2 ready (λ before earlier less at. elim (cases_Bool (has_next earlier && can (target earlier.transfer))) [
+      | inl is ↦ (
+          let found = stands_ready can table operations before earlier S at is in
+          let within = slice_get_within table.table found.0 (Some (kept (suc before) earlier)) found.1 in
+          let many = S.keeps.many in
+          let smallest = least.1 found.0 (kept (suc before) earlier) (omega (arith, within, many)) found.1 is in
+          let number = a.1 in
+          absurd (omega (arith, smallest, number, less)))
+      | inr isnt ↦ isnt
+    ]) ∙ ap Some (ap (λ n. chunk_of n o.0) (sym a.1) ∙ ap next_of (sym o.3)))
+
+pub least_none : (can : ℕ → Bool) (places : List (Option Standing)) → IsLeast can places 0 None
+least_none can places place there less at = absurd (omega arith)
+
+before_blank : (places : List (Option Standing)) (end place : ℕ) (there : Standing) → slice_get places end ≡ Some None
+    → place < end + 1 → slice_get places place ≡ Some (Some there) → place < end
+before_blank places end place there blank less at = elim (cases_eq place end) [ inl same ↦ absurd (none there (sym blank ∙ (ap (slice_get places) (sym same) ∙ at))) | inr apart ↦ omega (arith, apart, less) ]
+  where
+    none : (other : Standing) → ◌≡◌ {A = Option (Option Standing)} (Some None) (Some (Some other)) → ⊥
+    none other is = cc
+
+-- what stands at the end, or what stood before
+at_or_before : (places : List (Option Standing)) (end place : ℕ) (last there : Standing)
+    → slice_get places end ≡ Some (Some last) → place < end + 1 → slice_get places place ≡ Some (Some there)
+    → (last ≡ there) ⊎ (place < end)
+at_or_before places end place last there at_end less at = elim (cases_eq place end) [
+  | inl same ↦ inl (same_Some last there (same_Some (Some last) (Some there) (sym at_end ∙ (ap (slice_get places) (sym same) ∙ at))))
+  | inr apart ↦ inr (omega (arith, apart, less))
+]
+
+ready_more : (can : ℕ → Bool) (places : List (Option Standing)) (end : ℕ) (last : Standing) (best : Option Standing)
+    → slice_get places end ≡ Some (Some last) → is_ready can last ≡ true
+    → IsLeast can places end best → IsLeast can places (end + 1) (Some (older last best))
+ready_more can places end last None at_end ready least = (
+  (end, at_end, ready),
+  λ place there less at is. elim (at_or_before places end place last there at_end less at) [
+    | inl same ↦ omega (arith, ap (λ (z : Standing). z.number) same)
+    | inr before ↦ absurd (true≢false (sym is ∙ least place there before at))
+  ],
+)
+ready_more can places end last (Some best) at_end ready least = elim (cases_lt last.number best.number) [
+  | inl smaller ↦ rw (lt-ltb last.number best.number smaller) (
+    (end, at_end, ready),
+    λ place there less at is. elim (at_or_before places end place last there at_end less at) [
+      | inl same ↦ omega (arith, ap (λ (z : Standing). z.number) same)
+      | inr before ↦ (let known = least.1 place there before at is in omega (arith, known, smaller))
+    ],
+  )
+  | inr greater ↦ rw (le-ltb last.number best.number greater) (
+    least.0,
+    λ place there less at is. elim (at_or_before places end place last there at_end less at) [
+      | inl same ↦ omega (arith, ap (λ (z : Standing). z.number) same, greater)
+      | inr before ↦ least.1 place there before at is
+    ],
+  )
+]
+
+idle_more : (can : ℕ → Bool) (places : List (Option Standing)) (end : ℕ) (last : Standing) (best : Option Standing)
+    → slice_get places end ≡ Some (Some last) → is_ready can last ≡ false
+    → IsLeast can places end best → IsLeast can places (end + 1) best
+idle_more can places end last None at_end idle least = λ place there less at. elim (at_or_before places end place last there at_end less at) [
+  | inl same ↦ ap (is_ready can) (sym same) ∙ idle
+  | inr before ↦ least place there before at
+]
+idle_more can places end last (Some best) at_end idle least = (
+  least.0,
+  λ place there less at is. elim (at_or_before places end place last there at_end less at) [
+    | inl same ↦ absurd (true≢false (sym is ∙ (ap (is_ready can) (sym same) ∙ idle)))
+    | inr before ↦ least.1 place there before at is
+  ],
+)
+
+-- one more place
+pub least_more : (can : ℕ → Bool) (places : List (Option Standing)) (end : ℕ) (there : Option Standing)
+    (best : Option Standing)
+    → slice_get places end ≡ Some there → IsLeast can places end best
+    → IsLeast can places (end + 1) (better can there best)
+least_more can places end None None at_end least = λ place there less at. least place there (before_blank places end place there at_end less at) at
+least_more can places end None (Some best) at_end least = (least.0, λ place there less at. least.1 place there (before_blank places end place there at_end less at) at)
+least_more can places end (Some last) best at_end least = elim (cases_Bool (is_ready can last)) [
+  | inl ready ↦ rw ready (ready_more can places end last best at_end ready least)
+  | inr idle ↦ rw idle (idle_more can places end last best at_end idle least)
+]
+
+-- what was found is unissued, and stands
+pub unissued_of : (can : ℕ → Bool) (places : List (Option Standing)) (end : ℕ) (best : Standing)
+    → IsLeast can places end (Some best) → is_unissued best ≡ true
+unissued_of can places end best least = (and_parts (is_unissued best) (can (target best.transfer)) least.0.2).0
+
+pub note_of : (can : ℕ → Bool) (table : Transfers) (end : ℕ) (best : Standing) → IsLeast can table.table end (Some best)
+    → CanNote table best.number
+note_of can table end best least = (least.0.0, (best, least.0.1, refl, unissued_of can table.table end best least))

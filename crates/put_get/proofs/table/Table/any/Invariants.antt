@@ -1,0 +1,8 @@
+use Rattle.std.proofs.Common.{◌≡◌, ◌<◌, ℕ, false, Option, Some}
+use Rattle.std.specs.List.{slice_get}
+use Rattle.put_get.specs.declared.table.Standing.{Standing}
+use Rattle.put_get.specs.Stands.{on_place, picked}
+use Rattle.put_get.proofs.table.Table.any.Given as goal
+
+abbrev pub invariant-loop-place : goal.invariant-loop-place
+invariant-loop-place l = (place : ℕ) (there : Option Standing) → place < l.place → slice_get l.self place ≡ Some there → on_place (picked l.pick) there ≡ false

@@ -1,0 +1,16 @@
+use Rattle.std.proofs.Common.{◌||◌, refl, sym, ap, ◌∙◌, true, false}
+use Rattle.put_get.specs.declared.table.Standing.{Standing}
+use Rattle.put_get.specs.declared.table.Pick.TheVariants as pick
+use Rattle.put_get.specs.Stands.{also, picked, member_in}
+use Rattle.put_get.proofs.Marks.{marks_by}
+use Rattle.put_get.proofs.transfers.Transfers.mark_members.Goals as goal
+
+pub returns-then-any : goal.returns-then-any
+returns-then-any c test M =
+    marks_by (also test (picked (pick.Region c.args.handle))) (also test (member_in c.args.self.now.table c.args.handle)) c.args.self.now.table c.mark.new.marks
+    (λ there. rw (sym c.any.ensures ∙ c.if-any.true) refl) (c.mark.ensures test M)
+
+pub returns-else-any : goal.returns-else-any
+returns-else-any c test M =
+    marks_by (also test (picked (pick.Number c.args.handle))) (also test (member_in c.args.self.now.table c.args.handle)) c.args.self.now.table c.mark-else-any.new.marks
+    (λ there. rw (sym c.any.ensures ∙ c.if-any.false) refl) (c.mark-else-any.ensures test M)

@@ -1,0 +1,4 @@
+pub mod Operation
+pub mod Syncs
+pub mod Table
+pub mod Stands

@@ -1,0 +1,136 @@
+-- The operations of a node, by chunks. An operation's number is its place in the list of all that ever began, counted from 1.
+use Rattle.std.specs.Prelude.{ℕ, suc, ◌+◌, ◌-◌, ◌*◌, ◌/◌, ◌==◌, nat_le, nat_lt, Bool, true, false, not, ◌&&◌, ◌||◌, if◌then◌else◌, min}
+use Rattle.std.specs.Prelude.{List, [], ◌∷◌, ◌++◌, Option, None, Some, Result, Ok, Err, length, slice_get, ◌≡◌}
+use Rattle.std.specs.List.{list_all}
+use Rattle.lists.specs.Numbered.{numbered, change}
+use Rattle.lists.specs.Update.{update}
+use Rattle.put_get.specs.declared.operation.Transfer.{Transfer}
+use Rattle.put_get.specs.declared.operation.Transfer.TheVariants as transfers
+use Rattle.put_get.specs.declared.operation.Mode.{Mode}
+use Rattle.put_get.specs.declared.operation.Mode.TheVariants.{Explicit, Implicit, InRegion}
+use Rattle.put_get.specs.declared.operation.Handle.{Handle}
+use Rattle.put_get.specs.declared.operation.TooMany.{TooMany}
+use Rattle.put_get.specs.declared.operation.Next.{Next}
+
+-- ---- a transfer
+
+abbrev pub target : Transfer → ℕ
+target (transfers.Put to remote local len) = to
+target (transfers.Get to remote local len) = to
+target (transfers.Memset to remote len byte) = to
+
+abbrev pub size : Transfer → ℕ
+size (transfers.Put to remote local len) = len
+size (transfers.Get to remote local len) = len
+size (transfers.Memset to remote len byte) = len
+
+abbrev pub is_get : Transfer → Bool
+is_get (transfers.Get to remote local len) = true
+is_get _ = false
+
+-- how many chunks of 8,192 bytes there are, the last one shorter
+abbrev pub chunks : (size : ℕ) → ℕ
+chunks size = (size + 8191) / 8192
+
+-- where chunk `index` of a range begins, and how many bytes it has
+abbrev pub chunk_start : (index : ℕ) → ℕ
+chunk_start index = index * 8192
+
+abbrev pub chunk_size : (size index : ℕ) → ℕ
+chunk_size size index = min 8192 (size - chunk_start index)
+
+-- ---- an operation
+
+-- a chunk that was accepted as a request to the operation's target
+pub record Sent : Type 0 where
+  pub slot : ℕ
+  pub number : ℕ
+  pub bytes : List ℕ  -- of a put, what the source held when the chunk was issued
+  pub back : Bool
+
+-- how many of them are back
+abbrev pub returned_of : List Sent → ℕ
+returned_of [] = 0
+returned_of (sent ∷ later) = (if sent.back then 1 else 0) + returned_of later
+
+-- `sent` has the chunks that were issued, in the order of their ranges. Those after them are unissued.
+pub record Operation : Type 0 where
+  pub thread : ℕ
+  pub transfer : Transfer
+  pub mode : Mode
+  pub region : Option ℕ
+  pub sent : List Sent
+  pub synced : Bool
+
+-- some chunk is unissued
+abbrev pub has_next : Operation → Bool
+has_next operation = nat_lt (length operation.sent) (chunks (size operation.transfer))
+
+abbrev pub is_complete : Operation → Bool
+is_complete operation = not (has_next operation) && list_all (λ (sent : Sent). sent.back) operation.sent
+
+-- ---- the beginning
+
+-- the region that an operation of that number is in
+abbrev pub region_of : (number : ℕ) → Mode → Option ℕ
+region_of number Explicit = None
+region_of number Implicit = None
+region_of number (InRegion None) = Some number
+region_of number (InRegion (Some name)) = Some name
+
+-- how many aren't yet synchronised
+abbrev pub standing : List Operation → ℕ
+standing [] = 0
+standing (operation ∷ later) = if operation.synced then standing later else suc (standing later)
+
+-- 256 records stand, or number 2^64 - 1 was given
+abbrev pub is_full : List Operation → Bool
+is_full operations = nat_le 256 (standing operations) || nat_le 18446744073709551615 (length operations)
+
+abbrev pub begin_answer : List Operation → Result Handle TooMany
+begin_answer operations = if is_full operations then Err (record {}) else Ok (record { serial = suc (length operations) })
+
+abbrev pub fresh : (thread : ℕ) → Transfer → Mode → (number : ℕ) → Operation
+fresh thread transfer mode number =
+    record { thread = thread; transfer = transfer; mode = mode; region = region_of number mode; sent = []; synced = false }
+
+abbrev pub after_begin : (thread : ℕ) → Transfer → Mode → List Operation → List Operation
+after_begin thread transfer mode operations =
+    if is_full operations then operations else operations ++ fresh thread transfer mode (suc (length operations)) ∷ []
+
+-- ---- the rule on ticks
+
+-- the first chunk of the operation that is unissued
+abbrev pub chunk_of : (number : ℕ) → Operation → Next
+chunk_of number operation =
+    record { number = number; transfer = operation.transfer; start = chunk_start (length operation.sent); len = chunk_size (size operation.transfer) (length operation.sent) }
+
+-- the next chunk of the oldest operation that has one to a node that can be asked; the first operation here has this number
+abbrev pub next_chunk : (can : ℕ → Bool) → (number : ℕ) → List Operation → Option Next
+next_chunk can number [] = None
+next_chunk can number (operation ∷ later) =
+    if has_next operation && can (target operation.transfer) then Some (chunk_of number operation)
+    else next_chunk can (suc number) later
+
+-- the operation after its next chunk was accepted
+abbrev pub with_sent : (slot request : ℕ) → (bytes : List ℕ) → Operation → Operation
+with_sent slot request bytes operation =
+    record operation { sent = operation.sent ++ record { slot = slot; number = request; bytes = bytes; back = false } ∷ [] }
+
+abbrev pub after_note : (number slot request : ℕ) → (bytes : List ℕ) → List Operation → List Operation
+after_note number slot request bytes operations = change (with_sent slot request bytes) operations number
+
+-- the reply to a chunk comes back: the one at this index of those that were issued
+abbrev pub with_return : (index : ℕ) → Operation → Operation
+with_return index operation = record operation { sent = update operation.sent index (λ (sent : Sent). record sent { back = true }) }
+
+abbrev pub after_return : (number index : ℕ) → List Operation → List Operation
+after_return number index operations = change (with_return index) operations number
+
+-- chunk `index` of the operation of that number was issued, and isn't back
+pub record IsOut (operations : List Operation) (number index : ℕ) : Type 0 where
+  pub operation : Operation
+  pub sent : Sent
+  pub numbered_so : numbered operations number ≡ Some operation
+  pub issued : slice_get operation.sent index ≡ Some sent
+  pub waits : sent.back ≡ false

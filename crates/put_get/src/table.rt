@@ -1,0 +1,271 @@
+//! The records of a node's operations, in 256 places.
+
+ghost use Rattle.std.specs.Prelude.{◌≡◌, ◌<◌, ◌≤◌, ℕ, List, Option, None, Some, length, replicate, slice_get, slice_set, IfOk, IfSome, IfNone, Bool, ◌||◌};
+ghost use Rattle.put_get.specs.Table.{places, IsKeyed};
+ghost use Rattle.put_get.specs.Syncs.{is_kind, flag_at};
+ghost use Rattle.put_get.specs.Stands.{taken, is_unissued, passes, picked, on_place, picks, unless_marked, also, has, AreMarks, has_number, IsPlaceOf, AreDropped};
+ghost use Rattle.std.specs.List.{list_any};
+
+use crate::operation::{Some3, Transfer};
+use slab::Slab;
+use std::alloc::{AllocError, Global};
+use std::marker::Model;
+
+/// The record of an operation that isn't yet synchronised.
+#[derive(Clone, Copy)]
+pub(crate) struct Standing {
+    pub number: u64,
+    pub thread: u16,
+    pub transfer: Transfer,
+    pub implicit: bool,
+    pub region: Option<u64>,
+    pub issued: u64,
+    pub returned: u64,
+}
+
+/// Which records are meant.
+#[derive(Clone, Copy)]
+pub(crate) enum Pick {
+    /// Those of the region of that name.
+    Region(u64),
+    /// The one with that number.
+    Number(u64),
+    /// The thread's implicit ones of that kind.
+    Implicit { thread: u16, which: Some3 },
+}
+
+/// What is asked of a record.
+#[derive(Clone, Copy)]
+pub(crate) enum Check {
+    Any,
+    Others(u16),
+    Unissued,
+    UnissuedTo(u16),
+    Unreturned,
+    Unfinished,
+}
+
+fn is_kind(which: Some3, transfer: Transfer) -> bool
+    ensures { result ≡ is_kind which transfer }
+{
+    match which {
+        Some3::Puts => !transfer.is_get(),
+        Some3::Gets => transfer.is_get(),
+        Some3::All => true,
+    }
+}
+
+impl Standing {
+    /// Whether a chunk of it is unissued.
+    pub fn is_unissued(&self) -> bool
+        ensures { result ≡ is_unissued self.now }
+    {
+        self.issued < self.transfer.chunks()
+    }
+
+    /// Whether it passes.
+    pub fn passes(&self, check: Check) -> bool
+        ensures { result ≡ passes check self.now }
+    {
+        match check {
+            Check::Any => true,
+            Check::Others(thread) => self.thread != thread,
+            Check::Unissued => self.is_unissued(),
+            Check::UnissuedTo(node) => self.is_unissued() && self.transfer.target() == node,
+            Check::Unreturned => self.returned < self.issued,
+            Check::Unfinished => self.is_unissued() || self.returned < self.issued,
+        }
+    }
+
+    /// Whether it is meant.
+    pub fn is_picked(&self, pick: Pick) -> bool
+        ensures { result ≡ picked pick self.now }
+    {
+        match pick {
+            Pick::Region(name) => self.region == Some(name),
+            Pick::Number(number) => self.number == number,
+            Pick::Implicit { thread, which } => {
+                self.implicit && self.thread == thread && is_kind(which, self.transfer)
+            }
+        }
+    }
+}
+
+/// Whether a record that is meant stands there.
+fn is_picked(place: Option<Standing>, pick: Pick) -> bool
+    ensures { result ≡ on_place (picked pick) place }
+{
+    match place {
+        Some(standing) => standing.is_picked(pick),
+        None => false,
+    }
+}
+
+/// Whether a record stands there, is marked, and passes.
+fn picks(place: Option<Standing>, mark: bool, check: Check) -> bool
+    ensures { result ≡ picks mark check place }
+{
+    match place {
+        Some(standing) => mark && standing.passes(check),
+        None => false,
+    }
+}
+
+/// What stays there where what is marked goes.
+fn unless_marked(place: Option<Standing>, mark: bool) -> Option<Standing>
+    ensures { result ≡ unless_marked mark place }
+{
+    if mark { None } else { place }
+}
+
+/// The flag at a place; where there is none it isn't set.
+pub(crate) fn flag_at(flags: &[bool], place: usize) -> bool
+    ensures { result ≡ flag_at flags.now place }
+{
+    match flags.get(place) {
+        Some(flag) => *flag,
+        None => false,
+    }
+}
+
+/// One or the other.
+pub(crate) fn either(mark: bool, other: bool) -> bool
+    ensures { result ≡ mark || other }
+{
+    mark || other
+}
+
+/// Whether the operation with that number stands there, and passes.
+fn has_number(place: Option<Standing>, number: u64, check: Check) -> bool
+    ensures { result ≡ has_number number check place }
+{
+    match place {
+        Some(standing) => standing.number == number && standing.passes(check),
+        None => false,
+    }
+}
+
+/// 256 places, which a slab keeps.
+#[derive(Drop)]
+pub(crate) struct Table {
+    keys: Vec<usize>,
+    records: Slab<Option<Standing>>,
+}
+
+impl Model for Table {
+    ghost use Rattle.std.specs.Prelude.{List, Option, ◌≡◌, length};
+    ghost use Rattle.put_get.specs.Table.{places, IsKeyed};
+    ghost use Rattle.put_get.specs.declared.table.Standing.{Standing};
+
+    ghost Value = { List (Option Standing) };
+
+    ghost view = { λ t. places t.keys.items t.records };
+
+    ghost invariant = { λ t. (length t.keys.items ≡ 256) × IsKeyed t.keys.items t.records };
+}
+
+impl Table {
+    /// All places are blank.
+    pub fn new(alloc: Global) -> Result<Table, AllocError>
+        ensures { IfOk result (λ table. table ≡ replicate 256 None) }
+    {
+        let mut records = Slab::with_capacity(alloc, 256)?;
+        let mut keys = Vec::with_capacity(alloc, 256)?;
+        for _ in 0usize..256 {
+            keys.push(records.insert_reserved(None))?;
+        }
+        Ok(Table { keys, records })
+    }
+
+    /// What stands in a place.
+    pub fn at(&self, place: usize) -> Option<Standing>
+        requires { place < 256 }
+        ensures { slice_get self.now place ≡ Some result }
+    {
+        self.records[self.keys[place]]
+    }
+
+    /// Puts this into a place.
+    pub fn set(&mut self, place: usize, standing: Option<Standing>)
+        requires { place < 256 }
+        ensures { self.new ≡ slice_set self.old place standing }
+    {
+        let key = self.keys[place];
+        self.records[key] = standing;
+    }
+
+    /// The first place that is blank.
+    pub fn first_blank(&self) -> Option<usize>
+        ensures found { IfSome result (λ place. slice_get self.now place ≡ Some None) }
+        ensures full { IfNone result (taken self.now ≡ 256) }
+        ensures many { length self.now ≡ 256 }
+    {
+        let _ = &self.keys;
+        for place in 0usize..256 {
+            if self.at(place).is_none() {
+                return Some(place);
+            }
+        }
+        None
+    }
+
+    /// Whether some record is meant.
+    pub fn any(&self, pick: Pick) -> bool
+        ensures { result ≡ list_any (on_place (picked pick)) self.now }
+    {
+        let _ = &self.keys;
+        for place in 0usize..256 {
+            if is_picked(self.at(place), pick) {
+                return true;
+            }
+        }
+        false
+    }
+
+    /// Marks the places of the records that are meant.
+    pub fn mark(&self, pick: Pick, marks: &mut [bool; 256])
+        ensures { (test : Standing → Bool) → AreMarks test self.now marks.old → AreMarks (also test (picked pick)) self.now marks.new }
+    {
+        for place in 0usize..256 {
+            marks[place] = either(marks[place], is_picked(self.at(place), pick));
+        }
+    }
+
+    /// Whether some record that is marked passes.
+    pub fn has(&self, marks: &[bool; 256], check: Check) -> bool
+        ensures { (test : Standing → Bool) → AreMarks test self.now marks.now → result ≡ has test check self.now }
+    {
+        let _ = &self.keys;
+        for place in 0usize..256 {
+            if picks(self.at(place), flag_at(marks, place), check) {
+                return true;
+            }
+        }
+        false
+    }
+
+    /// The place of the operation with that number, if it passes.
+    pub fn place_of(&self, number: u64, check: Check) -> Option<usize>
+        ensures found { IfSome result (λ place. IsPlaceOf self.now number check place) }
+        ensures none { IfNone result ((place : ℕ) → IsPlaceOf self.now number check place → ⊥) }
+        ensures within { IfSome result (λ place. place < 256) }
+    {
+        let _ = &self.keys;
+        for place in 0usize..256 {
+            if has_number(self.at(place), number, check) {
+                return Some(place);
+            }
+        }
+        None
+    }
+
+    /// The records that are marked go.
+    pub fn drop_marked(&mut self, marks: &[bool; 256])
+        ensures { (test : Standing → Bool) → AreMarks test self.old marks.now → AreDropped test self.old self.new }
+    {
+        let _ = &self.keys;
+        for place in 0usize..256 {
+            self.set(place, unless_marked(self.at(place), flag_at(marks, place)));
+        }
+    }
+}

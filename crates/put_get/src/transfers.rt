@@ -1,0 +1,440 @@
+//! The calls on the operations of a node.
+
+ghost use Rattle.std.specs.Prelude.{◌≡◌, ◌<◌, ◌≤◌, length, ℕ, List, [], Option, None, Some, Bool, true, false, IfOk, IfSome, IfNone};
+ghost use Rattle.put_get.specs.declared.table.Standing.{Standing};
+ghost use Rattle.std.specs.List.{list_any, list_all};
+ghost use Rattle.put_get.specs.declared.operation.Handle.{Handle};
+ghost use Rattle.std.specs.Prelude.{◌==◌};
+ghost use Rattle.put_get.specs.Operation.{Operation, region_of, begin_answer, after_begin, next_chunk, after_note, IsOut, after_return};
+ghost use Rattle.put_get.specs.Syncs.{Choice, is_implicit, chosen, flag_at, members, sync_answer, handle_answer, after_handle, implicit_of, implicit_answer, left_by, issued_answer, fault_here, fault_of, members_of, all_answer, whole_of, some_here, some_answer};
+ghost use Rattle.put_get.specs.Stands.{Stands, Agrees, AreMarks, also, member_in, member_of, member_of_any, is_whole_in, whole_here, whole_in, IsFirstWorn, is_ready, better, IsLeast, CanNote, is_unissued, next_of, older};
+
+use crate::operation::{Handle, Mode, Next, Some3, Synced, TooMany, Transfer};
+use crate::table::{Check, Pick, Standing, Table, either, flag_at};
+use std::alloc::{AllocError, Global};
+
+/// The operations of a node: a record for each one that isn't yet synchronised, at most 256.
+#[derive(Drop)]
+pub struct Transfers {
+    given: u64,
+    table: Table,
+}
+
+/// Of two the one that began first.
+fn older(standing: Standing, best: Option<Standing>) -> Standing
+    ensures { result ≡ older standing best }
+{
+    match best {
+        Some(other) if !(standing.number < other.number) => other,
+        _ => standing,
+    }
+}
+
+/// The best so far, after one more place.
+fn better(place: Option<Standing>, can: &[bool], best: Option<Standing>) -> Option<Standing>
+    ensures { result ≡ better (flag_at can.now) place best }
+{
+    if let Some(standing) = place {
+        if standing.is_unissued() && flag_at(can, standing.transfer.target() as usize) {
+            return Some(older(standing, best));
+        }
+    }
+    best
+}
+
+/// The next chunk of an operation that has one.
+fn next_of(standing: Standing) -> Next
+    requires { is_unissued standing ≡ true }
+    ensures { result ≡ next_of standing }
+{
+    let start = standing.issued * 8192;
+    let len = (standing.transfer.size() - start).min(8192);
+    Next {
+        number: standing.number,
+        transfer: standing.transfer,
+        start,
+        len,
+    }
+}
+
+/// The region that an operation of that number is in.
+fn region_of(number: u64, mode: Mode) -> Option<u64>
+    ensures { result ≡ region_of number mode }
+{
+    match mode {
+        Mode::InRegion(None) => Some(number),
+        Mode::InRegion(Some(name)) => Some(name),
+        _ => None,
+    }
+}
+
+fn is_implicit(mode: Mode) -> bool
+    ensures { result ≡ is_implicit mode }
+{
+    match mode {
+        Mode::Implicit => true,
+        _ => false,
+    }
+}
+
+impl Transfers {
+    /// No operation began. It takes the memory of 256 records, and no later call takes any.
+    pub fn new(alloc: Global) -> Result<Transfers, AllocError>
+        ensures { IfOk result (λ table. Stands table []) }
+    {
+        Ok(Transfers {
+            given: 0,
+            table: Table::new(alloc)?,
+        })
+    }
+
+    /// An operation of another node begins: its handle. `TooMany` exactly where 256 records stand, or number 2^64 - 1 was given.
+    /// Nothing is issued yet. `InRegion(None)` names a new region by the operation's own number. (GASNet 1.8.1 extended API,
+    /// gasnet_put_nb_bulk, gasnet_get_nbi and their like.)
+    pub fn begin(&mut self, thread: u16, transfer: Transfer, mode: Mode) -> Result<Handle, TooMany>
+        ensures answer { (operations : List Operation) → Stands self.old operations → result ≡ begin_answer operations }
+        ensures stands { (operations : List Operation) → Stands self.old operations
+            → Stands self.new (after_begin thread transfer mode operations) }
+    {
+        let Some(place) = self.table.first_blank() else {
+            return Err(TooMany);
+        };
+        let Some(number) = self.given.checked_add(1) else {
+            return Err(TooMany);
+        };
+        self.given = number;
+        self.table.set(
+            place,
+            Some(Standing {
+                number,
+                thread,
+                transfer,
+                implicit: is_implicit(mode),
+                region: region_of(number, mode),
+                issued: 0,
+                returned: 0,
+            }),
+        );
+        Ok(Handle { serial: number })
+    }
+
+    /// The next chunk of the oldest operation that has an unissued chunk to a node that can be asked; `can` has a flag for each
+    /// node. Chunks of one operation come in the order of their ranges.
+    pub fn next(&self, can: &[bool]) -> Option<Next>
+        ensures next { (operations : List Operation) → Stands self.now operations
+            → result ≡ next_chunk (flag_at can.now) 1 operations }
+        ensures can_note { IfSome result (λ next. CanNote self.now next.number) }
+    {
+        let mut best = None;
+        for place in 0usize..256 {
+            best = better(self.table.at(place), can, best);
+        }
+        match best {
+            Some(standing) => Some(next_of(standing)),
+            None => None,
+        }
+    }
+
+    /// The next chunk of an operation was accepted as this request to its target.
+    pub fn note(&mut self, number: u64, slot: u16, request: u64)
+        requires { CanNote self.old number }
+        ensures { (operations : List Operation) (bytes : List ℕ) → Stands self.old operations
+            → Stands self.new (after_note number slot request bytes operations) }
+    {
+        let Some(place) = self.table.place_of(number, Check::Unissued) else {
+            return;
+        };
+        let Some(mut standing) = self.table.at(place) else {
+            return;
+        };
+        standing.issued += 1;
+        self.table.set(place, Some(standing));
+    }
+
+    /// A chunk of that operation is back: its request was answered. Nothing changes where no chunk of it is out.
+    pub fn returned(&mut self, number: u64)
+        ensures { (operations : List Operation) (index : ℕ) → Stands self.old operations → IsOut operations number index
+            → Stands self.new (after_return number index operations) }
+    {
+        let Some(place) = self.table.place_of(number, Check::Unreturned) else {
+            return;
+        };
+        let Some(mut standing) = self.table.at(place) else {
+            return;
+        };
+        standing.returned += 1;
+        self.table.set(place, Some(standing));
+    }
+}
+
+impl Transfers {
+    /// Marks the members of a handle other than the invalid one.
+    fn mark_members(&self, handle: u64, marks: &mut [bool; 256])
+        ensures { (test : Standing → Bool) → AreMarks test self.now.table marks.old
+            → AreMarks (also test (member_in self.now.table handle)) self.now.table marks.new }
+    {
+        if self.table.any(Pick::Region(handle)) {
+            self.table.mark(Pick::Region(handle), marks);
+        } else {
+            self.table.mark(Pick::Number(handle), marks);
+        }
+    }
+
+    /// Whether each chunk of a handle's operations was issued. `Some(true)` for the invalid handle, and `None` where no
+    /// operation and no region has the number. It doesn't ask whose the handle is.
+    pub fn issued(&self, handle: Handle) -> Option<bool>
+        ensures { (operations : List Operation) → Stands self.now operations → result ≡ issued_answer handle.serial operations }
+    {
+        if handle.serial == 0 {
+            return Some(true);
+        }
+        let mut marks = [false; 256];
+        self.mark_members(handle.serial, &mut marks);
+        if !self.table.has(&marks, Check::Any) {
+            return None;
+        }
+        Some(!self.table.has(&marks, Check::Unissued))
+    }
+
+    /// The smallest node that is worn out and has an unissued chunk of what is marked.
+    fn first_worn(&self, worn: &[bool], marks: &[bool; 256]) -> Option<u16>
+        requires { length worn.now ≤ 65536 }
+        ensures { (test : Standing → Bool) → AreMarks test self.now.table marks.now
+            → IsFirstWorn (flag_at worn.now) test self.now.table result }
+    {
+        for node in 0..worn.len() {
+            if flag_at(worn, node) && self.table.has(marks, Check::UnissuedTo(node as u16)) {
+                return Some(node as u16);
+            }
+        }
+        None
+    }
+
+    /// Where what is marked is complete it goes.
+    fn sync_marked(&mut self, worn: &[bool], marks: &[bool; 256]) -> Synced
+        requires { length worn.now ≤ 65536 }
+        ensures answer { (operations : List Operation) (choice : Choice) (test : Standing → Bool) → Stands self.old operations
+            → AreMarks test self.old.table marks.now → Agrees choice test
+            → result ≡ sync_answer (flag_at worn.now) (chosen choice 1 operations) }
+        ensures stands { (operations : List Operation) (choice : Choice) (test : Standing → Bool) → Stands self.old operations
+            → AreMarks test self.old.table marks.now → Agrees choice test
+            → Stands self.new (left_by result choice operations) }
+    {
+        if !self.table.has(marks, Check::Unfinished) {
+            self.table.drop_marked(marks);
+            return Synced::Ok;
+        }
+        match self.first_worn(worn, marks) {
+            Some(node) => Synced::WornOut(node),
+            None => Synced::NotReady,
+        }
+    }
+
+    /// A sync of a handle that doesn't wait; `worn` has a flag for each node whose numbers are worn out. The first of these that
+    /// applies: `Ok` for the invalid handle; `BadHandle` where no operation and no region that stands has the number; `NotYours`
+    /// where it belongs to another thread; `Ok` where the operation is complete, or all those of the region are, and their
+    /// records go; `WornOut` with the smallest worn-out node to which a chunk is unissued; else `NotReady`. (GASNet 1.8.1
+    /// extended API, gasnet_try_syncnb.)
+    pub fn try_sync(&mut self, worn: &[bool], thread: u16, handle: Handle) -> Synced
+        requires { length worn.now ≤ 65536 }
+        ensures answer { (operations : List Operation) → Stands self.old operations
+            → result ≡ handle_answer (flag_at worn.now) thread handle.serial operations }
+        ensures stands { (operations : List Operation) → Stands self.old operations
+            → Stands self.new (after_handle result handle.serial operations) }
+    {
+        if handle.serial == 0 {
+            return Synced::Ok;
+        }
+        let mut marks = [false; 256];
+        self.mark_members(handle.serial, &mut marks);
+        if !self.table.has(&marks, Check::Any) {
+            return Synced::BadHandle;
+        }
+        if self.table.has(&marks, Check::Others(thread)) {
+            return Synced::NotYours;
+        }
+        self.sync_marked(worn, &marks)
+    }
+
+    /// A sync of the thread's implicit operations outside regions that doesn't wait: `Ok`, `WornOut` or `NotReady`, as with
+    /// `try_sync`. (GASNet 1.8.1 extended API, gasnet_try_syncnbi_all and its like.)
+    pub fn try_sync_implicit(&mut self, worn: &[bool], thread: u16, which: Some3) -> Synced
+        requires { length worn.now ≤ 65536 }
+        ensures answer { (operations : List Operation) → Stands self.old operations
+            → result ≡ implicit_answer (flag_at worn.now) thread which operations }
+        ensures stands { (operations : List Operation) → Stands self.old operations
+            → Stands self.new (left_by result (implicit_of thread which) operations) }
+    {
+        let mut marks = [false; 256];
+        self.table
+            .mark(Pick::Implicit { thread, which }, &mut marks);
+        self.sync_marked(worn, &marks)
+    }
+}
+
+impl Transfers {
+    /// What is wrong with a handle, if anything is: no operation and no region has it, or another thread's has.
+    fn fault(&self, thread: u16, handle: u64) -> Option<Synced>
+        ensures { (operations : List Operation) → Stands self.now operations
+            → result ≡ fault_here thread (chosen (members handle operations) 1 operations) }
+    {
+        let mut marks = [false; 256];
+        self.mark_members(handle, &mut marks);
+        if !self.table.has(&marks, Check::Any) {
+            return Some(Synced::BadHandle);
+        }
+        if self.table.has(&marks, Check::Others(thread)) {
+            return Some(Synced::NotYours);
+        }
+        None
+    }
+
+    /// The first fault of these handles.
+    fn first_fault(&self, thread: u16, handles: &[Handle]) -> Option<Synced>
+        ensures { (operations : List Operation) → Stands self.now operations → result ≡ fault_of thread operations handles.now }
+    {
+        for handle in handles {
+            if handle.serial != 0 {
+                let fault = self.fault(thread, handle.serial);
+                if fault.is_some() {
+                    return fault;
+                }
+            }
+        }
+        None
+    }
+
+    /// Marks the members of a handle; the invalid one has none.
+    fn mark_handle(&self, handle: Handle, marks: &mut [bool; 256])
+        ensures { (test : Standing → Bool) → AreMarks test self.now.table marks.old
+            → AreMarks (also test (member_of self.now.table handle)) self.now.table marks.new }
+    {
+        if handle.serial != 0 {
+            self.mark_members(handle.serial, marks);
+        }
+    }
+
+    /// Marks the members of these handles.
+    fn mark_all(&self, handles: &[Handle], marks: &mut [bool; 256])
+        ensures { (test : Standing → Bool) → AreMarks test self.now.table marks.old
+            → AreMarks (also test (member_of_any self.now.table handles.now)) self.now.table marks.new }
+    {
+        for handle in handles {
+            self.mark_handle(*handle, marks);
+        }
+    }
+
+    /// A sync of all of these handles that doesn't wait. The first of them that is `BadHandle` or `NotYours` decides; then it is
+    /// `Ok` where all are complete or invalid, and their records go; then `WornOut`, then `NotReady`, over all of them. Nothing
+    /// changes unless it is `Ok` (profile). (GASNet 1.8.1 extended API, gasnet_try_syncnb_all.)
+    pub fn try_sync_all(&mut self, worn: &[bool], thread: u16, handles: &[Handle]) -> Synced
+        requires { length worn.now ≤ 65536 }
+        ensures answer { (operations : List Operation) → Stands self.old operations
+            → result ≡ all_answer (flag_at worn.now) thread handles.now operations }
+        ensures stands { (operations : List Operation) → Stands self.old operations
+            → Stands self.new (left_by result (members_of handles.now operations) operations) }
+    {
+        match self.first_fault(thread, handles) {
+            Some(fault) => fault,
+            None => {
+                let mut marks = [false; 256];
+                self.mark_all(handles, &mut marks);
+                self.sync_marked(worn, &marks)
+            }
+        }
+    }
+}
+
+/// Whether all of these handles are invalid.
+fn all_invalid(handles: &[Handle]) -> bool
+    ensures { result ≡ list_all (λ (handle : Handle). handle.serial == 0) handles.now }
+{
+    for handle in handles {
+        if handle.serial != 0 {
+            return false;
+        }
+    }
+    true
+}
+
+impl Transfers {
+    /// Whether all operations of a handle are complete; the invalid one has none.
+    fn is_whole(&self, handle: Handle) -> bool
+        ensures { result ≡ is_whole_in self.now.table handle }
+    {
+        if handle.serial == 0 {
+            return false;
+        }
+        let mut marks = [false; 256];
+        self.mark_members(handle.serial, &mut marks);
+        !self.table.has(&marks, Check::Unfinished)
+    }
+
+    /// Whether one of these handles is complete.
+    fn any_whole(&self, handles: &[Handle]) -> bool
+        ensures { result ≡ list_any (is_whole_in self.now.table) handles.now }
+    {
+        for handle in handles {
+            if self.is_whole(*handle) {
+                return true;
+            }
+        }
+        false
+    }
+
+    /// Marks the members of a handle that is complete.
+    fn mark_if_whole(&self, handle: Handle, marks: &mut [bool; 256])
+        ensures { (test : Standing → Bool) → AreMarks test self.now.table marks.old
+            → AreMarks (also test (whole_here self.now.table handle)) self.now.table marks.new }
+    {
+        if self.is_whole(handle) {
+            self.mark_members(handle.serial, marks);
+        }
+    }
+
+    /// Marks the members of those of these handles that are complete.
+    fn mark_whole(&self, handles: &[Handle], marks: &mut [bool; 256])
+        ensures { (test : Standing → Bool) → AreMarks test self.now.table marks.old
+            → AreMarks (also test (whole_in self.now.table handles.now)) self.now.table marks.new }
+    {
+        for handle in handles {
+            self.mark_if_whole(*handle, marks);
+        }
+    }
+
+    /// A sync of those of these handles that are complete, where none has a fault.
+    fn sync_some(&mut self, worn: &[bool], handles: &[Handle]) -> Synced
+        requires { length worn.now ≤ 65536 }
+        ensures answer { (operations : List Operation) → Stands self.old operations
+            → result ≡ some_here (flag_at worn.now) handles.now operations }
+        ensures stands { (operations : List Operation) → Stands self.old operations
+            → Stands self.new (left_by result (whole_of handles.now operations) operations) }
+    {
+        let mut marks = [false; 256];
+        if either(all_invalid(handles), self.any_whole(handles)) {
+            self.mark_whole(handles, &mut marks);
+            self.table.drop_marked(&marks);
+            return Synced::Ok;
+        }
+        self.mark_all(handles, &mut marks);
+        match self.first_worn(worn, &marks) {
+            Some(node) => Synced::WornOut(node),
+            None => Synced::NotReady,
+        }
+    }
+
+    /// A sync of some of these handles that doesn't wait: as `try_sync_all`, but `Ok` where all are invalid or at least one is
+    /// complete, and the records of those that are complete go. (GASNet 1.8.1 extended API, gasnet_try_syncnb_some.)
+    pub fn try_sync_some(&mut self, worn: &[bool], thread: u16, handles: &[Handle]) -> Synced
+        requires { length worn.now ≤ 65536 }
+        ensures answer { (operations : List Operation) → Stands self.old operations
+            → result ≡ some_answer (flag_at worn.now) thread handles.now operations }
+        ensures stands { (operations : List Operation) → Stands self.old operations
+            → Stands self.new (left_by result (whole_of handles.now operations) operations) }
+    {
+        match self.first_fault(thread, handles) {
+            Some(fault) => fault,
+            None => self.sync_some(worn, handles),
+        }
+    }
+}
