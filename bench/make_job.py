@@ -15,6 +15,9 @@ idle-many   ticks of 64 nodes with 16 credits, and nothing out.
 resend-one  one request of 2 nodes with 1 credit is out, and each tick sends it again.
 resend-all  32 requests of 2 nodes with 32 credits are out, and each tick sends one again.
 resend-many the same with 45 nodes.
+longs       node 0 sends Longs of 8,192 bytes from a place of its segment to the same place of that of node 1; each is delivered, and its reply.
+            LINES is a multiple of 3.
+shorts      the same with Shorts, which have no payload.
 """
 import sys
 from dataclasses import dataclass
@@ -25,6 +28,8 @@ LINES_OF_AN_EXCHANGE = 3
 LEAST_REQUESTS = CREDITS + 2  # with fewer ones no node ever holds all of its message buffers
 REQUESTS_OF_A_ROUND = 16
 RESEND = 10
+PAYLOAD = 8192
+PLACES = 8192  # of a payload in a segment of `longs`, so that each has its own
 
 
 @dataclass
@@ -36,6 +41,7 @@ class Job:
     held: list
     most: list
     requests: int = 0
+    segment: int = 4096
 
     def text(self):
         """The text of the job."""
@@ -45,7 +51,7 @@ job 7
 nodes {len(self.held)}
 credits {self.credits}
 threads 1
-segment 4096
+segment {self.segment}
 last 18446744073709551615
 resend {RESEND}
 patience 100
@@ -133,6 +139,27 @@ def resend(nodes, credits, lines):
     return Job(credits, calls + ticks, held, held, credits)
 
 
+def answered(lines, action):
+    """Requests of node 0 to node 1, one after the other: each is called, delivered, and its reply delivered. An action makes a request by its number."""
+    requests, rest = divmod(lines, LINES_OF_AN_EXCHANGE)
+    if rest or not requests:
+        sys.exit(f"{lines} is no multiple of {LINES_OF_AN_EXCHANGE}")
+    events = []
+    for number in range(1, requests + 1):
+        events += [
+            (f"{number} call 0 0 {action(number)}", f"accepted 1 0 {number}"),
+            (f"{number} request 0 1 {number}", "ran"),
+            (f"{number} reply 0 1 {number}", "returned"),
+        ]
+    return Job(1, events, [0, 1], [1, 1], requests, PLACES * PAYLOAD)
+
+
+def long_request(number):
+    """A Long out of the own segment, to the same place of the target's."""
+    offset = number % PLACES * PAYLOAD
+    return f"long 1 128 {offset}+{PAYLOAD} {offset}"
+
+
 KINDS = {
     "exchanges": exchanges,
     "settled": settled,
@@ -142,6 +169,8 @@ KINDS = {
     "resend-one": lambda lines: resend(2, 1, lines),
     "resend-all": lambda lines: resend(2, 32, lines),
     "resend-many": lambda lines: resend(45, 32, lines),
+    "longs": lambda lines: answered(lines, long_request),
+    "shorts": lambda lines: answered(lines, lambda number: "short 1 128"),
 }
 
 if __name__ == "__main__":

@@ -1,0 +1,38 @@
+/* Makes the copies that the payloads of `longs` need: each from its place of one segment into a slot, and from there to the same place of
+ * another segment. Its one argument is the number of payloads; it prints the CPU time of the copies in milliseconds, the least of some runs. */
+#include <stdio.h>
+#include <stdlib.h>
+#include <string.h>
+#include <time.h>
+
+enum { PAYLOAD = 8192, PLACES = 8192, RUNS = 15 };
+
+static double milliseconds(void)
+{
+    struct timespec now;
+    clock_gettime(CLOCK_PROCESS_CPUTIME_ID, &now);
+    return now.tv_sec * 1e3 + now.tv_nsec / 1e6;
+}
+
+int main(int count, char **words)
+{
+    long payloads = count == 2 ? atol(words[1]) : 0;
+    char *source = calloc(PLACES, PAYLOAD), *target = calloc(PLACES, PAYLOAD), *slot = calloc(1, PAYLOAD);
+    if (payloads <= 0 || !source || !target || !slot)
+        return 1;
+    double least = 1e300;
+    for (int run = 0; run < RUNS; run++) {
+        double begin = milliseconds();
+        for (long number = 1; number <= payloads; number++) {
+            long offset = number % PLACES * PAYLOAD;
+            memcpy(slot, source + offset, PAYLOAD);
+            __asm__ volatile("" : : "r"(slot) : "memory"); /* both copies are made */
+            memcpy(target + offset, slot, PAYLOAD);
+            __asm__ volatile("" : : "r"(target) : "memory");
+        }
+        double taken = milliseconds() - begin;
+        least = taken < least ? taken : least;
+    }
+    printf("%.3f\n", least);
+    return 0;
+}
