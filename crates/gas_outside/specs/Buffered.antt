@@ -1,5 +1,5 @@
 -- Sinks that gather bytes before another sink.
-use Rattle.std.specs.Prelude.{◌≡◌, ◌≤◌, ℕ, List, [], ◌++◌, take, Option}
+use Rattle.std.specs.Prelude.{◌≡◌, ◌≤◌, ℕ, ⊤, List, [], ◌++◌, take, Option}
 use Rattle.std.specs.Io.KnownBytes.{Appends}
 use Rattle.gas_outside.specs.Faults.{Rose}
 use Rattle.gas_outside.specs.declared.sink.Put.{Put}
@@ -7,10 +7,11 @@ use Rattle.gas_outside.specs.declared.sink.Put.TheVariants as put
 use Rattle.gas_outside.specs.declared.writing.Wrote.{Wrote}
 use Rattle.gas_outside.specs.declared.writing.Wrote.TheVariants as wrote
 
--- a sink that gathers: the sink behind it, and the bytes that wait to go there
+-- a sink that gathers: the sink behind it, the bytes that wait to go there, and how many more there is room for
 pub record Gathering (K : Type 0) : Type 0 where
   pub inner : K
   pub pending : List ℕ
+  pub room : ℕ
 
 -- what went on to the sink behind, where it tells that; what waits; and the count of faults of the sink behind
 pub record Outbox : Type 0 where
@@ -61,6 +62,11 @@ GathersAll old new bytes wrote.Fault = GathersFront old new bytes
 abbrev pub Flushes : Outbox → Outbox → Wrote → Type 0
 Flushes old new wrote.Done = Gathers old new [] × (new.pending ≡ [])
 Flushes old new wrote.Fault = GathersNone old new
+
+-- after `Done` there is room for so many bytes
+abbrev pub HasRoom : Wrote → (count room : ℕ) → Type 0
+HasRoom wrote.Done count room = count ≤ room
+HasRoom wrote.Fault count room = ⊤
 
 -- the part of the buffer that waits; an empty one stands at the buffer's beginning
 pub record IsInBuffer (start end : ℕ) : Type 0 where

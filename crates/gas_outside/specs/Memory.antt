@@ -27,13 +27,24 @@ is_listed fail call = list_any (λ listed. listed == call) fail
 
 -- the source after a call that gave this many bytes
 abbrev pub gave : SourceState → ℕ → SourceState
-gave state n = record { left = drop n state.left; fail = state.fail; calls = one_more state.calls; faults = state.faults }
+gave state n = record {
+  left = drop n state.left;
+  fail = state.fail;
+  calls = one_more state.calls;
+  faults = state.faults;
+}
 
 -- the source after a call that failed
 abbrev pub read_failed : SourceState → SourceState
-read_failed state = record { left = state.left; fail = state.fail; calls = one_more state.calls; faults = one_more state.faults }
+read_failed state = record {
+  left = state.left;
+  fail = state.fail;
+  calls = one_more state.calls;
+  faults = one_more state.faults;
+}
 
--- a read: `Failed` exactly where its number is listed; else the end exactly where nothing is left; else the front of what is left that there is room for
+-- a read: `Failed` exactly where its number is listed; else the end exactly where nothing is left; else the front of
+-- what is left that there is room for
 abbrev pub ReadsNext : SourceState → SourceState → Got → List ℕ → List ℕ → Type 0
 ReadsNext old new (got.Got n) room filled =
     (is_listed old.fail (one_more old.calls) ≡ false)
@@ -48,11 +59,21 @@ ReadsNext old new got.Failed room filled =
 
 -- the sink after a call that took these bytes
 abbrev pub took : SinkState → List ℕ → SinkState
-took state bytes = record { taken = state.taken ++ bytes; fail = state.fail; calls = one_more state.calls; faults = state.faults }
+took state bytes = record {
+  taken = state.taken ++ bytes;
+  fail = state.fail;
+  calls = one_more state.calls;
+  faults = state.faults;
+}
 
 -- the sink after a call that failed
 abbrev pub write_failed : SinkState → SinkState
-write_failed state = record { taken = state.taken; fail = state.fail; calls = one_more state.calls; faults = one_more state.faults }
+write_failed state = record {
+  taken = state.taken;
+  fail = state.fail;
+  calls = one_more state.calls;
+  faults = one_more state.faults;
+}
 
 -- a write: all of the bytes, and then its number isn't listed; or `Failed`, as a listed call, or for want of memory
 abbrev pub WritesNext : SinkState → SinkState → Put → List ℕ → Type 0

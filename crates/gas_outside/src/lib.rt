@@ -9,7 +9,8 @@
 //! - `read_all` and `write_all` [`bytes`, `later`, `fault`]: all bytes, or a fault only where the count of faults rose.
 //! - `BufferedSink`: each call has one clause, over the outbox (`Outbox`): what was given on, what waits, and the count of faults
 //!   of the sink behind. What went in is what was given on, then what waits, in order; a fault comes only where that count rose,
-//!   and then a front of the bytes went in (`GathersAll`). `flush` gives on what waits (`Flushes`).
+//!   and then a front of the bytes went in (`GathersAll`). `flush` gives on what waits (`Flushes`). After `make_room` there is
+//!   room for so many bytes, and what is `put` there goes in without a fault (`Gathers`).
 //! - `MemorySource` and `MemorySink` [`exact`] number their calls, and fail at the listed ones.
 //!
 //! That memory ran out where `NoMemory` is told isn't proved.

@@ -29,7 +29,12 @@ impl Model for MemorySource {
 
     ghost Value = { SourceState };
 
-    ghost view = { λ s. record { left = drop s.given s.bytes.items; fail = s.fail.items; calls = s.calls; faults = s.faults } };
+    ghost view = { λ s. record {
+      left = drop s.given s.bytes.items;
+      fail = s.fail.items;
+      calls = s.calls;
+      faults = s.faults;
+    } };
 }
 
 impl MemorySource {
@@ -37,7 +42,12 @@ impl MemorySource {
     ///
     /// It takes no memory, and so is never refused.
     pub fn new(bytes: Vec<u8>, fail: Vec<u64>) -> Result<MemorySource, AllocError>
-        ensures { let made : SourceState = record { left = bytes.items; fail = fail.items; calls = 0; faults = 0 } in result ≡ Ok made }
+        ensures { let made : SourceState = record {
+          left = bytes.items;
+          fail = fail.items;
+          calls = 0;
+          faults = 0;
+        } in result ≡ Ok made }
     {
         Ok(MemorySource {
             bytes,
@@ -106,7 +116,12 @@ impl Model for MemorySink {
 
     ghost Value = { SinkState };
 
-    ghost view = { λ s. record { taken = s.bytes.items; fail = s.fail.items; calls = s.calls; faults = s.faults } };
+    ghost view = { λ s. record {
+      taken = s.bytes.items;
+      fail = s.fail.items;
+      calls = s.calls;
+      faults = s.faults;
+    } };
 }
 
 impl MemorySink {
@@ -114,7 +129,8 @@ impl MemorySink {
     ///
     /// It takes no memory yet, and so is never refused.
     pub fn new(alloc: Global, fail: Vec<u64>) -> Result<MemorySink, AllocError>
-        ensures { let made : SinkState = record { taken = []; fail = fail.items; calls = 0; faults = 0 } in result ≡ Ok made }
+        ensures { let made : SinkState =
+            record { taken = []; fail = fail.items; calls = 0; faults = 0 } in result ≡ Ok made }
     {
         Ok(MemorySink {
             bytes: Vec::new(alloc),

@@ -2,8 +2,8 @@ use Rattle.std.proofs.Common.{◌≡◌, ◌+◌, ◌<◌, sym, ap, ◌∙◌, t
 use Rattle.gas_outside.proofs.Outboxes.{gives_front, pending_after}
 use Rattle.gas_outside.proofs.buffered.BufferedSink.flush.Goals as goal
 
-pub returns-then-self : goal.returns-then-self
-returns-then-self g c =
+pub returns-then-self-clause-flushes : goal.returns-then-self-clause-flushes
+returns-then-self-clause-flushes g c =
     let i = c.self.inside in
     let n = c.write_front-taken.result in
     let taken = g.K.Sink.taken in
