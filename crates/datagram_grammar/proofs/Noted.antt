@@ -26,7 +26,7 @@ is_second version known other =
     ]
 
 -- what holds of both holds of each
-each_version : (P : ℕ → Type 0) (version : ℕ) → is_version version ≡ true → P 1 → P 2 → P version
+pub each_version : (P : ℕ → Type 0) (version : ℕ) → is_version version ≡ true → P 1 → P 2 → P version
 each_version P version known first second =
     elim (or_cases (eqb version 1) (eqb version 2) known) [
       | inl one ↦ subst P (sym (eqb-true version 1 one)) first
@@ -63,13 +63,13 @@ parted version args known =
 
 -- ---- a note again
 
-joined_again : (number : ℕ) → number < 2 ^ 64 → joined (high_half number) (low_half number) ≡ number
+pub joined_again : (number : ℕ) → number < 2 ^ 64 → joined (high_half number) (low_half number) ≡ number
 joined_again number low =
     let high : cast_unsigned w32 (high_half number) ≡ number / 2 ^ 32 = of_z-to_z w32 (number / 2 ^ 32) (omega arith) in
     let rest : cast_unsigned w32 (low_half number) ≡ number % 2 ^ 32 = of_z-to_z w32 (number % 2 ^ 32) (omega arith) in
     omega (arith, high, rest)
 
-mask_again : (version nodes : ℕ) (note : BarrierNote) → is_version version ≡ true → nodes ≤ most_nodes version
+pub mask_again : (version nodes : ℕ) (note : BarrierNote) → is_version version ≡ true → nodes ≤ most_nodes version
     → IsMask nodes note.mask → mask_of version (note_arguments version note) ≡ note.mask
 mask_again version nodes note known few is =
     let word = λ (i : ℕ). get_or note.mask i 0 in

@@ -23,21 +23,21 @@ pub struct BarrierNote {
 }
 
 /// The upper half of a number's bits, as an argument.
-fn high_half(number: u64) -> i32
+pub fn high_half(number: u64) -> i32
     ensures { result ≡ high_half number }
 {
     ((number >> 32) as u32).cast_signed()
 }
 
 /// The lower half of a number's bits, as an argument.
-fn low_half(number: u64) -> i32
+pub fn low_half(number: u64) -> i32
     ensures { result ≡ low_half number }
 {
     ((number % 0x1_0000_0000) as u32).cast_signed()
 }
 
-/// The number with these halves.
-fn joined(high: i32, low: i32) -> u64
+/// The number with these halves, each an argument.
+pub fn joined(high: i32, low: i32) -> u64
     ensures value { result ≡ joined high low }
     ensures high { high_half result ≡ high }
     ensures low { low_half result ≡ low }
