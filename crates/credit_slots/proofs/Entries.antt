@@ -13,7 +13,7 @@ use Rattle.credit_slots.specs.declared.order.Entry.{Entry}
 use Rattle.credit_slots.specs.Ring.{put, IsOn, IsBefore, IsRing}
 use Rattle.lists.proofs.Put.{put_other}
 use Rattle.std.proofs.Math.Path.{fun_ext}
-use Rattle.credit_slots.specs.Order.{due_view, next_at, previous_at, time_at, listed_at, head_of, IsOrder, IsSpot}
+use Rattle.credit_slots.specs.Order.{due_of, due_view, next_at, previous_at, time_at, listed_at, head_of, IsOrder, IsSpot}
 use Rattle.credit_slots.proofs.Ring.{put-same, same?, ring-without, ring-with, ring-first}
 
 -- a field of each entry
@@ -62,7 +62,7 @@ reads entries = record { next_is = refl; previous_is = refl; time_is = refl; lis
 pub reads-entry : (entries : List Entry) (place : ℕ) (entry : Entry) (next previous time : ℕ → ℕ) (listed : ℕ → Bool)
     → place < length entries → Reads entries next previous time listed
     → Reads (slice_set entries place entry) (put next place entry.next) (put previous place entry.previous)
-    (put time place entry.due.time) (put listed place entry.listed)
+    (put time place entry.time) (put listed place entry.listed)
 reads-entry entries place entry next previous time listed inside before = record {
   next_is =
       field-set (λ each. each.next) 0 entries place entry inside
@@ -71,8 +71,8 @@ reads-entry entries place entry next previous time listed inside before = record
       field-set (λ each. each.previous) 0 entries place entry inside
       ∙ ap (λ (values : ℕ → ℕ). put values place entry.previous) before.previous_is;
   time_is =
-      field-set (λ each. each.due.time) 0 entries place entry inside
-      ∙ ap (λ (values : ℕ → ℕ). put values place entry.due.time) before.time_is;
+      field-set (λ each. each.time) 0 entries place entry inside
+      ∙ ap (λ (values : ℕ → ℕ). put values place entry.time) before.time_is;
   listed_is =
       field-set (λ each. each.listed) false entries place entry inside
       ∙ ap (λ (values : ℕ → Bool). put values place entry.listed) before.listed_is;
@@ -95,7 +95,7 @@ reads-next entries place value old next previous time listed at before =
     record {
       next_is = known.next_is;
       previous_is = known.previous_is ∙ kept (λ each. each.previous) 0 entries place old previous at before.previous_is;
-      time_is = known.time_is ∙ kept (λ each. each.due.time) 0 entries place old time at before.time_is;
+      time_is = known.time_is ∙ kept (λ each. each.time) 0 entries place old time at before.time_is;
       listed_is = known.listed_is ∙ kept (λ each. each.listed) false entries place old listed at before.listed_is;
     }
 
@@ -109,7 +109,7 @@ reads-previous entries place value old next previous time listed at before =
     record {
       next_is = known.next_is ∙ kept (λ each. each.next) 0 entries place old next at before.next_is;
       previous_is = known.previous_is;
-      time_is = known.time_is ∙ kept (λ each. each.due.time) 0 entries place old time at before.time_is;
+      time_is = known.time_is ∙ kept (λ each. each.time) 0 entries place old time at before.time_is;
       listed_is = known.listed_is ∙ kept (λ each. each.listed) false entries place old listed at before.listed_is;
     }
 
@@ -123,7 +123,7 @@ reads-unlisted entries place old next previous time listed at before =
     record {
       next_is = known.next_is ∙ kept (λ each. each.next) 0 entries place old next at before.next_is;
       previous_is = known.previous_is ∙ kept (λ each. each.previous) 0 entries place old previous at before.previous_is;
-      time_is = known.time_is ∙ kept (λ each. each.due.time) 0 entries place old time at before.time_is;
+      time_is = known.time_is ∙ kept (λ each. each.time) 0 entries place old time at before.time_is;
       listed_is = known.listed_is;
     }
 
@@ -228,21 +228,21 @@ unlinked entries place entry first_read second_read third_read first_written sec
 -- a place is listed by three writes
 pub linked : (entries : List Entry) (place at right : ℕ) (entry second_read third_read : Entry)
     (first_written second_written : List Entry) → IsOrder entries → place + 1 < length entries
-    → listed_at entries place ≡ false → IsSpot entries place entry.due.time at → right ≡ next_at entries at
+    → listed_at entries place ≡ false → IsSpot entries place entry.time at → right ≡ next_at entries at
     → entry.previous ≡ at → entry.next ≡ right → entry.listed ≡ true
     → first_written ≡ slice_set entries place entry → slice_get first_written at ≡ Some second_read
     → second_written ≡ slice_set first_written at (record second_read { next = place })
     → slice_get second_written right ≡ Some third_read
     → IsOrder (slice_set second_written right (record third_read { previous = place }))
     × (map due_view (slice_set second_written right (record third_read { previous = place }))
-    ≡ slice_set (map due_view entries) place (Some entry.due))
+    ≡ slice_set (map due_view entries) place (Some (due_of entry)))
 linked entries place at right entry second_read third_read first_written second_written order inside off spot is_q
     is_previous is_next is_listed is₁ at₂ is₂ at₃ =
     let next_of : ℕ → ℕ = next_at entries in
     let previous_of : ℕ → ℕ = previous_at entries in
     let time_of : ℕ → ℕ = time_at entries in
     let listed_of : ℕ → Bool = listed_at entries in
-    let new_time : ℕ → ℕ = put time_of place entry.due.time in
+    let new_time : ℕ → ℕ = put time_of place entry.time in
     let new_listed : ℕ → Bool = put listed_of place true in
     let r₀ = reads-entry entries place entry next_of previous_of time_of listed_of (omega arith) (reads entries) in
     let r₁ : Reads first_written (put next_of place right) (put previous_of place at) new_time new_listed =
@@ -270,13 +270,13 @@ linked entries place at right entry second_read third_read first_written second_
     (put (put previous_of place at) right place) new_time new_listed =
     subst (λ (index : ℕ). IsRing (head_of entries) (put (put next_of place index) at place)
     (put (put previous_of place at) index place) new_time new_listed) (sym is_q)
-    (ring-with (head_of entries) next_of previous_of time_of listed_of place at entry.due.time order.ring
+    (ring-with (head_of entries) next_of previous_of time_of listed_of place at entry.time order.ring
     (omega arith) off spot.on spot.before spot.after) in
-    let view₁ : map due_view first_written ≡ slice_set (map due_view entries) place (Some entry.due) =
+    let view₁ : map due_view first_written ≡ slice_set (map due_view entries) place (Some (due_of entry)) =
     ap (map due_view) is₁
     ∙ (map-set due_view entries place entry
-    ∙ ap (λ (b : Bool). slice_set (map due_view entries) place (cond b (Some entry.due) None)) is_listed) in
-    let view₂ : map due_view second_written ≡ slice_set (map due_view entries) place (Some entry.due) =
+    ∙ ap (λ (b : Bool). slice_set (map due_view entries) place (cond b (Some (due_of entry)) None)) is_listed) in
+    let view₂ : map due_view second_written ≡ slice_set (map due_view entries) place (Some (due_of entry)) =
     ap (map due_view) is₂
     ∙ (view-kept first_written at second_read (record second_read { next = place }) at₂ refl ∙ view₁) in (
       order-by entries (slice_set second_written right (record third_read { previous = place }))
@@ -295,8 +295,8 @@ pub read-previous : (entries : List Entry) (index : ℕ) (entry : Entry) → sli
 read-previous entries index entry at = field-at (λ each. each.previous) 0 entries index entry at
 
 pub read-time : (entries : List Entry) (index : ℕ) (entry : Entry) → slice_get entries index ≡ Some entry
-    → time_at entries index ≡ entry.due.time
-read-time entries index entry at = field-at (λ each. each.due.time) 0 entries index entry at
+    → time_at entries index ≡ entry.time
+read-time entries index entry at = field-at (λ each. each.time) 0 entries index entry at
 
 -- a place of the ring, where what is behind it comes after a place with this time
 pub record IsBehind (entries : List Entry) (place time at : ℕ) : Type 0 where
@@ -307,19 +307,19 @@ pub record IsBehind (entries : List Entry) (place time at : ℕ) : Type 0 where
 -- what is listed, by the order's value
 pub listed-view : (entries : List Entry) (index : ℕ) (due : Due)
     → slice_get (map due_view entries) index ≡ Some (Some due)
-    → (listed_at entries index ≡ true) × ((entry : Entry) × (slice_get entries index ≡ Some entry) × (entry.due ≡ due))
+    → (listed_at entries index ≡ true) × ((entry : Entry) × (slice_get entries index ≡ Some entry) × ((due_of entry) ≡ due))
 listed-view entries index due at = found (slice_get entries index) refl where
   tells : (entry : Entry) (b : Bool) → entry.listed ≡ b → due_view entry ≡ Some due
-      → (entry.listed ≡ true) × (entry.due ≡ due)
+      → (entry.listed ≡ true) × ((due_of entry) ≡ due)
   tells entry true is seen =
-      let shown : due_view entry ≡ Some entry.due = ap (λ (flag : Bool). cond flag (Some entry.due) None) is in
-      let same : entry.due ≡ due = cc in (is, same)
+      let shown : due_view entry ≡ Some (due_of entry) = ap (λ (flag : Bool). cond flag (Some (due_of entry)) None) is in
+      let same : (due_of entry) ≡ due = cc in (is, same)
   tells entry false is seen =
-      let shown : due_view entry ≡ None = ap (λ (flag : Bool). cond flag (Some entry.due) None) is in absurd cc
+      let shown : due_view entry ≡ None = ap (λ (flag : Bool). cond flag (Some (due_of entry)) None) is in absurd cc
 
   found : (o : Option Entry) → slice_get entries index ≡ o
       → (listed_at entries index ≡ true)
-      × ((entry : Entry) × (slice_get entries index ≡ Some entry) × (entry.due ≡ due))
+      × ((entry : Entry) × (slice_get entries index ≡ Some entry) × ((due_of entry) ≡ due))
   found None is =
       let none : slice_get (map due_view entries) index ≡ None =
       slice_get-map due_view entries index ∙ ap (option_map due_view) is in
@@ -336,7 +336,7 @@ pub unlisted-view : (entries : List Entry) (index : ℕ) → slice_get (map due_
 unlisted-view entries index at = found (slice_get entries index) refl where
   tells : (entry : Entry) (b : Bool) → entry.listed ≡ b → due_view entry ≡ None → entry.listed ≡ false
   tells entry true is seen =
-      let shown : due_view entry ≡ Some entry.due = ap (λ (flag : Bool). cond flag (Some entry.due) None) is in
+      let shown : due_view entry ≡ Some (due_of entry) = ap (λ (flag : Bool). cond flag (Some (due_of entry)) None) is in
       absurd cc
   tells entry false is seen = is
 
@@ -350,11 +350,11 @@ unlisted-view entries index at = found (slice_get entries index) refl where
 
 -- the order's value at an entry that is listed
 pub view-listed : (entries : List Entry) (index : ℕ) (entry : Entry) → slice_get entries index ≡ Some entry
-    → listed_at entries index ≡ true → slice_get (map due_view entries) index ≡ Some (Some entry.due)
+    → listed_at entries index ≡ true → slice_get (map due_view entries) index ≡ Some (Some (due_of entry))
 view-listed entries index entry at on =
     slice_get-map due_view entries index
     ∙ (ap (option_map due_view) at
-    ∙ ap (λ (place : Bool). Some (cond place (Some entry.due) None))
+    ∙ ap (λ (place : Bool). Some (cond place (Some (due_of entry)) None))
     (sym (field-at (λ each. each.listed) false entries index entry at) ∙ on))
 
 -- the first listed place, by what the head has behind it
@@ -377,7 +377,7 @@ first-view entries entry order ne at =
           ring-first (head_of entries) (next_at entries) (previous_at entries) (time_at entries)
           (listed_at entries) index order.ring known.0 in
           let time_i : time_at entries index ≡ due.time =
-          field-at (λ each. each.due.time) 0 entries index known.1.0 known.1.1
+          field-at (λ each. each.time) 0 entries index known.1.0 known.1.1
           ∙ ap (λ (each : Due). each.time) known.1.2 in
           let low : time_at entries entry.next ≤ time_at entries index =
           subst (λ (left : ℕ). time_at entries left ≤ time_at entries index) is_next first.1 in (

@@ -5,9 +5,13 @@ use Rattle.credit_slots.specs.Ring.{IsOn, IsBefore, IsRing}
 use Rattle.credit_slots.specs.declared.order.Due.{Due}
 use Rattle.credit_slots.specs.declared.order.Entry.{Entry}
 
+-- what is due at a place that is listed
+abbrev pub due_of : Entry → Due
+due_of entry = record { time = entry.time; node = entry.node; slot = entry.slot }
+
 -- what is due at a place, where it is listed
 abbrev pub due_view : Entry → Option Due
-due_view entry = if entry.listed then Some entry.due else None
+due_view entry = if entry.listed then Some (due_of entry) else None
 
 -- the places behind and before a place, its time, and whether it is listed
 abbrev pub next_at : List Entry → ℕ → ℕ
@@ -17,7 +21,7 @@ abbrev pub previous_at : List Entry → ℕ → ℕ
 previous_at entries index = elim (slice_get entries index) [ Some entry ↦ entry.previous | None ↦ 0 ]
 
 abbrev pub time_at : List Entry → ℕ → ℕ
-time_at entries index = elim (slice_get entries index) [ Some entry ↦ entry.due.time | None ↦ 0 ]
+time_at entries index = elim (slice_get entries index) [ Some entry ↦ entry.time | None ↦ 0 ]
 
 abbrev pub listed_at : List Entry → ℕ → Bool
 listed_at entries index = elim (slice_get entries index) [ Some entry ↦ entry.listed | None ↦ false ]

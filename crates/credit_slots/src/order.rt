@@ -20,7 +20,9 @@ pub(crate) struct Due {
 // A place, and the places before and behind it where it is listed.
 #[derive(Clone, Copy, Drop)]
 struct Entry {
-    due: Due,
+    time: u64,
+    node: u16,
+    slot: u16,
     previous: u32,
     next: u32,
     listed: bool,
@@ -47,7 +49,7 @@ fn seek(entries: &Vec<Entry>, place: usize, time: u64) -> usize
     let mut at = entries[head].previous as usize;
     while at != head {
         let entry = entries[at];
-        if !is_after(entry.due.time, at, time, place) {
+        if !is_after(entry.time, at, time, place) {
             return at;
         }
         at = entry.previous as usize;
@@ -67,7 +69,9 @@ fn link(entries: &mut Vec<Entry>, place: usize, at: usize, due: Due)
 {
     let next = entries[at].next;
     entries[place] = Entry {
-        due,
+        time: due.time,
+        node: due.node,
+        slot: due.slot,
         previous: at as u32,
         next,
         listed: true,
@@ -124,7 +128,9 @@ impl Order {
             slot: 0,
         };
         let head = Entry {
-            due,
+            time: due.time,
+            node: due.node,
+            slot: due.slot,
             previous: places as u32,
             next: places as u32,
             listed: false,
@@ -158,7 +164,15 @@ impl Order {
         ensures { Some result ≡ slice_get self.now place }
     {
         let entry = self.entries[place];
-        if entry.listed { Some(entry.due) } else { None }
+        if entry.listed {
+            Some(Due {
+                time: entry.time,
+                node: entry.node,
+                slot: entry.slot,
+            })
+        } else {
+            None
+        }
     }
 
     /// The first place that is listed.
@@ -173,7 +187,13 @@ impl Order {
         if place == head {
             None
         } else {
-            Some((place, self.entries[place].due))
+            let entry = self.entries[place];
+            let due = Due {
+                time: entry.time,
+                node: entry.node,
+                slot: entry.slot,
+            };
+            Some((place, due))
         }
     }
 }

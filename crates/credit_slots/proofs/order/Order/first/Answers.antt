@@ -33,9 +33,9 @@ returns-else-place-head-clause-first c =
     (read-at entries (c.len-head.result - 1) entry
     (omega (arith, c.self.invariant.some, c.len-head.ensures, c.self.inside.entries.ok.0)) c.index.ensures) in
     let known = first-view entries entry c.self.invariant (λ same. c.if-place-head.false (same ∙ sym is_head)) at in
-    let first_entry = c.index-else-place-head.result.now in
+    let first_entry = c.index-entry.result.now in
     let here : slice_get entries entry.next ≡ Some first_entry =
-    read-at entries entry.next first_entry (omega (arith, known.1)) c.index-else-place-head.ensures in
+    read-at entries entry.next first_entry (omega (arith, known.1)) c.index-entry.ensures in
     λ index due is. let rising = known.2 index due
     (ap (λ (dues : List (Option Due)). slice_get dues index) c.self.view_is
     ∙ is) in subst (λ (moment : ℕ). (moment ≤ due.time) × (due.time ≡ moment → entry.next ≤ index))
@@ -52,9 +52,9 @@ returns-else-place-head-clause-listed c =
     (read-at entries (c.len-head.result - 1) entry
     (omega (arith, c.self.invariant.some, c.len-head.ensures, c.self.inside.entries.ok.0)) c.index.ensures) in
     let known = first-view entries entry c.self.invariant (λ same. c.if-place-head.false (same ∙ sym is_head)) at in
-    let first_entry = c.index-else-place-head.result.now in
+    let first_entry = c.index-entry.result.now in
     let here : slice_get entries entry.next ≡ Some first_entry =
-    read-at entries entry.next first_entry (omega (arith, known.1)) c.index-else-place-head.ensures in
+    read-at entries entry.next first_entry (omega (arith, known.1)) c.index-entry.ensures in
     ap (λ (dues : List (Option Due)). slice_get dues entry.next) (sym c.self.view_is)
     ∙ view-listed entries entry.next first_entry here known.0
 
