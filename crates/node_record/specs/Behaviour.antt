@@ -86,6 +86,7 @@ pub record Behaviour (Local : Type 0) : Type 0 where
 -- the answer says that a request was run, and that its reply is kept there
 abbrev pub IsRun : Delivered → SlotRef → Type 0
 IsRun (delivered.Ran at) place = at ≡ place
+IsRun (delivered.Noted at note) place = at ≡ place
 IsRun _ place = ⊥
 
 -- the answer says that a request was sent for the first time, and that it is kept there
