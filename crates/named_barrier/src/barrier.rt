@@ -1,6 +1,6 @@
 //! One node's barrier.
 
-ghost use Rattle.std.specs.Prelude.{◌≡◌, ℕ, ◌<◌, ◌≤◌, IsSome, IfOk, IsOk};
+ghost use Rattle.std.specs.Prelude.{◌≡◌, ℕ, ◌<◌, ◌≤◌, None, IsTrue, IsSome, IfOk, IsOk};
 ghost use Rattle.named_barrier.specs.Record.{BarrierRecord, opened, notify_answer, notify_after};
 ghost use Rattle.named_barrier.specs.Record.{try_answer, try_after, hear, note_to, owes, send};
 ghost use Rattle.named_barrier.specs.State.{last_due, now_due, note_at};
@@ -192,6 +192,15 @@ impl Barrier {
             Some(note) => Some(note),
             None => self.now_due(to),
         }
+    }
+
+    /// Whether this node has notified nothing so far: then no note must go to any node. A node whose job has no barrier needs no more
+    /// than that at each tick (profile).
+    pub fn is_quiet(&self) -> bool
+        ensures { IsTrue result → (nodes me : ℕ) (kept : BarrierRecord) → Stands nodes me self.now kept
+            → (to : ℕ) → note_to nodes me kept to ≡ None }
+    {
+        self.phase == 0 && self.own.is_none()
     }
 
     /// Whether a note of the present phase must go to the node, also while an older one must (profile).
