@@ -1,7 +1,7 @@
 -- The records stand where an operation begins.
-use Rattle.std.proofs.Common.{◌≡◌, ◌≢◌, ◌⊎◌, inl, inr, ℕ, zero, suc, ◌+◌, ◌<◌, ◌≤◌, Bool, true, false, true≢false, replicate, nat_le, ◌||◌, List, [], ◌∷◌, ◌++◌, Option, None, Some, Ok, Err, length, set, refl, sym, ap, ◌∙◌, subst, arith}
+use Rattle.std.proofs.Common.{◌≡◌, ◌≢◌, inl, inr, ℕ, zero, suc, ◌+◌, ◌<◌, ◌≤◌, true, false, true≢false, replicate, nat_le, List, [], ◌∷◌, ◌++◌, Option, None, Some, length, set, refl, sym, ap, ◌∙◌, subst, arith}
 use Rattle.std.specs.List.{slice_get}
-use Rattle.std.proofs.lemmas.Bool.{cases_Bool, lt-leb, le-leb}
+use Rattle.std.proofs.lemmas.Bool.{cases_Bool, lt-leb}
 use Rattle.std.proofs.lemmas.List.{length-set, length-append}
 use Rattle.std.proofs.lemmas.Option.{same_Some, slice_get_within}
 use Rattle.lists.specs.Numbered.{numbered}
@@ -12,9 +12,14 @@ use Rattle.put_get.specs.declared.operation.Transfer.{Transfer}
 use Rattle.put_get.specs.declared.operation.Mode.{Mode}
 use Rattle.put_get.specs.declared.table.Standing.{Standing}
 use Rattle.put_get.specs.declared.transfers.Transfers.{Transfers}
-use Rattle.put_get.specs.Operation.{Operation, standing, is_full, begin_answer, after_begin, fresh}
-use Rattle.put_get.specs.Stands.{taken, kept, Keeps, Stands}
+use Rattle.put_get.specs.Operation.{Operation, standing, is_full, after_begin, fresh}
+use Rattle.put_get.specs.Table.{taken}
+use Rattle.put_get.specs.Slots.{SlotsState, entry_at}
+use Rattle.put_get.specs.Outs.{outs}
+use Rattle.put_get.specs.Stands.{kept, Keeps, Says, Stands}
 use Rattle.put_get.proofs.Tests.{get_set}
+use Rattle.put_get.proofs.Outs.{outs_begun, none_sent}
+use Rattle.put_get.proofs.Said.{says_blank}
 use Rattle.put_get.proofs.Counts.{count_from}
 
 pub taken_all : {X : Type 0} (xs : List (Option X)) → ((p : ℕ) → p < length xs → slice_get xs p ≡ Some None → ⊥)
@@ -99,9 +104,10 @@ not_full operations room left = rw (lt-leb 256 (standing operations) room, lt-le
 
 -- ---- the table
 
-pub stands_none : (places : List (Option Standing)) → places ≡ replicate 256 None
-    → Stands (record { given = 0; table = places }) []
-stands_none places is = record {
+pub stands_none : (places : List (Option Standing)) (slots : SlotsState) → places ≡ replicate 256 None
+    → ((to slot : ℕ) → entry_at slots to slot ≡ None)
+    → Stands (record { given = 0; table = places; slots = slots }) []
+stands_none places slots is none = record {
   keeps = rw is (record {
     many = refl;
     each = λ place there at. absurd (blank place there at);
@@ -110,6 +116,7 @@ stands_none places is = record {
     count = refl;
   });
   given = refl;
+  says = λ to slot. rw (none to slot) refl;
   settled = λ number operation at. absurd (numbered_nil number operation at);
 }
   where
@@ -120,17 +127,20 @@ pub stands_begun : (table : Transfers) (operations : List Operation) (place : �
     (mode : Mode)
     → Stands table operations → slice_get table.table place ≡ Some None
     → length operations < 18446744073709551615
-    → Stands (record { given = table.given + 1; table = set table.table place (Some (kept (table.given + 1) (fresh thread transfer mode (table.given + 1)))) }) (after_begin thread transfer mode operations)
+    → Stands (record table { given = table.given + 1; table = set table.table place (Some (kept (table.given + 1) (fresh thread transfer mode (table.given + 1)))) }) (after_begin thread transfer mode operations)
 stands_begun table operations place thread transfer mode S blank left =
     let less = taken_less table.table place blank in
     let count = S.keeps.count in
     let many = S.keeps.many in
     let number : suc (length operations) ≡ table.given + 1 = omega (arith, S.given) in
     let new = fresh thread transfer mode (suc (length operations)) in
+    let now = set table.table place (Some (kept (table.given + 1) (fresh thread transfer mode (table.given + 1)))) in
     rw (not_full operations (omega (arith, less, count, many)) left) (record {
       keeps = subst (λ n. Keeps (set table.table place (Some (kept n (fresh thread transfer mode n)))) (operations ++ new ∷ [])) number
           (keeps_begun table.table operations place new blank refl S.keeps);
       given = omega (arith, number, length-append operations (new ∷ []));
+      says = λ to slot. subst (λ out. Says now (entry_at table.slots to slot) out) (sym (outs_begun to slot 1 operations new (none_sent to slot new refl)))
+          (says_blank table.table place (kept (table.given + 1) (fresh thread transfer mode (table.given + 1))) (entry_at table.slots to slot) (outs to slot 1 operations) blank (S.says to slot));
       settled = λ n operation at synced. elim (numbered_push operations new n operation at) [
         | inl was ↦ S.settled n operation was synced
         | inr it ↦ absurd (true≢false (sym synced ∙ ap (λ (z : Operation). z.synced) (sym it.1)))

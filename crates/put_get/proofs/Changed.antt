@@ -1,20 +1,25 @@
 -- The records stand where one operation changes.
-use Rattle.std.proofs.Common.{◌≡◌, ◌≢◌, ◌⊎◌, inl, inr, ℕ, zero, suc, ◌+◌, ◌<◌, ◌≤◌, Bool, true, false, true≢false, not, lt-ltb, if◌then◌else◌, List, [], ◌∷◌, ◌++◌, Option, None, Some, length, set, refl, sym, ap, ap₂, ◌∙◌, subst, arith}
-use Rattle.std.specs.List.{slice_get, list_all}
-use Rattle.std.proofs.lemmas.Bool.{cases_Bool, and_parts}
-use Rattle.std.proofs.lemmas.List.{length-set, length-append}
+use Rattle.std.proofs.Common.{◌≡◌, ◌≢◌, inl, inr, ℕ, suc, ◌+◌, ◌==◌, false, true≢false, if◌then◌else◌, List, [], ◌∷◌, ◌++◌, Option, None, Some, length, set, refl, sym, ap, ap₂, ◌∙◌, subst, arith}
+use Rattle.std.specs.List.{slice_get}
+use Rattle.std.proofs.lemmas.Bool.{cases_Bool, cases_eq}
+use Rattle.std.proofs.lemmas.List.{length-set, length-append, length-map}
 use Rattle.std.proofs.lemmas.Option.{same_Some, slice_get_within}
 use Rattle.lists.specs.Numbered.{numbered, change}
+use Rattle.lists.specs.Update.{update}
 use Rattle.lists.proofs.Indexes.{get-set_same, get-set_other}
-use Rattle.lists.proofs.Update.{update-Some}
-use Rattle.lists.proofs.Numbered.{numbered-change, numbered-changed, numbered-change_here, length-change}
+use Rattle.lists.proofs.Numbered.{numbered-change, numbered-changed, numbered-change_here, length-change, numbered_at}
 use Rattle.put_get.specs.declared.table.Standing.{Standing}
-use Rattle.put_get.specs.declared.table.Check.TheVariants.{Unreturned}
+use Rattle.put_get.specs.declared.slots.Waiting.{Waiting}
 use Rattle.put_get.specs.declared.transfers.Transfers.{Transfers}
-use Rattle.put_get.specs.Operation.{Operation, Sent, returned_of, has_next, is_complete, with_sent, with_return, after_return, IsOut, after_note, standing}
-use Rattle.put_get.specs.Stands.{kept, Keeps, Stands, IsPlaceOf}
+use Rattle.put_get.specs.Operation.{Operation, Sent, target, returned_of, is_complete, with_sent, as_back, with_back, come_back, IsFreeSlot}
+use Rattle.put_get.specs.Slots.{SlotsState, entry_at, HasSet}
+use Rattle.put_get.specs.Outs.{Out, requests_of, outs}
+use Rattle.put_get.specs.Stands.{kept, Keeps, Says, Stands}
 use Rattle.put_get.proofs.Tests.{get_set}
-use Rattle.put_get.proofs.Counts.{count_from}
+use Rattle.put_get.proofs.Counts.{count_from, number_at}
+use Rattle.put_get.proofs.Issued.{with_back_keeps}
+use Rattle.put_get.proofs.Outs.{IsOne, one_out, one_operation, outs_other, outs_issued, outs_kept, outs_free, issued_elsewhere}
+use Rattle.put_get.proofs.Said.{said, says_rewritten}
 
 numbered_other : (f : Operation → Operation) (operations : List Operation) (number other : ℕ) (operation : Operation)
     → other ≢ number → numbered operations other ≡ Some operation
@@ -84,102 +89,151 @@ keeps_changed f places operations place there operation K at is stands stays =
       ]
     ]
 
+-- ---- the whole table
+
+pub stands_changed : (f : Operation → Operation) (table : Transfers) (operations : List Operation) (place : ℕ)
+    (there new : Standing) (slots : SlotsState)
+    → Stands table operations → slice_get table.table place ≡ Some (Some there)
+    → ((o : Operation) → (f o).synced ≡ o.synced)
+    → ((o : Operation) → numbered operations there.number ≡ Some o → there ≡ kept there.number o → kept there.number (f o) ≡ new)
+    → ((to slot : ℕ) → Says (set table.table place (Some new)) (entry_at slots to slot) (outs to slot 1 (change f operations there.number)))
+    → Stands (record table { table = set table.table place (Some new); slots = slots }) (change f operations there.number)
+stands_changed f table operations place there new slots S at stays is says =
+    let o = S.keeps.each place there at in record {
+      keeps = subst (λ r. Keeps (set table.table place (Some r)) (change f operations there.number)) (is o.0 o.1 o.3)
+          (keeps_changed f table.table operations place there o.0 S.keeps at o.1 o.2 (stays o.0 ∙ o.2));
+      given = S.given ∙ sym (length-change f operations there.number);
+      says = says;
+      settled = λ number operation now synced. (
+          let was = numbered-change f operations there.number number operation now in
+          elim was.2 [
+            | inl it ↦ ap is_complete it.1 ∙ S.settled number was.0 was.1 (ap (λ (z : Operation). z.synced) (sym it.1) ∙ synced)
+            | inr it ↦ absurd (true≢false (sym synced ∙ (ap (λ (z : Operation). z.synced) it.1 ∙ (stays was.0 ∙ (ap (λ (z : Operation). z.synced) (same_Some was.0 o.0 (sym was.1 ∙ (ap (numbered operations) it.0 ∙ o.1))) ∙ o.2)))))
+          ]);
+    }
+
 -- ---- a chunk is issued
 
 returned_push : (sent : List Sent) (new : Sent) → new.back ≡ false → returned_of (sent ++ new ∷ []) ≡ returned_of sent
 returned_push [] new waits = rw waits refl
 returned_push (first ∷ sent) new waits = ap (λ n. (if first.back then 1 else 0) + n) (returned_push sent new waits)
 
-pub kept_noted : (number slot request : ℕ) (bytes : List ℕ) (operation : Operation)
+kept_noted : (number slot request : ℕ) (bytes : List ℕ) (operation : Operation)
     → kept number (with_sent slot request bytes operation) ≡ record (kept number operation) { issued = length operation.sent + 1 }
 kept_noted number slot request bytes operation =
     let new : Sent = record { slot = slot; number = request; bytes = bytes; back = false } in
     ap₂ (λ issued returned. record (kept number operation) { issued = issued; returned = returned }) (length-append operation.sent (new ∷ [])) (returned_push operation.sent new refl)
 
-pub stands_noted : (table : Transfers) (operations : List Operation) (place : ℕ) (there : Standing) (slot request : ℕ)
-    (bytes : List ℕ)
-    → Stands table operations → slice_get table.table place ≡ Some (Some there)
-    → Stands (record table { table = set table.table place (Some (record there { issued = there.issued + 1 })) })
-    (after_note there.number slot request bytes operations)
-stands_noted table operations place there slot request bytes S at =
-    let f = with_sent slot request bytes in
-    let o = S.keeps.each place there at in
-    record {
-      keeps = subst (λ r. Keeps (set table.table place (Some r)) (after_note there.number slot request bytes operations))
-          (kept_noted there.number slot request bytes o.0 ∙ ap (λ (z : Standing). record z { issued = z.issued + 1 }) (sym o.3))
-          (keeps_changed f table.table operations place there o.0 S.keeps at o.1 o.2 o.2);
-      given = S.given ∙ sym (length-change f operations there.number);
-      settled = λ number operation now synced. (
-          let was = numbered-change f operations there.number number operation now in
-          elim was.2 [
-            | inl it ↦ ap is_complete it.1 ∙ S.settled number was.0 was.1 (ap (λ (z : Operation). z.synced) (sym it.1) ∙ synced)
-            | inr it ↦ absurd (true≢false (sym synced ∙ (ap (λ (z : Operation). z.synced) it.1 ∙ (ap (λ (z : Operation). z.synced) (same_Some was.0 o.0 (sym was.1 ∙ (ap (numbered operations) it.0 ∙ o.1))) ∙ o.2))))
-          ]);
-    }
+pub stands_noted : (table : Transfers) (operations : List Operation) (place : ℕ) (there : Standing) (to slot request : ℕ)
+    (bytes : List ℕ) (slots : SlotsState)
+    → Stands table operations → slice_get table.table place ≡ Some (Some there) → target there.transfer ≡ to
+    → IsFreeSlot operations to slot → HasSet table.slots to slot (Some (record { request = request; place = place })) slots
+    → Stands (record table { table = set table.table place (Some (record there { issued = there.issued + 1 })); slots = slots })
+    (change (with_sent slot request bytes) operations there.number)
+stands_noted table operations place there to slot request bytes slots S at is free H =
+    stands_changed f table operations place there new slots S at (λ any. refl)
+    (λ any here same. kept_noted there.number slot request bytes any ∙ ap (λ (z : Standing). record z { issued = z.issued + 1 }) (sym same))
+    says
+  where
+    f : Operation → Operation
+    f = with_sent slot request bytes
+
+    new : Standing
+    new = record there { issued = there.issued + 1 }
+
+    places : List (Option Standing)
+    places = set table.table place (Some new)
+
+    says : (node other : ℕ) → Says places (entry_at slots node other) (outs node other 1 (change f operations there.number))
+    says node other =
+        let o = S.keeps.each place there at in
+        let a = number_at operations there.number o.0 o.1 in
+        let one : there.number ≡ suc a.0 = omega (arith, a.1) in
+        let to_is : target o.0.transfer ≡ to = ap (λ (z : Standing). target z.transfer) (sym o.3) ∙ is in
+        let changed : change f operations there.number ≡ update operations a.0 f = ap (change f operations) one in
+        let elsewhere : (node ≡ to → other ≡ slot → ⊥) → Says places (entry_at slots node other) (outs node other 1 (change f operations there.number)) = λ apart. (
+        let kept_so : outs node other 1 (change f operations there.number) ≡ outs node other 1 operations = ap (outs node other 1) changed ∙ outs_kept node other 1 f operations a.0 o.0 a.2 (issued_elsewhere to slot request bytes node other o.0 to_is apart) in
+        subst (λ entry. Says places entry (outs node other 1 (change f operations there.number))) (sym (H.others node other apart))
+        (subst (λ out. Says places (entry_at table.slots node other) out) (sym kept_so)
+        (says_rewritten table.table place there new (entry_at table.slots node other) (outs node other 1 operations) at refl (S.says node other)))) in
+        elim (cases_eq node to) [
+          | inr apart ↦ elsewhere (λ same. absurd (apart same))
+          | inl same_node ↦ elim (cases_eq other slot) [
+            | inr apart ↦ elsewhere (λ any same. absurd (apart same))
+            | inl same_slot ↦ (
+                let issued : outs to slot 1 (change f operations there.number) ≡ record { operation = there.number; request = request } ∷ [] =
+                ap (outs to slot 1) changed ∙ (outs_issued to slot request 1 bytes operations a.0 o.0 (outs_free to slot 1 operations free) a.2 to_is ∙ ap (λ n. record { operation = n; request = request } ∷ []) (sym a.1)) in
+                subst (λ entry. Says places entry (outs node other 1 (change f operations there.number))) (sym (ap₂ (entry_at slots) same_node same_slot ∙ H.here))
+                (new, get-set_same table.table place (Some new) (slice_get_within table.table place (Some there) at), ap₂ (λ n s. outs n s 1 (change f operations there.number)) same_node same_slot ∙ issued))
+          ]
+        ]
 
 -- ---- a chunk comes back
 
-all_at : {X : Type 0} (test : X → Bool) (xs : List X) (place : ℕ) (x : X) → list_all test xs ≡ true
-    → slice_get xs place ≡ Some x → test x ≡ true
-all_at test [] place x all at = absurd (cc)
-all_at test (first ∷ xs) zero x all at = ap test (sym (same_Some first x at)) ∙ (and_parts (test first) (list_all test xs) all).0
-all_at test (first ∷ xs) (suc place) x all at = all_at test xs place x (and_parts (test first) (list_all test xs) all).1 at
+kept_returned : (number to slot request : ℕ) (operation : Operation) → requests_of to slot operation ≡ request ∷ []
+    → kept number (with_back to slot request operation) ≡ record (kept number operation) { returned = returned_of operation.sent + 1 }
+kept_returned number to slot request operation one =
+    let it = (one_operation to slot request operation one).1 in
+    elim (cases_Bool (target operation.transfer == to)) [
+      | inl here ↦ rw here (ap₂ (λ issued returned. record (kept number operation) { issued = issued; returned = returned }) (length-map operation.sent (as_back slot request)) (rw here at it))
+      | inr other ↦ absurd (none (rw other at one))
+    ]
+  where
+    none : ◌≡◌ {A = List ℕ} [] (request ∷ []) → ⊥
+    none is = cc
 
-returned_le : (sent : List Sent) → returned_of sent ≤ length sent
-returned_le [] = omega arith
-returned_le (one ∷ sent) = let later = returned_le sent in elim (cases_Bool one.back) [ inl is ↦ rw is (omega (arith, later)) | inr isnt ↦ rw isnt (omega (arith, later)) ]
+pub stands_returned : (table : Transfers) (operations : List Operation) (there : Standing) (to slot : ℕ)
+    (waiting : Waiting) (slots : SlotsState)
+    → Stands table operations → entry_at table.slots to slot ≡ Some waiting
+    → slice_get table.table waiting.place ≡ Some (Some there) → HasSet table.slots to slot None slots
+    → Stands (record table { table = set table.table waiting.place (Some (record there { returned = there.returned + 1 })); slots = slots })
+    (come_back to slot waiting.request operations)
+stands_returned table operations there to slot waiting slots S entry at H =
+    subst (Stands (record table { table = places; slots = slots })) (sym back_is)
+    (stands_changed f table operations waiting.place there new slots S at
+    (λ any. ap (λ (z : Operation). z.synced) (with_back_keeps to slot waiting.request any))
+    (λ any here same. kept_returned there.number to slot waiting.request any (ap (requests_of to slot) (same_Some _ _ (sym here ∙ here_is)) ∙ one.one) ∙ ap (λ (z : Standing). record z { returned = z.returned + 1 }) (sym same))
+    says)
+  where
+    f : Operation → Operation
+    f = with_back to slot waiting.request
 
-returned_less : (sent : List Sent) (index : ℕ) (one : Sent) → slice_get sent index ≡ Some one → one.back ≡ false
-    → returned_of sent < length sent
-returned_less [] index one at waits = absurd (cc)
-returned_less (first ∷ sent) zero one at waits = let later = returned_le sent in rw (ap (λ (z : Sent). z.back) (same_Some first one at) ∙ waits) (omega (arith, later))
-returned_less (first ∷ sent) (suc index) one at waits = let later = returned_less sent index one at waits in elim (cases_Bool first.back) [ inl is ↦ rw is (omega (arith, later)) | inr isnt ↦ rw isnt (omega (arith, later)) ]
+    new : Standing
+    new = record there { returned = there.returned + 1 }
 
-returned_set : (sent : List Sent) (index : ℕ) (one : Sent) → slice_get sent index ≡ Some one → one.back ≡ false
-    → returned_of (set sent index (record one { back = true })) ≡ returned_of sent + 1
-returned_set [] index one at waits = absurd (cc)
-returned_set (first ∷ sent) zero one at waits = rw (ap (λ (z : Sent). z.back) (same_Some first one at) ∙ waits) (omega arith)
-returned_set (first ∷ sent) (suc index) one at waits = let later = returned_set sent index one at waits in omega (arith, later)
+    places : List (Option Standing)
+    places = set table.table waiting.place (Some new)
 
-kept_returned : (number index : ℕ) (operation : Operation) (one : Sent) → slice_get operation.sent index ≡ Some one
-    → one.back ≡ false
-    → kept number (with_return index operation) ≡ record (kept number operation) { returned = returned_of operation.sent + 1 }
-kept_returned number index operation one at waits =
-    let is = update-Some operation.sent index (λ (sent : Sent). record sent { back = true }) one at in
-    ap₂ (λ issued returned. record (kept number operation) { issued = issued; returned = returned }) (ap length is ∙ length-set operation.sent index (record one { back = true })) (ap returned_of is ∙ returned_set operation.sent index one at waits)
+    out : Out
+    out = record { operation = there.number; request = waiting.request }
 
-pub out_stands : (table : Transfers) (operations : List Operation) (number index : ℕ) → Stands table operations
-    → (out : IsOut operations number index) → out.operation.synced ≡ false
-out_stands table operations number index S out = elim (cases_Bool out.operation.synced) [
-  | inl synced ↦ absurd (true≢false (sym (all_at (λ (sent : Sent). sent.back) out.operation.sent index out.sent (and_parts (not (has_next out.operation)) (list_all (λ (sent : Sent). sent.back) out.operation.sent) (S.settled number out.operation out.numbered_so synced)).1 out.issued) ∙ out.waits))
-  | inr isnt ↦ isnt
-]
+    outs_are : outs to slot 1 operations ≡ out ∷ []
+    outs_are =
+        let it = said table operations to slot waiting S entry in
+        it.2 ∙ ap (λ (z : Standing). record { operation = z.number; request = waiting.request } ∷ []) (same_Some _ _ (same_Some _ _ (sym it.1 ∙ at)))
 
--- its record stands, and says so
-pub out_there : (table : Transfers) (operations : List Operation) (number index : ℕ) → Stands table operations
-    → IsOut operations number index → (place : ℕ) × IsPlaceOf table.table number Unreturned place
-out_there table operations number index S out =
-    let found = S.keeps.all number out.operation out.numbered_so (out_stands table operations number index S out) in
-    (found.0, (kept number out.operation, found.1, refl, lt-ltb (returned_of out.operation.sent) (length out.operation.sent) (returned_less out.operation.sent index out.sent out.issued out.waits)))
+    one : IsOne to slot 1 operations out
+    one = one_out to slot 1 operations out outs_are
 
-pub stands_returned : (table : Transfers) (operations : List Operation) (place : ℕ) (there : Standing) (index : ℕ)
-    → Stands table operations → slice_get table.table place ≡ Some (Some there) → IsOut operations there.number index
-    → Stands (record table { table = set table.table place (Some (record there { returned = there.returned + 1 })) })
-    (after_return there.number index operations)
-stands_returned table operations place there index S at out =
-    let f = with_return index in
-    let o = S.keeps.each place there at in
-    let same : o.0 ≡ out.operation = same_Some _ _ (sym o.1 ∙ out.numbered_so) in
-    let issued : slice_get o.0.sent index ≡ Some out.sent = ap (λ (z : Operation). slice_get z.sent index) same ∙ out.issued in
-    record {
-      keeps = subst (λ r. Keeps (set table.table place (Some r)) (after_return there.number index operations))
-          (kept_returned there.number index o.0 out.sent issued out.waits ∙ ap (λ (z : Standing). record z { returned = z.returned + 1 }) (sym o.3))
-          (keeps_changed f table.table operations place there o.0 S.keeps at o.1 o.2 o.2);
-      given = S.given ∙ sym (length-change f operations there.number);
-      settled = λ number operation now synced. (
-          let was = numbered-change f operations there.number number operation now in
-          elim was.2 [
-            | inl it ↦ ap is_complete it.1 ∙ S.settled number was.0 was.1 (ap (λ (z : Operation). z.synced) (sym it.1) ∙ synced)
-            | inr it ↦ absurd (true≢false (sym synced ∙ (ap (λ (z : Operation). z.synced) it.1 ∙ (ap (λ (z : Operation). z.synced) (same_Some was.0 o.0 (sym was.1 ∙ (ap (numbered operations) it.0 ∙ o.1))) ∙ o.2))))
-          ]);
-    }
+    here_is : numbered operations there.number ≡ Some one.operation
+    here_is = numbered_at operations there.number one.place one.operation one.here one.numbered_so
+
+    back_is : come_back to slot waiting.request operations ≡ change f operations there.number
+    back_is = one.changes ∙ ap (change f operations) {x = suc one.place} (omega (arith, one.numbered_so))
+
+    says : (node other : ℕ) → Says places (entry_at slots node other) (outs node other 1 (change f operations there.number))
+    says node other =
+        let elsewhere : (node ≡ to → other ≡ slot → ⊥) → Says places (entry_at slots node other) (outs node other 1 (change f operations there.number)) = λ apart. (
+        let kept_so : outs node other 1 (change f operations there.number) ≡ outs node other 1 operations = ap (outs node other 1) (sym back_is) ∙ outs_other to slot waiting.request node other 1 operations apart in
+        subst (λ found. Says places found (outs node other 1 (change f operations there.number))) (sym (H.others node other apart))
+        (subst (λ found. Says places (entry_at table.slots node other) found) (sym kept_so)
+        (says_rewritten table.table waiting.place there new (entry_at table.slots node other) (outs node other 1 operations) at refl (S.says node other)))) in
+        elim (cases_eq node to) [
+          | inr apart ↦ elsewhere (λ same. absurd (apart same))
+          | inl same_node ↦ elim (cases_eq other slot) [
+            | inr apart ↦ elsewhere (λ any same. absurd (apart same))
+            | inl same_slot ↦
+                subst (λ found. Says places found (outs node other 1 (change f operations there.number))) (sym (ap₂ (entry_at slots) same_node same_slot ∙ H.here))
+                (ap₂ (λ n s. outs n s 1 (change f operations there.number)) same_node same_slot ∙ (ap (outs to slot 1) (sym back_is) ∙ one.gone))
+          ]
+        ]

@@ -8,7 +8,8 @@ use Rattle.std.proofs.lemmas.Option.{same_Some}
 use Rattle.lists.specs.Numbered.{numbered}
 use Rattle.put_get.specs.declared.table.Standing.{Standing}
 use Rattle.put_get.specs.Operation.{Operation, standing}
-use Rattle.put_get.specs.Stands.{taken, kept}
+use Rattle.put_get.specs.Table.{taken}
+use Rattle.put_get.specs.Stands.{kept}
 use Rattle.put_get.proofs.Tests.{same_test}
 
 abbrev serials : List (Option Standing) → List ℕ

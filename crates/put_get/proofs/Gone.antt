@@ -1,15 +1,21 @@
 -- The records stand where those that were chosen go.
-use Rattle.std.proofs.Common.{◌≡◌, ◌⊎◌, inl, inr, ℕ, zero, suc, ◌+◌, ◌<◌, ◌≤◌, Bool, true, false, true≢false, not, ◌&&◌, if◌then◌else◌, List, [], ◌∷◌, Option, None, Some, length, refl, sym, ap, ap₂, ◌∙◌, arith}
+use Rattle.std.proofs.Common.{◌≡◌, ◌⊎◌, inl, inr, ℕ, zero, suc, ◌+◌, Bool, true, false, true≢false, List, [], ◌∷◌, Option, None, Some, length, refl, sym, ap, ap₂, ◌∙◌, subst, arith}
 use Rattle.std.specs.List.{slice_get, list_all}
-use Rattle.std.proofs.lemmas.Bool.{cases_Bool, and_parts, not-true}
+use Rattle.std.proofs.lemmas.Bool.{cases_Bool, and_parts}
 use Rattle.std.proofs.lemmas.Option.{same_Some, slice_get_within}
 use Rattle.lists.specs.Numbered.{numbered}
 use Rattle.lists.proofs.Places.{slice_get_there}
 use Rattle.put_get.specs.declared.table.Standing.{Standing}
 use Rattle.put_get.specs.declared.transfers.Transfers.{Transfers}
-use Rattle.put_get.specs.Operation.{Operation, Sent, has_next, is_complete}
+use Rattle.put_get.specs.Operation.{Operation, is_complete}
 use Rattle.put_get.specs.Syncs.{Choice, go, chosen}
-use Rattle.put_get.specs.Stands.{kept, Keeps, Stands, Agrees, dropped, AreDropped}
+use Rattle.put_get.specs.Table.{dropped, AreDropped}
+use Rattle.put_get.specs.Slots.{entry_at}
+use Rattle.put_get.specs.Outs.{requests_of, outs}
+use Rattle.put_get.proofs.Outs.{one_out, outs_gone, complete_none}
+use Rattle.put_get.proofs.Said.{says_dropped}
+use Rattle.lists.proofs.Numbered.{numbered_at}
+use Rattle.put_get.specs.Stands.{Says, kept, Keeps, Stands, Agrees}
 use Rattle.put_get.proofs.Counts.{count_from, number_at}
 
 length-go : (choice : Choice) (number : ℕ) (operations : List Operation)
@@ -129,6 +135,8 @@ pub stands_gone : (table : Transfers) (new : List (Option Standing)) (operations
 stands_gone table new operations choice test S A D all = record {
   keeps = keeps_gone table.table new operations choice test A D S.keeps;
   given = S.given ∙ sym (length-go choice 1 operations);
+  says = λ to slot. subst (λ out. Says new (entry_at table.slots to slot) out) (sym (outs_gone to slot 1 choice 1 operations))
+      (says_dropped table.table new test (entry_at table.slots to slot) (outs to slot 1 operations) D (stays to slot) (S.says to slot));
   settled = λ number now at synced. (
       let a = number_at (go choice 1 operations) number now at in
       let o = go_was choice 1 operations a.0 now a.2 in
@@ -137,3 +145,20 @@ stands_gone table new operations choice test S A D all = record {
         | inr it ↦ ap is_complete it.1 ∙ chosen_complete choice 1 operations a.0 o.0 all o.1 it.0
       ]);
 }
+  where
+    none : (request : ℕ) → ◌≡◌ {A = List ℕ} [] (request ∷ []) → ⊥
+    none request is = cc
+
+    stays : (to slot : ℕ) (place : ℕ) (there : Standing) (request : ℕ) → slice_get table.table place ≡ Some (Some there)
+        → outs to slot 1 operations ≡ record { operation = there.number; request = request } ∷ [] → test there ≡ false
+    stays to slot place there request at out = elim (cases_Bool (test there)) [
+      | inr isnt ↦ isnt
+      | inl is ↦ (
+          let one = one_out to slot 1 operations (record { operation = there.number; request = request }) out in
+          let o = S.keeps.each place there at in
+          let a = number_at operations there.number o.0 o.1 in
+          let here = numbered_at operations there.number one.place one.operation one.here one.numbered_so in
+          let chosen_so : choice (1 + a.0) o.0 ≡ true = ap (λ n. choice n o.0) (sym a.1) ∙ (A.chosen there.number o.0 o.2 ∙ (ap test (sym o.3) ∙ is)) in
+          let complete = chosen_complete choice 1 operations a.0 o.0 all a.2 chosen_so in
+          absurd (none request (sym (complete_none to slot o.0 complete) ∙ (ap (requests_of to slot) (same_Some _ _ (sym o.1 ∙ here)) ∙ one.one))))
+    ]

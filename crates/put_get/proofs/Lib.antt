@@ -1,8 +1,14 @@
 pub mod Places
+pub mod Unissued
+pub mod Entries
+pub mod Outs
+pub mod Said
 pub mod Tests
+pub mod Issued
 pub mod Counts
 pub mod Began
 pub mod Changed
+pub mod Backs
 pub mod Members
 pub mod Marks
 pub mod Worn

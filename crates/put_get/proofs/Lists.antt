@@ -1,5 +1,5 @@
 -- Syncs of lists of handles.
-use Rattle.std.proofs.Common.{◌≡◌, inl, inr, ℕ, zero, suc, ◌+◌, ◌==◌, Bool, true, false, true≢false, not, ◌&&◌, ◌||◌, if◌then◌else◌, List, [], ◌∷◌, Option, None, Some, take, drop, length, get_or, ◌<◌, refl, sym, ap, ap₂, ◌∙◌, arith}
+use Rattle.std.proofs.Common.{◌≡◌, inl, inr, ℕ, zero, suc, ◌+◌, ◌==◌, Bool, true, false, true≢false, not, ◌&&◌, ◌||◌, List, [], ◌∷◌, Option, None, Some, take, length, get_or, ◌<◌, refl, sym, ap, ap₂, ◌∙◌, arith}
 use Rattle.std.specs.List.{slice_get, list_any}
 use Rattle.std.proofs.lemmas.Bool.{cases_Bool, and_parts}
 use Rattle.std.proofs.lemmas.Option.{same_Some}
@@ -11,7 +11,7 @@ use Rattle.put_get.specs.declared.operation.Synced.{Synced}
 use Rattle.put_get.specs.declared.operation.Synced.TheVariants as synced
 use Rattle.put_get.specs.declared.transfers.Transfers.{Transfers}
 use Rattle.put_get.specs.Syncs.{Choice, chosen, is_empty, is_other, members, members_of, fault_of, fault_here, left_by}
-use Rattle.put_get.specs.Stands.{kept, Keeps, Stands, Agrees, member_in, member_of_any}
+use Rattle.put_get.specs.Stands.{kept, Keeps, Stands, Agrees, member_of_any}
 use Rattle.put_get.proofs.Members.{members_agree}
 
 any_next : {X : Type 0} (test : X → Bool) (xs : List X) (index : ℕ) (x : X) → slice_get xs index ≡ Some x
@@ -54,12 +54,13 @@ or_false true = refl
 or_false false = refl
 
 -- a fault is no Ok
-never_ok : (thread : ℕ) (operations : List Operation) (handles : List Handle)
-    → fault_of thread operations handles ≡ Some synced.Ok → ⊥
-never_ok thread operations [] is = absurd (cc)
-never_ok thread operations (handle ∷ later) is = elim (cases_Bool (handle.serial == 0)) [
-  | inl invalid ↦ never_ok thread operations later (rw invalid at is)
-  | inr valid ↦ here (chosen (members handle.serial operations) 1 operations) (never_ok thread operations later) (rw valid at is)
+not_ok : (thread : ℕ) (operations : List Operation) → fault_here thread operations ≡ Some synced.Ok → ⊥
+not_ok thread operations is = elim (cases_Bool (is_empty operations)) [
+  | inl none ↦ bad (same_Some synced.BadHandle synced.Ok (rw none at is))
+  | inr some ↦ elim (cases_Bool (list_any (is_other thread) operations)) [
+    | inl other ↦ worse (same_Some synced.NotYours synced.Ok (rw (some, other) at is))
+    | inr own ↦ never (rw (some, own) at is)
+  ]
 ]
   where
     bad : synced.BadHandle ≡ synced.Ok → ⊥
@@ -68,25 +69,48 @@ never_ok thread operations (handle ∷ later) is = elim (cases_Bool (handle.seri
     worse : synced.NotYours ≡ synced.Ok → ⊥
     worse same = cc
 
+    never : ◌≡◌ {A = Option Synced} None (Some synced.Ok) → ⊥
+    never same = cc
+
+never_ok : (thread : ℕ) (operations : List Operation) (handles : List Handle)
+    → fault_of thread operations handles ≡ Some synced.Ok → ⊥
+never_ok thread operations [] is = absurd (cc)
+never_ok thread operations (handle ∷ later) is = elim (cases_Bool (handle.serial == 0)) [
+  | inl invalid ↦ never_ok thread operations later (rw invalid at is)
+  | inr valid ↦ here (chosen (members handle.serial operations) 1 operations) (never_ok thread operations later) (rw valid at is)
+]
+  where
     here : (ms : List Operation) → (fault_of thread operations later ≡ Some synced.Ok → ⊥)
         → option_or (fault_here thread ms) (fault_of thread operations later) ≡ Some synced.Ok → ⊥
-    here ms rest is = elim (cases_Bool (is_empty ms)) [
-      | inl none ↦ bad (same_Some synced.BadHandle synced.Ok (rw none at is))
-      | inr some ↦ elim (cases_Bool (list_any (is_other thread) ms)) [
-        | inl other ↦ worse (same_Some synced.NotYours synced.Ok (rw (some, other) at is))
-        | inr own ↦ rest (rw (some, own) at is)
-      ]
-    ]
+    here ms rest is = by (fault_here thread ms) refl is
+      where
+        by : (fault : Option Synced) → fault_here thread ms ≡ fault
+            → option_or fault (fault_of thread operations later) ≡ Some synced.Ok → ⊥
+        by None none at = rest at
+        by (Some fault) some at = not_ok thread ms (some ∙ at)
+
+-- what isn't Ok leaves the operations as they were
+left_alone : (table : Transfers) (operations : List Operation) (choice : Choice) (fault : Synced)
+    → (fault ≡ synced.Ok → ⊥) → Stands table operations → Stands table (left_by fault choice operations)
+left_alone table operations choice synced.Ok isnt S = absurd (isnt refl)
+left_alone table operations choice synced.NotReady isnt S = S
+left_alone table operations choice synced.NotYours isnt S = S
+left_alone table operations choice synced.BadHandle isnt S = S
+left_alone table operations choice (synced.WornOut node) isnt S = S
+
+pub here_stays : (table : Transfers) (operations : List Operation) (thread : ℕ) (members_here : List Operation)
+    (choice : Choice) (fault : Synced)
+    → fault_here thread members_here ≡ Some fault → Stands table operations
+    → Stands table (left_by fault choice operations)
+here_stays table operations thread members_here choice fault is S =
+    left_alone table operations choice fault (λ ok. not_ok thread members_here (is ∙ ap (λ (x : Synced). Some x) ok)) S
 
 pub fault_stays : (table : Transfers) (operations : List Operation) (thread : ℕ) (handles : List Handle)
     (choice : Choice) (fault : Synced)
     → fault_of thread operations handles ≡ Some fault → Stands table operations
     → Stands table (left_by fault choice operations)
-fault_stays table operations thread handles choice synced.Ok is S = absurd (never_ok thread operations handles is)
-fault_stays table operations thread handles choice synced.NotReady is S = S
-fault_stays table operations thread handles choice synced.NotYours is S = S
-fault_stays table operations thread handles choice synced.BadHandle is S = S
-fault_stays table operations thread handles choice (synced.WornOut node) is S = S
+fault_stays table operations thread handles choice fault is S =
+    left_alone table operations choice fault (λ ok. never_ok thread operations handles (is ∙ ap (λ (x : Synced). Some x) ok)) S
 
 pub at_get : {X : Type 0} (xs : List X) (index : ℕ) (default : X) → index < length xs
     → slice_get xs index ≡ Some (get_or xs index default)

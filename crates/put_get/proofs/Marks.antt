@@ -1,13 +1,12 @@
 -- What is marked is what a test holds of.
-use Rattle.std.proofs.Common.{◌≡◌, inl, inr, ℕ, zero, suc, ◌<◌, ◌≤◌, Bool, true, false, true≢false, ◌&&◌, ◌||◌, if◌then◌else◌, List, [], ◌∷◌, Option, None, Some, length, unwrap_or, replicate, refl, sym, ap, ap₂, ◌∙◌, subst, arith}
-use Rattle.std.specs.List.{slice_get, list_any}
-use Rattle.std.proofs.lemmas.Option.{same_Some, slice_get_within}
+use Rattle.std.proofs.Common.{◌≡◌, ℕ, zero, suc, ◌<◌, Bool, true, false, true≢false, ◌&&◌, ◌||◌, List, [], ◌∷◌, Option, None, Some, length, unwrap_or, replicate, refl, sym, ap, ◌∙◌, arith}
+use Rattle.std.specs.List.{slice_get}
 use Rattle.lists.proofs.Places.{slice_get-replicate}
 use Rattle.put_get.specs.declared.table.Standing.{Standing}
 use Rattle.put_get.specs.declared.table.Check.{Check}
 use Rattle.put_get.specs.Table.{flat}
 use Rattle.put_get.specs.Syncs.{flag_at}
-use Rattle.put_get.specs.Stands.{on_place, picks, passes, also, AreMarks, unless_marked, dropped}
+use Rattle.put_get.specs.Table.{on_place, picks, passes, also, AreMarks, unless_marked, dropped}
 
 pub mark_is : (test : Standing → Bool) (places : List (Option Standing)) (marks : List Bool) (place : ℕ)
     (there : Option Standing)

@@ -1,17 +1,16 @@
 -- What a test finds among the records, it finds among the operations chosen.
-use Rattle.std.proofs.Common.{◌≡◌, inl, inr, ℕ, zero, suc, ◌+◌, ◌<◌, ◌≤◌, ◌==◌, Bool, true, false, true≢false, not, ◌&&◌, ◌||◌, if◌then◌else◌, List, [], ◌∷◌, Option, None, Some, length, refl, sym, ap, ap₂, ◌∙◌, arith, eqb, nat_lt, lt-ltb, le-ltb}
+use Rattle.std.proofs.Common.{◌≡◌, inl, inr, ℕ, zero, suc, ◌+◌, ◌≤◌, ◌==◌, Bool, true, false, true≢false, not, ◌&&◌, ◌||◌, List, [], ◌∷◌, Option, None, Some, length, refl, sym, ap, ap₂, ◌∙◌, arith, eqb, nat_lt, lt-ltb, le-ltb}
 use Rattle.std.specs.List.{slice_get, list_any, list_all}
-use Rattle.std.proofs.lemmas.Bool.{cases_Bool, cases_lt, and_parts, and_from, false_from_ne_true, not-true, not-false, not_from_false}
+use Rattle.std.proofs.lemmas.Bool.{cases_Bool, cases_lt, and_parts, and_from, not-true}
 use Rattle.std.proofs.lemmas.Option.{same_Some}
-use Rattle.lists.specs.Numbered.{numbered}
 use Rattle.put_get.specs.declared.table.Standing.{Standing}
 use Rattle.put_get.specs.declared.table.Pick.TheVariants as pick
-use Rattle.put_get.specs.declared.table.Check.{Check}
 use Rattle.put_get.specs.declared.table.Check.TheVariants.{Any, Others, Unissued, UnissuedTo, Unfinished}
 use Rattle.put_get.specs.declared.operation.Some3.{Some3}
-use Rattle.put_get.specs.Operation.{Operation, Sent, returned_of, has_next, is_complete, target, chunks, size}
+use Rattle.put_get.specs.Operation.{Operation, Sent, returned_of, has_next, is_complete, target}
 use Rattle.put_get.specs.Syncs.{Choice, chosen, members, in_region, is_name, is_empty, is_other, implicit_of}
-use Rattle.put_get.specs.Stands.{kept, Keeps, on_place, picked, also, passes, has, Agrees, is_unissued, member_in}
+use Rattle.put_get.specs.Table.{on_place, picked, passes, has}
+use Rattle.put_get.specs.Stands.{kept, Keeps, Agrees, member_in}
 use Rattle.put_get.proofs.Tests.{same_test, any_at, any_from}
 use Rattle.put_get.proofs.Counts.{number_at}
 

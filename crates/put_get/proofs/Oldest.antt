@@ -1,15 +1,17 @@
 -- The least number among the records that are ready is that of the oldest operation.
-use Rattle.std.proofs.Common.{◌≡◌, ◌⊎◌, inl, inr, ℕ, zero, suc, ◌+◌, ◌<◌, ◌≤◌, Bool, true, false, true≢false, not, ◌&&◌, if◌then◌else◌, List, [], ◌∷◌, Option, None, Some, length, refl, sym, ap, ap₂, ◌∙◌, arith, nat_lt, IfSome, lt-ltb, le-ltb}
-use Rattle.std.specs.List.{slice_get, list_all}
+use Rattle.std.proofs.Common.{◌≡◌, ◌⊎◌, inl, inr, ℕ, zero, suc, ◌+◌, ◌<◌, Bool, true, false, true≢false, not, ◌&&◌, List, [], ◌∷◌, Option, None, Some, refl, sym, ap, ap₂, ◌∙◌, arith, lt-ltb, le-ltb}
+use Rattle.std.specs.List.{slice_get, list_all, list_any}
 use Rattle.std.proofs.lemmas.Bool.{cases_Bool, cases_eq, cases_lt, and_parts, not-true}
 use Rattle.std.proofs.lemmas.Option.{same_Some, slice_get_within}
-use Rattle.lists.specs.Numbered.{numbered}
 use Rattle.put_get.specs.declared.operation.Next.{Next}
 use Rattle.put_get.specs.declared.transfers.Transfers.{Transfers}
 use Rattle.put_get.specs.declared.table.Standing.{Standing}
 use Rattle.put_get.specs.Operation.{Operation, Sent, target, has_next, next_chunk, chunk_of}
-use Rattle.put_get.specs.Stands.{kept, Keeps, Stands, is_ready, is_unissued, IsLeast, better, older, next_of, CanNote}
+use Rattle.put_get.specs.Table.{is_unissued}
+use Rattle.put_get.specs.Table.{on_place}
+use Rattle.put_get.specs.Stands.{kept, Stands, is_ready, IsLeast, better, older, next_of, CanNote}
 use Rattle.put_get.proofs.Counts.{number_at}
+use Rattle.put_get.proofs.Tests.{same_test, any_at, any_from}
 
 none_is : (can : ℕ → Bool) (number : ℕ) (operations : List Operation)
     → ((place : ℕ) (operation : Operation) → slice_get operations place ≡ Some operation → (has_next operation && can (target operation.transfer)) ≡ false)
@@ -147,3 +149,41 @@ unissued_of can places end best least = (and_parts (is_unissued best) (can (targ
 pub note_of : (can : ℕ → Bool) (table : Transfers) (end : ℕ) (best : Standing) → IsLeast can table.table end (Some best)
     → CanNote table best.number
 note_of can table end best least = (least.0.0, (best, least.0.1, refl, unissued_of can table.table end best least))
+
+-- ---- nothing is unissued
+
+any_here : (test : Operation → Bool) (operations : List Operation) → list_any test operations ≡ false
+    → (place : ℕ) (operation : Operation) → slice_get operations place ≡ Some operation → test operation ≡ false
+any_here test operations none place operation at = elim (cases_Bool (test operation)) [
+  | inr isnt ↦ isnt
+  | inl is ↦ absurd (true≢false (sym (any_from test operations place operation at is) ∙ none))
+]
+
+-- an unissued chunk of a record is one of an operation
+pub idle_is : (table : Transfers) (operations : List Operation) → Stands table operations
+    → list_any (on_place is_unissued) table.table ≡ list_any has_next operations
+idle_is table operations S = same_test _ _ forth back
+  where
+    in_place : (there : Option Standing) → on_place is_unissued there ≡ true
+        → (r : Standing) × (there ≡ Some r) × (is_unissued r ≡ true)
+    in_place None is = absurd (true≢false (sym is))
+    in_place (Some r) is = (r, refl, is)
+
+    forth : list_any (on_place is_unissued) table.table ≡ true → list_any has_next operations ≡ true
+    forth any =
+        let p = any_at (on_place is_unissued) table.table any in
+        let r = in_place p.1 p.3 in
+        let o = S.keeps.each p.0 r.0 (p.2 ∙ ap Some r.1) in
+        let a = number_at operations r.0.number o.0 o.1 in
+        any_from has_next operations a.0 o.0 a.2 (ap is_unissued (sym o.3) ∙ r.2)
+
+    back : list_any has_next operations ≡ true → list_any (on_place is_unissued) table.table ≡ true
+    back any =
+        let o = any_at has_next operations any in
+        let there = stands_ready (λ node. true) table operations o.0 o.1 S o.2 (rw o.3 refl) in
+        any_from (on_place is_unissued) table.table there.0 (Some (kept (suc o.0) o.1)) there.1 o.3
+
+-- no chunk is next where none is unissued
+pub idle_next : (can : ℕ → Bool) (operations : List Operation) → list_any has_next operations ≡ false
+    → next_chunk can 1 operations ≡ None
+idle_next can operations none = none_is can 1 operations (λ place operation at. ap (λ has. has && can (target operation.transfer)) (any_here has_next operations none place operation at))

@@ -1,4 +1,6 @@
 pub mod Operation
 pub mod Syncs
 pub mod Table
+pub mod Slots
+pub mod Outs
 pub mod Stands

@@ -1,9 +1,10 @@
--- The operations of a node, by chunks. An operation's number is its place in the list of all that ever began, counted from 1.
-use Rattle.std.specs.Prelude.{ℕ, suc, ◌+◌, ◌-◌, ◌*◌, ◌/◌, ◌==◌, nat_le, nat_lt, Bool, true, false, not, ◌&&◌, ◌||◌, if◌then◌else◌, min}
-use Rattle.std.specs.Prelude.{List, [], ◌∷◌, ◌++◌, Option, None, Some, Result, Ok, Err, length, slice_get, ◌≡◌}
-use Rattle.std.specs.List.{list_all}
+-- The operations of a node, by chunks. The number of an operation is its place in the list of all that ever began,
+-- counted from 1.
+use Rattle.std.specs.Prelude.{ℕ, suc, ◌+◌, ◌-◌, ◌*◌, ◌/◌, ◌==◌, nat_le, nat_lt, Bool, true, false, not, ◌&&◌, ◌||◌}
+use Rattle.std.specs.Prelude.{if◌then◌else◌, min}
+use Rattle.std.specs.Prelude.{List, [], ◌∷◌, ◌++◌, Option, None, Some, Result, Ok, Err, length, map, slice_get, ◌≡◌}
+use Rattle.std.specs.List.{list_all, list_any}
 use Rattle.lists.specs.Numbered.{numbered, change}
-use Rattle.lists.specs.Update.{update}
 use Rattle.put_get.specs.declared.operation.Transfer.{Transfer}
 use Rattle.put_get.specs.declared.operation.Transfer.TheVariants as transfers
 use Rattle.put_get.specs.declared.operation.Mode.{Mode}
@@ -88,11 +89,19 @@ abbrev pub is_full : List Operation → Bool
 is_full operations = nat_le 256 (standing operations) || nat_le 18446744073709551615 (length operations)
 
 abbrev pub begin_answer : List Operation → Result Handle TooMany
-begin_answer operations = if is_full operations then Err (record {}) else Ok (record { serial = suc (length operations) })
+begin_answer operations =
+    if is_full operations then Err (record {}) else Ok (record { serial = suc (length operations) })
 
 abbrev pub fresh : (thread : ℕ) → Transfer → Mode → (number : ℕ) → Operation
 fresh thread transfer mode number =
-    record { thread = thread; transfer = transfer; mode = mode; region = region_of number mode; sent = []; synced = false }
+    record {
+      thread = thread;
+      transfer = transfer;
+      mode = mode;
+      region = region_of number mode;
+      sent = [];
+      synced = false;
+    }
 
 abbrev pub after_begin : (thread : ℕ) → Transfer → Mode → List Operation → List Operation
 after_begin thread transfer mode operations =
@@ -103,9 +112,15 @@ after_begin thread transfer mode operations =
 -- the first chunk of the operation that is unissued
 abbrev pub chunk_of : (number : ℕ) → Operation → Next
 chunk_of number operation =
-    record { number = number; transfer = operation.transfer; start = chunk_start (length operation.sent); len = chunk_size (size operation.transfer) (length operation.sent) }
+    record {
+      number = number;
+      transfer = operation.transfer;
+      start = chunk_start (length operation.sent);
+      len = chunk_size (size operation.transfer) (length operation.sent);
+    }
 
--- the next chunk of the oldest operation that has one to a node that can be asked; the first operation here has this number
+-- the next chunk of the oldest operation that has one to a node that can be asked; the first operation here has this
+-- number
 abbrev pub next_chunk : (can : ℕ → Bool) → (number : ℕ) → List Operation → Option Next
 next_chunk can number [] = None
 next_chunk can number (operation ∷ later) =
@@ -115,22 +130,64 @@ next_chunk can number (operation ∷ later) =
 -- the operation after its next chunk was accepted
 abbrev pub with_sent : (slot request : ℕ) → (bytes : List ℕ) → Operation → Operation
 with_sent slot request bytes operation =
-    record operation { sent = operation.sent ++ record { slot = slot; number = request; bytes = bytes; back = false } ∷ [] }
+    record operation {
+      sent = operation.sent ++ record { slot = slot; number = request; bytes = bytes; back = false } ∷ [];
+    }
 
-abbrev pub after_note : (number slot request : ℕ) → (bytes : List ℕ) → List Operation → List Operation
-after_note number slot request bytes operations = change (with_sent slot request bytes) operations number
+-- of the oldest operation that has an unissued chunk to this node, the next chunk was accepted as that request, in that
+-- slot
+abbrev pub issue : (to slot request : ℕ) → (bytes : List ℕ) → List Operation → List Operation
+issue to slot request bytes [] = []
+issue to slot request bytes (operation ∷ later) =
+    if has_next operation && (target operation.transfer == to) then with_sent slot request bytes operation ∷ later
+    else operation ∷ issue to slot request bytes later
 
--- the reply to a chunk comes back: the one at this index of those that were issued
-abbrev pub with_return : (index : ℕ) → Operation → Operation
-with_return index operation = record operation { sent = update operation.sent index (λ (sent : Sent). record sent { back = true }) }
+-- ---- replies
 
-abbrev pub after_return : (number index : ℕ) → List Operation → List Operation
-after_return number index operations = change (with_return index) operations number
+-- the chunk went as that request, in that slot
+abbrev pub went_as : (slot request : ℕ) → Sent → Bool
+went_as slot request sent = (sent.slot == slot) && (sent.number == request)
 
--- chunk `index` of the operation of that number was issued, and isn't back
-pub record IsOut (operations : List Operation) (number index : ℕ) : Type 0 where
+abbrev pub as_back : (slot request : ℕ) → Sent → Sent
+as_back slot request sent = if went_as slot request sent then record sent { back = true } else sent
+
+abbrev pub with_back : (from slot request : ℕ) → Operation → Operation
+with_back from slot request operation =
+    if target operation.transfer == from then record operation { sent = map (as_back slot request) operation.sent }
+    else operation
+
+-- the reply to that request of the node comes back: the chunk that went as it is back
+abbrev pub come_back : (from slot request : ℕ) → List Operation → List Operation
+come_back from slot request operations = map (with_back from slot request) operations
+
+-- the chunk went as that request, and isn't back
+abbrev pub is_out : (slot request : ℕ) → Sent → Bool
+is_out slot request sent = went_as slot request sent && not sent.back
+
+abbrev pub awaits : (from slot request : ℕ) → Operation → Bool
+awaits from slot request operation =
+    (target operation.transfer == from) && list_any (is_out slot request) operation.sent
+
+-- some chunk went to the node as that request, and isn't back
+abbrev pub has_out : (from slot request : ℕ) → List Operation → Bool
+has_out from slot request operations = list_any (awaits from slot request) operations
+
+-- each chunk that went to the node in that slot is back
+abbrev pub IsFreeSlot : (operations : List Operation) → (to slot : ℕ) → Type 0
+IsFreeSlot operations to slot =
+    (place index : ℕ) (operation : Operation) (sent : Sent) → slice_get operations place ≡ Some operation
+    → target operation.transfer ≡ to
+    → slice_get operation.sent index ≡ Some sent → sent.slot ≡ slot → sent.back ≡ true
+
+-- ---- the next chunk and its operation
+
+-- the next chunk is of the operation of that number: the first that has one to its node
+pub record IsFirst (can : ℕ → Bool) (operations : List Operation) (next : Next) : Type 0 where
   pub operation : Operation
-  pub sent : Sent
-  pub numbered_so : numbered operations number ≡ Some operation
-  pub issued : slice_get operation.sent index ≡ Some sent
-  pub waits : sent.back ≡ false
+  pub here : numbered operations next.number ≡ Some operation
+  pub chunk : next ≡ chunk_of next.number operation
+  pub has : has_next operation ≡ true
+  pub open_to : can (target next.transfer) ≡ true
+  pub issued : (slot request : ℕ) (bytes : List ℕ)
+      → issue (target next.transfer) slot request bytes operations
+      ≡ change (with_sent slot request bytes) operations next.number

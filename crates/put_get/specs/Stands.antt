@@ -1,26 +1,21 @@
 -- What is kept of a node's operations.
-use Rattle.std.specs.Prelude.{ℕ, ◌≡◌, ◌<◌, ◌≤◌, suc, Bool, true, false, not, ◌&&◌, ◌||◌, if◌then◌else◌, nat_le, nat_lt, ◌==◌}
-use Rattle.std.specs.Prelude.{List, [], ◌∷◌, ◌++◌, Option, None, Some, length, slice_get}
-use Rattle.std.specs.List.{list_any, list_all}
+use Rattle.std.specs.Prelude.{ℕ, ◌≡◌, ◌<◌, ◌≤◌, Bool, true, false, not, ◌&&◌, if◌then◌else◌, nat_lt, ◌==◌}
+use Rattle.std.specs.Prelude.{List, [], ◌∷◌, Option, None, Some, length, slice_get}
+use Rattle.std.specs.List.{list_any}
 use Rattle.lists.specs.Numbered.{numbered}
-use Rattle.put_get.specs.declared.operation.Transfer.{Transfer}
 use Rattle.put_get.specs.declared.operation.Next.{Next}
 use Rattle.put_get.specs.declared.operation.Handle.{Handle}
 use Rattle.put_get.specs.declared.table.Standing.{Standing}
-use Rattle.put_get.specs.declared.table.Pick.{Pick}
+use Rattle.put_get.specs.declared.slots.Waiting.{Waiting}
 use Rattle.put_get.specs.declared.table.Pick.TheVariants as pick
-use Rattle.put_get.specs.declared.table.Check.{Check}
-use Rattle.put_get.specs.declared.table.Check.TheVariants.{Any, Others, Unissued, UnissuedTo, Unreturned, Unfinished}
+use Rattle.put_get.specs.declared.table.Check.TheVariants.{Unissued, UnissuedTo, Unfinished}
 use Rattle.put_get.specs.declared.transfers.Transfers.{Transfers}
-use Rattle.put_get.specs.Operation.{Operation, returned_of, target, size, chunks, chunk_start, chunk_size, has_next, is_complete, standing, is_full}
-use Rattle.put_get.specs.Table.{flat}
-use Rattle.put_get.specs.Syncs.{Choice, chosen, is_name, is_kind, is_implicit}
-
--- how many places are taken
-abbrev pub taken : {X : Type 0} → List (Option X) → ℕ
-taken [] = 0
-taken (None ∷ later) = taken later
-taken (Some x ∷ later) = suc (taken later)
+use Rattle.put_get.specs.Operation.{Operation, returned_of, target, size, chunk_start, chunk_size, is_complete}
+use Rattle.put_get.specs.Operation.{standing}
+use Rattle.put_get.specs.Slots.{entry_at}
+use Rattle.put_get.specs.Outs.{Out, outs}
+use Rattle.put_get.specs.Table.{taken, on_place, picked, is_unissued, has, IsPlaceOf}
+use Rattle.put_get.specs.Syncs.{Choice, is_name, is_implicit}
 
 -- what is kept of the operation of that number
 abbrev pub kept : (number : ℕ) → Operation → Standing
@@ -48,56 +43,37 @@ pub record Keeps (places : List (Option Standing)) (operations : List Operation)
       → first.number ≡ second.number → place ≡ other
   pub count : taken places ≡ standing operations
 
+-- an entry of the table by node and slot says which chunks are out there: none, or one of the operation whose record is
+-- in that place
+abbrev pub Says : (places : List (Option Standing)) → Option Waiting → List Out → Type 0
+Says places None out = out ≡ []
+Says places (Some waiting) out =
+    (there : Standing) × (slice_get places waiting.place ≡ Some (Some there))
+    × (out ≡ record { operation = there.number; request = waiting.request } ∷ [])
+
 -- the table is that of these operations: all that ever began, in order
 pub record Stands (table : Transfers) (operations : List Operation) : Type 0 where
   pub keeps : Keeps table.table operations
   pub given : table.given ≡ length operations
+  -- the entry of each slot of each node says what is out there
+  pub says : (to slot : ℕ) → Says table.table (entry_at table.slots to slot) (outs to slot 1 operations)
   -- an operation that was synchronised is complete
   pub settled : (number : ℕ) (operation : Operation) → numbered operations number ≡ Some operation
       → operation.synced ≡ true → is_complete operation ≡ true
 
--- ---- what is asked of a record
+-- the table is that of some operations
+abbrev pub HasOperations : Transfers → Type 0
+HasOperations table = (operations : List Operation) × Stands table operations
 
--- a test of a place: of what stands there
-abbrev pub on_place : (Standing → Bool) → Option Standing → Bool
-on_place test None = false
-on_place test (Some there) = test there
+-- for how many nodes there is a table by slot, and how many slots each of them has
+pub record Room : Type 0 where
+  pub nodes : ℕ
+  pub credits : ℕ
 
-abbrev pub picked : Pick → Standing → Bool
-picked (pick.Region name) there = is_name name there.region
-picked (pick.Number number) there = there.number == number
-picked (pick.Implicit thread which) there = there.implicit && ((there.thread == thread) && is_kind which there.transfer)
+abbrev pub room_of : Transfers → Room
+room_of table = record { nodes = table.slots.nodes; credits = table.slots.credits }
 
-abbrev pub is_unissued : Standing → Bool
-is_unissued there = nat_lt there.issued (chunks (size there.transfer))
-
-abbrev pub passes : Check → Standing → Bool
-passes Any there = true
-passes (Others thread) there = not (there.thread == thread)
-passes Unissued there = is_unissued there
-passes (UnissuedTo node) there = is_unissued there && (target there.transfer == node)
-passes Unreturned there = nat_lt there.returned there.issued
-passes Unfinished there = is_unissued there || nat_lt there.returned there.issued
-
--- a record stands in the place, is marked, and passes
-abbrev pub picks : (mark : Bool) → Check → Option Standing → Bool
-picks mark check place = on_place (λ there. mark && passes check there) place
-
-abbrev pub unless_marked : (mark : Bool) → Option Standing → Option Standing
-unless_marked mark place = if mark then None else place
-
--- one test or the other
-abbrev pub also : (Standing → Bool) → (Standing → Bool) → Standing → Bool
-also test other there = test there || other there
-
--- some record of which the test holds passes
-abbrev pub has : (Standing → Bool) → Check → List (Option Standing) → Bool
-has test check places = list_any (on_place (λ there. test there && passes check there)) places
-
--- marked are the places of the records of which the test holds
-pub record AreMarks (test : Standing → Bool) (places : List (Option Standing)) (marks : List Bool) : Type 0 where
-  pub many : length marks ≡ 256
-  pub each : (place : ℕ) → place < 256 → slice_get marks place ≡ Some (on_place test (flat (slice_get places place)))
+-- ---- members
 
 -- the record is a member of the handle: of the region of that name, or else the one with that number
 abbrev pub member_in : (places : List (Option Standing)) → (handle : ℕ) → Standing → Bool
@@ -146,14 +122,22 @@ is_ready can there = is_unissued there && can (target there.transfer)
 
 -- its next chunk
 abbrev pub next_of : Standing → Next
-next_of there = record { number = there.number; transfer = there.transfer; start = chunk_start there.issued; len = chunk_size (size there.transfer) there.issued }
+next_of there = record {
+  number = there.number;
+  transfer = there.transfer;
+  start = chunk_start there.issued;
+  len = chunk_size (size there.transfer) there.issued;
+}
 
 -- what was found ready in the places below `end`, with the least number
 abbrev pub IsLeast : (ℕ → Bool) → List (Option Standing) → (end : ℕ) → Option Standing → Type 0
-IsLeast can places end None = (place : ℕ) (there : Standing) → place < end → slice_get places place ≡ Some (Some there) → is_ready can there ≡ false
+IsLeast can places end None =
+    (place : ℕ) (there : Standing) → place < end → slice_get places place ≡ Some (Some there)
+    → is_ready can there ≡ false
 IsLeast can places end (Some best) =
     ((place : ℕ) × (slice_get places place ≡ Some (Some best)) × (is_ready can best ≡ true))
-    × ((place : ℕ) (there : Standing) → place < end → slice_get places place ≡ Some (Some there) → is_ready can there ≡ true → best.number ≤ there.number)
+    × ((place : ℕ) (there : Standing) → place < end → slice_get places place ≡ Some (Some there)
+    → is_ready can there ≡ true → best.number ≤ there.number)
 
 -- of two the one that began first
 abbrev pub older : Standing → Option Standing → Standing
@@ -167,28 +151,6 @@ better can (Some there) best = if is_ready can there then Some (older there best
 
 -- ---- one record
 
-abbrev pub has_number : (number : ℕ) → Check → Option Standing → Bool
-has_number number check place = on_place (λ there. (there.number == number) && passes check there) place
-
--- the operation of that number stands in the place, and passes
-abbrev pub IsPlaceOf : List (Option Standing) → (number : ℕ) → Check → (place : ℕ) → Type 0
-IsPlaceOf places number check place =
-    (there : Standing) × (slice_get places place ≡ Some (Some there)) × (there.number ≡ number)
-    × (passes check there ≡ true)
-
 -- the operation of that number stands, and has an unissued chunk
 abbrev pub CanNote : Transfers → (number : ℕ) → Type 0
 CanNote table number = (place : ℕ) × IsPlaceOf table.table number Unissued place
-
--- ---- records that go
-
--- the place without a record that is picked
-abbrev pub dropped : (Standing → Bool) → Option Standing → Option Standing
-dropped test None = None
-dropped test (Some there) = if test there then None else Some there
-
--- each record that is picked goes
-pub record AreDropped (test : Standing → Bool) (old new : List (Option Standing)) : Type 0 where
-  pub many : length new ≡ length old
-  pub each : (place : ℕ) (there : Option Standing) → slice_get old place ≡ Some there
-      → slice_get new place ≡ Some (dropped test there)

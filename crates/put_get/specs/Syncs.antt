@@ -1,6 +1,6 @@
 -- Which operations a sync speaks of, and what it answers.
-use Rattle.std.specs.Prelude.{ℕ, suc, ◌==◌, Bool, true, false, not, ◌&&◌, ◌||◌, if◌then◌else◌, min, unwrap_or, slice_get}
-use Rattle.std.specs.Prelude.{List, [], ◌∷◌, Option, None, Some}
+use Rattle.std.specs.Prelude.{ℕ, suc, ◌==◌, Bool, true, false, not, ◌&&◌, ◌||◌, if◌then◌else◌, min, unwrap_or}
+use Rattle.std.specs.Prelude.{List, [], ◌∷◌, Option, None, Some, slice_get}
 use Rattle.std.specs.List.{list_any, list_all}
 use Rattle.std.specs.Option.{option_or}
 use Rattle.put_get.specs.declared.operation.Transfer.{Transfer}
@@ -46,8 +46,8 @@ is_name name (Some region) = region == name
 abbrev pub in_region : (name : ℕ) → Choice
 in_region name number operation = not operation.synced && is_name name operation.region
 
--- the members of a handle: those of the region of that name, or else the operation with that number, as far as they aren't
--- synchronised
+-- the members of a handle: those of the region of that name, or else the operation with that number, as far as they
+-- aren't synchronised
 abbrev pub members : (handle : ℕ) → List Operation → Choice
 members handle operations number operation =
     if is_empty (chosen (in_region handle) 1 operations) then not operation.synced && (number == handle)
@@ -66,7 +66,8 @@ is_implicit _ = false
 -- the thread's implicit operations outside regions
 abbrev pub implicit_of : (thread : ℕ) → Some3 → Choice
 implicit_of thread which number operation =
-    not operation.synced && (is_implicit operation.mode && ((operation.thread == thread) && is_kind which operation.transfer))
+    not operation.synced
+    && (is_implicit operation.mode && ((operation.thread == thread) && is_kind which operation.transfer))
 
 -- ---- the answers
 
@@ -92,12 +93,20 @@ sync_answer worn operations = if list_all is_complete operations then synced.Ok 
 abbrev pub is_other : (thread : ℕ) → Operation → Bool
 is_other thread operation = not (operation.thread == thread)
 
+-- what is wrong with a handle that has these members
+abbrev pub fault_here : (thread : ℕ) → List Operation → Option Synced
+fault_here thread operations =
+    if is_empty operations then Some synced.BadHandle
+    else (if list_any (is_other thread) operations then Some synced.NotYours else None)
+
+-- the fault, or else the answer
+abbrev pub unless_fault : Option Synced → Synced → Synced
+unless_fault None answer = answer
+unless_fault (Some fault) answer = fault
+
 -- a sync of a handle whose members are these
 abbrev pub members_answer : (worn : ℕ → Bool) → (thread : ℕ) → List Operation → Synced
-members_answer worn thread operations =
-    if is_empty operations then synced.BadHandle
-    else (if list_any (is_other thread) operations then synced.NotYours
-    else sync_answer worn operations)
+members_answer worn thread operations = unless_fault (fault_here thread operations) (sync_answer worn operations)
 
 abbrev pub handle_answer : (worn : ℕ → Bool) → (thread handle : ℕ) → List Operation → Synced
 handle_answer worn thread handle operations =
@@ -125,32 +134,25 @@ issued_answer handle operations =
 
 -- ---- lists of handles
 
--- what is wrong with a handle that has these members
-abbrev pub fault_here : (thread : ℕ) → List Operation → Option Synced
-fault_here thread operations =
-    if is_empty operations then Some synced.BadHandle
-    else (if list_any (is_other thread) operations then Some synced.NotYours else None)
-
 -- the first fault of these handles: no member, or another thread's
 abbrev pub fault_of : (thread : ℕ) → List Operation → List Handle → Option Synced
 fault_of thread operations [] = None
 fault_of thread operations (handle ∷ later) =
     if handle.serial == 0 then fault_of thread operations later
-    else option_or (fault_here thread (chosen (members handle.serial operations) 1 operations)) (fault_of thread operations later)
+    else option_or (fault_here thread (chosen (members handle.serial operations) 1 operations))
+    (fault_of thread operations later)
 
 -- the members of these handles
 abbrev pub members_of : List Handle → List Operation → Choice
 members_of handles operations number operation =
-    list_any (λ (handle : Handle). not (handle.serial == 0) && members handle.serial operations number operation) handles
-
-abbrev pub unless_fault : Option Synced → Synced → Synced
-unless_fault None answer = answer
-unless_fault (Some fault) answer = fault
+    list_any (λ (handle : Handle). not (handle.serial == 0) && members handle.serial operations number operation)
+    handles
 
 -- the sync of all of these handles
 abbrev pub all_answer : (worn : ℕ → Bool) → (thread : ℕ) → List Handle → List Operation → Synced
 all_answer worn thread handles operations =
-    unless_fault (fault_of thread operations handles) (sync_answer worn (chosen (members_of handles operations) 1 operations))
+    unless_fault (fault_of thread operations handles)
+    (sync_answer worn (chosen (members_of handles operations) 1 operations))
 
 -- the handle has operations, and all are complete
 abbrev pub is_whole : List Operation → Handle → Bool
@@ -160,12 +162,14 @@ is_whole operations handle =
 -- the members of those of these handles that are complete
 abbrev pub whole_of : List Handle → List Operation → Choice
 whole_of handles operations number operation =
-    list_any (λ (handle : Handle). is_whole operations handle && members handle.serial operations number operation) handles
+    list_any (λ (handle : Handle). is_whole operations handle && members handle.serial operations number operation)
+    handles
 
 -- the sync of those of these handles that are complete, where there is no fault
 abbrev pub some_here : (worn : ℕ → Bool) → List Handle → List Operation → Synced
 some_here worn handles operations =
-    if list_all (λ (handle : Handle). handle.serial == 0) handles || list_any (is_whole operations) handles then synced.Ok
+    if list_all (λ (handle : Handle). handle.serial == 0) handles || list_any (is_whole operations) handles
+    then synced.Ok
     else worn_or (worn_of worn (chosen (members_of handles operations) 1 operations))
 
 abbrev pub some_answer : (worn : ℕ → Bool) → (thread : ℕ) → List Handle → List Operation → Synced

@@ -1,9 +1,8 @@
 //! The records of a node's operations, in 256 places.
 
-ghost use Rattle.std.specs.Prelude.{◌≡◌, ◌<◌, ◌≤◌, ℕ, List, Option, None, Some, length, replicate, slice_get, slice_set, IfOk, IfSome, IfNone, Bool, ◌||◌};
-ghost use Rattle.put_get.specs.Table.{places, IsKeyed};
+ghost use Rattle.std.specs.Prelude.{◌≡◌, ◌<◌, ◌≤◌, ℕ, List, Option, None, Some, length, replicate, slice_get, slice_set, IfOk, IfSome, IfNone, Bool, not, ◌||◌};
 ghost use Rattle.put_get.specs.Syncs.{is_kind, flag_at};
-ghost use Rattle.put_get.specs.Stands.{taken, is_unissued, passes, picked, on_place, picks, unless_marked, also, has, AreMarks, has_number, IsPlaceOf, AreDropped};
+ghost use Rattle.put_get.specs.Table.{taken, is_unissued, unissued_in, passes, picked, on_place, picks, unless_marked, also, has, AreMarks, has_number, IsPlaceOf, AreDropped};
 ghost use Rattle.std.specs.List.{list_any};
 
 use crate::operation::{Some3, Transfer};
@@ -41,7 +40,6 @@ pub(crate) enum Check {
     Others(u16),
     Unissued,
     UnissuedTo(u16),
-    Unreturned,
     Unfinished,
 }
 
@@ -72,7 +70,6 @@ impl Standing {
             Check::Others(thread) => self.thread != thread,
             Check::Unissued => self.is_unissued(),
             Check::UnissuedTo(node) => self.is_unissued() && self.transfer.target() == node,
-            Check::Unreturned => self.returned < self.issued,
             Check::Unfinished => self.is_unissued() || self.returned < self.issued,
         }
     }
@@ -145,23 +142,36 @@ fn has_number(place: Option<Standing>, number: u64, check: Check) -> bool
     }
 }
 
-/// 256 places, which a slab keeps.
+/// 1 where a record stands there and has an unissued chunk, else 0.
+fn unissued_in(place: Option<Standing>) -> usize
+    ensures { result ≡ unissued_in place }
+{
+    match place {
+        Some(standing) => usize::from(standing.is_unissued()),
+        None => 0,
+    }
+}
+
+/// 256 places, whose records a slab keeps, and how many of them have an unissued chunk.
 #[derive(Drop)]
 pub(crate) struct Table {
     keys: Vec<usize>,
     records: Slab<Option<Standing>>,
+    unissued: usize,
 }
 
 impl Model for Table {
     ghost use Rattle.std.specs.Prelude.{List, Option, ◌≡◌, length};
-    ghost use Rattle.put_get.specs.Table.{places, IsKeyed};
+    ghost use Rattle.put_get.specs.Table.{unissued_count, places_of, IsKeyed};
     ghost use Rattle.put_get.specs.declared.table.Standing.{Standing};
 
     ghost Value = { List (Option Standing) };
 
-    ghost view = { λ t. places t.keys.items t.records };
+    ghost view = { λ t. places_of t.keys.items t.records };
 
-    ghost invariant = { λ t. (length t.keys.items ≡ 256) × IsKeyed t.keys.items t.records };
+    ghost invariant = { λ t.
+        (length t.keys.items ≡ 256) × IsKeyed t.keys.items t.records
+        × (t.unissued ≡ unissued_count (places_of t.keys.items t.records)) };
 }
 
 impl Table {
@@ -174,7 +184,11 @@ impl Table {
         for _ in 0usize..256 {
             keys.push(records.insert_reserved(None))?;
         }
-        Ok(Table { keys, records })
+        Ok(Table {
+            keys,
+            records,
+            unissued: 0,
+        })
     }
 
     /// What stands in a place.
@@ -191,7 +205,16 @@ impl Table {
         ensures { self.new ≡ slice_set self.old place standing }
     {
         let key = self.keys[place];
+        self.unissued -= unissued_in(self.records[key]);
+        self.unissued += unissued_in(standing);
         self.records[key] = standing;
+    }
+
+    /// Whether no record has an unissued chunk.
+    pub fn is_idle(&self) -> bool
+        ensures { result ≡ not (list_any (on_place is_unissued) self.now) }
+    {
+        self.unissued == 0
     }
 
     /// The first place that is blank.
@@ -224,7 +247,8 @@ impl Table {
 
     /// Marks the places of the records that are meant.
     pub fn mark(&self, pick: Pick, marks: &mut [bool; 256])
-        ensures { (test : Standing → Bool) → AreMarks test self.now marks.old → AreMarks (also test (picked pick)) self.now marks.new }
+        ensures { (test : Standing → Bool) → AreMarks test self.now marks.old
+            → AreMarks (also test (picked pick)) self.now marks.new }
     {
         for place in 0usize..256 {
             marks[place] = either(marks[place], is_picked(self.at(place), pick));
@@ -233,7 +257,8 @@ impl Table {
 
     /// Whether some record that is marked passes.
     pub fn has(&self, marks: &[bool; 256], check: Check) -> bool
-        ensures { (test : Standing → Bool) → AreMarks test self.now marks.now → result ≡ has test check self.now }
+        ensures { (test : Standing → Bool) → AreMarks test self.now marks.now
+            → result ≡ has test check self.now }
     {
         let _ = &self.keys;
         for place in 0usize..256 {
@@ -261,7 +286,8 @@ impl Table {
 
     /// The records that are marked go.
     pub fn drop_marked(&mut self, marks: &[bool; 256])
-        ensures { (test : Standing → Bool) → AreMarks test self.old marks.now → AreDropped test self.old self.new }
+        ensures { (test : Standing → Bool) → AreMarks test self.old marks.now
+            → AreDropped test self.old self.new }
     {
         let _ = &self.keys;
         for place in 0usize..256 {

@@ -1,15 +1,17 @@
 //! The calls on the operations of a node.
 
-ghost use Rattle.std.specs.Prelude.{◌≡◌, ◌<◌, ◌≤◌, length, ℕ, List, [], Option, None, Some, Bool, true, false, IfOk, IfSome, IfNone};
+ghost use Rattle.std.specs.Prelude.{◌≡◌, ◌<◌, ◌≤◌, length, ℕ, List, [], Option, None, Some, Bool, true, false, not, IfOk, IfSome, IfNone};
 ghost use Rattle.put_get.specs.declared.table.Standing.{Standing};
 ghost use Rattle.std.specs.List.{list_any, list_all};
 ghost use Rattle.put_get.specs.declared.operation.Handle.{Handle};
 ghost use Rattle.std.specs.Prelude.{◌==◌};
-ghost use Rattle.put_get.specs.Operation.{Operation, region_of, begin_answer, after_begin, next_chunk, after_note, IsOut, after_return};
-ghost use Rattle.put_get.specs.Syncs.{Choice, is_implicit, chosen, flag_at, members, sync_answer, handle_answer, after_handle, implicit_of, implicit_answer, left_by, issued_answer, fault_here, fault_of, members_of, all_answer, whole_of, some_here, some_answer};
-ghost use Rattle.put_get.specs.Stands.{Stands, Agrees, AreMarks, also, member_in, member_of, member_of_any, is_whole_in, whole_here, whole_in, IsFirstWorn, is_ready, better, IsLeast, CanNote, is_unissued, next_of, older};
+ghost use Rattle.put_get.specs.Operation.{Operation, target, region_of, begin_answer, after_begin, has_next, next_chunk, issue, has_out, come_back, IsFreeSlot};
+ghost use Rattle.put_get.specs.Syncs.{Choice, is_implicit, chosen, flag_at, members, sync_answer, handle_answer, after_handle, implicit_of, implicit_answer, left_by, issued_answer, fault_here, fault_of, members_of, all_answer, whole_of, some_here, some_answer, is_whole};
+ghost use Rattle.put_get.specs.Table.{AreMarks, also, is_unissued};
+ghost use Rattle.put_get.specs.Stands.{HasOperations, room_of, Stands, Agrees, member_in, member_of, member_of_any, is_whole_in, whole_here, whole_in, IsFirstWorn, is_ready, better, IsLeast, CanNote, next_of, older};
 
 use crate::operation::{Handle, Mode, Next, Some3, Synced, TooMany, Transfer};
+use crate::slots::{Slots, Waiting};
 use crate::table::{Check, Pick, Standing, Table, either, flag_at};
 use std::alloc::{AllocError, Global};
 
@@ -18,6 +20,7 @@ use std::alloc::{AllocError, Global};
 pub struct Transfers {
     given: u64,
     table: Table,
+    slots: Slots,
 }
 
 /// Of two the one that began first.
@@ -78,13 +81,17 @@ fn is_implicit(mode: Mode) -> bool
 }
 
 impl Transfers {
-    /// No operation began. It takes the memory of 256 records, and no later call takes any.
-    pub fn new(alloc: Global) -> Result<Transfers, AllocError>
-        ensures { IfOk result (λ table. Stands table []) }
+    /// No operation began. It takes the memory of 256 records and of an entry for each of `credits` slots of each node;
+    /// `credits` is the greatest number of requests to one node that can be out. No later call takes any.
+    pub fn new(alloc: Global, nodes: u16, credits: u16) -> Result<Transfers, AllocError>
+        ensures stands { IfOk result (λ table. Stands table []) }
+        ensures room { IfOk result (λ table.
+            room_of table ≡ record { nodes = nodes; credits = credits }) }
     {
         Ok(Transfers {
             given: 0,
             table: Table::new(alloc)?,
+            slots: Slots::new(alloc, nodes, credits)?,
         })
     }
 
@@ -92,9 +99,11 @@ impl Transfers {
     /// Nothing is issued yet. `InRegion(None)` names a new region by the operation's own number. (GASNet 1.8.1 extended API,
     /// gasnet_put_nb_bulk, gasnet_get_nbi and their like.)
     pub fn begin(&mut self, thread: u16, transfer: Transfer, mode: Mode) -> Result<Handle, TooMany>
-        ensures answer { (operations : List Operation) → Stands self.old operations → result ≡ begin_answer operations }
+        ensures answer { (operations : List Operation) → Stands self.old operations
+            → result ≡ begin_answer operations }
         ensures stands { (operations : List Operation) → Stands self.old operations
             → Stands self.new (after_begin thread transfer mode operations) }
+        ensures room { room_of self.new ≡ room_of self.old }
     {
         let Some(place) = self.table.first_blank() else {
             return Err(TooMany);
@@ -135,35 +144,62 @@ impl Transfers {
         }
     }
 
-    /// The next chunk of an operation was accepted as this request to its target.
-    pub fn note(&mut self, number: u64, slot: u16, request: u64)
-        requires { CanNote self.old number }
-        ensures { (operations : List Operation) (bytes : List ℕ) → Stands self.old operations
-            → Stands self.new (after_note number slot request bytes operations) }
+    /// Whether no operation has an unissued chunk. It looks at no record.
+    pub fn is_idle(&self) -> bool
+        ensures idle { (operations : List Operation) → Stands self.now operations
+            → result ≡ not (list_any has_next operations) }
+        ensures next { (can : ℕ → Bool) (operations : List Operation) → Stands self.now operations
+            → result ≡ true → next_chunk can 1 operations ≡ None }
     {
-        let Some(place) = self.table.place_of(number, Check::Unissued) else {
-            return;
+        self.table.is_idle()
+    }
+
+    /// The next chunk, as `next` gave it, was accepted as this request to its target, in this slot, in which no other chunk is
+    /// out.
+    pub fn note(&mut self, next: &Next, slot: u16, request: u64)
+        requires stands { CanNote self.old next.now.number }
+        requires to_in { target next.now.transfer < (room_of self.old).nodes }
+        requires slot_in { slot < (room_of self.old).credits }
+        ensures stands { (can : ℕ → Bool) (operations : List Operation) (bytes : List ℕ)
+            → Stands self.old operations → next_chunk can 1 operations ≡ Some next.now
+            → IsFreeSlot operations (target next.now.transfer) slot
+            → Stands self.new (issue (target next.now.transfer) slot request bytes operations) }
+        ensures room { room_of self.new ≡ room_of self.old }
+    {
+        let Some(place) = self.table.place_of(next.number, Check::Unissued) else {
+            unreachable!();
         };
         let Some(mut standing) = self.table.at(place) else {
-            return;
+            unreachable!();
         };
         standing.issued += 1;
         self.table.set(place, Some(standing));
+        let waiting = Waiting { request, place };
+        self.slots.set(next.transfer.target(), slot, Some(waiting));
     }
 
-    /// A chunk of that operation is back: its request was answered. Nothing changes where no chunk of it is out.
-    pub fn returned(&mut self, number: u64)
-        ensures { (operations : List Operation) (index : ℕ) → Stands self.old operations → IsOut operations number index
-            → Stands self.new (after_return number index operations) }
+    /// The reply to that request of a node came, in that slot: whether a chunk went as it and wasn't back. If so it is back now.
+    pub fn back(&mut self, to: u16, slot: u16, number: u64) -> bool
+        requires { HasOperations self.old }
+        ensures answer { (operations : List Operation) → Stands self.old operations
+            → result ≡ has_out to slot number operations }
+        ensures stands { (operations : List Operation) → Stands self.old operations
+            → Stands self.new (come_back to slot number operations) }
+        ensures room { room_of self.new ≡ room_of self.old }
     {
-        let Some(place) = self.table.place_of(number, Check::Unreturned) else {
-            return;
+        let Some(waiting) = self.slots.at(to, slot) else {
+            return false;
         };
-        let Some(mut standing) = self.table.at(place) else {
-            return;
+        if waiting.request != number {
+            return false;
+        }
+        let Some(mut standing) = self.table.at(waiting.place) else {
+            unreachable!();
         };
         standing.returned += 1;
-        self.table.set(place, Some(standing));
+        self.table.set(waiting.place, Some(standing));
+        self.slots.set(to, slot, None);
+        true
     }
 }
 
@@ -183,7 +219,8 @@ impl Transfers {
     /// Whether each chunk of a handle's operations was issued. `Some(true)` for the invalid handle, and `None` where no
     /// operation and no region has the number. It doesn't ask whose the handle is.
     pub fn issued(&self, handle: Handle) -> Option<bool>
-        ensures { (operations : List Operation) → Stands self.now operations → result ≡ issued_answer handle.serial operations }
+        ensures { (operations : List Operation) → Stands self.now operations
+            → result ≡ issued_answer handle.serial operations }
     {
         if handle.serial == 0 {
             return Some(true);
@@ -213,12 +250,15 @@ impl Transfers {
     /// Where what is marked is complete it goes.
     fn sync_marked(&mut self, worn: &[bool], marks: &[bool; 256]) -> Synced
         requires { length worn.now ≤ 65536 }
-        ensures answer { (operations : List Operation) (choice : Choice) (test : Standing → Bool) → Stands self.old operations
+        ensures answer { (operations : List Operation) (choice : Choice) (test : Standing → Bool)
+            → Stands self.old operations
             → AreMarks test self.old.table marks.now → Agrees choice test
             → result ≡ sync_answer (flag_at worn.now) (chosen choice 1 operations) }
-        ensures stands { (operations : List Operation) (choice : Choice) (test : Standing → Bool) → Stands self.old operations
+        ensures stands { (operations : List Operation) (choice : Choice) (test : Standing → Bool)
+            → Stands self.old operations
             → AreMarks test self.old.table marks.now → Agrees choice test
             → Stands self.new (left_by result choice operations) }
+        ensures room { room_of self.new ≡ room_of self.old }
     {
         if !self.table.has(marks, Check::Unfinished) {
             self.table.drop_marked(marks);
@@ -228,6 +268,23 @@ impl Transfers {
             Some(node) => Synced::WornOut(node),
             None => Synced::NotReady,
         }
+    }
+
+    /// What is wrong with a handle whose members are marked, if anything is: no operation and no region has it, or another
+    /// thread's has.
+    fn fault(&self, thread: u16, marks: &[bool; 256]) -> Option<Synced>
+        ensures { (operations : List Operation) (choice : Choice) (test : Standing → Bool)
+            → Stands self.now operations
+            → AreMarks test self.now.table marks.now → Agrees choice test
+            → result ≡ fault_here thread (chosen choice 1 operations) }
+    {
+        if !self.table.has(marks, Check::Any) {
+            return Some(Synced::BadHandle);
+        }
+        if self.table.has(marks, Check::Others(thread)) {
+            return Some(Synced::NotYours);
+        }
+        None
     }
 
     /// A sync of a handle that doesn't wait; `worn` has a flag for each node whose numbers are worn out. The first of these that
@@ -241,19 +298,17 @@ impl Transfers {
             → result ≡ handle_answer (flag_at worn.now) thread handle.serial operations }
         ensures stands { (operations : List Operation) → Stands self.old operations
             → Stands self.new (after_handle result handle.serial operations) }
+        ensures room { room_of self.new ≡ room_of self.old }
     {
         if handle.serial == 0 {
             return Synced::Ok;
         }
         let mut marks = [false; 256];
         self.mark_members(handle.serial, &mut marks);
-        if !self.table.has(&marks, Check::Any) {
-            return Synced::BadHandle;
+        match self.fault(thread, &marks) {
+            Some(fault) => fault,
+            None => self.sync_marked(worn, &marks),
         }
-        if self.table.has(&marks, Check::Others(thread)) {
-            return Synced::NotYours;
-        }
-        self.sync_marked(worn, &marks)
     }
 
     /// A sync of the thread's implicit operations outside regions that doesn't wait: `Ok`, `WornOut` or `NotReady`, as with
@@ -264,6 +319,7 @@ impl Transfers {
             → result ≡ implicit_answer (flag_at worn.now) thread which operations }
         ensures stands { (operations : List Operation) → Stands self.old operations
             → Stands self.new (left_by result (implicit_of thread which) operations) }
+        ensures room { room_of self.new ≡ room_of self.old }
     {
         let mut marks = [false; 256];
         self.table
@@ -273,29 +329,24 @@ impl Transfers {
 }
 
 impl Transfers {
-    /// What is wrong with a handle, if anything is: no operation and no region has it, or another thread's has.
-    fn fault(&self, thread: u16, handle: u64) -> Option<Synced>
+    /// What is wrong with a handle other than the invalid one, if anything is.
+    fn fault_of(&self, thread: u16, handle: u64) -> Option<Synced>
         ensures { (operations : List Operation) → Stands self.now operations
             → result ≡ fault_here thread (chosen (members handle operations) 1 operations) }
     {
         let mut marks = [false; 256];
         self.mark_members(handle, &mut marks);
-        if !self.table.has(&marks, Check::Any) {
-            return Some(Synced::BadHandle);
-        }
-        if self.table.has(&marks, Check::Others(thread)) {
-            return Some(Synced::NotYours);
-        }
-        None
+        self.fault(thread, &marks)
     }
 
     /// The first fault of these handles.
     fn first_fault(&self, thread: u16, handles: &[Handle]) -> Option<Synced>
-        ensures { (operations : List Operation) → Stands self.now operations → result ≡ fault_of thread operations handles.now }
+        ensures { (operations : List Operation) → Stands self.now operations
+            → result ≡ fault_of thread operations handles.now }
     {
         for handle in handles {
             if handle.serial != 0 {
-                let fault = self.fault(thread, handle.serial);
+                let fault = self.fault_of(thread, handle.serial);
                 if fault.is_some() {
                     return fault;
                 }
@@ -317,7 +368,8 @@ impl Transfers {
     /// Marks the members of these handles.
     fn mark_all(&self, handles: &[Handle], marks: &mut [bool; 256])
         ensures { (test : Standing → Bool) → AreMarks test self.now.table marks.old
-            → AreMarks (also test (member_of_any self.now.table handles.now)) self.now.table marks.new }
+            → AreMarks (also test (member_of_any self.now.table handles.now)) self.now.table
+            marks.new }
     {
         for handle in handles {
             self.mark_handle(*handle, marks);
@@ -333,6 +385,7 @@ impl Transfers {
             → result ≡ all_answer (flag_at worn.now) thread handles.now operations }
         ensures stands { (operations : List Operation) → Stands self.old operations
             → Stands self.new (left_by result (members_of handles.now operations) operations) }
+        ensures room { room_of self.new ≡ room_of self.old }
     {
         match self.first_fault(thread, handles) {
             Some(fault) => fault,
@@ -368,6 +421,14 @@ impl Transfers {
         let mut marks = [false; 256];
         self.mark_members(handle.serial, &mut marks);
         !self.table.has(&marks, Check::Unfinished)
+    }
+
+    /// Whether each of the handle's operations that stand is complete: each chunk of it was issued and is back. True where it has none,
+    /// false for the invalid handle; it doesn't ask whose the handle is.
+    pub fn is_complete(&self, handle: Handle) -> bool
+        ensures { (operations : List Operation) → Stands self.now operations → result ≡ is_whole operations handle }
+    {
+        self.is_whole(handle)
     }
 
     /// Whether one of these handles is complete.
@@ -409,6 +470,7 @@ impl Transfers {
             → result ≡ some_here (flag_at worn.now) handles.now operations }
         ensures stands { (operations : List Operation) → Stands self.old operations
             → Stands self.new (left_by result (whole_of handles.now operations) operations) }
+        ensures room { room_of self.new ≡ room_of self.old }
     {
         let mut marks = [false; 256];
         if either(all_invalid(handles), self.any_whole(handles)) {
@@ -431,6 +493,7 @@ impl Transfers {
             → result ≡ some_answer (flag_at worn.now) thread handles.now operations }
         ensures stands { (operations : List Operation) → Stands self.old operations
             → Stands self.new (left_by result (whole_of handles.now operations) operations) }
+        ensures room { room_of self.new ≡ room_of self.old }
     {
         match self.first_fault(thread, handles) {
             Some(fault) => fault,

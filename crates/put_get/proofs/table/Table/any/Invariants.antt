@@ -1,7 +1,7 @@
 use Rattle.std.proofs.Common.{◌≡◌, ◌<◌, ℕ, false, Option, Some}
 use Rattle.std.specs.List.{slice_get}
 use Rattle.put_get.specs.declared.table.Standing.{Standing}
-use Rattle.put_get.specs.Stands.{on_place, picked}
+use Rattle.put_get.specs.Table.{on_place, picked}
 use Rattle.put_get.proofs.table.Table.any.Given as goal
 
 abbrev pub invariant-loop-place : goal.invariant-loop-place

@@ -1,12 +1,10 @@
 use Rattle.std.proofs.Common.{◌≡◌, ◌<◌, ◌≤◌, ◌+◌, ℕ, List, Option, Some, length, set, sym, ap, ◌∙◌, subst, arith}
 use Rattle.std.specs.List.{slice_get}
-use Rattle.std.proofs.lemmas.List.{length-map}
 use Rattle.std.proofs.lemmas.Option.{slice_get_within}
-use Rattle.slab.specs.Slab.{get}
 use Rattle.put_get.specs.declared.table.Standing.{Standing}
-use Rattle.put_get.specs.Table.{flat}
 use Rattle.put_get.specs.Syncs.{flag_at}
-use Rattle.put_get.specs.Stands.{unless_marked}
+use Rattle.put_get.specs.Table.{unless_marked}
+use Rattle.put_get.proofs.Places.{places_length}
 use Rattle.put_get.proofs.Tests.{rewrite_more}
 use Rattle.put_get.proofs.Marks.{dropped_is}
 use Rattle.put_get.proofs.table.Table.drop_marked.Goals as goal
@@ -23,7 +21,7 @@ loop-place-preserved c =
 
 pub returns : goal.returns
 returns c test M =
-    let many = ap length (sym c.self.view_is) ∙ (length-map c.self.inside.keys.items (λ key. flat (get c.self.inside.records key)) ∙ c.self.invariant.0) in
+    let many = ap length (sym c.self.view_is) ∙ (places_length c.self.inside.keys.items c.self.inside.records ∙ c.self.invariant.0) in
     record {
       many = c.loop-place.invariant.0;
       each = λ place there at. (

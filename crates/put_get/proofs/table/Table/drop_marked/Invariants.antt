@@ -2,7 +2,7 @@ use Rattle.std.proofs.Common.{◌≡◌, ◌<◌, ◌≤◌, ℕ, Option, Some, 
 use Rattle.std.specs.List.{slice_get}
 use Rattle.put_get.specs.declared.table.Standing.{Standing}
 use Rattle.put_get.specs.Syncs.{flag_at}
-use Rattle.put_get.specs.Stands.{unless_marked}
+use Rattle.put_get.specs.Table.{unless_marked}
 use Rattle.put_get.proofs.table.Table.drop_marked.Given as goal
 
 abbrev pub invariant-loop-place : goal.invariant-loop-place

@@ -1,12 +1,10 @@
 use Rattle.std.proofs.Common.{◌&&◌, length, sym, ap, ◌∙◌, arith, inl, inr}
 use Rattle.std.specs.List.{slice_get}
 use Rattle.std.proofs.lemmas.Bool.{cases_eq}
-use Rattle.std.proofs.lemmas.List.{length-map}
 use Rattle.std.proofs.lemmas.Option.{same_Some, slice_get_within}
-use Rattle.slab.specs.Slab.{get}
-use Rattle.put_get.specs.Table.{flat}
 use Rattle.put_get.specs.Syncs.{flag_at}
-use Rattle.put_get.specs.Stands.{on_place, picks, passes}
+use Rattle.put_get.specs.Table.{on_place, picks, passes}
+use Rattle.put_get.proofs.Places.{places_length}
 use Rattle.put_get.proofs.Tests.{any_from, none_picked}
 use Rattle.put_get.proofs.Marks.{picks_is}
 use Rattle.put_get.proofs.table.Table.has.Goals as goal
@@ -27,7 +25,7 @@ loop-place-preserved c place there less at = elim (cases_eq place c.loop-place.p
 
 pub returns : goal.returns
 returns c test M =
-    let many = ap length (sym c.self.view_is) ∙ (length-map c.self.inside.keys.items (λ key. flat (get c.self.inside.records key)) ∙ c.self.invariant.0) in
+    let many = ap length (sym c.self.view_is) ∙ (places_length c.self.inside.keys.items c.self.inside.records ∙ c.self.invariant.0) in
     sym (none_picked (on_place (λ r. test r && passes c.args.check r)) c.args.self.now (λ place there at.
     let within = slice_get_within c.args.self.now place there at in
     sym (picks_is test c.args.check c.args.self.now c.args.marks.now place there M (omega (arith, within, many)) at) ∙ c.loop-place.invariant place there (omega (arith, within, many)) at))

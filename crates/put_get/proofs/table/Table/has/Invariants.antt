@@ -2,7 +2,7 @@ use Rattle.std.proofs.Common.{◌≡◌, ◌<◌, ℕ, false, Option, Some}
 use Rattle.std.specs.List.{slice_get}
 use Rattle.put_get.specs.declared.table.Standing.{Standing}
 use Rattle.put_get.specs.Syncs.{flag_at}
-use Rattle.put_get.specs.Stands.{picks}
+use Rattle.put_get.specs.Table.{picks}
 use Rattle.put_get.proofs.table.Table.has.Given as goal
 
 abbrev pub invariant-loop-place : goal.invariant-loop-place

@@ -1,7 +1,7 @@
 use Rattle.std.proofs.Common.{ap, ◌∙◌, Some, arith}
 use Rattle.std.specs.List.{slice_get}
 use Rattle.put_get.specs.Table.{flat}
-use Rattle.put_get.specs.Stands.{on_place, picked}
+use Rattle.put_get.specs.Table.{on_place, picked}
 use Rattle.put_get.proofs.Marks.{also_is}
 use Rattle.put_get.proofs.table.Table.mark.Goals as goal
 

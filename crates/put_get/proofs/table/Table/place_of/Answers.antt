@@ -1,13 +1,11 @@
-use Rattle.std.proofs.Common.{◌≡◌, ◌==◌, true≢false, List, ℕ, Bool, true, Option, Some, None, length, sym, ap, ◌∙◌, arith, inl, inr, refl, eq-eqb}
+use Rattle.std.proofs.Common.{◌≡◌, ◌==◌, true≢false, List, ℕ, true, Option, Some, None, length, sym, ap, ◌∙◌, arith, inl, inr, eq-eqb}
 use Rattle.std.specs.List.{slice_get}
 use Rattle.std.proofs.lemmas.Bool.{cases_eq, eqb-true, and_parts, and_from}
-use Rattle.std.proofs.lemmas.List.{length-map}
 use Rattle.std.proofs.lemmas.Option.{same_Some, slice_get_within}
-use Rattle.slab.specs.Slab.{get}
-use Rattle.put_get.specs.Table.{flat}
 use Rattle.put_get.specs.declared.table.Standing.{Standing}
 use Rattle.put_get.specs.declared.table.Check.{Check}
-use Rattle.put_get.specs.Stands.{has_number, passes, IsPlaceOf}
+use Rattle.put_get.specs.Table.{has_number, passes, IsPlaceOf}
+use Rattle.put_get.proofs.Places.{places_length}
 use Rattle.put_get.proofs.table.Table.place_of.Goals as goal
 
 there_is : (places : List (Option Standing)) (number : ℕ) (check : Check) (place : ℕ) (there : Option Standing)
@@ -29,6 +27,6 @@ loop-place-preserved c place there less at = elim (cases_eq place c.loop-place.p
 
 pub returns-clause-none : goal.returns-clause-none
 returns-clause-none c place is =
-    let many = ap length (sym c.self.view_is) ∙ (length-map c.self.inside.keys.items (λ key. flat (get c.self.inside.records key)) ∙ c.self.invariant.0) in
+    let many = ap length (sym c.self.view_is) ∙ (places_length c.self.inside.keys.items c.self.inside.records ∙ c.self.invariant.0) in
     let within = slice_get_within c.args.self.now place (Some is.0) is.1 in
     absurd (true≢false (sym (and_from _ _ (eq-eqb is.0.number c.args.number is.2) is.3) ∙ c.loop-place.invariant place (Some is.0) (omega (arith, within, many)) is.1))

@@ -1,4 +1,4 @@
-use Rattle.std.proofs.Common.{◌≡◌, ◌+◌, ℕ, Some, Ok, set, refl, sym, ap, ap₂, ◌∙◌, subst, arith}
+use Rattle.std.proofs.Common.{◌≡◌, ◌+◌, Some, Ok, set, refl, sym, ap, ◌∙◌, subst, arith}
 use Rattle.put_get.specs.declared.table.Standing.{Standing}
 use Rattle.put_get.specs.Operation.{after_begin, fresh}
 use Rattle.put_get.specs.Stands.{Stands, kept}
@@ -21,7 +21,7 @@ returns-clause-stands c operations S =
     let is : c.in-Some-checked_add.number ≡ c.args.self.now.given + 1 = omega (arith, number) in
     let record_is : record { number = c.in-Some-checked_add.number; thread = c.args.thread; transfer = c.args.transfer; implicit = c.is_implicit.result; region = c.region_of.result; issued = 0; returned = 0 } ≡ kept (c.args.self.now.given + 1) (fresh c.args.thread c.args.transfer c.args.mode (c.args.self.now.given + 1))
     = rw (c.is_implicit.ensures, c.region_of.ensures, is) refl in
-    subst (λ t. Stands (record { given = c.in-Some-checked_add.number; table = t }) (after_begin c.args.thread c.args.transfer c.args.mode operations))
+    subst (λ t. Stands (record c.args.self.now { given = c.in-Some-checked_add.number; table = t }) (after_begin c.args.thread c.args.transfer c.args.mode operations))
     (sym (c.set.ensures ∙ ap (λ (r : Standing). set c.args.self.now.table c.in-Some.place (Some r)) record_is))
-    (subst (λ n. Stands (record { given = n; table = set c.args.self.now.table c.in-Some.place (Some (kept (c.args.self.now.given + 1) (fresh c.args.thread c.args.transfer c.args.mode (c.args.self.now.given + 1)))) }) (after_begin c.args.thread c.args.transfer c.args.mode operations)) (sym is)
+    (subst (λ n. Stands (record c.args.self.now { given = n; table = set c.args.self.now.table c.in-Some.place (Some (kept (c.args.self.now.given + 1) (fresh c.args.thread c.args.transfer c.args.mode (c.args.self.now.given + 1)))) }) (after_begin c.args.thread c.args.transfer c.args.mode operations)) (sym is)
     (stands_begun c.args.self.now operations c.in-Some.place c.args.thread c.args.transfer c.args.mode S c.in-Some.ensures.found (omega (arith, given, number))))

@@ -1,42 +1,28 @@
-use Rattle.std.proofs.Common.{sym, ◌∙◌, false, refl}
+use Rattle.std.proofs.Common.{sym, ◌∙◌, refl}
 use Rattle.std.proofs.lemmas.Bool.{not-true, not-false}
-use Rattle.put_get.specs.Syncs.{chosen, members, is_empty}
-use Rattle.put_get.specs.Stands.{member_in}
-use Rattle.put_get.proofs.Members.{members_agree, any_there, others_is}
-use Rattle.put_get.proofs.Marks.{no_marks, only}
+use Rattle.put_get.specs.Syncs.{chosen, is_empty}
+use Rattle.put_get.proofs.Members.{any_there, others_is}
 use Rattle.put_get.proofs.transfers.Transfers.fault.Goals as goal
 
 pub returns-then-not-has : goal.returns-then-not-has
-returns-then-not-has c operations S =
-    let table = c.args.self.now.table in
-    let handle = c.args.handle in
-    let M = only (member_in table handle) table c.mark_members.new.marks (c.mark_members.ensures (λ there. false) (no_marks table)) in
-    let A = members_agree table operations handle S.keeps in
-    let there = any_there table operations (members handle operations) (member_in table handle) S.keeps A in
-    rw (not-false (is_empty (chosen (members handle operations) 1 operations)) (sym there ∙ (sym (c.has.ensures (member_in table handle) M) ∙ c.if-not-has.true))) refl
+returns-then-not-has c operations choice test S M A =
+    let there = any_there c.args.self.now.table operations choice test S.keeps A in
+    rw (not-false (is_empty (chosen choice 1 operations)) (sym there ∙ (sym (c.has.ensures test M) ∙ c.if-not-has.true))) refl
 
 pub returns-then-has : goal.returns-then-has
-returns-then-has c operations S =
-    let table = c.args.self.now.table in
-    let handle = c.args.handle in
-    let M = only (member_in table handle) table c.mark_members.new.marks (c.mark_members.ensures (λ there. false) (no_marks table)) in
-    let A = members_agree table operations handle S.keeps in
-    let there = any_there table operations (members handle operations) (member_in table handle) S.keeps A in
-    let others = others_is table operations (members handle operations) (member_in table handle) c.args.thread S.keeps A in
+returns-then-has c operations choice test S M A =
+    let there = any_there c.args.self.now.table operations choice test S.keeps A in
+    let others = others_is c.args.self.now.table operations choice test c.args.thread S.keeps A in
     rw (
-      not-true (is_empty (chosen (members handle operations) 1 operations)) (sym there ∙ (sym (c.has.ensures (member_in table handle) M) ∙ c.if-not-has.false)),
-      sym others ∙ (sym (c.has-2.ensures (member_in table handle) M) ∙ c.if-has.true),
+      not-true (is_empty (chosen choice 1 operations)) (sym there ∙ (sym (c.has.ensures test M) ∙ c.if-not-has.false)),
+      sym others ∙ (sym (c.has-2.ensures test M) ∙ c.if-has.true),
     ) refl
 
 pub returns : goal.returns
-returns c operations S =
-    let table = c.args.self.now.table in
-    let handle = c.args.handle in
-    let M = only (member_in table handle) table c.mark_members.new.marks (c.mark_members.ensures (λ there. false) (no_marks table)) in
-    let A = members_agree table operations handle S.keeps in
-    let there = any_there table operations (members handle operations) (member_in table handle) S.keeps A in
-    let others = others_is table operations (members handle operations) (member_in table handle) c.args.thread S.keeps A in
+returns c operations choice test S M A =
+    let there = any_there c.args.self.now.table operations choice test S.keeps A in
+    let others = others_is c.args.self.now.table operations choice test c.args.thread S.keeps A in
     rw (
-      not-true (is_empty (chosen (members handle operations) 1 operations)) (sym there ∙ (sym (c.has.ensures (member_in table handle) M) ∙ c.if-not-has.false)),
-      sym others ∙ (sym (c.has-2.ensures (member_in table handle) M) ∙ c.if-has.false),
+      not-true (is_empty (chosen choice 1 operations)) (sym there ∙ (sym (c.has.ensures test M) ∙ c.if-not-has.false)),
+      sym others ∙ (sym (c.has-2.ensures test M) ∙ c.if-has.false),
     ) refl

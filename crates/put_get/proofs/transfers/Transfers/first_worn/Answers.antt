@@ -1,8 +1,8 @@
-use Rattle.std.proofs.Common.{◌≡◌, true, false, true≢false, sym, ap, ◌∙◌, arith, inl, inr, subst}
+use Rattle.std.proofs.Common.{true≢false, sym, ap, ◌∙◌, arith, inl, inr}
 use Rattle.std.proofs.lemmas.Bool.{cases_eq}
 use Rattle.put_get.specs.Syncs.{flag_at}
 use Rattle.put_get.specs.declared.table.Check.TheVariants.{UnissuedTo}
-use Rattle.put_get.specs.Stands.{has}
+use Rattle.put_get.specs.Table.{has}
 use Rattle.put_get.proofs.Marks.{flag_within}
 use Rattle.put_get.proofs.transfers.Transfers.first_worn.Goals as goal
 use Rattle.put_get.proofs.transfers.Transfers.first_worn.Goals.{else-flag_at-via-then-flag_at+else-has, else-flag_at-via-else-flag_at}

@@ -2,7 +2,7 @@ use Rattle.std.proofs.Common.{◌≡◌, ◌<◌, ℕ, Bool, true, false}
 use Rattle.put_get.specs.Syncs.{flag_at}
 use Rattle.put_get.specs.declared.table.Standing.{Standing}
 use Rattle.put_get.specs.declared.table.Check.TheVariants.{UnissuedTo}
-use Rattle.put_get.specs.Stands.{has, AreMarks}
+use Rattle.put_get.specs.Table.{has, AreMarks}
 use Rattle.put_get.proofs.transfers.Transfers.first_worn.Given as goal
 
 abbrev pub invariant-loop-node : goal.invariant-loop-node

@@ -1,7 +1,7 @@
 use Rattle.std.proofs.Common.{not, sym, ap, ◌∙◌, false, refl, Some, ne_eqb}
 use Rattle.std.proofs.lemmas.Bool.{not-true, not-false}
 use Rattle.put_get.specs.Syncs.{chosen, members, is_empty}
-use Rattle.put_get.specs.Stands.{member_in, also, AreMarks}
+use Rattle.put_get.specs.Stands.{member_in}
 use Rattle.put_get.proofs.Members.{members_agree, any_there, unissued_is}
 use Rattle.put_get.proofs.Marks.{no_marks, only}
 use Rattle.put_get.proofs.transfers.Transfers.issued.Goals as goal

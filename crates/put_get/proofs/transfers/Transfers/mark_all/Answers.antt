@@ -1,8 +1,8 @@
-use Rattle.std.proofs.Common.{◌+◌, ◌||◌, length, sym, ap, ◌∙◌, take, get_or, arith, subst}
+use Rattle.std.proofs.Common.{◌+◌, ◌||◌, sym, ap, ◌∙◌, take, get_or, arith, subst}
 use Rattle.std.proofs.lemmas.List.{take_all}
 use Rattle.put_get.specs.declared.operation.Handle.{Handle}
-use Rattle.put_get.specs.declared.table.Standing.{Standing}
-use Rattle.put_get.specs.Stands.{AreMarks, also, member_of, member_of_any}
+use Rattle.put_get.specs.Table.{AreMarks, also}
+use Rattle.put_get.specs.Stands.{member_of, member_of_any}
 use Rattle.put_get.proofs.Marks.{marks_by}
 use Rattle.put_get.proofs.Lists.{any_take, or_assoc, at_get}
 use Rattle.put_get.proofs.transfers.Transfers.mark_all.Goals as goal

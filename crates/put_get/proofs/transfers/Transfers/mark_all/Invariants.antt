@@ -1,6 +1,7 @@
 use Rattle.std.proofs.Common.{Bool, take}
 use Rattle.put_get.specs.declared.table.Standing.{Standing}
-use Rattle.put_get.specs.Stands.{AreMarks, also, member_of_any}
+use Rattle.put_get.specs.Table.{AreMarks, also}
+use Rattle.put_get.specs.Stands.{member_of_any}
 use Rattle.put_get.proofs.transfers.Transfers.mark_all.Given as goal
 
 abbrev pub invariant-loop-handle : goal.invariant-loop-handle

@@ -1,6 +1,6 @@
-use Rattle.std.proofs.Common.{◌||◌, refl, sym, ap, ◌∙◌, true, false, ne_eqb, eq-eqb}
-use Rattle.put_get.specs.declared.table.Standing.{Standing}
-use Rattle.put_get.specs.Stands.{also, member_in, member_of}
+use Rattle.std.proofs.Common.{refl, sym, ne_eqb, eq-eqb}
+use Rattle.put_get.specs.Table.{also}
+use Rattle.put_get.specs.Stands.{member_in, member_of}
 use Rattle.put_get.proofs.Marks.{marks_by}
 use Rattle.put_get.proofs.Lists.{or_false}
 use Rattle.put_get.proofs.transfers.Transfers.mark_handle.Goals as goal

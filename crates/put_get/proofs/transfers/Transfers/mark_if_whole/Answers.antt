@@ -1,6 +1,6 @@
-use Rattle.std.proofs.Common.{◌||◌, refl, sym, ap, ◌∙◌, ◌&&◌}
-use Rattle.put_get.specs.declared.table.Standing.{Standing}
-use Rattle.put_get.specs.Stands.{also, member_in, whole_here}
+use Rattle.std.proofs.Common.{◌||◌, sym, ap, ◌∙◌, ◌&&◌}
+use Rattle.put_get.specs.Table.{also}
+use Rattle.put_get.specs.Stands.{member_in, whole_here}
 use Rattle.put_get.proofs.Marks.{marks_by}
 use Rattle.put_get.proofs.transfers.Transfers.mark_if_whole.Goals as goal
 

@@ -1,7 +1,7 @@
-use Rattle.std.proofs.Common.{◌||◌, refl, sym, ap, ◌∙◌, true, false}
-use Rattle.put_get.specs.declared.table.Standing.{Standing}
+use Rattle.std.proofs.Common.{refl, sym, ◌∙◌}
 use Rattle.put_get.specs.declared.table.Pick.TheVariants as pick
-use Rattle.put_get.specs.Stands.{also, picked, member_in}
+use Rattle.put_get.specs.Table.{also, picked}
+use Rattle.put_get.specs.Stands.{member_in}
 use Rattle.put_get.proofs.Marks.{marks_by}
 use Rattle.put_get.proofs.transfers.Transfers.mark_members.Goals as goal
 

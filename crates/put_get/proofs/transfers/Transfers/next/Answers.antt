@@ -1,7 +1,7 @@
-use Rattle.std.proofs.Common.{◌≡◌, ◌+◌, ℕ, Some, sym, ap, ◌∙◌, subst, arith}
+use Rattle.std.proofs.Common.{◌+◌, Some, sym, ap, ◌∙◌, subst, arith}
 use Rattle.put_get.specs.Syncs.{flag_at}
 use Rattle.put_get.specs.Stands.{IsLeast, CanNote}
-use Rattle.put_get.proofs.Oldest.{least_none, least_more, oldest_is, unissued_of, note_of, answer}
+use Rattle.put_get.proofs.Oldest.{least_more, oldest_is, unissued_of, note_of, answer}
 use Rattle.put_get.proofs.transfers.Transfers.next.Goals as goal
 
 pub loop-place-preserved : goal.loop-place-preserved

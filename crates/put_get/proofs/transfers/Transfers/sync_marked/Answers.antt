@@ -1,5 +1,5 @@
 use Rattle.std.proofs.Common.{Some, None, not, sym, ap, ◌∙◌, subst, refl}
-use Rattle.put_get.specs.Syncs.{flag_at, worn_or, chosen}
+use Rattle.put_get.specs.Syncs.{flag_at, worn_or}
 use Rattle.put_get.specs.Stands.{IsFirstWorn}
 use Rattle.put_get.proofs.Members.{complete_is}
 use Rattle.put_get.proofs.Worn.{worn_is}

@@ -1,8 +1,5 @@
-use Rattle.std.proofs.Common.{◌≡◌, ◌||◌, ◌==◌, Some, None, false, refl, sym, ap, ap₂, ◌∙◌, subst}
-use Rattle.std.specs.List.{list_any, list_all}
-use Rattle.put_get.specs.declared.operation.Handle.{Handle}
-use Rattle.put_get.specs.Operation.{Operation}
-use Rattle.put_get.specs.Syncs.{flag_at, worn_or, whole_of, members_of, is_whole}
+use Rattle.std.proofs.Common.{◌||◌, Some, None, false, refl, sym, ap, ap₂, ◌∙◌, subst}
+use Rattle.put_get.specs.Syncs.{flag_at, worn_or, whole_of, members_of}
 use Rattle.put_get.specs.Stands.{IsFirstWorn, whole_in, member_of_any}
 use Rattle.put_get.proofs.Marks.{no_marks, only}
 use Rattle.put_get.proofs.Lists.{any_agrees}

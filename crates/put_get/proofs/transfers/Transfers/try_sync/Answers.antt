@@ -1,50 +1,42 @@
-use Rattle.std.proofs.Common.{not, sym, ap, ◌∙◌, false, refl, ne_eqb}
-use Rattle.std.proofs.lemmas.Bool.{not-true, not-false}
-use Rattle.put_get.specs.Syncs.{chosen, members, is_empty}
+use Rattle.std.proofs.Common.{sym, ap, ◌∙◌, false, ne_eqb}
+use Rattle.put_get.specs.Syncs.{members, flag_at, sync_answer, chosen, unless_fault}
 use Rattle.put_get.specs.Stands.{member_in}
-use Rattle.put_get.proofs.Members.{members_agree, any_there, others_is}
+use Rattle.put_get.proofs.Members.{members_agree}
 use Rattle.put_get.proofs.Marks.{no_marks, only}
+use Rattle.put_get.proofs.Lists.{here_stays}
 use Rattle.put_get.proofs.transfers.Transfers.try_sync.Goals as goal
 
-pub returns-then-not-has-clause-answer : goal.returns-then-not-has-clause-answer
-returns-then-not-has-clause-answer c operations S =
+pub returns-in-Some-clause-answer : goal.returns-in-Some-clause-answer
+returns-in-Some-clause-answer c operations S =
     let table = c.args.self.now.table in
     let handle = c.args.handle.serial in
     let M = only (member_in table handle) table c.mark_members.new.marks (c.mark_members.ensures (λ there. false) (no_marks table)) in
     let A = members_agree table operations handle S.keeps in
-    let there = any_there table operations (members handle operations) (member_in table handle) S.keeps A in
-    rw (ne_eqb handle 0 c.if-handle-eq0.false, not-false (is_empty (chosen (members handle operations) 1 operations)) (sym there ∙ (sym (c.has.ensures (member_in table handle) M) ∙ c.if-not-has.true))) refl
+    rw (ne_eqb handle 0 c.if-handle-eq0.false)
+    (ap (λ found. unless_fault found (sync_answer (flag_at c.args.worn.now) (chosen (members handle operations) 1 operations))) (sym c.in-Some.is ∙ c.fault.ensures operations (members handle operations) (member_in table handle) S M A))
 
-pub returns-then-has-clause-answer : goal.returns-then-has-clause-answer
-returns-then-has-clause-answer c operations S =
+pub returns-in-Some-clause-stands : goal.returns-in-Some-clause-stands
+returns-in-Some-clause-stands c operations S =
     let table = c.args.self.now.table in
     let handle = c.args.handle.serial in
     let M = only (member_in table handle) table c.mark_members.new.marks (c.mark_members.ensures (λ there. false) (no_marks table)) in
     let A = members_agree table operations handle S.keeps in
-    let there = any_there table operations (members handle operations) (member_in table handle) S.keeps A in
-    let others = others_is table operations (members handle operations) (member_in table handle) c.args.thread S.keeps A in
-    rw (
-      ne_eqb handle 0 c.if-handle-eq0.false,
-      not-true (is_empty (chosen (members handle operations) 1 operations)) (sym there ∙ (sym (c.has.ensures (member_in table handle) M) ∙ c.if-not-has.false)),
-      sym others ∙ (sym (c.has-2.ensures (member_in table handle) M) ∙ c.if-has.true),
-    ) refl
+    rw (ne_eqb handle 0 c.if-handle-eq0.false)
+    (here_stays c.args.self.now operations c.args.thread (chosen (members handle operations) 1 operations) (members handle operations) c.in-Some.fault
+    (sym (c.fault.ensures operations (members handle operations) (member_in table handle) S M A) ∙ c.in-Some.is) S)
 
-pub returns-clause-answer : goal.returns-clause-answer
-returns-clause-answer c operations S =
+pub returns-in-None-clause-answer : goal.returns-in-None-clause-answer
+returns-in-None-clause-answer c operations S =
     let table = c.args.self.now.table in
     let handle = c.args.handle.serial in
     let M = only (member_in table handle) table c.mark_members.new.marks (c.mark_members.ensures (λ there. false) (no_marks table)) in
     let A = members_agree table operations handle S.keeps in
-    let there = any_there table operations (members handle operations) (member_in table handle) S.keeps A in
-    let others = others_is table operations (members handle operations) (member_in table handle) c.args.thread S.keeps A in
-    rw (
-      ne_eqb handle 0 c.if-handle-eq0.false,
-      not-true (is_empty (chosen (members handle operations) 1 operations)) (sym there ∙ (sym (c.has.ensures (member_in table handle) M) ∙ c.if-not-has.false)),
-      sym others ∙ (sym (c.has-2.ensures (member_in table handle) M) ∙ c.if-has.false),
-    ) (c.sync_marked.ensures.answer operations (members handle operations) (member_in table handle) S M A)
+    rw (ne_eqb handle 0 c.if-handle-eq0.false)
+    (c.sync_marked.ensures.answer operations (members handle operations) (member_in table handle) S M A
+    ∙ ap (λ found. unless_fault found (sync_answer (flag_at c.args.worn.now) (chosen (members handle operations) 1 operations))) (sym c.in-None.is ∙ c.fault.ensures operations (members handle operations) (member_in table handle) S M A))
 
-pub returns-clause-stands : goal.returns-clause-stands
-returns-clause-stands c operations S =
+pub returns-in-None-clause-stands : goal.returns-in-None-clause-stands
+returns-in-None-clause-stands c operations S =
     let table = c.args.self.now.table in
     let handle = c.args.handle.serial in
     let M = only (member_in table handle) table c.mark_members.new.marks (c.mark_members.ensures (λ there. false) (no_marks table)) in

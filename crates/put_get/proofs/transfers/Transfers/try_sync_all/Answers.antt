@@ -1,5 +1,5 @@
-use Rattle.std.proofs.Common.{◌≡◌, None, Some, sym, ap, ◌∙◌, false, refl, inl, inr, take}
-use Rattle.put_get.specs.Syncs.{members_of, fault_of, flag_at}
+use Rattle.std.proofs.Common.{sym, ◌∙◌, false}
+use Rattle.put_get.specs.Syncs.{members_of}
 use Rattle.put_get.specs.Stands.{member_of_any}
 use Rattle.put_get.proofs.Lists.{any_agrees, fault_stays}
 use Rattle.put_get.proofs.Marks.{no_marks, only}

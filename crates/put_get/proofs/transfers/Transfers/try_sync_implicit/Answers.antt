@@ -1,7 +1,7 @@
 use Rattle.std.proofs.Common.{false}
 use Rattle.put_get.specs.declared.table.Pick.TheVariants as pick
 use Rattle.put_get.specs.Syncs.{implicit_of}
-use Rattle.put_get.specs.Stands.{picked}
+use Rattle.put_get.specs.Table.{picked}
 use Rattle.put_get.proofs.Members.{implicit_agree}
 use Rattle.put_get.proofs.Marks.{no_marks, only}
 use Rattle.put_get.proofs.transfers.Transfers.try_sync_implicit.Goals as goal

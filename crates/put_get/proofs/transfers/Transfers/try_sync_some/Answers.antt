@@ -1,8 +1,6 @@
-use Rattle.std.proofs.Common.{◌≡◌, None, Some, sym, ap, ◌∙◌, false, refl, inl, inr, take}
-use Rattle.put_get.specs.Syncs.{whole_of, fault_of, flag_at}
-use Rattle.put_get.specs.Stands.{member_of_any}
+use Rattle.std.proofs.Common.{sym, ◌∙◌}
+use Rattle.put_get.specs.Syncs.{whole_of}
 use Rattle.put_get.proofs.Lists.{fault_stays}
-use Rattle.put_get.proofs.Marks.{no_marks, only}
 use Rattle.put_get.proofs.transfers.Transfers.try_sync_some.Goals as goal
 
 pub returns-in-Some-clause-stands : goal.returns-in-Some-clause-stands

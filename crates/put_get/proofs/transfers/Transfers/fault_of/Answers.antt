@@ -1,0 +1,13 @@
+use Rattle.std.proofs.Common.{false}
+use Rattle.put_get.specs.Syncs.{members}
+use Rattle.put_get.specs.Stands.{member_in}
+use Rattle.put_get.proofs.Members.{members_agree}
+use Rattle.put_get.proofs.Marks.{no_marks, only}
+use Rattle.put_get.proofs.transfers.Transfers.fault_of.Goals as goal
+
+pub returns : goal.returns
+returns c operations S =
+    let table = c.args.self.now.table in
+    let test = member_in table c.args.handle in
+    let M = only test table c.mark_members.new.marks (c.mark_members.ensures (λ there. false) (no_marks table)) in
+    c.fault.ensures operations (members c.args.handle operations) test S M (members_agree table operations c.args.handle S.keeps)

@@ -1,0 +1,73 @@
+//! Which chunk is out in which slot of which node.
+
+ghost use Rattle.std.specs.Prelude.{◌≡◌, ◌<◌, None, IfOk, ℕ};
+ghost use Rattle.put_get.specs.Slots.{entry_at, HasSet};
+
+use std::alloc::{AllocError, Global};
+use std::marker::Model;
+
+/// A chunk that is out: the number of its request, and the place of its operation's record.
+#[derive(Clone, Copy)]
+pub(crate) struct Waiting {
+    pub request: u64,
+    pub place: usize,
+}
+
+/// An entry for each slot of each node.
+#[derive(Drop)]
+pub(crate) struct Slots {
+    nodes: usize,
+    credits: usize,
+    entries: Vec<Option<Waiting>>,
+}
+
+impl Model for Slots {
+    ghost use Rattle.std.specs.Prelude.{◌≡◌, ◌*◌, length};
+    ghost use Rattle.put_get.specs.Slots.{SlotsState};
+
+    ghost Value = { SlotsState };
+
+    ghost view = { λ s.
+        record { nodes = s.nodes; credits = s.credits; entries = s.entries.items } };
+
+    ghost invariant = { λ s. length s.entries.items ≡ s.nodes * s.credits };
+}
+
+impl Slots {
+    /// No chunk is out.
+    pub fn new(alloc: Global, nodes: u16, credits: u16) -> Result<Slots, AllocError>
+        ensures room { IfOk result (λ slots. (slots.nodes ≡ nodes) × (slots.credits ≡ credits)) }
+        ensures none { IfOk result (λ slots. (to slot : ℕ) → entry_at slots to slot ≡ None) }
+    {
+        let nodes = usize::from(nodes);
+        let credits = usize::from(credits);
+        Ok(Slots {
+            nodes,
+            credits,
+            entries: vec![in alloc; None; nodes * credits]?,
+        })
+    }
+
+    /// The chunk that is out in this slot of this node.
+    pub fn at(&self, to: u16, slot: u16) -> Option<Waiting>
+        ensures { result ≡ entry_at self.now to slot }
+    {
+        let to = usize::from(to);
+        let slot = usize::from(slot);
+        if to < self.nodes && slot < self.credits {
+            self.entries[to * self.credits + slot]
+        } else {
+            None
+        }
+    }
+
+    /// The entry of this slot of this node becomes that.
+    pub fn set(&mut self, to: u16, slot: u16, entry: Option<Waiting>)
+        requires to_in { to < self.old.nodes }
+        requires slot_in { slot < self.old.credits }
+        ensures { HasSet self.old to slot entry self.new }
+    {
+        let place = usize::from(to) * self.credits + usize::from(slot);
+        self.entries[place] = entry;
+    }
+}
