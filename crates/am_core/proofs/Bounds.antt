@@ -1,5 +1,5 @@
 -- A core holds no more message buffers than the credits of its pairs.
-use Rattle.std.proofs.Common.{◌≡◌, ◌≤◌, ℕ, List, ap, ◌∙◌, arith}
+use Rattle.std.proofs.Common.{◌≡◌, ◌≤◌, List, ap, ◌∙◌, arith}
 use Rattle.datagram_grammar.specs.Parameters.{credits_of}
 use Rattle.node_record.specs.Credits.{greatest_holding}
 use Rattle.node_record.specs.Executed.{slots_run}

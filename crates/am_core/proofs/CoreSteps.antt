@@ -48,18 +48,21 @@ use Rattle.handler_rules.specs.Runs.{Meaning, IsLawfulMeaning}
 use Rattle.am_core.specs.ClientRules.{rules, said_in, content_by, payload_in, asking_fault, busy_lock}
 use Rattle.am_core.specs.ClientRules.{thread_violation, with_violations}
 use Rattle.am_core.specs.HandlerRuns.{left_by, outcome, landing, reply_or_ack, run_request}
-use Rattle.am_core.specs.HandlerRuns.{run_reply, frame_of_run}
+use Rattle.am_core.specs.HandlerRuns.{run_reply, frame_of_run, client_outcome}
 use Rattle.am_core.specs.CoreState.{CoreState}
-use Rattle.am_core.specs.CoreContracts.{IsSameNode}
+use Rattle.am_core.specs.Library.{Work, work_content}
+use Rattle.am_core.specs.CoreContracts.{IsSameNode, AsksOwn}
 use Rattle.am_core.specs.Stands.{Stands}
 use Rattle.am_core.specs.CoreContracts.{Check, Lock, Unlock, Checked, Locked, Unlocked, CoreTold, CoreSteps}
-use Rattle.am_core.specs.CoreStep.{AsksFor, AsksUnlessForbidden, AsksUnlessBad, AsksNode, AsksOwn, Claims, claim_of}
+use Rattle.am_core.specs.CoreStep.{AsksFor, AsksUnlessForbidden, AsksUnlessBad, AsksNode, AsksHere, Claims, claim_of}
 use Rattle.am_core.specs.CoreStep.{after_judgement, asked_fault, judged_at, said_at, start_at, handlers_at}
 use Rattle.am_core.specs.CoreStep.{landed_core, request_outcome, with_outcome, with_reply_ran}
 use Rattle.am_core.specs.CoreStep.{with_own_reply, with_own_run}
 use Rattle.am_core.proofs.CoreStands.{noted_stands, locks_stand, segment_stand, outcome_stands}
 use Rattle.am_core.proofs.CoreStands.{node_worn, node_not_yet, node_accepts}
-use Rattle.am_core.proofs.Landings.{landing_fits, reply_kind_is, said_fits}
+use Rattle.am_core.specs.Library.{is_library}
+use Rattle.am_core.proofs.Landings.{landing_fits, reply_kind_is, StaysInside, client_stays, client_reply, said_client}
+use Rattle.am_core.proofs.Landings.{said_stays}
 use Rattle.am_core.proofs.ThreadLocks.{lock_unheld, unlock_unheld}
 
 -- ---- a core as a node
@@ -247,13 +250,16 @@ segment_sized e r S =
     ap (λ (bytes : List ℕ). length bytes) S.segment_is
     ∙ length-image e.settings.segment r.local.writes S.invariant_.kept.writes
 
--- what a run writes fits
+-- what a run of the library's handler, or of a client's, writes fits
 run_fits : (meaning : Meaning) (e : CoreState) (which : Role) (contact : Contact) (c : Content)
-    → IsLawfulMeaning meaning → length e.segment ≡ e.settings.segment
+    → IsLawfulMeaning meaning → length e.segment ≡ e.settings.segment → StaysInside e.settings.segment c
     → AllFit e.settings.segment (outcome (handlers_at meaning e) which contact c (start_at e)).writes
-run_fits meaning e which contact c lawful sized =
-    subst (λ (len : ℕ). AllFit len (outcome (handlers_at meaning e) which contact c (start_at e)).writes) sized
-    (lawful c.handler (frame_of_run (handlers_at meaning e) which contact c) (start_at e)).writes
+run_fits meaning e which contact c lawful sized stays = elim (cases_Bool (is_library c.handler)) [
+  | inl own ↦ rw own stays.written
+  | inr client ↦ rw client
+      (subst (λ (len : ℕ). AllFit len (client_outcome (handlers_at meaning e) which contact c (start_at e)).writes) sized
+      (lawful c.handler (frame_of_run (handlers_at meaning e) which contact c) (start_at e)).writes)
+]
 
 -- the core after a message landed and ran, with this role
 abbrev pub ran_core : Meaning → CoreState → Role → Contact → Content → CoreState
@@ -263,37 +269,37 @@ ran_core meaning e which contact c =
 
 -- a message landed and ran
 pub ran_stands : (meaning : Meaning) (e : CoreState) (r : Node Local) (which : Role) (contact : Contact) (c : Content)
-    → IsLawfulMeaning meaning → Stands e r → AllFit e.settings.segment (landing c)
+    → IsLawfulMeaning meaning → Stands e r → StaysInside e.settings.segment c
     → Stands (ran_core meaning e which contact c)
     (with_local r (let landed = with_writes r.local (landing c) in
     left_by which (outcome (handlers_at meaning e) which contact c (start_of e.settings landed)) landed))
 ran_stands meaning e r which contact c lawful S fits =
     let landed = with_writes r.local (landing c) in
-    let L = segment_stand e r (landing c) S fits in
+    let L = segment_stand e r (landing c) S fits.landed in
     let here = landed_core e c in
     let run = outcome (handlers_at meaning here) which contact c (start_at here) in
     subst (λ (start : Start). Stands (with_outcome here which run)
     (with_local r (left_by which (outcome (handlers_at meaning e) which contact c start) landed)))
     (same_start here (with_local r landed) L)
     (outcome_stands here (with_local r landed) which run L
-    (run_fits meaning here which contact c lawful (segment_sized here (with_local r landed) L)))
+    (run_fits meaning here which contact c lawful (segment_sized here (with_local r landed) L) fits))
 
 -- after it the segment is as long as before
 pub ran_sized : (meaning : Meaning) (e : CoreState) (which : Role) (contact : Contact) (c : Content)
-    → IsLawfulMeaning meaning → length e.segment ≡ e.settings.segment → AllFit e.settings.segment (landing c)
+    → IsLawfulMeaning meaning → length e.segment ≡ e.settings.segment → StaysInside e.settings.segment c
     → length (ran_core meaning e which contact c).segment ≡ e.settings.segment
 ran_sized meaning e which contact c lawful sized fits =
     let here = landed_core e c in
-    let landed = length-written_by e.settings.segment e.segment (landing c) sized fits in
+    let landed = length-written_by e.settings.segment e.segment (landing c) sized fits.landed in
     length-written_by e.settings.segment here.segment
     (outcome (handlers_at meaning here) which contact c (start_at here)).writes landed
-    (run_fits meaning here which contact c lawful landed)
+    (run_fits meaning here which contact c lawful landed fits)
 
 -- ---- runs of replies
 
 -- an Ack changes nothing, each other reply lands and runs
 pub reply_run_stands : (meaning : Meaning) (e : CoreState) (r : Node Local) (contact : Contact) (c : Content)
-    (new : CoreState) → IsLawfulMeaning meaning → Stands e r → AllFit e.settings.segment (landing c)
+    (new : CoreState) → IsLawfulMeaning meaning → Stands e r → StaysInside e.settings.segment c
     → (is_ack (code c.kind) ≡ true → new ≡ e)
     → (is_ack (code c.kind) ≡ false → new ≡ with_reply_ran meaning e contact c)
     → Stands new (with_local r (run_reply (handlers_at meaning e) contact c r.local))
@@ -307,7 +313,7 @@ reply_run_stands meaning e r contact c new lawful S fits ack runs = elim (cases_
 -- a reply that a handler may send
 pub record IsSendable (settings : Parameters) (content : Content) : Type 0 where
   pub runs : is_ack (code content.kind) ≡ false
-  pub fits : AllFit settings.segment (landing content)
+  pub fits : StaysInside settings.segment content
 
 -- a reply that was let through is one
 pub sendable : (frame : Frame) (o : Option Content) → IsLawful frame o → (content : Content) → o ≡ Some content
@@ -316,7 +322,8 @@ sendable frame None L content e = absurd (cc)
 sendable frame (Some x) L content e =
     subst (IsSendable frame.settings) (same_Some x content e) (record {
       runs = reply_kind_is x.kind L.reply.kind;
-      fits = landing_fits frame.settings.segment x L.inside;
+      fits = client_stays frame.settings.segment x (client_reply frame.table x.handler L.registered)
+          (landing_fits frame.settings.segment x L.inside);
     })
 
 -- the reply of an own request ran, if there was one
@@ -334,22 +341,25 @@ own_reply_stands meaning e r (Some content) lawful S sent =
 abbrev own_run : Meaning → CoreState → Content → Outcome
 own_run meaning e c = request_outcome meaning (landed_core e c) (with_itself e.me) c
 
-own_sendable : (meaning : Meaning) (e : CoreState) (c : Content) → IsLawfulMeaning meaning → (content : Content)
+own_sendable : (meaning : Meaning) (e : CoreState) (c : Content) → IsLawfulMeaning meaning
+    → is_library c.handler ≡ false → (content : Content)
     → (own_run meaning e c).reply ≡ Some content → IsSendable e.settings content
-own_sendable meaning e c lawful =
+own_sendable meaning e c lawful client =
     let here = landed_core e c in
     let frame = frame_of_run (handlers_at meaning here) role.Request (with_itself e.me) c in
-    sendable frame (own_run meaning e c).reply (lawful c.handler frame (start_at here)).reply
+    rw client (sendable frame
+    (client_outcome (handlers_at meaning here) role.Request (with_itself e.me) c (start_at here)).reply
+    (lawful c.handler frame (start_at here)).reply)
 
 -- a request to the own node ran, and its reply
 own_run_stands : (meaning : Meaning) (e : CoreState) (r : Node Local) (c : Content) → IsLawfulMeaning meaning
-    → Stands e r → AllFit e.settings.segment (landing c)
+    → Stands e r → is_library c.handler ≡ false → StaysInside e.settings.segment c
     → Stands (with_own_run meaning e c)
     (with_local r (let out = run_request (handlers_at meaning e) (with_itself e.me) c r.local in
     run_reply (handlers_at meaning e) (with_itself e.me) out.1 out.0))
-own_run_stands meaning e r c lawful S fits =
+own_run_stands meaning e r c lawful S client fits =
     let landed = with_writes r.local (landing c) in
-    let L = segment_stand e r (landing c) S fits in
+    let L = segment_stand e r (landing c) S fits.landed in
     let here = landed_core e c in
     let run = own_run meaning e c in
     subst (λ (start : Start). Stands (with_own_run meaning e c)
@@ -359,8 +369,8 @@ own_run_stands meaning e r c lawful S fits =
     (own_reply_stands meaning (with_outcome here role.Request run)
     (with_local r (left_by role.Request run landed)) run.reply lawful
     (outcome_stands here (with_local r landed) role.Request run L
-    (run_fits meaning here role.Request (with_itself e.me) c lawful (segment_sized here (with_local r landed) L)))
-    (own_sendable meaning e c lawful))
+    (run_fits meaning here role.Request (with_itself e.me) c lawful (segment_sized here (with_local r landed) L) fits))
+    (own_sendable meaning e c lawful client))
 
 -- the locks of the handler of what a request says
 said_handler : (category : Category) (asking : Asking) (payload : List ℕ)
@@ -451,11 +461,11 @@ fault_beside e ask none = by_test (nat_le e.settings.nodes ask.to) none
 
 -- a core that ran an own request is that of the same node
 own_same : (meaning : Meaning) (e : CoreState) (c : Content) → IsLawfulMeaning meaning
-    → length e.segment ≡ e.settings.segment → AllFit e.settings.segment (landing c)
+    → length e.segment ≡ e.settings.segment → is_library c.handler ≡ false → StaysInside e.settings.segment c
     → IsSameNode e (with_own_run meaning e c)
-own_same meaning e c lawful sized fits =
+own_same meaning e c lawful sized client fits =
     by_reply (own_run meaning e c).reply (ran_core meaning e role.Request (with_itself e.me) c) refl refl refl
-    (ran_sized meaning e role.Request (with_itself e.me) c lawful sized fits) (own_sendable meaning e c lawful)
+    (ran_sized meaning e role.Request (with_itself e.me) c lawful sized fits) (own_sendable meaning e c lawful client)
   where
     by_reply : (o : Option Content) (v : CoreState) → v.settings ≡ e.settings → v.me ≡ e.me → v.table ≡ e.table
         → length v.segment ≡ e.settings.segment
@@ -466,7 +476,7 @@ own_same meaning e c lawful sized fits =
     by_reply (Some content) v settings me_is table len sent =
         let as_long = ran_sized meaning v role.Reply (with_itself v.me) content lawful
         (len ∙ ap (λ (s : Parameters). s.segment) (sym settings))
-        (subst (λ (s : Parameters). AllFit s.segment (landing content)) (sym settings) (sent content refl).fits) in
+        (subst (λ (s : Parameters). StaysInside s.segment content) (sym settings) (sent content refl).fits) in
         record {
           settings = settings;
           me_is = me_is;
@@ -478,7 +488,7 @@ own_same meaning e c lawful sized fits =
 own_step : (meaning : Meaning) (e : CoreState) (now : ℕ) (ask : Ask) (allowed : Unit {0}) (lock : Option ℕ)
     (a : AskedAnswer) (new : CoreState) → IsLawfulMeaning meaning → length e.segment ≡ e.settings.segment
     → judged_at e ask.thread call.Request ≡ Ok allowed → asked_fault e ask ≡ None → ask.to ≡ e.me
-    → busy_lock e.table ask.what.handler e.locks ≡ lock → AsksOwn lock meaning e (asking now ask a) new
+    → busy_lock e.table ask.what.handler e.locks ≡ lock → AsksHere lock meaning e (asking now ask a) new
     → Requests meaning e now ask a new
 own_step meaning e now ask allowed (Some lock) a new lawful sized j f own busy h = record {
   same = same_core e new h.1;
@@ -488,14 +498,15 @@ own_step meaning e now ask allowed (Some lock) a new lawful sized j f own busy h
   );
 }
 own_step meaning e now ask allowed None a new lawful sized j f own busy h =
-    let fits = said_fits e.settings e.table e.segment ask.what (fault_beside e ask f) in
+    let fits = said_stays e.settings e.table e.segment ask.what (fault_beside e ask f) in
+    let client = said_client e.settings e.table e.segment ask.what (fault_beside e ask f) in
     record {
-      same = rw h.1 (own_same meaning e (said_at e ask) lawful sized fits);
+      same = rw h.1 (own_same meaning e (said_at e ask) lawful sized client fits);
       steps = λ r S. (
         h.0 ∙ answer_is meaning e r ask allowed _ S j f (own_passed e r ask None S own busy),
         rw (h.0, h.1) (subst (λ (bytes : List ℕ). Stands (with_own_run meaning e (said_at e ask))
             (with_local r (ran_here (rules_at meaning e) e.me (said_in bytes ask.what) r.local))) S.segment_is
-            (own_run_stands meaning e r (said_at e ask) lawful S fits)),
+            (own_run_stands meaning e r (said_at e ask) lawful S client fits)),
       );
     }
 
@@ -572,3 +583,32 @@ pub requests_step : (meaning : Meaning) (e : CoreState) (now : ℕ) (ask : Ask) 
 requests_step meaning e now ask a new lawful sized h =
     asks_step meaning e now ask a new
     (asks_unless meaning e now ask (judged_at e ask.thread call.Request) a new lawful sized refl h)
+
+-- a request of the library to another node, by what it was answered
+pub own_ask_step : (e : CoreState) (now to : ℕ) (work : Work) (a : AskedAnswer) (new : CoreState)
+    → to < e.settings.nodes → to ≢ e.me
+    → Claims e (record {
+      now = now;
+      event = record { to = to; content = work_content e.settings.version e.segment work };
+      answer = a;
+    }) new
+    → AsksOwn e (record { now = now; to = to; work = work; answer = a }) new
+own_ask_step e now to work (asked.Accepted peer slot number) new low other h = record {
+  same = rw h.1.kept (record { settings = refl; me_is = refl; table = refl; segment_length = refl });
+  steps = λ r S.
+      let N = node_accepts to now slot number e r (work_content e.settings.version e.segment work) new S low other h.1
+      in (
+        sym (N.takes.1.answer ∙ ap (λ p. asked.Accepted p slot number) (sym h.0)),
+        subst (λ (bytes : List ℕ). Stands new (with_request r now to slot (work_content e.settings.version bytes work)))
+            S.segment_is N.stands,
+      );
+}
+own_ask_step e now to work asked.WornOut new low other h = record {
+  same = same_core e new h.1;
+  steps = λ r S. (sym (node_worn to e r S low other h.0), rw h.1 S);
+}
+own_ask_step e now to work asked.NotYet new low other h = record {
+  same = same_core e new h.1;
+  steps = λ r S. (sym (node_not_yet to e r S low other h.0), rw h.1 S);
+}
+own_ask_step e now to work _ new low other h = absurd h

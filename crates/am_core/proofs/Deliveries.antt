@@ -27,14 +27,13 @@ use Rattle.node_record.specs.Step.{Waits as WaitsVerdict}
 use Rattle.node_record.specs.Step.{deliver_answer, after_delivery}
 use Rattle.node_record.specs.Step.{address_fault, first_why, with_run, with_back}
 use Rattle.node_record.specs.Step.{Verdict, Refused as RefusedVerdict, Repeated, Passed, Runs as RunsVerdict, Missed}
-use Rattle.node_record.specs.Step.{Returns as ReturnsVerdict, verdict, answer_by, slots_for, with_sender}
+use Rattle.node_record.specs.Step.{Returns as ReturnsVerdict, verdict, answer_by, with_sender}
 use Rattle.datagram_grammar.specs.Parameters.{credits_of}
 use Rattle.am_core.specs.Kept.{Local, start_of, with_writes}
 use Rattle.handler_rules.specs.Runs.{Meaning, IsLawfulMeaning}
 use Rattle.handler_rules.specs.declared.rules.Role.{Role}
 use Rattle.hsl_locks.specs.declared.answer.Held.{Held}
-use Rattle.raw_segment.specs.Image.{AllFit}
-use Rattle.am_core.proofs.Landings.{content_fits}
+use Rattle.am_core.proofs.Landings.{content_fits, StaysInside}
 use Rattle.am_core.specs.ClientRules.{content_refusal, awaited_lock}
 use Rattle.am_core.specs.HandlerRuns.{left_by, landing, outcome, reply_or_ack, run_request}
 use Rattle.am_core.specs.HandlerRuns.{run_reply}
@@ -43,7 +42,7 @@ use Rattle.am_core.specs.CoreContracts.{IsSameNode}
 use Rattle.am_core.specs.Stands.{Stands}
 use Rattle.am_core.specs.CoreContracts.{CoreTold, CoreSteps, Delivers}
 use Rattle.am_core.specs.CoreStep.{delivered_outcome, landed_core, lock_at, DeliversMessage}
-use Rattle.am_core.specs.CoreStep.{IsOurRequest, IsOurReply, IsNewRequest, IsOpenReply, Runs}
+use Rattle.am_core.specs.CoreStep.{IsOurs, IsOurRequest, IsOurReply, IsNewRequest, IsOpenReply, Runs, RunsNew}
 use Rattle.am_core.specs.CoreStep.{message_refusal, with_reply_run}
 use Rattle.am_core.specs.CoreStep.{answer_message, handlers_at}
 use Rattle.am_core.proofs.CoreStands.{segment_stand, node_taken}
@@ -57,43 +56,21 @@ of_delivery a = OfDelivery a
 
 -- ---- what becomes of a message
 
--- what a message that isn't refused says of its way
-pub record IsOurs (e : CoreState) (m : Message) : Type 0 where
-  pub to : m.to ≡ e.me
-  pub from : m.from < e.settings.nodes
-  pub slot : m.slot < slots_for e.settings e.me m
-
--- where nothing is wrong, the first thing isn't
-first_none : (a b : Option Why) → first_why a b ≡ None → a ≡ None
-first_none None b h = refl
-first_none (Some reason) b h = absurd (cc)
-
--- a message that isn't refused is for this node, from a node, with a slot of its pair
-pub ours_says : (e : CoreState) (m : Message) → message_refusal e m ≡ None → IsOurs e m
-ours_says e m h =
-    let none : address_fault e.settings e.me m ≡ None = first_none (address_fault e.settings e.me m)
-    (content_refusal e.settings e.table (content_of m)) h in
-    record {
-      to = grind (arith, nat_tests, none);
-      from = grind (arith, nat_tests, none);
-      slot = grind
-          (arith, nat_tests, none);
-    }
-
--- a message comes from another node
-from_other : (e : CoreState) (m : Message) → IsOurs e m → IsMessage m → m.from ≢ e.me
-from_other e m O M same = M.apart (same ∙ sym O.to)
-
 -- what it says isn't refused either
 first_second : (a b : Option Why) → first_why a b ≡ None → b ≡ None
 first_second None b h = h
 first_second (Some reason) b h = absurd (cc)
 
--- what lands of a message that isn't refused fits
-message_fits : (e : CoreState) (m : Message) → message_refusal e m ≡ None
-    → AllFit e.settings.segment (landing (content_of m))
-message_fits e m h =
-    content_fits e.settings e.table (content_of m)
+-- a message comes from another node
+from_other : (e : CoreState) (m : Message) → IsOurs e m → IsMessage m → m.from ≢ e.me
+from_other e m O M same = M.apart (same ∙ sym O.to)
+
+-- what a message that isn't refused writes, beside what a client's handler does, stays inside
+pub message_fits : (e : CoreState) (m : Message) → IsMessage m → message_refusal e m ≡ None
+    → StaysInside e.settings.segment (content_of m)
+unfolding message_refusal
+message_fits e m spelled h =
+    content_fits e.settings e.table (content_of m) spelled.ack_handler
     (first_second (address_fault e.settings e.me m) (content_refusal e.settings e.table (content_of m)) h)
 
 -- what becomes of a message that isn't refused, by the lock for which it waits
@@ -111,6 +88,7 @@ waits_alike e r m S = ap (λ (held : List Held). awaited_lock e.table (content_o
 request_verdict : (meaning : Meaning) (e : CoreState) (r : Node Local) (m : Message) (v : Verdict) → IsOurRequest e m
     → Stands e r → judged_answer m.number (greatest m.slot (r.ran m.from)) (lock_at e m) ≡ v
     → verdict (site_at meaning e) r m ≡ v
+unfolding message_refusal
 request_verdict meaning e r m v O S is =
     ap (λ x. unless_refused x (taken_verdict r m (awaited_lock e.table (content_of m) r.local.locks))) O.ours
     ∙ (ap (λ lock. taken_verdict r m lock) (sym (waits_alike e r m S))
@@ -121,11 +99,19 @@ request_verdict meaning e r m v O S is =
 reply_verdict : (meaning : Meaning) (e : CoreState) (r : Node Local) (m : Message) (v : Verdict) → IsOurReply e m
     → Stands e r → taken_back m.slot (numbered (r.asked m.from) m.number) (lock_at e m) ≡ v
     → verdict (site_at meaning e) r m ≡ v
+unfolding message_refusal
 reply_verdict meaning e r m v O S is =
     ap (λ x. unless_refused x (taken_verdict r m (awaited_lock e.table (content_of m) r.local.locks))) O.ours
     ∙ (ap (λ lock. taken_verdict r m lock) (sym (waits_alike e r m S))
     ∙ (ap (λ b. if b then judged_answer m.number (greatest m.slot (r.ran m.from)) (lock_at e m) else taken_back m.slot
     (numbered (r.asked m.from) m.number) (lock_at e m)) O.reply ∙ is))
+
+-- of a message that is refused
+refused_verdict : (meaning : Meaning) (e : CoreState) (r : Node Local) (m : Message) (reason : Why)
+    → message_refusal e m ≡ Some reason → verdict (site_at meaning e) r m ≡ RefusedVerdict reason
+unfolding message_refusal
+refused_verdict meaning e r m reason is =
+    ap (λ x. unless_refused x (taken_verdict r m (awaited_lock e.table (content_of m) r.local.locks))) is
 
 -- a greater number is run, or waits
 judged_new : (m : Message) (last : ℕ) (lock : Option ℕ) → last < m.number
@@ -166,12 +152,12 @@ pub record MessageStep (meaning : Meaning) (e : CoreState) (m : Message) (a : De
 request_slot_in : (e : CoreState) (m : Message) → IsOurRequest e m → m.slot < credits_of e.settings m.from e.me
 request_slot_in e m O =
     subst (λ b. m.slot < (if b then credits_of e.settings m.from e.me else credits_of e.settings e.me m.from))
-    O.request (ours_says e m O.ours).slot
+    O.request O.known.slot
 
 reply_slot_in : (e : CoreState) (m : Message) → IsOurReply e m → m.slot < credits_of e.settings e.me m.from
 reply_slot_in e m O =
     subst (λ b. m.slot < (if b then credits_of e.settings m.from e.me else credits_of e.settings e.me m.from)) O.reply
-    (ours_says e m O.ours).slot
+    O.known.slot
 
 -- a request that is new in its slot landed and ran
 runs_stand : (meaning : Meaning) (e : CoreState) (m : Message) (new : CoreState) (r : Node Local)
@@ -180,7 +166,7 @@ runs_stand : (meaning : Meaning) (e : CoreState) (m : Message) (new : CoreState)
     → Stands new (with_run r (with_sender e.me m) (content_of m)
     (run_request (handlers_at meaning e) (with_sender e.me m) (content_of m) r.local))
 runs_stand meaning e m new r lawful O R S above =
-    let ours = ours_says e m O.ours in
+    let ours = O.known in
     let o = delivered_outcome meaning e m in
     let answer = answer_message e (with_sender e.me m) o in
     let ran : CoreState = record e {
@@ -190,9 +176,9 @@ runs_stand meaning e m new r lawful O R S above =
     let N = node_runs m.from m.slot m.number e r (content_of m) (reply_or_ack o.reply) ran S ours.from
     (from_other e m ours O.spelled) (request_slot_in e m O) above R.spelled refl in
     let stands = ran_stands meaning ran (with_run r at (content_of m) (r.local, reply_or_ack o.reply))
-    role.Request at (content_of m) lawful N (message_fits e m O.ours) in
+    role.Request at (content_of m) lawful N (message_fits e m O.spelled O.ours) in
     let landed = with_writes r.local (landing (content_of m)) in
-    let L = segment_stand e r (landing (content_of m)) S (message_fits e m O.ours) in
+    let L = segment_stand e r (landing (content_of m)) S (message_fits e m O.spelled O.ours).landed in
     rw R.kept (subst (λ reply. Stands (record (ran_core meaning e role.Request at (content_of m)) {
       replies = with_reply e.replies m.from m.slot m.number (spelling answer);
     }) (with_run r at (content_of m) (
@@ -212,12 +198,12 @@ returns_stand : (meaning : Meaning) (e : CoreState) (m : Message) (new : CoreSta
     → Stands new (with_back r m.from m.number
     (run_reply (handlers_at meaning e) (with_sender e.me m) (content_of m) r.local))
 returns_stand meaning e m new r lawful O is S open_ =
-    let ours = ours_says e m O.ours in
+    let ours = O.known in
     let back : CoreState = record e { requests = with_slot e.requests m.from m.slot Vacant } in
     let N = node_returns m.from m.slot m.number e r back S ours.from (from_other e m ours O.spelled)
     (reply_slot_in e m O) open_ refl in
     reply_run_stands meaning back (with_back r m.from m.number r.local) (with_sender e.me m) (content_of m) new
-    lawful N (message_fits e m O.ours) (λ t. is ∙ rw t refl) (λ f. is ∙ rw f refl)
+    lawful N (message_fits e m O.spelled O.ours) (λ t. is ∙ rw t refl) (λ f. is ∙ rw f refl)
 
 -- a new request, or an open reply, that waits for a lock
 deferred_step : (meaning : Meaning) (e : CoreState) (m : Message) (lock : ℕ) (new : CoreState)
@@ -226,7 +212,7 @@ deferred_step : (meaning : Meaning) (e : CoreState) (m : Message) (lock : ℕ) (
 deferred_step meaning e m lock new (inl N) waits is = record {
   same = same_core e new is;
   steps = λ r S.
-      let ours = ours_says e m N.ours.ours in
+      let ours = N.ours.known in
       let above : greatest m.slot (r.ran m.from) < m.number = node_judged m.from m.slot m.number e r judged.New S
       ours.from (from_other e m ours N.ours.spelled) (request_slot_in e m N.ours) N.new in
       by_verdict meaning e new r m (WaitsVerdict lock) _
@@ -236,7 +222,7 @@ deferred_step meaning e m lock new (inl N) waits is = record {
 deferred_step meaning e m lock new (inr N) waits is = record {
   same = same_core e new is;
   steps = λ r S.
-      let ours = ours_says e m N.ours.ours in
+      let ours = N.ours.known in
       let open_ = node_taken m.from m.slot m.number e r S ours.from (from_other e m ours N.ours.spelled)
       (reply_slot_in e m N.ours) N.taken in
       by_verdict meaning e new r m (WaitsVerdict lock) _
@@ -246,35 +232,46 @@ deferred_step meaning e m lock new (inr N) waits is = record {
 
 -- the segment of a core after a message landed and ran is as long as before
 same_ran : (meaning : Meaning) (e v : CoreState) (m : Message) (which : Role) → IsLawfulMeaning meaning
-    → length e.segment ≡ e.settings.segment → AllFit e.settings.segment (landing (content_of m))
+    → length e.segment ≡ e.settings.segment → StaysInside e.settings.segment (content_of m)
     → length (ran_core meaning e which (with_sender e.me m) (content_of m)).segment ≡ length e.segment
 same_ran meaning e v m which lawful sized fits =
     ran_sized meaning e which (with_sender e.me m) (content_of m) lawful sized fits ∙ sym sized
+
+-- a new request ran, and was answered as its run is
+new_step : (meaning : Meaning) (e : CoreState) (m : Message) (a : Delivered) (new : CoreState)
+    → IsLawfulMeaning meaning → length e.segment ≡ e.settings.segment
+    → RunsNew meaning e m a new → MessageStep meaning e m a new
+new_step meaning e m a new lawful sized h =
+    let O = h.request.ours in
+    record {
+      same = rw h.ran.kept (record {
+        settings = refl;
+        me_is = refl;
+        table = refl;
+        segment_length = same_ran meaning e e m role.Request lawful sized (message_fits e m O.spelled O.ours);
+      });
+      steps = λ r S.
+          let ours = O.known in
+          let above : greatest m.slot (r.ran m.from) < m.number = node_judged m.from m.slot m.number e r judged.New S
+          ours.from (from_other e m ours O.spelled) (request_slot_in e m O) h.request.new in
+          by_verdict meaning e new r m RunsVerdict _
+          (request_verdict meaning e r m _ O S (judged_new m (greatest m.slot (r.ran m.from)) (lock_at e m) above
+          ∙ ap (λ one. unless_waiting one RunsVerdict) h.free))
+          h.answer_is (runs_stand meaning e m new r lawful O h.ran S above);
+    }
 
 -- by what the code answered
 pub message_step : (meaning : Meaning) (e : CoreState) (m : Message) (a : Delivered) (new : CoreState)
     → IsLawfulMeaning meaning → length e.segment ≡ e.settings.segment
     → DeliversMessage meaning e m a new → MessageStep meaning e m a new
-message_step meaning e m (delivered.Ran at) new lawful sized h = record {
-  same = rw h.3.kept (record {
-    settings = refl;
-    me_is = refl;
-    table = refl;
-    segment_length = same_ran meaning e e m role.Request lawful sized (message_fits e m h.0.ours.ours);
-  });
-  steps = λ r S.
-      let ours = ours_says e m h.0.ours.ours in
-      let above : greatest m.slot (r.ran m.from) < m.number = node_judged m.from m.slot m.number e r judged.New S
-      ours.from (from_other e m ours h.0.ours.spelled) (request_slot_in e m h.0.ours) h.0.new in
-      by_verdict meaning e new r m RunsVerdict _
-      (request_verdict meaning e r m _ h.0.ours S (judged_new m (greatest m.slot (r.ran m.from)) (lock_at e m) above
-      ∙ ap (λ one. unless_waiting one RunsVerdict) h.2))
-      (ap delivered.Ran h.1) (runs_stand meaning e m new r lawful h.0.ours h.3 S above);
-}
+message_step meaning e m (delivered.Ran at) new lawful sized h =
+    new_step meaning e m (delivered.Ran at) new lawful sized h
+message_step meaning e m (delivered.Noted at note) new lawful sized h =
+    new_step meaning e m (delivered.Noted at note) new lawful sized h
 message_step meaning e m (delivered.Again at) new lawful sized h = record {
   same = same_core e new h.3;
   steps = λ r S.
-      let ours = ours_says e m h.0.ours in
+      let ours = h.0.known in
       let same = node_judged m.from m.slot m.number e r judged.Again S ours.from (from_other e m ours h.0.spelled)
       (request_slot_in e m h.0) h.2 in
       by_verdict meaning e new r m Repeated _
@@ -284,7 +281,7 @@ message_step meaning e m (delivered.Again at) new lawful sized h = record {
 message_step meaning e m delivered.Stale new lawful sized h = record {
   same = same_core e new h.2;
   steps = λ r S.
-      let ours = ours_says e m h.0.ours in
+      let ours = h.0.known in
       let below = node_judged m.from m.slot m.number e r judged.Stale S ours.from (from_other e m ours h.0.spelled)
       (request_slot_in e m h.0) h.1 in
       by_verdict meaning e new r m Passed _
@@ -295,9 +292,9 @@ message_step meaning e m (delivered.Returned to slot number) new lawful sized h 
   same =
       rw h.5 (same_run meaning e (record e { requests = with_slot e.requests m.from m.slot Vacant })
       m (record { settings = refl; me_is = refl; table = refl; segment_length = refl }) lawful sized
-      (message_fits e m h.0.ours.ours));
+      (message_fits e m h.0.ours.spelled h.0.ours.ours));
   steps = λ r S.
-      let ours = ours_says e m h.0.ours.ours in
+      let ours = h.0.ours.known in
       let open_ = node_taken m.from m.slot m.number e r S ours.from (from_other e m ours h.0.ours.spelled)
       (reply_slot_in e m h.0.ours) h.0.taken in
       by_verdict meaning e new r m ReturnsVerdict _
@@ -308,7 +305,7 @@ message_step meaning e m (delivered.Returned to slot number) new lawful sized h 
 }
   where
     same_run : (meaning : Meaning) (e v : CoreState) (m : Message) → IsSameNode e v → IsLawfulMeaning meaning
-        → length v.segment ≡ v.settings.segment → AllFit v.settings.segment (landing (content_of m))
+        → length v.segment ≡ v.settings.segment → StaysInside v.settings.segment (content_of m)
         → IsSameNode e (with_reply_run meaning v m)
     same_run meaning e v m h lawful sized fits =
         elim (cases_Bool (is_ack (code m.kind))) [
@@ -324,16 +321,14 @@ message_step meaning e m (delivered.Returned to slot number) new lawful sized h 
 message_step meaning e m delivered.Late new lawful sized h = record {
   same = same_core e new h.2;
   steps = λ r S.
-      let ours = ours_says e m h.0.ours in
+      let ours = h.0.known in
       let not_open = node_not_taken m.from m.slot m.number e r S ours.from (from_other e m ours h.0.spelled)
       (reply_slot_in e m h.0) h.1 in
       by_verdict meaning e new r m Missed _ (reply_verdict meaning e r m _ h.0 S (rw not_open refl)) refl (rw h.2 S);
 }
 message_step meaning e m (delivered.Refused reason) new lawful sized h = record {
   same = same_core e new h.1;
-  steps =
-      λ r S. by_verdict meaning e new r m (RefusedVerdict reason) _
-      (ap (λ x. unless_refused x (taken_verdict r m (awaited_lock e.table (content_of m) r.local.locks))) h.0) refl
+  steps = λ r S. by_verdict meaning e new r m (RefusedVerdict reason) _ (refused_verdict meaning e r m reason h.0) refl
       (rw h.1 S);
 }
 message_step meaning e m (delivered.Deferred lock) new lawful sized h =

@@ -1,18 +1,15 @@
 -- What runs on a floor finds, and what its reply is as a message.
-use Rattle.std.proofs.Common.{ℕ, zero, suc, ◌≡◌, ◌≢◌, ◌≤◌, ◌<◌, ◌+◌, ◌++◌, List, [], ◌∷◌, Option, Some, None, length}
-use Rattle.std.proofs.Common.{take, slice_get, slice_set, get_or, ap, ap₂, sym, ◌∙◌, arith, subst, subst₂}
-use Rattle.std.proofs.Common.{map, Bool, false, ◌==◌, drop, ne_eqb, if◌then◌else◌}
+use Rattle.std.proofs.Common.{ℕ, zero, suc, ◌≡◌, ◌≤◌, ◌<◌, ◌+◌, ◌++◌, List, [], ◌∷◌, Option, Some, None, length}
+use Rattle.std.proofs.Common.{take, slice_get, slice_set, get_or, ap, sym, ◌∙◌, arith, subst, subst₂}
+use Rattle.std.proofs.Common.{map, false}
 use Rattle.std.proofs.lemmas.List.{take_more, take_more_set}
 use Rattle.std.proofs.lemmas.Option.{slice_get_within, slice_get-get_or}
-use Rattle.datagram_grammar.specs.Message.{IsMessage, spelling}
-use Rattle.datagram_grammar.specs.Content.{Content, ack}
 use Rattle.handler_rules.specs.declared.message.Reply.{Reply}
 use Rattle.handler_rules.specs.declared.desk.Desk.{Desk}
 use Rattle.handler_rules.specs.declared.rules.CallKind.TheVariants as call
 use Rattle.handler_rules.specs.Logged.{Logged, notes}
 use Rattle.handler_rules.specs.Runs.{Frame, Meaning, IsLawfulMeaning, IsSpelled, violation, closed, refusal}
-use Rattle.handler_rules.specs.Runs.{reply_bytes, outgoing_reply}
-use Rattle.handler_rules.specs.Desks.{At, stage, start_of, noting, judged_at, frame_of, reply_of, reply_after}
+use Rattle.handler_rules.specs.Desks.{At, stage, start_of, noting, judged_at, frame_of, reply_after}
 use Rattle.handler_rules.specs.Desks.{buffer_after}
 use Rattle.hsl_locks.specs.declared.answer.Held.{Held}
 use Rattle.hsl_locks.specs.declared.answer.Owner.TheVariants as owner
@@ -20,7 +17,7 @@ use Rattle.hsl_locks.specs.Locks.{holds, without}
 use Rattle.hsl_locks.proofs.Laws.{without_nothing}
 use Rattle.handler_rules.proofs.Laws.{closed-leaving}
 use Rattle.am_core.specs.declared.floor.Work.{Work}
-use Rattle.am_core.specs.FloorRuns.{FloorRun, Touched, Ran, answer_of, run_of, start_on}
+use Rattle.am_core.specs.FloorRuns.{Touched, Ran, run_of, start_on}
 
 -- a list that has nothing at a place ends there or before
 pub none_past : {A : Type 0} (xs : List A) (k : ℕ) → slice_get xs k ≡ None → length xs ≤ k
@@ -85,56 +82,3 @@ ran_is meaning work before after desk old buffer new_buffer reply lawful unheld 
       lawful = law.reply;
       spelled = subst (λ (one : Frame). IsSpelled one o.reply) frame_is ran.spelled;
     }
-
--- the datagram of a run's reply, or of an Ack for none, stands at the front of the buffer
-pub record IsAnswered (run : FloorRun) (buffer new_buffer : List ℕ) (len : ℕ) : Type 0 where
-  pub message : IsMessage (answer_of run)
-  pub len_is : len ≡ length (spelling (answer_of run))
-  pub buffer_is : new_buffer ≡ spelling (answer_of run) ++ drop (length (spelling (answer_of run))) buffer
-
--- where the run sent a reply
-pub answered_by_reply : (run : FloorRun) (after : Touched) (reply : Reply) (buffer new_buffer : List ℕ)
-    → run.frame.arrival.me ≢ run.frame.arrival.source → Ran run after buffer new_buffer (Some reply)
-    → IsAnswered run buffer new_buffer reply.len
-answered_by_reply run after reply buffer new_buffer other ran =
-    by_reply run.outcome.reply ran.reply_is ran.buffer_is ran.spelled
-  where
-    by_reply : (sent : Option Content) → Some reply ≡ reply_after run.frame.settings run.frame.arrival sent
-        → new_buffer ≡ buffer_after run.frame.settings run.frame.arrival sent buffer → IsSpelled run.frame sent
-        → IsAnswered (record run { outcome = record run.outcome { reply = sent } }) buffer new_buffer reply.len
-    by_reply None is written spelled = absurd (cc)
-    by_reply (Some content) is written spelled =
-        let same : reply ≡ reply_of run.frame.settings run.frame.arrival content = cc in
-        let apart : (run.frame.arrival.source == run.frame.arrival.me) ≡ false =
-        ne_eqb run.frame.arrival.source run.frame.arrival.me (λ e. other (sym e)) in
-        let bytes : reply_bytes run.frame.settings run.frame.arrival content
-        ≡ spelling (outgoing_reply run.frame.settings run.frame.arrival content) = ap
-        (λ (b : Bool). if b then content.payload
-        else spelling (outgoing_reply run.frame.settings run.frame.arrival content)) apart in
-        record {
-          message = spelled (λ e. other (sym e));
-          len_is = ap (λ (x : Reply). x.len) same ∙ ap (λ (bs : List ℕ). length bs) bytes;
-          buffer_is = written ∙ ap (λ (bs : List ℕ). bs ++ drop (length bs) buffer) bytes;
-        }
-
--- where the run sent none, and an Ack was written
-pub answered_by_ack : (run : FloorRun) (after : Touched) (buffer ran_buffer new_buffer : List ℕ) (len : ℕ)
-    → Ran run after buffer ran_buffer None
-    → IsMessage (outgoing_reply run.frame.settings run.frame.arrival ack)
-    → len ≡ length (spelling (outgoing_reply run.frame.settings run.frame.arrival ack))
-    → new_buffer ≡ spelling (outgoing_reply run.frame.settings run.frame.arrival ack) ++ drop len ran_buffer
-    → IsAnswered run buffer new_buffer len
-answered_by_ack run after buffer ran_buffer new_buffer len ran message len_is written =
-    by_reply run.outcome.reply ran.reply_is ran.buffer_is
-  where
-    by_reply : (sent : Option Content) → None ≡ reply_after run.frame.settings run.frame.arrival sent
-        → ran_buffer ≡ buffer_after run.frame.settings run.frame.arrival sent buffer
-        → IsAnswered (record run { outcome = record run.outcome { reply = sent } }) buffer new_buffer len
-    by_reply None is same = record {
-      message = message;
-      len_is = len_is;
-      buffer_is =
-          written ∙ ap₂ (λ (n : ℕ) (bs : List ℕ). spelling
-          (outgoing_reply run.frame.settings run.frame.arrival ack) ++ drop n bs) len_is same;
-    }
-    by_reply (Some content) is same = absurd (cc)

@@ -12,6 +12,8 @@ pub mod Readings
 pub mod Bounds
 pub mod Counts
 pub mod Landings
+pub mod LibraryLaws
 pub mod ThreadLocks
 pub mod LocalKept
 mod OwnRuns
+mod OwnBuffers

@@ -14,6 +14,9 @@ use Rattle.handler_rules.specs.Runs.{Meaning, IsLawfulMeaning}
 use Rattle.node_record.specs.Behaviour.{Contact}
 use Rattle.node_record.specs.Step.{judged_local}
 use Rattle.am_core.specs.Kept.{Local, IsKept, start_of, with_writes, nothing_done}
+use Rattle.am_core.specs.Library.{is_library}
+use Rattle.am_core.proofs.Landings.{StaysInside}
+use Rattle.am_core.specs.HandlerRuns.{client_outcome}
 use Rattle.am_core.specs.HandlerRuns.{NodeHandlers, frame_of_run, landing, left_by, outcome, run_request}
 use Rattle.am_core.specs.HandlerRuns.{run_reply}
 use Rattle.am_core.specs.ClientRules.{rules}
@@ -26,7 +29,7 @@ nothing_kept settings me = record { writes = all_fit_none settings.segment; lock
 
 -- a message landed and ran
 pub ran_kept : (handlers : NodeHandlers) (which : Role) (contact : Contact) (content : Content) (local : Local)
-    → IsLawfulMeaning handlers.meaning → AllFit handlers.settings.segment (landing content)
+    → IsLawfulMeaning handlers.meaning → StaysInside handlers.settings.segment content
     → IsKept handlers.settings contact.me local
     → IsKept handlers.settings contact.me (let landed = with_writes local (landing content) in
     left_by which (outcome handlers which contact content (start_of handlers.settings landed)) landed)
@@ -35,14 +38,19 @@ ran_kept handlers which contact content local lawful fits kept =
     let landed = with_writes local (landing content) in
     let start = start_of handlers.settings landed in
     let run = outcome handlers which contact content start in
-    let all = all_fit-append len local.writes (landing content) kept.writes fits in
-    let wrote = subst (λ (n : ℕ). AllFit n run.writes) (length-image len landed.writes all)
-    (lawful content.handler (frame_of_run handlers which contact content) start).writes in
+    let all = all_fit-append len local.writes (landing content) kept.writes fits.landed in
+    let wrote : AllFit len run.writes = elim (cases_Bool (is_library content.handler)) [
+      | inl own ↦ rw own fits.written
+      | inr client ↦ rw client (subst
+          (λ (n : ℕ). AllFit n (client_outcome handlers which contact content start).writes)
+          (length-image len landed.writes all)
+          (lawful content.handler (frame_of_run handlers which contact content) start).writes)
+    ] in
     record { writes = all_fit-append len landed.writes run.writes all wrote; locks = kept.locks }
 
 -- a run of a request
 pub request_kept : (handlers : NodeHandlers) (contact : Contact) (content : Content) (local : Local)
-    → IsLawfulMeaning handlers.meaning → AllFit handlers.settings.segment (landing content)
+    → IsLawfulMeaning handlers.meaning → StaysInside handlers.settings.segment content
     → IsKept handlers.settings contact.me local
     → IsKept handlers.settings contact.me (run_request handlers contact content local).0
 request_kept handlers contact content local lawful fits kept =
@@ -50,7 +58,7 @@ request_kept handlers contact content local lawful fits kept =
 
 -- a run of a reply
 pub reply_kept : (handlers : NodeHandlers) (contact : Contact) (content : Content) (local : Local)
-    → IsLawfulMeaning handlers.meaning → AllFit handlers.settings.segment (landing content)
+    → IsLawfulMeaning handlers.meaning → StaysInside handlers.settings.segment content
     → IsKept handlers.settings contact.me local
     → IsKept handlers.settings contact.me (run_reply handlers contact content local)
 reply_kept handlers contact content local lawful fits kept = elim (cases_Bool (is_ack (code content.kind))) [

@@ -2,7 +2,7 @@
 use Rattle.std.proofs.Common.{ℕ, zero, suc, ◌≡◌, ◌+◌, ◌-◌, ◌≤◌, ◌++◌, List, [], ◌∷◌, Option, Some, None, Bool, true, false}
 use Rattle.std.proofs.Common.{length, take, drop, refl, sym, ap, ap₂, ◌∙◌, subst, arith, inl, inr, eq-eqb, take_all, pos, ℤ}
 use Rattle.std.specs.Prelude.{if◌then◌else◌, nat_lt, slice_get, option_and_then, replicate, map}
-use Rattle.std.proofs.lemmas.Bool.{cases_Bool, ltb-false}
+use Rattle.std.proofs.lemmas.Bool.{cases_Bool, ltb-false, lt-leb}
 use Rattle.std.proofs.lemmas.Option.{same_Some}
 use Rattle.std.proofs.lemmas.List.{take-append-le, length-append, length-replicate, length-drop, length-take-le}
 use Rattle.datagram_grammar.specs.Parameters.{Parameters}
@@ -31,6 +31,9 @@ use Rattle.handler_rules.specs.Logged.{Logged, notes}
 use Rattle.handler_rules.specs.Runs.{closed, violation}
 use Rattle.raw_segment.specs.Image.{written_by}
 use Rattle.node_record.specs.Step.{with_itself}
+use Rattle.handler_rules.specs.Runs.{IsLawfulMeaning}
+use Rattle.am_core.specs.Library.{is_library}
+use Rattle.am_core.proofs.Landings.{client_reply}
 use Rattle.am_core.specs.CoreState.{CoreState}
 use Rattle.am_core.specs.CoreStep.{handlers_at, landed_core, with_outcome, with_own_reply, with_own_run}
 
@@ -260,21 +263,24 @@ own_request_run meaning core content =
 
 -- the run of an own request, and of its reply, leave the core that they should
 pub own_run_is : (meaning : Meaning) (core : CoreState) (content : Content) (after : Touched)
+    → IsLawfulMeaning meaning → is_library content.handler ≡ false
     → RunsOwn meaning (own_request_run meaning core content) after
     → with_touched core after ≡ with_own_run meaning core content
-own_run_is meaning core content after ran =
-    by_reply run.outcome.reply
+own_run_is meaning core content after lawful client ran =
+    rw client (by_reply run.outcome.reply
+    (lawful content.handler run.frame (start_on run.before)).reply
     (subst (λ (middle : Touched). RunsReply meaning run run.outcome.reply middle after)
-    (left_is run ran.middle ran.left) ran.replied)
+    (left_is run ran.middle ran.left) ran.replied))
   where
     run : FloorRun
     run = own_request_run meaning core content
 
-    by_reply : (sent : Option Content) → RunsReply meaning run sent (after_run run) after
+    by_reply : (sent : Option Content) → IsLawful run.frame sent → RunsReply meaning run sent (after_run run) after
         → with_touched core after
         ≡ with_own_reply meaning (with_outcome (landed_core core content) role.Request run.outcome) sent
-    by_reply None same = ap (with_touched core) same
-    by_reply (Some reply) left = ap (with_touched core) (left_is _ after left)
+    by_reply None good same = ap (with_touched core) same
+    by_reply (Some reply) good left =
+        rw (client_reply run.frame.table reply.handler good.registered) (ap (with_touched core) (left_is _ after left))
 
 -- ---- what an own request finds
 
@@ -338,6 +344,14 @@ asked_place_is bytes asking fine = by_category asking.category fine.source
     by_category Medium source = refl
     by_category Long source =
         ap (λ (len : ℕ). Some (asking.offset, len)) (payload_whole bytes asking.payload (source refl))
+
+-- the handler of a request without a fault is a client's
+pub fine_client : (bytes : List ℕ) (asking : Asking) → IsFine (length bytes) asking
+    → is_library (said_in bytes asking).handler ≡ false
+fine_client bytes asking fine =
+    let client : is_library asking.handler ≡ false = lt-leb asking.handler 127 (omega (arith, fine.handler)) in
+    subst (λ (index : ℕ). is_library index ≡ false)
+    (asked_handler asking.category asking (payload_in bytes asking.payload)) client
 
 -- the place of an own request lies inside
 pub asked_inside : (segment : ℕ) (asking : Asking) → IsFine segment asking → IsPlaced segment (asked_place asking)

@@ -2,13 +2,15 @@
 -- step.
 use Rattle.std.proofs.Common.{◌≡◌, ◌≢◌, inl, inr, ℕ, suc, ◌+◌, ◌<◌, ◌≤◌, true, false, Option, None, Some, refl, sym, ap}
 use Rattle.std.proofs.Common.{◌∙◌, subst, arith, eq-eqb}
-use Rattle.std.specs.Prelude.{nat_le, option_and_then}
+use Rattle.std.specs.Prelude.{nat_le, option_and_then, Bool, is_some}
 use Rattle.std.specs.List.{slice_get}
 use Rattle.std.proofs.lemmas.Bool.Decides.{nat_tests}
 use Rattle.std.proofs.lemmas.Bool.{cases_Bool, cases_eq, cases_lt}
 use Rattle.std.proofs.lemmas.Option.{same_Some}
 use Rattle.datagram_grammar.specs.Parameters.{credits_of}
 use Rattle.credit_slots.specs.State.{PeerState, slot_at, with_slot_changed}
+use Rattle.credit_slots.specs.Due.{IsDue as SlotsDue}
+use Rattle.am_core.specs.Known.{IsDue}
 use Rattle.credit_slots.specs.Due.{due_at, due_time, sent_again, IsFirstDue, NoneIsDue}
 use Rattle.node_record.specs.declared.answer.SlotRef.{SlotRef}
 use Rattle.node_record.specs.Record.{Request, Node}
@@ -244,3 +246,10 @@ ticks_step meaning e now at new h =
           let told = tick_is meaning e r now (next_due e.settings r now) new refl step.1 in
           (ap of_tick (ap resends step.0 ∙ told.0), told.1);
     }
+
+-- what the table of slots tells of the next tick is so of the record
+pub due_told : (e : CoreState) (now : ℕ) (is : Bool) → SlotsDue e.requests now e.settings.resend is → IsDue e now is
+due_told e now true h = λ r S.
+    let D = due_is e r now h.0.0 h.0.1 h.1.time S h.1.due in
+    sym (ap is_some (next_is e r now h.0.0 h.0.1 S h.1 D))
+due_told e now false h = λ r S. sym (ap is_some (next_none e r now S h))

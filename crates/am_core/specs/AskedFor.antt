@@ -1,4 +1,4 @@
--- What a thread asks, with its references followed.
+-- What a thread or the library asks, with references followed.
 use Rattle.std.specs.Prelude.{ℕ, List}
 use Rattle.datagram_grammar.specs.Content.{Content}
 use Rattle.node_record.specs.Behaviour.{Asking as AskedOf, Ask, Category, Short, Medium, Long, PayloadFrom, Lent, Own}
@@ -7,6 +7,9 @@ use Rattle.am_core.specs.declared.asking.Payload.{Payload}
 use Rattle.am_core.specs.declared.asking.Payload.TheVariants as payloads
 use Rattle.am_core.specs.declared.asking.Category.{Category as CodeCategory}
 use Rattle.am_core.specs.declared.asking.Category.TheVariants as categories
+use Rattle.am_core.specs.declared.library.Library.{Library}
+use Rattle.am_core.specs.declared.library.Library.TheVariants as library
+use Rattle.am_core.specs.Library.{Work, Put, Get, Memset, Note}
 use Rattle.am_core.specs.ClientRules.{asks_of, content_by, said_in}
 
 -- the category
@@ -41,3 +44,10 @@ content_with asking payload = content_by (category_of asking.category) (asking_o
 -- what the request says, where the own segment has these bytes
 abbrev pub content_asked : (segment : List ℕ) → Asking → Content
 content_asked segment asking = said_in segment (asking_of asking)
+
+-- what the library asks
+abbrev pub work_of : Library → Work
+work_of (library.Put local remote len) = Put local remote len
+work_of (library.Get local remote len) = Get local remote len
+work_of (library.Memset remote len byte) = Memset remote len byte
+work_of (library.Note note) = Note note

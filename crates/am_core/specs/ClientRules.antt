@@ -1,10 +1,12 @@
--- What a node does by the handlers that its client registered.
+-- What a node does: by the handlers that its client registered, and by the library's own.
 -- Origin: GASNet 1.8.1, core API, active messages: handlers and their rules; handler-safe locks. That a message waits
 -- for a lock is this project's profile.
-use Rattle.std.specs.Prelude.{ℕ, ℤ, ◌≡◌, ◌≤◌, ◌++◌, ◌∷◌, [], ◌+◌, Bool, true, false, not, ◌||◌, ◌&&◌, if◌then◌else◌, List}
+use Rattle.std.specs.Prelude.{ℕ, ℤ, ◌≡◌, ◌≤◌, ◌++◌, ◌∷◌, [], ◌+◌, Bool, true, false, not, ◌||◌, ◌&&◌, List}
+use Rattle.std.specs.Prelude.{if◌then◌else◌}
 use Rattle.std.specs.Prelude.{Option, None, Some, length, map, nat_lt, bit_or}
 use Rattle.datagram_grammar.specs.Parameters.{Parameters}
-use Rattle.datagram_grammar.specs.Content.{Content, code, is_ack, is_request, short_request, medium_request, long_request}
+use Rattle.datagram_grammar.specs.Content.{Content, code, is_ack, is_request}
+use Rattle.datagram_grammar.specs.Content.{short_request, medium_request, long_request}
 use Rattle.raw_segment.specs.Bytes.{part}
 use Rattle.hsl_locks.specs.declared.answer.Held.{Held}
 use Rattle.hsl_locks.specs.declared.answer.Owner.TheVariants as owner
@@ -21,10 +23,10 @@ use Rattle.handler_rules.specs.Registered.{entry_at, is_for_requests, is_for_rep
 use Rattle.handler_rules.specs.Runs.{Meaning, passes_end}
 use Rattle.node_record.specs.declared.answer.Why.{Why}
 use Rattle.node_record.specs.declared.answer.Why.TheVariants as why
-use Rattle.node_record.specs.declared.answer.Delivered.TheVariants as delivered
 use Rattle.node_record.specs.declared.answer.Ticked.TheVariants as ticked
 use Rattle.node_record.specs.Behaviour.{Behaviour, Asking, Ask, Category, Short, Medium, Long, PayloadFrom, Lent, Own}
 use Rattle.am_core.specs.Kept.{Local, segment_of}
+use Rattle.am_core.specs.Library.{is_library, library_refusal, run_answer}
 use Rattle.am_core.specs.HandlerRuns.{handlers_of, run_request, run_reply, listed_for}
 
 -- ---- requests
@@ -75,13 +77,23 @@ has_handler table content =
     if is_request content.kind then is_for_requests (entry_at table content.handler)
     else is_for_replies (entry_at table content.handler)
 
--- why a content is refused: it is no Ack, and no handler of its role is registered for its index; or it is a Long's,
--- and its place passes the end of the segment
-abbrev pub content_refusal : Parameters → (table : List (Option Entry)) → Content → Option Why
-content_refusal settings table content =
-    if is_ack (code content.kind) || has_handler table content
+-- a content is an Ack, or a handler of its role is registered for its index
+abbrev pub is_handled : (table : List (Option Entry)) → Content → Bool
+is_handled table content = is_ack (code content.kind) || has_handler table content
+
+-- why a content with an index of clients is refused: it is no Ack, and no handler of its role is registered for its
+-- index; or it is a Long's, and its place passes the end of the segment
+abbrev pub client_refusal : Parameters → (table : List (Option Entry)) → Content → Option Why
+client_refusal settings table content =
+    if is_handled table content
     then (if passes_end settings.segment content then Some why.Range else None)
     else Some why.Handler
+
+-- why a content is refused
+abbrev pub content_refusal : Parameters → (table : List (Option Entry)) → Content → Option Why
+content_refusal settings table content =
+    if is_library content.handler then library_refusal settings content
+    else client_refusal settings table content
 
 -- how many bytes a payload has
 abbrev pub payload_len : PayloadFrom → ℕ
@@ -168,7 +180,7 @@ rules settings table meaning = record {
   waits = λ content local. awaited_lock table content local.locks;
   run = run_request (handlers_of settings table meaning);
   take = run_reply (handlers_of settings table meaning);
-  runs_as = λ content at. delivered.Ran at;
+  runs_as = run_answer settings.version;
   next = λ me can local. None;
   issued = λ contact content local. local;
   sends_as = λ content at. ticked.Chunk at;

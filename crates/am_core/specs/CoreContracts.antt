@@ -1,5 +1,6 @@
 -- What each call of a core does, of every record for which the core stood.
 use Rattle.std.specs.Prelude.{ℕ, ◌≡◌, List, length, Option, Some, None, Result}
+use Rattle.datagram_grammar.specs.Parameters.{Parameters}
 use Rattle.datagram_grammar.specs.Message.{Message, Spells}
 use Rattle.datagram_grammar.specs.Refusals.{first_refusal}
 use Rattle.datagram_grammar.specs.declared.refused.Refused.{Refused}
@@ -16,12 +17,16 @@ use Rattle.node_record.specs.declared.answer.Delivered.{Delivered}
 use Rattle.node_record.specs.declared.answer.Delivered.TheVariants as delivered
 use Rattle.node_record.specs.declared.answer.Ticked.{Ticked}
 use Rattle.node_record.specs.declared.answer.Ticked.TheVariants as ticked
+use Rattle.node_record.specs.declared.answer.Asked.{Asked}
+use Rattle.node_record.specs.declared.answer.Asked.TheVariants as asked
 use Rattle.node_record.specs.Record.{Node}
+use Rattle.node_record.specs.Credits.{limits_of}
 use Rattle.node_record.specs.Behaviour.{Behaviour}
-use Rattle.node_record.specs.Step.{judged_local}
+use Rattle.node_record.specs.Step.{judged_local, claim_answer, with_request}
 use Rattle.node_record.specs.NodeStep.{Job, NodeEvent, Comes, NodeAnswer, OfDelivery, node_answer, node_after}
 use Rattle.node_record.specs.Transition.{Transition}
-use Rattle.am_core.specs.Kept.{Local, with_locks}
+use Rattle.am_core.specs.Kept.{Local, with_locks, segment_of}
+use Rattle.am_core.specs.Library.{Work, work_content}
 use Rattle.am_core.specs.ClientRules.{rules, with_violations}
 use Rattle.am_core.specs.CoreState.{CoreState}
 use Rattle.am_core.specs.Stands.{Stands}
@@ -98,6 +103,31 @@ pub record Delivers (meaning : Meaning) (old : CoreState) (bytes : List ℕ) (an
       → CoreSteps meaning old (record { now = now; event = Comes message; answer = OfDelivery answer }) new
   pub refused : (reason : Refused) → first_refusal old.settings.version bytes ≡ Some reason
       → (answer ≡ delivered.Refused (why.Bytes reason)) × (new ≡ old)
+
+-- ---- requests of the library
+
+-- the library asks this of another node
+pub record OwnAsk : Type 0 where
+  pub now : ℕ
+  pub to : ℕ
+  pub work : Work
+  pub answer : Asked
+
+-- the node after the library asked, by the answer
+abbrev pub after_own_ask : Parameters → Node Local → OwnAsk → Asked → Node Local
+after_own_ask settings node step (asked.Accepted to slot number) =
+    with_request node step.now step.to slot
+    (work_content settings.version (segment_of settings node.local) step.work)
+after_own_ask settings node step _ = node
+
+-- the answer is that of the pair, and what is asked is its next request where it was accepted
+pub record AsksOwn (old : CoreState) (step : OwnAsk) (new : CoreState) : Type 0 where
+  pub same : IsSameNode old new
+  pub steps : (node : Node Local) → Stands old node
+      → (step.answer ≡ claim_answer (limits_of old.settings old.me step.to) step.to (node.asked step.to))
+      × Stands new (after_own_ask old.settings node step step.answer)
+
+-- ---- ticks
 
 -- how a tick is answered that sends the request of this slot again, or nothing
 abbrev pub resends : Option SlotRef → Ticked

@@ -1,6 +1,6 @@
 -- What the parts of a core's calls do, as values.
 use Rattle.node_record.specs.Invariant.{address_in}
-use Rattle.std.specs.Prelude.{ℕ, pos, Bool, false, nat_le, ◌==◌, ◌≡◌, ◌+◌, ◌<◌, ◌⊎◌, ◌∷◌}
+use Rattle.std.specs.Prelude.{ℕ, pos, Bool, false, nat_le, not, ◌==◌, ◌≡◌, ◌+◌, ◌<◌, ◌⊎◌, ◌∷◌}
 use Rattle.std.specs.Prelude.{map, replicate, IfSome, Option, None, Some, slice_get, List, [], true, false}
 use Rattle.std.specs.Prelude.{if◌then◌else◌, Result, Ok, Err}
 use Rattle.datagram_grammar.specs.Parameters.{Parameters, credits_of}
@@ -30,21 +30,24 @@ use Rattle.handler_rules.specs.declared.rules.CallKind.{CallKind}
 use Rattle.hsl_locks.specs.declared.answer.Owner.TheVariants as owner
 use Rattle.hsl_locks.specs.Locks.{holds}
 use Rattle.raw_segment.specs.Image.{written_by}
-use Rattle.handler_rules.specs.Runs.{Start, Outcome, violation}
+use Rattle.handler_rules.specs.Runs.{Start, Outcome, IsPlaced, violation}
 use Rattle.node_record.specs.declared.answer.Asked.{Asked as AskedAnswer}
 use Rattle.node_record.specs.declared.answer.Asked.TheVariants as asked
 use Rattle.node_record.specs.declared.answer.Why.{Why}
+use Rattle.node_record.specs.declared.answer.Why.TheVariants as why
 use Rattle.node_record.specs.declared.answer.Delivered.{Delivered}
 use Rattle.node_record.specs.declared.answer.Delivered.TheVariants as delivered
 use Rattle.node_record.specs.Behaviour.{Contact, Ask, is_request}
 use Rattle.node_record.specs.Transition.{Transition}
 use Rattle.node_record.specs.Requests.{Claim}
 use Rattle.handler_rules.specs.Runs.{Meaning}
-use Rattle.am_core.specs.HandlerRuns.{NodeHandlers, handlers_of, outcome, landing, reply_or_ack}
+use Rattle.am_core.specs.Library.{run_answer, has_library, has_wrong_args}
+use Rattle.am_core.specs.HandlerRuns.{NodeHandlers, handlers_of, outcome, client_outcome, landing, place_of}
+use Rattle.am_core.specs.HandlerRuns.{reply_or_ack}
 use Rattle.am_core.specs.ClientRules.{content_refusal, asking_fault, thread_violation, said_in, busy_lock, awaited_lock}
 use Rattle.node_record.specs.declared.answer.Side.TheVariants as side
 use Rattle.am_core.specs.Sizes.{AreSlots}
-use Rattle.node_record.specs.Step.{address_fault, first_why, reply_slot, with_itself, with_sender}
+use Rattle.node_record.specs.Step.{address_fault, first_why, reply_slot, slots_for, with_itself, with_sender}
 use Rattle.am_core.specs.CoreState.{CoreState}
 
 -- ---- a new core
@@ -108,6 +111,13 @@ abbrev pub with_reply_ran : Meaning → CoreState → Contact → Content → Co
 with_reply_ran meaning core contact content =
     let landed = landed_core core content in
     with_outcome landed role.Reply (reply_outcome meaning landed contact content)
+
+-- the same of a client's handler
+abbrev pub with_client_reply_ran : Meaning → CoreState → Contact → Content → CoreState
+with_client_reply_ran meaning core contact content =
+    let landed = landed_core core content in
+    with_outcome landed role.Reply
+    (client_outcome (handlers_at meaning landed) role.Reply contact content (start_at landed))
 
 -- the core after the reply of an own request ran, if there was one
 abbrev pub with_own_reply : Meaning → CoreState → Option Content → CoreState
@@ -183,19 +193,30 @@ judged_at core thread kind = rule (Thread thread) (holds (owner.Thread thread) c
 -- ---- deliveries
 
 -- why the core refuses a message
-abbrev pub message_refusal : CoreState → Message → Option Why
+unfoldable pub message_refusal : CoreState → Message → Option Why
 message_refusal core message =
-    first_why (address_fault core.settings core.me message) (content_refusal core.settings core.table (content_of message))
+    first_why (address_fault core.settings core.me message)
+    (content_refusal core.settings core.table (content_of message))
+
+-- what is known of a message that the core doesn't refuse: it is for this node, from a node, with a slot of its pair,
+-- and its place is inside the segment
+pub record IsOurs (core : CoreState) (message : Message) : Type 0 where
+  pub to : message.to ≡ core.me
+  pub from : message.from < core.settings.nodes
+  pub slot : message.slot < slots_for core.settings core.me message
+  pub placed : IsPlaced core.settings.segment (place_of (content_of message))
 
 -- a request that the core doesn't refuse
 pub record IsOurRequest (core : CoreState) (message : Message) : Type 0 where
   pub ours : message_refusal core message ≡ None
+  pub known : IsOurs core message
   pub request : is_request message.kind ≡ true
   pub spelled : IsMessage message
 
 -- a reply that the core doesn't refuse
 pub record IsOurReply (core : CoreState) (message : Message) : Type 0 where
   pub ours : message_refusal core message ≡ None
+  pub known : IsOurs core message
   pub reply : is_request message.kind ≡ false
   pub spelled : IsMessage message
 
@@ -218,15 +239,42 @@ abbrev pub delivered_outcome : Meaning → CoreState → Message → Outcome
 delivered_outcome meaning core message =
     request_outcome meaning (landed_core core (content_of message)) (with_sender core.me message) (content_of message)
 
--- a request that is new in its slot landed and ran, and its reply, or an Ack, is kept there
-pub record Runs (meaning : Meaning) (core : CoreState) (message : Message) (new : CoreState) : Type 0 where
-  pub spelled : IsMessage
-      (answer_message core (with_sender core.me message) (delivered_outcome meaning core message))
-  pub kept : new ≡ (let run = delivered_outcome meaning core message in
-      record (with_outcome (landed_core core (content_of message)) role.Request run) {
-        replies = with_reply core.replies message.from message.slot message.number
-            (spelling (answer_message core (with_sender core.me message) run));
-      })
+-- the same of a client's handler
+abbrev pub client_delivered : Meaning → CoreState → Message → Outcome
+client_delivered meaning core message =
+    let landed = landed_core core (content_of message) in
+    client_outcome (handlers_at meaning landed) role.Request (with_sender core.me message) (content_of message)
+    (start_at landed)
+
+-- a request that is new in its slot landed and ran with this outcome, and its reply, or an Ack, is kept there
+pub record RunsBy (run : Outcome) (core : CoreState) (message : Message) (new : CoreState) : Type 0 where
+  pub spelled : IsMessage (answer_message core (with_sender core.me message) run)
+  pub kept : new ≡ record (with_outcome (landed_core core (content_of message)) role.Request run) {
+    replies = with_reply core.replies message.from message.slot message.number
+        (spelling (answer_message core (with_sender core.me message) run));
+  }
+
+-- the same with what the run of its handler gives
+abbrev pub Runs : Meaning → CoreState → Message → CoreState → Type 0
+Runs meaning core message new = RunsBy (delivered_outcome meaning core message) core message new
+
+-- the message of this reply to a request of another node
+abbrev pub reply_to : CoreState → Message → (reply : Content) → Message
+reply_to core message reply =
+    addressed (address_in core.settings core.me message.from message.slot message.number) reply
+
+-- this reply to a request that is new in its slot is kept there, and nothing else changed
+pub record KeepsAnswer (core : CoreState) (message : Message) (reply : Content) (new : CoreState) : Type 0 where
+  pub spelled : IsMessage (reply_to core message reply)
+  pub kept : new ≡ record core {
+    replies = with_reply core.replies message.from message.slot message.number (spelling (reply_to core message reply));
+  }
+
+-- what is wrong with a message with an index of the library, beside its place
+abbrev pub library_fault : Parameters → Content → Option Why
+library_fault settings content =
+    if not (has_library content.kind content.handler) then Some why.Handler
+    else (if has_wrong_args settings content.handler content.args then Some why.Args else None)
 
 -- the core after a reply landed and ran; an Ack runs no handler
 abbrev pub with_reply_run : Meaning → CoreState → Message → CoreState
@@ -240,11 +288,20 @@ pub record CanRunReply (core : CoreState) (message : Message) : Type 0 where
   pub runs : is_ack (code message.kind) ≡ false
   pub free : lock_at core message ≡ None
 
+-- a request that is new in its slot ran, and was answered as its run is
+pub record RunsNew (meaning : Meaning) (core : CoreState) (message : Message) (answer : Delivered) (new : CoreState)
+    : Type 0 where
+  pub request : IsNewRequest core message
+  pub free : lock_at core message ≡ None
+  pub answer_is : answer
+      ≡ run_answer core.settings.version (content_of message) (reply_slot message.from message.slot)
+  pub ran : Runs meaning core message new
+
 -- what a message that is delivered is answered, and what it leaves
 abbrev pub DeliversMessage : Meaning → CoreState → Message → Delivered → CoreState → Type 0
-DeliversMessage meaning core message (delivered.Ran at) new =
-    IsNewRequest core message × (at ≡ reply_slot message.from message.slot) × (lock_at core message ≡ None)
-    × Runs meaning core message new
+DeliversMessage meaning core message (delivered.Ran at) new = RunsNew meaning core message (delivered.Ran at) new
+DeliversMessage meaning core message (delivered.Noted at note) new =
+    RunsNew meaning core message (delivered.Noted at note) new
 DeliversMessage meaning core message (delivered.Again at) new =
     IsOurRequest core message × (at ≡ reply_slot message.from message.slot)
     × JudgesAt core.replies message.from message.slot message.number Again × (new ≡ core)
@@ -256,7 +313,8 @@ DeliversMessage meaning core message (delivered.Returned to slot number) new =
     (record core { requests = with_slot core.requests message.from message.slot Vacant }) message)
 DeliversMessage meaning core message delivered.Late new =
     IsOurReply core message × (IsTakenAt core.requests message.from message.slot message.number → ⊥) × (new ≡ core)
-DeliversMessage meaning core message (delivered.Refused why) new = (message_refusal core message ≡ Some why) × (new ≡ core)
+DeliversMessage meaning core message (delivered.Refused why) new =
+    (message_refusal core message ≡ Some why) × (new ≡ core)
 DeliversMessage meaning core message (delivered.Deferred lock) new =
     (IsNewRequest core message ⊎ IsOpenReply core message) × (lock_at core message ≡ Some lock) × (new ≡ core)
 
@@ -290,15 +348,15 @@ claim_of core step = record {
 }
 
 -- a request to the own node, by the lock for which it waits: with none it runs at once
-abbrev pub AsksOwn : Option ℕ → Meaning → CoreState → Transition Ask AskedAnswer → CoreState → Type 0
-AsksOwn (Some lock) meaning core step new = (step.answer ≡ asked.LockBusy lock) × (new ≡ core)
-AsksOwn None meaning core step new =
+abbrev pub AsksHere : Option ℕ → Meaning → CoreState → Transition Ask AskedAnswer → CoreState → Type 0
+AsksHere (Some lock) meaning core step new = (step.answer ≡ asked.LockBusy lock) × (new ≡ core)
+AsksHere None meaning core step new =
     (step.answer ≡ asked.Ran) × (new ≡ with_own_run meaning core (said_at core step.event))
 
 -- a request with no fault: to the own node, or to another one, where it is claimed
 abbrev pub AsksNode : (is_own : Bool) → Meaning → CoreState → Transition Ask AskedAnswer → CoreState → Type 0
 AsksNode true meaning core step new =
-    AsksOwn (busy_lock core.table step.event.what.handler core.locks) meaning core step new
+    AsksHere (busy_lock core.table step.event.what.handler core.locks) meaning core step new
 AsksNode false meaning core step new = Claims core (claim_of core step) new
 
 -- a request that the rule table allows: looked through, and then run or claimed

@@ -11,6 +11,7 @@ use Rattle.handler_rules.specs.declared.rules.Role.TheVariants as role
 use Rattle.handler_rules.specs.Registered.{entry_at}
 use Rattle.handler_rules.specs.Runs.{Arrival, Frame, Start, Outcome, Meaning, violation, closed}
 use Rattle.node_record.specs.Behaviour.{Contact}
+use Rattle.am_core.specs.Library.{is_library, library_outcome}
 use Rattle.am_core.specs.Kept.{Local, start_of, with_writes}
 
 -- the handlers of a node: the settings, what is registered, and what the handlers do
@@ -72,11 +73,17 @@ frame_of_run handlers which contact content = record {
   arrival = arrival_in which contact content;
 }
 
--- what the run of a handler of this role for a message gives, from what it finds: its return is judged too
-abbrev pub outcome : NodeHandlers → Role → Contact → Content → Start → Outcome
-outcome handlers which contact content start =
+-- what the run of a client's handler of this role for a message gives, from what it finds: its return is judged too
+abbrev pub client_outcome : NodeHandlers → Role → Contact → Content → Start → Outcome
+client_outcome handlers which contact content start =
     let frame = frame_of_run handlers which contact content in
     closed frame (handlers.meaning content.handler frame start)
+
+-- what the run of a handler gives: the library's own, or a client's
+abbrev pub outcome : NodeHandlers → Role → Contact → Content → Start → Outcome
+outcome handlers which contact content start =
+    if is_library content.handler then library_outcome content start
+    else client_outcome handlers which contact content start
 
 -- what a run leaves; the locks of threads stay theirs
 abbrev pub left_by : Role → Outcome → Local → Local

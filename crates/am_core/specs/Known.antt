@@ -1,17 +1,19 @@
 -- What a core tells of a call or a message before it comes.
-use Rattle.std.specs.Prelude.{ℕ, ◌≡◌, ◌==◌, ◌&&◌, not, nat_lt, Bool, true, false}
+use Rattle.std.specs.Prelude.{ℕ, ◌≡◌, ◌==◌, ◌&&◌, not, nat_lt, Bool, true, false, is_some}
 use Rattle.datagram_grammar.specs.Parameters.{credits_of}
 use Rattle.handler_rules.specs.Runs.{Meaning}
 use Rattle.node_record.specs.declared.answer.Asked.{Asked as AskedAnswer}
 use Rattle.node_record.specs.declared.answer.Asked.TheVariants as asked
 use Rattle.node_record.specs.Executed.{greatest}
-use Rattle.node_record.specs.Behaviour.{Ask}
-use Rattle.node_record.specs.Step.{request_answer}
+use Rattle.node_record.specs.Behaviour.{Ask, Behaviour}
+use Rattle.node_record.specs.Step.{Site, request_answer, next_due, can_ask}
 use Rattle.node_record.specs.NodeStep.{site_of}
+use Rattle.am_core.specs.Kept.{Local}
 use Rattle.am_core.specs.CoreState.{CoreState}
 use Rattle.am_core.specs.CoreContracts.{ForItsRecord, core_job}
 
--- `from` is another node, its pair has the slot, and no request that ran there has a greater number
+-- `from` is another node, its pair has the slot, and this is the greatest number of a request that ran there, 0 where
+-- none did
 abbrev pub IsLastRun : CoreState → (from slot number : ℕ) → Bool → Type 0
 IsLastRun core from slot number is_last = ForItsRecord core (λ node.
     is_last ≡ ((nat_lt from core.settings.nodes && not (from == core.me))
@@ -26,3 +28,16 @@ is_accepted _ = false
 abbrev pub WouldAccept : CoreState → Ask → Bool → Type 0
 WouldAccept core ask would = (meaning : Meaning) → ForItsRecord core (λ node.
     would ≡ is_accepted (request_answer (site_of (core_job meaning core) core.me) node ask))
+
+-- a tick at this time sends a request again
+abbrev pub IsDue : CoreState → (now : ℕ) → Bool → Type 0
+IsDue core now is_due = ForItsRecord core (λ node. is_due ≡ is_some (next_due core.settings node now))
+
+-- the node of a core, whatever it does beside its slots and numbers
+abbrev pub site_with : CoreState → Behaviour Local → Site Local
+site_with core behaviour = record { settings = core.settings; behaviour = behaviour; me = core.me }
+
+-- another node is there, with a number and a credit left
+abbrev pub CanAsk : CoreState → (to : ℕ) → Bool → Type 0
+CanAsk core to can =
+    (behaviour : Behaviour Local) → ForItsRecord core (λ node. can ≡ can_ask (site_with core behaviour) node to)

@@ -1,4 +1,5 @@
 pub mod Kept
+pub mod Library
 pub mod HandlerRuns
 pub mod ClientRules
 pub mod CoreState

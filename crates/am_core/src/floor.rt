@@ -89,6 +89,49 @@ fn run_at_desk<H: Handlers>(
     desk.close()
 }
 
+/// Runs the handler of a request of another node at a desk over the buffer, and leaves the datagram of its reply at the front of the
+/// buffer, or that of an Ack where it sent none; tells the datagram's length.
+fn answer_at_desk<H: Handlers>(
+    handlers: &H,
+    work: &Work<'_>,
+    segment: &mut Segment,
+    cells: &mut Cells,
+    locks: &mut Locks,
+    log: &mut Log,
+    buffer: &mut [u8],
+) -> usize
+    requires ready { IsReady (arrival_of work.now.message) buffer.old }
+    requires free { AreFree work.now.listed locks.old }
+    requires sized { length segment.old ≡ work.now.settings.now.segment }
+    requires placed { IsPlaced (length segment.old) work.now.message.place }
+    requires request { work.now.message.role ≡ role.Request }
+    requires other { work.now.message.me ≢ work.now.message.source }
+    ensures { LeavesReply (run_of (H.meaning handlers.now) work.now (record {
+      cells = cells.old;
+      segment = segment.old;
+      locks = locks.old;
+      log = log.old;
+    })) (record {
+      cells = cells.new;
+      segment = segment.new;
+      locks = locks.new;
+      log = log.new;
+    }) buffer.old buffer.new result }
+{
+    let address = Address {
+        version: work.settings.version(),
+        job: work.settings.job(),
+        from: work.message.me,
+        to: work.message.source,
+        slot: work.message.slot,
+        number: work.message.number,
+    };
+    match run_at_desk(handlers, work, segment, cells, locks, log, buffer) {
+        Some(reply) => reply.len,
+        None => spell(&ack(address), buffer),
+    }
+}
+
 /// The reply of an own request, and what stays the same while its handler runs.
 #[derive(Clone, Copy)]
 struct OwnReply<'a> {
@@ -232,60 +275,6 @@ impl<'a> Floor<'a> {
         }
     }
 
-    /// Runs the handler of a request of another node, and leaves the datagram of its reply at the front of the buffer, or that of
-    /// an Ack where it sent none; tells the datagram's length.
-    fn run_request<H: Handlers>(
-        self,
-        handlers: &H,
-        handler: u8,
-        message: Incoming<'_>,
-        buffer: &mut [u8],
-    ) -> usize
-        requires ready { CanRun self (arrival_of message) buffer.old }
-        requires request { message.role ≡ role.Request }
-        requires other { message.me ≢ message.source }
-        ensures { let run =
-            floor_run (H.meaning handlers.now) handler self.entry (arrival_of message.entry) in
-            LeavesReply run (record {
-              cells = self.exit.0.now;
-              segment = self.exit.1.0.now;
-              locks = self.exit.1.1.0.now;
-              log = self.exit.1.1.1.0.now;
-            }) buffer.old buffer.new result }
-    {
-        let address = Address {
-            version: self.settings.version(),
-            job: self.settings.job(),
-            from: message.me,
-            to: message.source,
-            slot: message.slot,
-            number: message.number,
-        };
-        // Taken apart, so that each reference is lent on by itself.
-        let Floor {
-            cells,
-            segment,
-            locks,
-            log,
-            settings,
-            table,
-            listed,
-        } = self;
-        let floor = Floor {
-            cells,
-            segment,
-            locks,
-            log,
-            settings,
-            table,
-            listed,
-        };
-        match floor.run(handlers, handler, message, buffer) {
-            Some(reply) => reply.len,
-            None => spell(&ack(address), buffer),
-        }
-    }
-
     /// Runs the handler of a request of another node that is new in its slot, and keeps its reply there, or an Ack where it sent
     /// none.
     pub fn answer<H: Handlers>(
@@ -317,17 +306,16 @@ impl<'a> Floor<'a> {
             table,
             listed,
         } = self;
-        let mut place = replies.place(message.source, message.slot, message.number);
-        let floor = Floor {
-            cells,
-            segment,
-            locks,
-            log,
+        let work = Work {
+            handler,
             settings,
             table,
             listed,
+            message,
         };
-        let len = floor.run_request(handlers, handler, message, place.buffer());
+        let mut place = replies.place(message.source, message.slot, message.number);
+        let buffer = place.buffer();
+        let len = answer_at_desk(handlers, &work, segment, cells, locks, log, buffer);
         place.seal(len);
     }
 }

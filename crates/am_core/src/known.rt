@@ -1,8 +1,8 @@
-//! What a core tells of a call or a message before it comes.
+//! What a core tells of a call, a message or a tick before it comes.
 
 ghost use Rattle.am_core.specs.AskedFor.{ask_of};
 ghost use Rattle.am_core.specs.Sizes.{HasSegment};
-ghost use Rattle.am_core.specs.Known.{IsLastRun, WouldAccept};
+ghost use Rattle.am_core.specs.Known.{CanAsk, IsDue, IsLastRun, WouldAccept};
 
 use crate::answer::Side;
 use crate::asking::Asking;
@@ -50,5 +50,23 @@ impl Core {
             return false;
         }
         self.free(asking.to) > 0
+    }
+
+    /// Whether a request of the library to this node would be accepted: it is another node, a number of the pair is left, and a
+    /// credit is free. It changes nothing.
+    pub fn can_ask(&self, to: u16) -> bool
+        ensures { CanAsk self.now to result }
+    {
+        if to >= self.settings.nodes() || to == self.me {
+            return false;
+        }
+        !self.worn_out(to) && self.free(to) > 0
+    }
+
+    /// Whether a tick at `now` sends a request again, a look at one entry. It changes nothing.
+    pub fn is_due(&self, now: u64) -> bool
+        ensures { IsDue self.now now result }
+    {
+        self.requests.is_due(now, self.settings.resend())
     }
 }

@@ -11,23 +11,25 @@ ghost use Rattle.node_record.specs.Credits.{greatest_holding};
 ghost use Rattle.node_record.specs.Held.{held};
 ghost use Rattle.node_record.specs.SlotMessages.{message_at, number_at};
 ghost use Rattle.node_record.specs.NodeStep.{Asks, Does, Ticks, OfRequest, OfCall, OfTick};
-ghost use Rattle.am_core.specs.AskedFor.{ask_of, payload_from};
+ghost use Rattle.am_core.specs.AskedFor.{ask_of, payload_from, work_of};
+ghost use Rattle.am_core.specs.Library.{WorkFits};
 ghost use Rattle.am_core.specs.Kept.{nothing_done, segment_of};
 ghost use Rattle.am_core.specs.ClientRules.{asks_of, short_asking, medium_asking, long_asking};
 ghost use Rattle.am_core.specs.CoreStep.{judged_at, noting};
 ghost use Rattle.am_core.specs.Sizes.{HasSegment};
 ghost use Rattle.am_core.specs.Stands.{Stands};
 ghost use Rattle.am_core.specs.CoreContracts.{CoreSteps, Check, Lock, Unlock, Checked, Locked, Unlocked, Delivers};
-ghost use Rattle.am_core.specs.CoreContracts.{ForItsRecord, resends};
+ghost use Rattle.am_core.specs.CoreContracts.{AsksOwn, ForItsRecord, resends};
 
 use crate::answer::{Asked, Delivered, Side, SlotRef, Why};
 use crate::asking::{Asking, Category, Payload};
+use crate::library::Library;
 use crate::slots::{slots_by_peer, slots_of};
-use credit_slots::{BUFFER_BYTES, CreditSlots};
+use credit_slots::CreditSlots;
 use datagram_grammar::{Settings, view};
 use handler_rules::{CallKind, Cells, Context, Fault, Forbidden, Handlers, Log, Table, Violation};
 use hsl_locks::{LockAnswer, Locks, Owner, UnlockAnswer};
-use raw_segment::Segment;
+use raw_segment::{Block, Segment};
 use reply_slots::ReplySlots;
 use std::alloc::{AllocError, Global};
 use std::marker::Model;
@@ -47,13 +49,14 @@ pub struct Core {
     pub(crate) locks: Locks,
     pub(crate) cells: Cells,
     pub(crate) log: Log,
-    // For a call on the own node: the payload of its request, and its reply.
-    pub(crate) lent: Vec<u8>,
-    pub(crate) desk: Vec<u8>,
+    // For a call on the own node: the payload of its request, and its reply. Each is the one part of a block, whose memory is
+    // reserved, and touched at the first such call.
+    pub(crate) lent: Block,
+    pub(crate) desk: Block,
 }
 
 impl Model for Core {
-    ghost use Rattle.std.specs.Prelude.{◌≡◌, false, vec_len};
+    ghost use Rattle.std.specs.Prelude.{◌≡◌, false, length};
     ghost use Rattle.hsl_locks.specs.declared.answer.Owner.TheVariants.{Handler};
     ghost use Rattle.hsl_locks.specs.Locks.{holds};
     ghost use Rattle.am_core.specs.CoreState.{CoreState};
@@ -74,8 +77,8 @@ impl Model for Core {
     } };
 
     ghost invariant = { λ c.
-        IsSized c.settings c.me c.requests c.replies × (vec_len c.desk ≡ 8296)
-        × (vec_len c.lent ≡ 8296) × (holds Handler c.locks ≡ false) };
+        IsSized c.settings c.me c.requests c.replies × (length c.desk ≡ 1)
+        × (length c.lent ≡ 1) × (holds Handler c.locks ≡ false) };
 }
 
 impl Core {
@@ -109,8 +112,8 @@ impl Core {
             locks: Locks::new(),
             cells: Cells::new(),
             log: Log::new(alloc)?,
-            lent: vec![in alloc; 0; BUFFER_BYTES]?,
-            desk: vec![in alloc; 0; BUFFER_BYTES]?,
+            lent: Block::new(alloc, 1)?,
+            desk: Block::new(alloc, 1)?,
         })
     }
 
@@ -136,7 +139,7 @@ impl Core {
             })
             self.new }
     {
-        self.ask(handlers, now, asking)
+        self.make(handlers, now, asking)
     }
 
     /// A Short request (GASNet 1.8.1, core API, `gasnet_AMRequestShort`), answered as `request` says.
@@ -186,7 +189,8 @@ impl Core {
         ensures { CoreSteps (H.meaning handlers.now) self.old
             (record {
               now = now;
-              event = Asks (asks_of thread to (medium_asking handler args.now (payload_from payload.entry)));
+              event = Asks (asks_of thread to
+                  (medium_asking handler args.now (payload_from payload.entry)));
               answer = OfRequest result;
             })
             self.new }
@@ -220,7 +224,8 @@ impl Core {
         ensures { CoreSteps (H.meaning handlers.now) self.old
             (record {
               now = now;
-              event = Asks (asks_of thread to (long_asking handler args.now (payload_from payload.entry) offset));
+              event = Asks (asks_of thread to
+                  (long_asking handler args.now (payload_from payload.entry) offset));
               answer = OfRequest result;
             })
             self.new }
@@ -254,7 +259,8 @@ impl Core {
         ensures { CoreSteps (H.meaning handlers.now) self.old
             (record {
               now = now;
-              event = Asks (asks_of thread to (long_asking handler args.now (payload_from payload.entry) offset));
+              event = Asks (asks_of thread to
+                  (long_asking handler args.now (payload_from payload.entry) offset));
               answer = OfRequest result;
             })
             self.new }
@@ -269,6 +275,25 @@ impl Core {
             offset,
         };
         self.request(handlers, now, &asking)
+    }
+
+    /// A request of the library to another node, of the node's own accord (GASNet 1.8.1, extended API): a chunk of a transfer, or a
+    /// note of the barrier. A put's bytes are copied out of the own segment as it is now.
+    ///
+    /// `WornOut` exactly where the numbers of the pair are used up, then `NotYet` where all its credits are out, else `Accepted`.
+    /// `now` is the time of its sending.
+    ///
+    /// Ranges are of 1 to 8,192 bytes inside the segments, a note's mask is within the nodes and its flags 0 to 3, and the own
+    /// segment is as long as the settings say.
+    pub fn ask(&mut self, now: u64, to: u16, work: &Library) -> Asked
+        requires node { to < self.old.settings.nodes }
+        requires other { to ≢ self.old.me }
+        requires segment { HasSegment self.old }
+        requires fits { WorkFits self.old.settings (work_of work.now) }
+        ensures { AsksOwn self.old
+            (record { now = now; to = to; work = work_of work.now; answer = result }) self.new }
+    {
+        self.claim_work(now, to, work)
     }
 
     /// A datagram that was delivered: any bytes.
@@ -410,7 +435,8 @@ impl Core {
     /// How many message buffers are in use: one for each request that isn't back, and one for each slot with a reply; at most the
     /// sum over the peers of the credits both ways.
     pub fn held(&self) -> usize
-        ensures is { ForItsRecord self.now (λ node. result ≡ held self.now.settings self.now.me node) }
+        ensures is { ForItsRecord self.now (λ node.
+            result ≡ held self.now.settings self.now.me node) }
         ensures few { ForItsRecord self.now (λ node.
             result ≤ greatest_holding self.now.settings self.now.me) }
     {

@@ -10,12 +10,13 @@ ghost use Rattle.reply_slots.specs.State.{JudgesAt};
 ghost use Rattle.reply_slots.specs.declared.Judged.TheVariants as judged;
 ghost use Rattle.am_core.specs.AskedFor.{ask_of, asking_of, content_asked, content_with};
 ghost use Rattle.raw_segment.specs.Bytes.{part};
-ghost use Rattle.am_core.specs.ClientRules.{IsFine, busy_lock, content_refusal};
-ghost use Rattle.am_core.specs.CoreStep.{AsksFor, Claims, DeliversMessage, IsOurRequest, IsOurReply};
-ghost use Rattle.am_core.specs.CoreStep.{IsNewRequest, Runs, Resends, after_judgement, judged_at};
+ghost use Rattle.handler_rules.specs.Runs.{IsPlaced, passes_end};
+ghost use Rattle.am_core.specs.ClientRules.{IsFine, busy_lock, content_refusal, is_handled};
+ghost use Rattle.am_core.specs.CoreStep.{AsksFor, Claims, DeliversMessage, IsOurRequest, IsOurReply, IsOurs};
+ghost use Rattle.am_core.specs.CoreStep.{IsNewRequest, RunsBy, Resends, after_judgement, judged_at};
 ghost use Rattle.am_core.specs.CoreStep.{CanRunReply, asked_fault, claim_of, lock_at, message_refusal, with_own_run};
-ghost use Rattle.am_core.specs.CoreStep.{with_reply_ran};
-ghost use Rattle.am_core.specs.HandlerRuns.{arrival_in};
+ghost use Rattle.am_core.specs.CoreStep.{client_delivered, with_reply_ran, with_client_reply_ran};
+ghost use Rattle.am_core.specs.HandlerRuns.{arrival_in, place_of};
 ghost use Rattle.am_core.specs.Sizes.{HasSegment};
 
 use crate::answer::{Asked, Delivered, Side, SlotRef, Why};
@@ -23,9 +24,11 @@ use crate::arguments::arguments;
 use crate::asking::{Asking, Category, Payload};
 use crate::floor::{Floor, listed_for};
 use crate::landing::{land, lend_own};
+use crate::library::LAST_OWN;
+use crate::library_runs::library_fault;
 use crate::node::Core;
 use crate::own::place_asked;
-use crate::sealing::ask;
+use crate::sealing::seal_request;
 use crate::slots::slots_of;
 use credit_slots::NoClaim;
 use datagram_grammar::{Address, Kind, View};
@@ -36,7 +39,7 @@ use reply_slots::Judged;
 
 impl Core {
     /// A request of a thread.
-    pub(crate) fn ask<H: Handlers>(&mut self, handlers: &H, now: u64, asking: &Asking<'_>) -> Asked
+    pub(crate) fn make<H: Handlers>(&mut self, handlers: &H, now: u64, asking: &Asking<'_>) -> Asked
         requires { HasSegment self.old }
         ensures { AsksFor (H.meaning handlers.now) self.old
             (record { now = now; event = ask_of asking.now; answer = result })
@@ -122,7 +125,7 @@ impl Core {
         ensures { self.new ≡ with_own_run (H.meaning handlers.now) self.old
             (content_asked self.old.segment asking.now) }
     {
-        let shown = lend_own(&mut self.segment, &mut self.lent, asking);
+        let shown = lend_own(&mut self.segment, self.lent.part_mut(0), asking);
         let listed = listed_for(&self.table, asking.handler);
         let request = Incoming {
             role: Role::Request,
@@ -131,7 +134,7 @@ impl Core {
             slot: 0,
             number: 0,
             args: asking.args,
-            payload: &self.lent[..shown],
+            payload: &self.lent.part(0)[..shown],
             place: place_asked(asking),
         };
         let floor = Floor {
@@ -143,7 +146,7 @@ impl Core {
             table: &self.table,
             listed,
         };
-        floor.run_own(handlers, asking.handler, request, &mut self.desk);
+        floor.run_own(handlers, asking.handler, request, self.desk.part_mut(0));
     }
 
     /// A request to another node.
@@ -163,7 +166,7 @@ impl Core {
     }
 
     /// A request to another node with this payload, which is written straight into its slot.
-    fn claim_lent(&mut self, now: u64, asking: &Asking<'_>, payload: &[u8]) -> Asked
+    pub(crate) fn claim_lent(&mut self, now: u64, asking: &Asking<'_>, payload: &[u8]) -> Asked
         requires node { asking.now.to < self.old.settings.nodes }
         requires other { asking.now.to ≢ self.old.me }
         requires handler { 1 ≤ asking.now.handler }
@@ -189,7 +192,7 @@ impl Core {
             slot: 0,
             number: 0,
         };
-        match ask(&mut self.requests, way, now, asking, payload) {
+        match seal_request(&mut self.requests, way, now, asking, payload) {
             Ok((slot, number)) => Asked::Accepted { to, slot, number },
             Err(NoClaim::WornOut) => Asked::WornOut,
             Err(NoClaim::NotYet) => Asked::NotYet,
@@ -197,7 +200,13 @@ impl Core {
     }
 
     /// A request to another node with a range of the own segment as its payload, which is written straight into its slot.
-    fn claim_own(&mut self, now: u64, asking: &Asking<'_>, offset: u64, len: u64) -> Asked
+    pub(crate) fn claim_own(
+        &mut self,
+        now: u64,
+        asking: &Asking<'_>,
+        offset: u64,
+        len: u64,
+    ) -> Asked
         requires node { asking.now.to < self.old.settings.nodes }
         requires other { asking.now.to ≢ self.old.me }
         requires handler { 1 ≤ asking.now.handler }
@@ -227,7 +236,7 @@ impl Core {
         let Some(payload) = self.segment.part(offset, len) else {
             unreachable!();
         };
-        match ask(&mut self.requests, way, now, asking, payload) {
+        match seal_request(&mut self.requests, way, now, asking, payload) {
             Ok((slot, number)) => Asked::Accepted { to, slot, number },
             Err(NoClaim::WornOut) => Asked::WornOut,
             Err(NoClaim::NotYet) => Asked::NotYet,
@@ -257,10 +266,12 @@ impl Core {
     }
 
     /// Why a message is refused.
+    #[tactic(auto, unfolding(crate::specs::CoreStep::message_refusal))]
     fn refusal(&self, message: &View<'_>) -> Option<Why>
         requires segment { HasSegment self.now }
         requires message { IsMessage (viewed_message message.now) }
-        ensures { result ≡ message_refusal self.now (viewed_message message.now) }
+        ensures first { result ≡ message_refusal self.now (viewed_message message.now) }
+        ensures ours { IfNone result (IsOurs self.now (viewed_message message.now)) }
     {
         if message.job != self.settings.job() {
             return Some(Why::Job);
@@ -281,10 +292,28 @@ impl Core {
     fn content_refusal(&self, message: &View<'_>) -> Option<Why>
         requires segment { HasSegment self.now }
         requires message { IsMessage (viewed_message message.now) }
-        ensures { result ≡ content_refusal self.now.settings self.now.table
+        ensures first { result ≡ content_refusal self.now.settings self.now.table
             (content_of (viewed_message message.now)) }
+        ensures placed { let content = content_of (viewed_message message.now) in
+            IfNone result (IsPlaced self.now.settings.segment (place_of content)) }
     {
-        let is_handled = match message.kind {
+        if !self.is_handled(message) {
+            // The library's own, or nobody's.
+            if let Some(why) = library_fault(&self.settings, message) {
+                return Some(why);
+            }
+        }
+        if self.passes_end(message) {
+            return Some(Why::Range);
+        }
+        None
+    }
+
+    /// Whether a message is an Ack, or a handler of its role is registered for its index.
+    fn is_handled(&self, message: &View<'_>) -> bool
+        ensures { result ≡ is_handled self.now.table (content_of (viewed_message message.now)) }
+    {
+        match message.kind {
             Kind::Ack => true,
             Kind::ShortRequest | Kind::MediumRequest | Kind::LongRequest => {
                 self.table.has(Role::Request, message.handler)
@@ -292,16 +321,21 @@ impl Core {
             Kind::ShortReply | Kind::MediumReply | Kind::LongReply => {
                 self.table.has(Role::Reply, message.handler)
             }
-        };
-        if !is_handled {
-            return Some(Why::Handler);
         }
-        let len = message.payload.len() as u64;
+    }
+
+    /// Whether a message is a Long one, and its place passes the end of the segment.
+    fn passes_end(&self, message: &View<'_>) -> bool
+        requires segment { HasSegment self.now }
+        ensures { result
+            ≡ passes_end self.now.settings.segment (content_of (viewed_message message.now)) }
+    {
         match message.kind {
-            Kind::LongRequest | Kind::LongReply if !self.segment.contains(message.offset, len) => {
-                Some(Why::Range)
+            Kind::LongRequest | Kind::LongReply => {
+                let len = message.payload.len() as u64;
+                !self.segment.contains(message.offset, len)
             }
-            _ => None,
+            _ => false,
         }
     }
 
@@ -347,6 +381,7 @@ impl Core {
             Judged::Stale => Delivered::Stale,
             Judged::New => match self.awaited(message) {
                 Some(lock) => Delivered::Deferred(lock),
+                None if message.handler <= LAST_OWN => self.run_library(message, at),
                 None => {
                     self.run_new(handlers, message);
                     Delivered::Ran(at)
@@ -355,12 +390,14 @@ impl Core {
         }
     }
 
-    /// Runs a request whose number is greater than the last one of its slot, and keeps its reply there.
+    /// Runs a request for a client's handler whose number is greater than the last one of its slot, and keeps its reply there.
     fn run_new<H: Handlers>(&mut self, handlers: &H, message: &View<'_>)
         requires segment { HasSegment self.old }
         requires new { IsNewRequest self.old (viewed_message message.now) }
         requires free { lock_at self.old (viewed_message message.now) ≡ None }
-        ensures { Runs (H.meaning handlers.now) self.old (viewed_message message.now) self.new }
+        ensures { RunsBy
+            (client_delivered (H.meaning handlers.now) self.old (viewed_message message.now))
+            self.old (viewed_message message.now) self.new }
     {
         let (args, count) = arguments(message);
         let listed = listed_for(&self.table, message.handler);
@@ -441,11 +478,26 @@ impl Core {
         }
     }
 
-    /// Runs the handler of a reply.
+    /// Runs the handler of a reply. The library's own has nothing to do but to put the bytes that a get asked for in their place.
     fn run_reply<H: Handlers>(&mut self, handlers: &H, reply: &View<'_>)
         requires segment { HasSegment self.old }
         requires reply { CanRunReply self.old (viewed_message reply.now) }
         ensures { self.new ≡ with_reply_ran (H.meaning handlers.now) self.old
+            (with_sender self.old.me (viewed_message reply.now))
+            (content_of (viewed_message reply.now)) }
+    {
+        if reply.handler <= LAST_OWN {
+            land(&mut self.segment, reply);
+        } else {
+            self.run_client_reply(handlers, reply);
+        }
+    }
+
+    /// Runs a client's handler of a reply.
+    fn run_client_reply<H: Handlers>(&mut self, handlers: &H, reply: &View<'_>)
+        requires segment { HasSegment self.old }
+        requires reply { CanRunReply self.old (viewed_message reply.now) }
+        ensures { self.new ≡ with_client_reply_ran (H.meaning handlers.now) self.old
             (with_sender self.old.me (viewed_message reply.now))
             (content_of (viewed_message reply.now)) }
     {
@@ -462,7 +514,7 @@ impl Core {
             table: &self.table,
             listed,
         };
-        let _ = floor.run(handlers, reply.handler, incoming, &mut self.desk);
+        let _ = floor.run(handlers, reply.handler, incoming, self.desk.part_mut(0));
     }
 
     /// Notes that the request which is due at `now` is sent again, and tells its node and slot.

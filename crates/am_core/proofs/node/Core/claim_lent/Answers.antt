@@ -3,7 +3,7 @@ use Rattle.am_core.proofs.node.Core.claim_lent.Goals as goal
 
 pub invariant_of-self : goal.invariant_of-self
 invariant_of-self c = (
-  sized_asked _ _ _ _ _ c.args.asking.now.to c.args.now c.ask.result _ c.ask.ensures.kept c.ask.ensures.refused
+  sized_asked _ _ _ _ _ c.args.asking.now.to c.args.now c.seal_request.result _ c.seal_request.ensures.kept c.seal_request.ensures.refused
       c.self.invariant.0,
   c.self.invariant.1,
   c.self.invariant.2,

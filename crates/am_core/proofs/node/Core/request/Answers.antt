@@ -5,4 +5,4 @@ use Rattle.am_core.proofs.node.Core.request.Goals as goal
 pub returns : goal.returns
 returns g c =
     requests_step (g.H.Handlers.meaning c.args.handlers.now) c.args.self.now c.args.now (ask_of c.args.asking.now)
-    c.ask.result c.ask.new.self (g.met.H.Handlers.is_lawful c.args.handlers.now) c.requires c.ask.ensures
+    c.make.result c.make.new.self (g.met.H.Handlers.is_lawful c.args.handlers.now) c.requires c.make.ensures

@@ -1,5 +1,4 @@
 use Rattle.std.proofs.Common.{ap, take, ◌≡◌, ◌∙◌, refl, sym, subst, rules, length, None}
-use Rattle.std.proofs.lemmas.List.{with_items_is}
 use Rattle.hsl_locks.proofs.Laws.{unblocked_parts}
 use Rattle.handler_rules.specs.Registered.{reply_locks}
 use Rattle.am_core.specs.HandlerRuns.{listed_for}
@@ -8,7 +7,8 @@ use Rattle.am_core.specs.ClientRules.{IsFine, busy_lock, said_in}
 use Rattle.am_core.specs.CoreState.{CoreState}
 use Rattle.am_core.specs.CoreStep.{with_own_run}
 use Rattle.am_core.specs.FloorRuns.{FloorRun, RunsOwn, Touched}
-use Rattle.am_core.proofs.OwnRuns.{asked_inside, own_found, own_run_is, with_touched}
+use Rattle.am_core.proofs.OwnRuns.{asked_inside, fine_client, own_found, own_run_is, with_touched}
+use Rattle.am_core.proofs.OwnBuffers.{sole_written}
 use Rattle.am_core.proofs.node.Core.run_here.Goals as goal
 
 pub run_own-requires-clause-replies : goal.run_own-requires-clause-replies
@@ -64,14 +64,15 @@ returns g c =
     let asking = asking_of c.args.asking.now in
     let fine : IsFine (length inside.segment) asking =
     subst (λ (core : CoreState). IsFine (length core.segment) asking) (sym c.self.view_is) c.requires.fine in
-    let whole = with_items_is c.self.inside.lent c.lend_own-shown.new.buffer
-    (c.lend_own-shown.ensures.room ∙ sym c.self.invariant.2) in
+    let whole = sole_written c.self.inside.lent c.lend_own-shown.new.buffer c.part.result.now c.self.invariant.2
+    c.lend_own-shown.ensures.room c.part.ensures.value in
     subst
     (λ (core : CoreState). with_touched inside after ≡ with_own_run meaning core (said_in core.segment asking))
     c.self.view_is
     (own_run_is meaning inside (said_in inside.segment asking) after
+    (g.met.H.Handlers.is_lawful c.args.handlers.now) (fine_client inside.segment asking fine)
     (subst (λ (run : FloorRun). RunsOwn meaning run after)
     (own_found meaning inside asking c.listed_for-listed.result c.lend_own-shown.result
-    c.lend_own-shown.new.segment c.lend_own-shown.new.buffer (take c.lend_own-shown.result c.deref.result.now)
+    c.lend_own-shown.new.segment c.lend_own-shown.new.buffer (take c.lend_own-shown.result c.part.result.now)
     c.place_asked.result fine c.listed_for-listed.ensures c.lend_own-shown.ensures.landed
-    (ap (take c.lend_own-shown.result) (c.deref.ensures.value ∙ whole)) c.place_asked.ensures) c.run_own.ensures))
+    (ap (take c.lend_own-shown.result) whole) c.place_asked.ensures) c.run_own.ensures))

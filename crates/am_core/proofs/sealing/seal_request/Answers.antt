@@ -1,7 +1,7 @@
 use Rattle.std.proofs.Common.{rules}
 use Rattle.credit_slots.proofs.Requests.{request_sealed}
 use Rattle.datagram_grammar.proofs.Spelling.{spelling_fits}
-use Rattle.am_core.proofs.sealing.ask.Goals as goal
+use Rattle.am_core.proofs.sealing.seal_request.Goals as goal
 
 pub returns-clause-message : goal.returns-clause-message
 returns-clause-message c = rw c.outgoing.ensures.value at c.spell-len.ensures.message
