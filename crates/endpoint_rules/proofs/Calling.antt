@@ -1,0 +1,48 @@
+-- What a call is that is no request.
+use Rattle.std.proofs.Common.{◌≡◌, ℕ, ℤ, List, refl}
+use Rattle.std.specs.Borrow.{Bor}
+use Rattle.am_core.specs.declared.asking.Payload.{Payload}
+use Rattle.endpoint_rules.specs.EndpointRules.{OtherCall}
+use Rattle.endpoint_rules.specs.Called.{Performs, meant}
+use Rattle.endpoint_rules.specs.declared.call.Call.{Call}
+use Rattle.endpoint_rules.specs.declared.call.Call.TheVariants as call
+
+-- a call that is none of the four requests is another one
+pub asks_nothing : (k : Call)
+    → ((to handler : ℕ) (args : Bor (List ℤ)) → k ≡ call.Short to handler args → ⊥)
+    → ((to handler : ℕ) (args : Bor (List ℤ)) (payload : Payload) → k ≡ call.Medium to handler args payload → ⊥)
+    → ((to handler : ℕ) (args : Bor (List ℤ)) (payload : Payload) (offset : ℕ)
+    → k ≡ call.Long to handler args payload offset → ⊥)
+    → ((to handler : ℕ) (args : Bor (List ℤ)) (payload : Payload) (offset : ℕ)
+    → k ≡ call.LongAsync to handler args payload offset → ⊥)
+    → (other : OtherCall) × (meant k ≡ Performs other)
+asks_nothing (call.Short to handler args) short medium long later = absurd (short to handler args refl)
+asks_nothing (call.Medium to handler args payload) short medium long later =
+    absurd (medium to handler args payload refl)
+asks_nothing (call.Long to handler args payload offset) short medium long later =
+    absurd (long to handler args payload offset refl)
+asks_nothing (call.LongAsync to handler args payload offset) short medium long later =
+    absurd (later to handler args payload offset refl)
+asks_nothing call.Poll short medium long later = (_, refl)
+asks_nothing (call.Attempt kind) short medium long later = (_, refl)
+asks_nothing (call.Lock lock) short medium long later = (_, refl)
+asks_nothing (call.Unlock lock) short medium long later = (_, refl)
+asks_nothing (call.Begin register transfer) short medium long later = (_, refl)
+asks_nothing (call.BeginImplicit transfer) short medium long later = (_, refl)
+asks_nothing (call.IsIssued register) short medium long later = (_, refl)
+asks_nothing (call.Sync register) short medium long later = (_, refl)
+asks_nothing (call.SyncHandle handle) short medium long later = (_, refl)
+asks_nothing (call.SyncAll registers) short medium long later = (_, refl)
+asks_nothing (call.SyncSome registers) short medium long later = (_, refl)
+asks_nothing (call.SyncImplicit some) short medium long later = (_, refl)
+asks_nothing call.RegionBegin short medium long later = (_, refl)
+asks_nothing (call.RegionEnd register) short medium long later = (_, refl)
+asks_nothing (call.Notify id flags) short medium long later = (_, refl)
+asks_nothing (call.TryBarrier id flags) short medium long later = (_, refl)
+asks_nothing (call.Cell cell) short medium long later = (_, refl)
+asks_nothing (call.SetCell cell value) short medium long later = (_, refl)
+asks_nothing (call.Show offset len) short medium long later = (_, refl)
+asks_nothing (call.Set offset bytes) short medium long later = (_, refl)
+asks_nothing (call.Fill offset len byte) short medium long later = (_, refl)
+asks_nothing (call.LoadWord offset) short medium long later = (_, refl)
+asks_nothing (call.SetWord offset value) short medium long later = (_, refl)

@@ -1,0 +1,17 @@
+use Rattle.endpoint_rules.proofs.Sound.{rules_sound}
+use Rattle.endpoint_rules.proofs.Kept.{opening_kept}
+use Rattle.endpoint_rules.proofs.Over.{endpoint_over}
+use Rattle.endpoint_rules.proofs.Tracking.{opening_tracks, event_tracks}
+use Rattle.endpoint_rules.proofs.every_call.Goals as goal
+
+pub returns-clause-sound : goal.returns-clause-sound
+returns-clause-sound c = rules_sound
+
+pub returns-clause-opening : goal.returns-clause-opening
+returns-clause-opening c = opening_kept
+
+pub returns-clause-over : goal.returns-clause-over
+returns-clause-over c = endpoint_over
+
+pub returns-clause-tracked : goal.returns-clause-tracked
+returns-clause-tracked c = (opening_tracks, event_tracks)

@@ -1,0 +1,10 @@
+pub mod Memory
+pub mod EndpointLocal
+pub mod CoreCalls
+pub mod TransferCalls
+pub mod BarrierCalls
+pub mod EndpointRules
+pub mod Called
+pub mod Sends
+pub mod Tracking
+pub mod EveryCall
