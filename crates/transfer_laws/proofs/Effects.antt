@@ -1,0 +1,184 @@
+-- What one event leaves of a node's operations, and of what was written into its segment.
+use Rattle.std.proofs.Common.{◌≡◌, inl, inr, ℕ, List, [], ◌++◌, Option, None, Some, refl, sym, ap, ◌∙◌, append_assoc}
+use Rattle.std.proofs.Common.{append-nil}
+use Rattle.std.specs.Prelude.{Result, Ok, Err}
+use Rattle.std.proofs.lemmas.Bool.{cases_Bool}
+use Rattle.datagram_grammar.specs.Parameters.{Parameters}
+use Rattle.datagram_grammar.specs.Content.{Content, code, is_ack}
+use Rattle.raw_segment.specs.Image.{Write}
+use Rattle.handler_rules.specs.declared.table.Entry.{Entry}
+use Rattle.handler_rules.specs.declared.rules.Forbidden.{Forbidden}
+use Rattle.handler_rules.specs.declared.rules.Role.TheVariants as role
+use Rattle.handler_rules.specs.Runs.{Meaning}
+use Rattle.node_record.specs.Behaviour.{Contact}
+use Rattle.access_region.specs.declared.Region.{Region as BegunRegion}
+use Rattle.access_region.specs.Regions.{has_begun, region_of}
+use Rattle.put_get.specs.declared.operation.Mode.{Mode}
+use Rattle.put_get.specs.declared.operation.Transfer.{Transfer}
+use Rattle.am_core.specs.Kept.{Local, start_of, with_writes}
+use Rattle.am_core.specs.HandlerRuns.{NodeHandlers, landing, outcome, run_request, run_reply}
+use Rattle.am_core.specs.ClientRules.{rules}
+use Rattle.endpoint_rules.specs.EndpointLocal.{EndpointLocal}
+use Rattle.endpoint_rules.specs.CoreCalls.{LocalCall, Poll, Attempt, Lock, Unlock, Cell, SetCell, OnSegment, local_does}
+use Rattle.endpoint_rules.specs.CoreCalls.{if_allowed}
+use Rattle.endpoint_rules.specs.TransferCalls.{TransferCall, Begin, BeginImplicit, IsIssued, Sync, SyncHandle, SyncAll}
+use Rattle.endpoint_rules.specs.TransferCalls.{SyncSome, SyncImplicit, RegionBegin, RegionEnd, Caller, transfer_does}
+use Rattle.endpoint_rules.specs.TransferCalls.{after_beginning, ended, begin_says, implicit_mode}
+use Rattle.endpoint_rules.specs.EndpointRules.{OtherCall, OnCore, OnTransfers, OnBarrier, endpoint_rules, does_call}
+use Rattle.endpoint_rules.specs.EndpointRules.{unless_forbidden}
+use Rattle.endpoint_rules.specs.declared.answer.Answer.{Answer}
+use Rattle.endpoint_rules.specs.declared.answer.Begun.{Begun}
+use Rattle.endpoint_rules.specs.declared.answer.Begun.TheVariants as begun
+use Rattle.transfer_laws.proofs.Marking.{Alike, alike_same, alike_left, alike_handle, alike_begin}
+
+-- ---- writes
+
+abbrev pub Extends : List Write → List Write → Type 0
+Extends before after = (later : List Write) × (after ≡ before ++ later)
+
+pub extends_same : (before after : List Write) → after ≡ before → Extends before after
+extends_same before after is = ([], is ∙ sym (append-nil before))
+
+pub extends_more : (before between after : List Write) → Extends before between → Extends between after
+    → Extends before after
+extends_more before between after one two =
+    (one.0 ++ two.0, two.1 ∙ (ap (λ (writes : List Write). writes ++ two.0) one.1 ∙ append_assoc before one.0 two.0))
+
+-- what a handler's run writes
+pub run_extends : (handlers : NodeHandlers) (contact : Contact) (content : Content) (core : Local)
+    → Extends core.writes (run_request handlers contact content core).0.writes
+run_extends handlers contact content core =
+    let landed = with_writes core (landing content) in
+    let run = outcome handlers role.Request contact content (start_of handlers.settings landed) in
+    (landing content ++ run.writes, append_assoc core.writes (landing content) run.writes)
+
+pub take_extends : (handlers : NodeHandlers) (contact : Contact) (content : Content) (core : Local)
+    → Extends core.writes (run_reply handlers contact content core).writes
+take_extends handlers contact content core = elim (cases_Bool (is_ack (code content.kind))) [
+  | inl ack ↦ rw ack (extends_same core.writes core.writes refl)
+  | inr reply ↦ rw reply (
+      let landed = with_writes core (landing content) in
+      let run = outcome handlers role.Reply contact content (start_of handlers.settings landed) in
+      (landing content ++ run.writes, append_assoc core.writes (landing content) run.writes))
+]
+
+-- ---- calls
+
+-- operations are as they were but for their marks, or are new; and more was written
+pub record CallEffect (before after : EndpointLocal) : Type 0 where
+  pub operations : Alike before.operations after.operations
+  pub writes : Extends before.core.writes after.core.writes
+
+no_effect : (before after : EndpointLocal) → after.operations ≡ before.operations
+    → after.core.writes ≡ before.core.writes → CallEffect before after
+no_effect before after operations writes = record {
+  operations = alike_same before.operations after.operations operations;
+  writes = extends_same before.core.writes after.core.writes writes;
+}
+
+-- on what a core keeps, where the rule table judges it
+rule_extends : (settings : Parameters) (table : List (Option Entry)) (meaning : Meaning) (thread : ℕ)
+    (judged : Result (Unit {0}) Forbidden) (answer : Answer) (core : Local)
+    → Extends core.writes (if_allowed (rules settings table meaning) thread judged answer core).1.writes
+rule_extends settings table meaning thread (Ok allowed) answer core = extends_same core.writes core.writes refl
+rule_extends settings table meaning thread (Err forbidden) answer core = extends_same core.writes core.writes refl
+
+-- on what a core keeps
+core_extends : (all settings : Parameters) (table : List (Option Entry)) (meaning : Meaning) (thread : ℕ)
+    (call : LocalCall) (core : Local)
+    → Extends core.writes (local_does all (rules settings table meaning) thread call core).1.writes
+core_extends all settings table meaning thread Poll core = rule_extends settings table meaning thread _ _ core
+core_extends all settings table meaning thread (Attempt kind) core = rule_extends settings table meaning thread _ _ core
+core_extends all settings table meaning thread (Lock lock) core = extends_same core.writes core.writes refl
+core_extends all settings table meaning thread (Unlock lock) core = extends_same core.writes core.writes refl
+core_extends all settings table meaning thread (Cell cell) core = extends_same core.writes core.writes refl
+core_extends all settings table meaning thread (SetCell cell value) core = extends_same core.writes core.writes refl
+core_extends all settings table meaning thread (OnSegment call) core = (_, refl)
+
+-- the beginning of a transfer
+begin_effect : (caller : Caller) (transfer : Transfer) (mode : Mode) (says : Begun) (local : EndpointLocal)
+    → CallEffect local (after_beginning caller transfer mode says local)
+begin_effect caller transfer mode (begun.Handle handle) local = record {
+  operations = alike_begin caller.thread transfer mode local.operations;
+  writes = extends_same local.core.writes local.core.writes refl;
+}
+begin_effect caller transfer mode begun.Done local = record {
+  operations = alike_same local.operations local.operations refl;
+  writes = (_, refl);
+}
+begin_effect caller transfer mode (begun.BadArg part) local = no_effect local local refl refl
+begin_effect caller transfer mode begun.TooMany local = no_effect local local refl refl
+
+-- the end of a region
+end_effect : (caller : Caller) (register : ℕ) (region : Option BegunRegion) (local : EndpointLocal)
+    → CallEffect local (ended caller register region local).1
+end_effect caller register None local = no_effect local local refl refl
+end_effect caller register (Some region) local = by_name region.name
+  where
+    by_name : (name : Option ℕ) → CallEffect local (ended caller register (Some (record { name = name })) local).1
+    by_name None = no_effect local _ refl refl
+    by_name (Some name) = no_effect local _ refl refl
+
+-- on transfers, where the rule table allows it
+pub transfer_effect : (caller : Caller) (call : TransferCall) (local : EndpointLocal)
+    → CallEffect local (transfer_does caller call local).1
+transfer_effect caller (Begin register transfer) local =
+    let it = begin_effect caller transfer _ (begin_says caller transfer local.operations) local in
+    record { operations = it.operations; writes = it.writes }
+transfer_effect caller (BeginImplicit transfer) local =
+    let it = begin_effect caller transfer (implicit_mode local.regions caller.thread)
+    (begin_says caller transfer local.operations) local in
+    record { operations = it.operations; writes = it.writes }
+transfer_effect caller (IsIssued register) local = no_effect local local refl refl
+transfer_effect caller (Sync register) local = record {
+  operations = alike_handle _ _ local.operations;
+  writes = extends_same local.core.writes local.core.writes refl;
+}
+transfer_effect caller (SyncHandle handle) local = record {
+  operations = alike_handle _ _ local.operations;
+  writes = extends_same local.core.writes local.core.writes refl;
+}
+transfer_effect caller (SyncAll registers) local = record {
+  operations = alike_left _ _ local.operations;
+  writes = extends_same local.core.writes local.core.writes refl;
+}
+transfer_effect caller (SyncSome registers) local = record {
+  operations = alike_left _ _ local.operations;
+  writes = extends_same local.core.writes local.core.writes refl;
+}
+transfer_effect caller (SyncImplicit some) local = elim (cases_Bool (has_begun local.regions caller.thread)) [
+  | inl inside ↦ rw inside (no_effect local local refl refl)
+  | inr outside ↦ rw outside (record {
+    operations = alike_left _ _ local.operations;
+    writes = extends_same local.core.writes local.core.writes refl;
+  })
+]
+transfer_effect caller RegionBegin local = elim (cases_Bool (has_begun local.regions caller.thread)) [
+  | inl inside ↦ rw inside (no_effect local local refl refl)
+  | inr outside ↦ rw outside (no_effect local _ refl refl)
+]
+transfer_effect caller (RegionEnd register) local = end_effect caller register (region_of local.regions caller.thread)
+    local
+
+-- a call that the rule table judges
+judged_effect : (settings : Parameters) (table : List (Option Entry)) (meaning : Meaning) (thread : ℕ)
+    (judged : Result (Unit {0}) Forbidden) (local : EndpointLocal) (out : Answer × EndpointLocal)
+    → CallEffect local out.1
+    → CallEffect local (unless_forbidden (endpoint_rules settings table meaning) thread judged local out).1
+judged_effect settings table meaning thread (Ok allowed) local out it = it
+judged_effect settings table meaning thread (Err forbidden) local out it = no_effect local _ refl refl
+
+-- any call
+pub call_effect : (settings : Parameters) (table : List (Option Entry)) (meaning : Meaning) (caller : Caller)
+    (call : OtherCall) (local : EndpointLocal)
+    → CallEffect local (does_call (endpoint_rules settings table meaning) (rules settings table meaning) caller call
+    local).1
+call_effect settings table meaning caller (OnCore call) local = record {
+  operations = alike_same local.operations local.operations refl;
+  writes = core_extends caller.settings settings table meaning caller.thread call local.core;
+}
+call_effect settings table meaning caller (OnTransfers call) local =
+    judged_effect settings table meaning caller.thread _ local (transfer_does caller call local)
+    (transfer_effect caller call local)
+call_effect settings table meaning caller (OnBarrier call) local =
+    judged_effect settings table meaning caller.thread _ local _ (no_effect local _ refl refl)

@@ -1,0 +1,13 @@
+pub mod Happening
+pub mod LocalSteps
+pub mod Bytes
+pub mod Marking
+pub mod Effects
+pub mod Issuing
+pub mod Stretches
+pub mod Works
+pub mod Landing
+pub mod Done
+pub mod Begins
+pub mod Laws
+pub mod Goes
