@@ -1,0 +1,137 @@
+-- The calls on the barrier are those of the record.
+use Rattle.std.proofs.lemmas.Bool.{cases_Bool}
+use Rattle.std.proofs.Common.{add-one, zero, inl, inr, ◌≡◌, ℕ, suc, ◌+◌, ℤ, Bool, true, false, Option, None, Some, refl, ap, ◌∙◌, subst}
+use Rattle.datagram_grammar.specs.declared.note.BarrierNote.{BarrierNote}
+use Rattle.named_barrier.specs.State.{State as BarrierState}
+use Rattle.named_barrier.specs.Record.{BarrierRecord, notify_answer, notify_after, try_answer, try_after}
+use Rattle.named_barrier.specs.Stands.{Stands as BarrierStands}
+use Rattle.named_barrier.specs.declared.answer.Notified.{Notified}
+use Rattle.named_barrier.specs.declared.answer.BarrierAnswer.{BarrierAnswer}
+use Rattle.am_core.specs.CoreState.{CoreState}
+use Rattle.endpoint_rules.specs.BarrierCalls.{Notify, TryBarrier, barrier_does, worn_out_for, identifier, first_where}
+use Rattle.endpoint_rules.specs.EndpointRules.{with_barrier, note_among}
+use Rattle.std.specs.Int.{w32}
+use Rattle.std.proofs.lemmas.Int.{to_z-of_z}
+use Rattle.endpoint_rules.proofs.Noting.{identifier_fits}
+use Rattle.endpoint_rules.specs.declared.answer.Answer.{Answer}
+use Rattle.endpoint_rules.specs.declared.answer.Answer.TheVariants as answers
+use Rattle.gas_endpoint.specs.declared.extended.Extended.{Extended}
+use Rattle.gas_endpoint.specs.Endpoints.{ForItsRecord}
+use Rattle.gas_endpoint.specs.Parts.{Parts, PartDoes, endpoint_of, caller_in}
+use Rattle.gas_endpoint.proofs.Syncs.{same_core}
+
+pub notify_does : (core : CoreState) (extended : Extended) (barrier : BarrierState) (thread : ℕ) (id : ℤ)
+    (flags : ℕ) (says : Notified)
+    → ((nodes me : ℕ) (kept : BarrierRecord) → BarrierStands nodes me extended.barrier kept
+    → says ≡ notify_answer kept (identifier id) flags)
+    → ((nodes me : ℕ) (kept : BarrierRecord) → BarrierStands nodes me extended.barrier kept
+    → BarrierStands nodes me barrier (notify_after kept (identifier id) flags (notify_answer kept (identifier id) flags)))
+    → PartDoes (record { core = core; extended = extended }) thread
+    (λ caller kept. with_barrier kept (barrier_does caller (Notify id flags) kept.barrier)) (answers.Notified says)
+    (record { core = core; extended = record extended { barrier = barrier } })
+notify_does core extended barrier thread id flags says answer stands = record {
+  same = same_core core;
+  frame = record { nodes = refl; me_is = refl; threads = refl; room = refl };
+  steps = λ node S.
+      let kept = node.local.barrier in (
+        ap (λ (s : Notified). answers.Notified s) (answer core.settings.nodes core.me kept S.barrier),
+        record {
+          core = S.core;
+          transfers = S.transfers;
+          regions_are = S.regions_are;
+          registers_are = S.registers_are;
+          barrier = stands core.settings.nodes core.me kept S.barrier;
+        },
+      );
+}
+
+pub try_does : (core : CoreState) (extended : Extended) (barrier : BarrierState) (thread : ℕ) (id : ℤ)
+    (flags : ℕ) (worn : Option ℕ) (says : BarrierAnswer)
+    → ForItsRecord (endpoint_of core extended) (λ node.
+    worn ≡ worn_out_for (caller_in core node thread) node.local.barrier)
+    → ((nodes me : ℕ) (kept : BarrierRecord) → BarrierStands nodes me extended.barrier kept
+    → says ≡ try_answer nodes me kept (identifier id) flags worn)
+    → ((nodes me : ℕ) (kept : BarrierRecord) → BarrierStands nodes me extended.barrier kept
+    → BarrierStands nodes me barrier (try_after kept (try_answer nodes me kept (identifier id) flags worn)))
+    → PartDoes (record { core = core; extended = extended }) thread
+    (λ caller kept. with_barrier kept (barrier_does caller (TryBarrier id flags) kept.barrier)) (answers.Barrier says)
+    (record { core = core; extended = record extended { barrier = barrier } })
+try_does core extended barrier thread id flags worn says worns answer stands = record {
+  same = same_core core;
+  frame = record { nodes = refl; me_is = refl; threads = refl; room = refl };
+  steps = λ node S.
+      let kept = node.local.barrier in
+      let nodes = core.settings.nodes in
+      let same : try_answer nodes core.me kept (identifier id) flags worn
+      ≡ try_answer nodes core.me kept (identifier id) flags (worn_out_for (caller_in core node thread) kept) =
+      ap (λ w. try_answer nodes core.me kept (identifier id) flags w) (worns node S) in (
+        ap (λ (s : BarrierAnswer). answers.Barrier s) (answer nodes core.me kept S.barrier ∙ same),
+        record {
+          core = S.core;
+          transfers = S.transfers;
+          regions_are = S.regions_are;
+          registers_are = S.registers_are;
+          barrier = subst (λ (a : BarrierAnswer). BarrierStands nodes core.me barrier (try_after kept a)) same
+              (stands nodes core.me kept S.barrier);
+        },
+      );
+}
+
+-- ---- the least node
+
+-- none below
+pub first_none : (test : ℕ → Bool) (node many : ℕ) → test node ≡ false
+    → first_where test node (suc many) ≡ first_where test (node + 1) many
+first_none test node many none = rw (none, add-one) refl
+
+pub first_here : (test : ℕ → Bool) (node many : ℕ) → test node ≡ true
+    → first_where test node (suc many) ≡ Some node
+first_here test node many here = rw here refl
+
+pub among_unasked : (due : ℕ → Option BarrierNote) (can : ℕ → Bool) (node many : ℕ) → can node ≡ false
+    → note_among due can node (suc many) ≡ note_among due can (node + 1) many
+among_unasked due can node many none = rw (none, add-one) refl
+
+pub among_none : (due : ℕ → Option BarrierNote) (can : ℕ → Bool) (node many : ℕ) → can node ≡ true
+    → due node ≡ None → note_among due can node (suc many) ≡ note_among due can (node + 1) many
+among_none due can node many asked none = rw (asked, none, add-one) refl
+
+pub among_here : (due : ℕ → Option BarrierNote) (can : ℕ → Bool) (node many : ℕ) (note : BarrierNote)
+    → can node ≡ true → due node ≡ Some note
+    → note_among due can node (suc many) ≡ Some (record { to = node; note = note })
+among_here due can node many note asked here = rw (asked, here) refl
+
+-- nothing is due
+pub among_quiet : (due : ℕ → Option BarrierNote) (can : ℕ → Bool) (node many : ℕ)
+    → ((to : ℕ) → due to ≡ None) → note_among due can node many ≡ None
+among_quiet due can node zero quiet = refl
+among_quiet due can node (suc many) quiet = elim (cases_Bool (can node)) [
+  | inl asked ↦ among_none due can node many asked (quiet node) ∙ among_quiet due can (node + 1) many quiet
+  | inr unasked ↦ among_unasked due can node many unasked ∙ among_quiet due can (node + 1) many quiet
+]
+
+-- an identifier as its 32 bits tell it is its own one
+pub notify_again : (old new : Parts) (thread : ℕ) (id : ℤ) (flags : ℕ) (answer : Answer)
+    → PartDoes old thread
+    (λ caller kept. with_barrier kept (barrier_does caller (Notify (identifier id) flags) kept.barrier)) answer new
+    → PartDoes old thread
+    (λ caller kept. with_barrier kept (barrier_does caller (Notify id flags) kept.barrier)) answer new
+notify_again old new thread id flags answer D =
+    subst (λ i. PartDoes old thread
+    (λ caller kept. with_barrier kept (
+      answers.Notified (notify_answer kept.barrier i flags),
+      notify_after kept.barrier i flags (notify_answer kept.barrier i flags),
+    )) answer new)
+    (to_z-of_z w32 (identifier id) (identifier_fits id)) D
+
+pub try_again : (old new : Parts) (thread : ℕ) (id : ℤ) (flags : ℕ) (answer : Answer)
+    → PartDoes old thread
+    (λ caller kept. with_barrier kept (barrier_does caller (TryBarrier (identifier id) flags) kept.barrier)) answer new
+    → PartDoes old thread
+    (λ caller kept. with_barrier kept (barrier_does caller (TryBarrier id flags) kept.barrier)) answer new
+try_again old new thread id flags answer D =
+    subst (λ i. PartDoes old thread
+    (λ caller kept. with_barrier kept
+    (let says = try_answer caller.settings.nodes caller.me kept.barrier i flags (worn_out_for caller kept.barrier) in
+    (answers.Barrier says, try_after kept.barrier says))) answer new)
+    (to_z-of_z w32 (identifier id) (identifier_fits id)) D

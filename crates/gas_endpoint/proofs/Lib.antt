@@ -1,0 +1,11 @@
+pub mod Stepping
+pub mod Requesting
+pub mod Delivering
+pub mod Calling
+pub mod Ticks
+pub mod Flags
+pub mod Syncs
+pub mod Barriers
+pub mod Beginnings
+pub mod Opening
+pub mod SentSlots

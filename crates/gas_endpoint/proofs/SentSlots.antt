@@ -1,0 +1,257 @@
+-- What an event sends stands in the slot that its answer names.
+use Rattle.std.proofs.Common.{◌≡◌, inl, inr, ℕ, zero, suc, ◌≤◌, Bool, true, false, ◌&&◌, eqb, List, [], ◌∷◌, Option, None}
+use Rattle.std.proofs.Common.{Some, refl, sym, ap, ap₂, ◌∙◌, subst, arith}
+use Rattle.std.specs.List.{slice_get}
+use Rattle.std.specs.Prelude.{nat_lt, if◌then◌else◌, Result, Ok, Err}
+use Rattle.std.proofs.lemmas.Bool.{cases_Bool, eq-eqb, eqb-true}
+use Rattle.std.proofs.lemmas.Option.{same_Some}
+use Rattle.datagram_grammar.specs.Message.{Message}
+use Rattle.datagram_grammar.specs.Content.{content_of}
+use Rattle.handler_rules.specs.Runs.{Meaning}
+use Rattle.node_record.specs.declared.answer.Asked.{Asked as AskedAnswer}
+use Rattle.node_record.specs.declared.answer.Asked.TheVariants as asked
+use Rattle.node_record.specs.Record.{Request, Run, Node, numbered}
+use Rattle.node_record.specs.Requests.{Due, is_open}
+use Rattle.node_record.specs.declared.answer.Why.{Why}
+use Rattle.handler_rules.specs.declared.rules.Forbidden.{Forbidden}
+use Rattle.node_record.specs.Executed.{greatest, run_at}
+use Rattle.node_record.specs.Behaviour.{Ask, Behaviour, is_request}
+use Rattle.node_record.specs.Step.{Verdict, Refused, Repeated, Passed, Runs, Missed, Returns, verdict, answer_by}
+use Rattle.node_record.specs.Step.{request_answer, request_slot, reply_slot, next_due, choice_of, tick_answer}
+use Rattle.node_record.specs.Step.{unless_refused, unless_waiting, judged, taken_back, refusal}
+use Rattle.node_record.specs.NodeStep.{Job, site_of}
+use Rattle.node_record.proofs.Answers.{accepted_says}
+use Rattle.node_record.proofs.Runs.{greatest_there, run_at_says}
+use Rattle.plain_world.specs.Sent.{Packet, asking, replying, asked_sends, delivered_sends, ticked_sends}
+use Rattle.plain_world.proofs.PlainTicks.{IsOpenAt, all_dues_open, earliest_has}
+use Rattle.endpoint_rules.specs.EndpointRules.{OtherCall, transition, asked_answer, does_call}
+use Rattle.endpoint_rules.specs.CoreCalls.{if_allowed, Poll, Attempt, Lock, Unlock, Cell, SetCell}
+use Rattle.endpoint_rules.specs.CoreCalls.{OnSegment}
+use Rattle.am_core.specs.Kept.{Local}
+use Rattle.am_core.specs.ClientRules.{rules}
+use Rattle.endpoint_rules.specs.EndpointLocal.{EndpointLocal}
+use Rattle.endpoint_rules.specs.EndpointRules.{OnCore, OnTransfers, OnBarrier, unless_forbidden, endpoint_rules, sent_as, with_barrier}
+use Rattle.endpoint_rules.specs.TransferCalls.{Caller, TransferCall, transfer_kind, transfer_does, ended, Begin, BeginImplicit, IsIssued}
+use Rattle.endpoint_rules.specs.TransferCalls.{Sync, SyncHandle, SyncAll, SyncSome, SyncImplicit, RegionBegin, RegionEnd}
+use Rattle.access_region.specs.Regions.{has_begun, region_of}
+use Rattle.access_region.specs.declared.Region.{Region as BegunRegion}
+use Rattle.am_core.specs.Library.{note_handler, run_answer}
+use Rattle.handler_rules.specs.declared.rules.CallKind.TheVariants as kinds
+use Rattle.node_record.specs.declared.answer.SlotRef.{SlotRef}
+use Rattle.node_record.specs.Behaviour.{Sending}
+use Rattle.node_record.specs.Requests.{next_claim}
+use Rattle.datagram_grammar.specs.Content.{Content}
+use Rattle.std.specs.Prelude.{◌==◌}
+use Rattle.gas_endpoint.specs.Parts.{caller_in}
+use Rattle.endpoint_rules.specs.BarrierCalls.{BarrierCall, Notify, TryBarrier, barrier_does}
+use Rattle.endpoint_rules.specs.Sends.{sends}
+use Rattle.endpoint_rules.specs.Called.{Meant, Requests, Performs, meant, node_event}
+use Rattle.gas_endpoint.specs.Endpoints.{EndpointState, EndpointSteps, NodeSteps, job_here}
+use Rattle.gas_endpoint.specs.Sends.{AreThatOf, NodeSends, StepSends}
+use Rattle.endpoint_rules.specs.declared.call.Event.{Event}
+use Rattle.endpoint_rules.specs.declared.call.Event.TheVariants as event
+use Rattle.endpoint_rules.specs.declared.answer.Answer.{Answer}
+use Rattle.endpoint_rules.specs.declared.answer.Answer.TheVariants as answers
+
+-- the answer is the record's, so what is said of the record's holds of it
+at_answer : (answer told_is : Answer) (packets : List Packet) → answer ≡ told_is
+    → AreThatOf (sends told_is) packets → AreThatOf (sends answer) packets
+at_answer answer told_is packets same holds = subst (λ a. AreThatOf (sends a) packets) (sym same) holds
+
+-- a request of a thread
+asked_slot : (job : Job EndpointLocal OtherCall Answer) (me : ℕ) (node : Node EndpointLocal) (ask : Ask) (a : AskedAnswer)
+    → request_answer (site_of job me) node ask ≡ a
+    → AreThatOf (sends (asked_answer a)) (asked_sends (site_of job me) node ask a)
+asked_slot job me node ask (asked.Accepted to slot number) e =
+    let says = accepted_says (site_of job me) node ask to slot number e in
+    (_, refl, ap (λ t. request_slot t slot) (sym says.peer_is))
+asked_slot job me node ask _ e = refl
+
+-- a run of the slot with the greatest number is found
+run_at_from : (runs : List Run) (place : ℕ) (run : Run) → slice_get runs place ≡ Some run
+    → (t : Run) × (run_at run.slot run.number runs ≡ Some t)
+run_at_from [] place run e = absurd (cc)
+run_at_from (u ∷ runs) zero run e =
+    let same : u ≡ run = same_Some u run e in
+    (u, rw (same, eq-eqb run.number run.number refl, eq-eqb run.slot run.slot refl) refl)
+run_at_from (u ∷ runs) (suc place) run e = elim (cases_Bool (eqb u.number run.number && eqb u.slot run.slot)) [
+  | inl here ↦ (u, rw here refl)
+  | inr there ↦ (let later = run_at_from runs place run e in (later.0, rw there later.1))
+]
+
+-- a request that comes again
+repeated_slot : (me from slot number : ℕ) (runs : List Run) → 1 ≤ number → number ≡ greatest slot runs
+    → AreThatOf (Some (reply_slot from slot)) (replying from me number (run_at slot number runs))
+repeated_slot me from slot number runs some same = elim (greatest_there slot runs) [
+  | inl none ↦ absurd (omega (arith, some, same, none))
+  | inr it ↦ (let found = run_at_from runs it.0 it.1 it.2 in
+      let at : run_at slot number runs ≡ Some found.0 =
+      ap₂ (λ q n. run_at q n runs) (sym it.3) (same ∙ sym it.4) ∙ found.1 in
+      let says = run_at_says slot number runs found.0 at in
+      subst (λ o. AreThatOf (Some (reply_slot from slot)) (replying from me number o)) (sym at)
+      (_, refl, ap (reply_slot from) says.1))
+]
+
+-- only a request with the greatest number of its slot comes again
+repeated_says : (reason : Option Why) (is_asked : Bool) (number top slot : ℕ) (lock : Option ℕ) (open_ : Option Request)
+    → unless_refused reason (if is_asked then judged number top lock else taken_back slot open_ lock) ≡ Repeated
+    → number ≡ top
+repeated_says (Some why) is_asked number top slot lock open_ e = absurd (refused e)
+  where
+    refused : Refused why ≡ Repeated → ⊥
+    refused h = cc
+repeated_says None true number top slot lock open_ e = elim (cases_Bool (eqb number top)) [
+  | inl same ↦ eqb-true number top same
+  | inr other ↦ absurd (later (nat_lt number top) lock (rw other at e))
+]
+  where
+    later : (less : Bool) (wait : Option ℕ) → (if less then Passed else unless_waiting wait Runs) ≡ Repeated → ⊥
+    later true wait h = cc
+    later false None h = cc
+    later false (Some k) h = cc
+repeated_says None false number top slot lock open_ e = absurd (taken (is_open slot open_) lock e)
+  where
+    taken : (is : Bool) (wait : Option ℕ) → (if is then unless_waiting wait Returns else Missed) ≡ Repeated → ⊥
+    taken true None h = cc
+    taken true (Some k) h = cc
+    taken false wait h = cc
+
+-- how a run is answered
+run_slot : (version : ℕ) (content : Content) (at : SlotRef)
+    → sends (answers.Delivered (run_answer version content at)) ≡ Some at
+run_slot version content at = elim (cases_Bool (content.handler == note_handler)) [
+  | inl note ↦ rw note refl
+  | inr other ↦ rw other refl
+]
+
+-- a message that is delivered
+delivered_slot : (meaning : Meaning) (old : EndpointState) (node : Node EndpointLocal) (m : Message) (v : Verdict)
+    → 1 ≤ m.number
+    → verdict (site_of (job_here meaning old) old.core.me) node m ≡ v
+    → AreThatOf (sends (answers.Delivered (answer_by (job_here meaning old).behaviour.messages m v)))
+    (delivered_sends (site_of (job_here meaning old) old.core.me) node m v)
+delivered_slot meaning old node m Runs some e =
+    rw (run_slot old.core.settings.version (content_of m) (reply_slot m.from m.slot)) (_, refl, refl)
+delivered_slot meaning old node m Repeated some e =
+    repeated_slot old.core.me m.from m.slot m.number (node.ran m.from) some
+    (repeated_says (refusal (site_of (job_here meaning old) old.core.me) m) (is_request m.kind) m.number
+    (greatest m.slot (node.ran m.from)) m.slot
+    ((job_here meaning old).behaviour.messages.waits (content_of m) node.local)
+    (numbered (node.asked m.from) m.number) e)
+delivered_slot meaning old node m _ some e = refl
+
+-- how a tick is answered that sends
+sent_slot : (content : Content) (at : SlotRef) → sends (answers.Ticked (sent_as content at)) ≡ Some at
+sent_slot content at = elim (cases_Bool (content.handler == note_handler)) [
+  | inl note ↦ rw note refl
+  | inr other ↦ rw other refl
+]
+
+-- a tick
+ticked_slot : (meaning : Meaning) (old : EndpointState) (node : Node EndpointLocal) (due : Option Due)
+    (next : Option Sending) (now : ℕ) → next_due old.core.settings node now ≡ due
+    → AreThatOf (sends (answers.Ticked (tick_answer (job_here meaning old).behaviour.messages node
+    (choice_of due next)))) (ticked_sends old.core.me node (choice_of due next))
+ticked_slot meaning old node None None now e = refl
+ticked_slot meaning old node None (Some sending) now e =
+    rw (sent_slot sending.content (request_slot sending.to (next_claim (node.asked sending.to)).slot)) (_, refl, refl)
+ticked_slot meaning old node (Some due) next now e =
+    let it = earliest_has (IsOpenAt node.asked) _ due
+    (all_dues_open now old.core.settings.resend node.asked old.core.settings.nodes) e in
+    subst (λ o. AreThatOf (Some (request_slot due.peer due.slot)) (asking old.core.me due.peer due.number o)) (sym it.1)
+    (_, refl, ap (request_slot due.peer) (sym it.3))
+
+-- a call that is judged sends nothing
+judged_slot : (behaviour : Behaviour Local) (thread : ℕ) (judged_is : Result (Unit {0}) Forbidden) (answer : Answer)
+    (kept : Local) → sends answer ≡ None → sends (if_allowed behaviour thread judged_is answer kept).0 ≡ None
+judged_slot behaviour thread (Ok _) answer kept none = none
+judged_slot behaviour thread (Err forbidden) answer kept none = refl
+
+allowed_slot : (behaviour : Behaviour EndpointLocal) (thread : ℕ) (judged_is : Result (Unit {0}) Forbidden)
+    (kept : EndpointLocal) (outcome : Answer × EndpointLocal) → sends outcome.0 ≡ None
+    → sends (unless_forbidden behaviour thread judged_is kept outcome).0 ≡ None
+allowed_slot behaviour thread (Ok _) kept outcome none = none
+allowed_slot behaviour thread (Err forbidden) kept outcome none = refl
+
+-- nor do calls on transfers
+transfer_slot : (caller : Caller) (call : TransferCall) (kept : EndpointLocal)
+    → sends (transfer_does caller call kept).0 ≡ None
+transfer_slot caller (Begin register transfer) kept = refl
+transfer_slot caller (BeginImplicit transfer) kept = refl
+transfer_slot caller (IsIssued register) kept = refl
+transfer_slot caller (Sync register) kept = refl
+transfer_slot caller (SyncHandle handle) kept = refl
+transfer_slot caller (SyncAll registers) kept = refl
+transfer_slot caller (SyncSome registers) kept = refl
+transfer_slot caller (SyncImplicit some) kept = elim (cases_Bool (has_begun kept.regions caller.thread)) [
+  | inl inside ↦ rw inside refl
+  | inr outside ↦ rw outside refl
+]
+transfer_slot caller RegionBegin kept = elim (cases_Bool (has_begun kept.regions caller.thread)) [
+  | inl inside ↦ rw inside refl
+  | inr outside ↦ rw outside refl
+]
+transfer_slot caller (RegionEnd register) kept = by (region_of kept.regions caller.thread)
+  where
+    by : (was : Option BegunRegion) → sends (ended caller register was kept).0 ≡ None
+    by None = refl
+    by (Some was) = by_name was.name
+      where
+        by_name : (name : Option ℕ) → sends (ended caller register (Some (record { name = name })) kept).0 ≡ None
+        by_name None = refl
+        by_name (Some name) = refl
+
+-- nor those on the barrier
+barrier_slot : (caller : Caller) (call : BarrierCall) (kept : EndpointLocal)
+    → sends (barrier_does caller call kept.barrier).0 ≡ None
+barrier_slot caller (Notify id flags) kept = refl
+barrier_slot caller (TryBarrier id flags) kept = refl
+
+-- a call that is no request sends nothing
+call_slot : (meaning : Meaning) (endpoint : EndpointState) (caller : Caller) (call : OtherCall)
+    (kept : EndpointLocal)
+    → sends (does_call (job_here meaning endpoint).behaviour.messages
+    (rules endpoint.core.settings endpoint.core.table meaning) caller call kept).0 ≡ None
+call_slot meaning endpoint caller (OnCore Poll) kept =
+    let own = rules endpoint.core.settings endpoint.core.table meaning in
+    judged_slot own caller.thread (own.judges caller.thread kinds.Poll kept.core) answers.Polled kept.core refl
+call_slot meaning endpoint caller (OnCore (Attempt kind)) kept =
+    let own = rules endpoint.core.settings endpoint.core.table meaning in
+    judged_slot own caller.thread (own.judges caller.thread kind kept.core) answers.Allowed kept.core refl
+call_slot meaning endpoint caller (OnCore (Lock lock)) kept = refl
+call_slot meaning endpoint caller (OnCore (Unlock lock)) kept = refl
+call_slot meaning endpoint caller (OnCore (Cell cell)) kept = refl
+call_slot meaning endpoint caller (OnCore (SetCell cell value)) kept = refl
+call_slot meaning endpoint caller (OnCore (OnSegment call)) kept = refl
+call_slot meaning endpoint caller (OnTransfers call) kept =
+    let behaviour = endpoint_rules endpoint.core.settings endpoint.core.table meaning in
+    allowed_slot behaviour caller.thread (behaviour.judges caller.thread (transfer_kind call) kept) kept
+    (transfer_does caller call kept) (transfer_slot caller call kept)
+call_slot meaning endpoint caller (OnBarrier call) kept =
+    let behaviour = endpoint_rules endpoint.core.settings endpoint.core.table meaning in
+    allowed_slot behaviour caller.thread (behaviour.judges caller.thread kinds.Barrier kept) kept
+    (with_barrier kept (barrier_does caller call kept.barrier)) (barrier_slot caller call kept)
+
+-- ---- an event of a node
+
+-- a thread's call
+call_sends : (meaning : Meaning) (old new : EndpointState) (now thread : ℕ) (m : Meant) (answer : Answer)
+    → NodeSteps meaning old (transition now (node_event thread m) answer) new
+    → NodeSends meaning old (transition now (node_event thread m) answer)
+call_sends meaning old new now thread (Requests to asking) answer N = λ node S.
+    at_answer answer _ _ (N.steps node S).0
+    (asked_slot (job_here meaning old) old.core.me node (record { thread = thread; to = to; what = asking }) _ refl)
+call_sends meaning old new now thread (Performs call) answer N = λ node S.
+    at_answer answer _ _ (N.steps node S).0
+    (subst (λ o. AreThatOf o []) (sym (call_slot meaning old (caller_in old.core node thread) call node.local)) refl)
+
+-- any event
+pub steps_send : (meaning : Meaning) (old new : EndpointState) (now : ℕ) (e : Event) (answer : Answer)
+    → EndpointSteps meaning old (transition now e answer) new → StepSends meaning old (transition now e answer)
+steps_send meaning old new now (event.Call thread call) answer N =
+    call_sends meaning old new now thread (meant call) answer N
+steps_send meaning old new now (event.Deliver bytes) answer B = λ m version spelled node S.
+    at_answer answer _ _ ((B.comes m version spelled).steps node S).0
+    (delivered_slot meaning old node m _ spelled.fits.numbered refl)
+steps_send meaning old new now event.Tick answer N = λ node S.
+    at_answer answer _ _ (N.steps node S).0 (ticked_slot meaning old node _ _ now refl)

@@ -1,0 +1,270 @@
+-- Synchronisation by flags is that by the record.
+use Rattle.std.proofs.Common.{◌≡◌, ℕ, suc, ◌<◌, Bool, List, [], ◌∷◌, Some, refl, sym, ap, ◌∙◌, subst}
+use Rattle.std.specs.Prelude.{◌==◌, ◌||◌, if◌then◌else◌, map}
+use Rattle.std.specs.List.{slice_get, list_all, list_any, AllByRecursion}
+use Rattle.std.proofs.lemmas.Bool.{cases_Bool}
+use Rattle.std.proofs.Common.{inl, inr}
+use Rattle.put_get.specs.declared.operation.Handle.{Handle}
+use Rattle.put_get.specs.declared.operation.Some3.{Some3}
+use Rattle.put_get.specs.declared.operation.Synced.{Synced}
+use Rattle.put_get.specs.declared.operation.Synced.TheVariants as synced
+use Rattle.put_get.specs.declared.transfers.Transfers.{Transfers}
+use Rattle.put_get.specs.Operation.{Operation, target, next_chunk, is_complete}
+use Rattle.put_get.specs.Stands.{Stands as TransfersStand, room_of}
+use Rattle.put_get.specs.Syncs.{Choice, chosen, flag_at, worn_of, worn_or, sync_answer, members, handle_answer, after_handle}
+use Rattle.put_get.specs.Syncs.{fault_here, fault_of, unless_fault, members_of, all_answer, is_whole, whole_of}
+use Rattle.put_get.specs.Syncs.{some_answer, implicit_of, implicit_answer, left_by}
+use Rattle.node_record.specs.Record.{Node}
+use Rattle.node_record.specs.Step.{is_worn_out}
+use Rattle.access_region.specs.Regions.{has_begun}
+use Rattle.std.proofs.Common.{false}
+use Rattle.am_core.specs.CoreState.{CoreState}
+use Rattle.am_core.specs.CoreContracts.{IsSameNode}
+use Rattle.endpoint_rules.specs.EndpointLocal.{EndpointLocal}
+use Rattle.endpoint_rules.specs.TransferCalls.{SyncHandle, SyncAll, SyncSome, SyncImplicit, transfer_does, handle_in}
+use Rattle.endpoint_rules.specs.TransferCalls.{emptied_by, whole_registers}
+use Rattle.endpoint_rules.specs.declared.answer.Answer.TheVariants as answers
+use Rattle.gas_endpoint.specs.declared.extended.Extended.{Extended}
+use Rattle.gas_endpoint.specs.Endpoints.{EndpointStands, ForItsRecord}
+use Rattle.gas_endpoint.specs.Parts.{PartDoes, endpoint_of}
+
+-- the next chunk, by the nodes that can be asked
+pub next_alike : (can other : ℕ → Bool) (number : ℕ) (operations : List Operation)
+    → ((to : ℕ) → can to ≡ other to) → next_chunk can number operations ≡ next_chunk other number operations
+next_alike can other number [] same = refl
+next_alike can other number (operation ∷ later) same =
+    rw (same (target operation.transfer), next_alike can other (suc number) later same) refl
+
+-- what holds of each
+all_by : (P : Operation → Type 0) (operations : List Operation)
+    → ((place : ℕ) (operation : Operation) → slice_get operations place ≡ Some operation → P operation)
+    → AllByRecursion P operations
+all_by P [] each = tt
+all_by P (operation ∷ later) each = (each 0 operation refl, all_by P later (λ place o e. each (suc place) o e))
+
+chosen_all : (P : Operation → Type 0) (choice : Choice) (number : ℕ) (operations : List Operation)
+    → AllByRecursion P operations → AllByRecursion P (chosen choice number operations)
+chosen_all P choice number [] all = tt
+chosen_all P choice number (operation ∷ later) all = elim (cases_Bool (choice number operation)) [
+  | inl yes_ ↦ rw yes_ (all.0, chosen_all P choice (suc number) later all.1)
+  | inr no_ ↦ rw no_ (chosen_all P choice (suc number) later all.1)
+]
+
+-- the two tests say the same of an operation's target
+abbrev pub Agree : (worn other : ℕ → Bool) → Operation → Type 0
+Agree worn other operation = worn (target operation.transfer) ≡ other (target operation.transfer)
+
+worn_alike : (worn other : ℕ → Bool) (operations : List Operation) → AllByRecursion (Agree worn other) operations
+    → worn_of worn operations ≡ worn_of other operations
+worn_alike worn other [] all = refl
+worn_alike worn other (operation ∷ later) all = rw (all.0, worn_alike worn other later all.1) refl
+
+sync_alike : (worn other : ℕ → Bool) (operations : List Operation) → AllByRecursion (Agree worn other) operations
+    → sync_answer worn operations ≡ sync_answer other operations
+sync_alike worn other operations all =
+    ap (λ w. if list_all is_complete operations then synced.Ok else worn_or w) (worn_alike worn other operations all)
+
+-- the flags of the record's nodes
+abbrev pub AreWorn : CoreState → Extended → List Bool → Type 0
+AreWorn core extended flags =
+    ForItsRecord (endpoint_of core extended) (λ node. (to : ℕ) → to < core.settings.nodes
+    → flag_at flags to ≡ is_worn_out core.settings node to)
+
+agreed : (core : CoreState) (extended : Extended) (flags : List Bool) → AreWorn core extended flags
+    → (node : Node EndpointLocal) → EndpointStands (endpoint_of core extended) node
+    → AllByRecursion (Agree (flag_at flags) (is_worn_out core.settings node)) node.local.operations
+agreed core extended flags are node S =
+    all_by (Agree (flag_at flags) (is_worn_out core.settings node)) node.local.operations
+    (λ place operation e. are node S (target operation.transfer) (S.kept.operations (suc place) operation e).there)
+
+handle_alike : (worn other : ℕ → Bool) (thread handle : ℕ) (operations : List Operation)
+    → AllByRecursion (Agree worn other) operations
+    → handle_answer worn thread handle operations ≡ handle_answer other thread handle operations
+handle_alike worn other thread handle operations all =
+    let its = chosen (members handle operations) 1 operations in
+    ap (λ s. if handle == 0 then synced.Ok else unless_fault (fault_here thread its) s)
+    (sync_alike worn other its (chosen_all (Agree worn other) (members handle operations) 1 operations all))
+
+all_alike : (worn other : ℕ → Bool) (thread : ℕ) (handles : List Handle) (operations : List Operation)
+    → AllByRecursion (Agree worn other) operations
+    → all_answer worn thread handles operations ≡ all_answer other thread handles operations
+all_alike worn other thread handles operations all =
+    ap (unless_fault (fault_of thread operations handles))
+    (sync_alike worn other (chosen (members_of handles operations) 1 operations)
+    (chosen_all (Agree worn other) (members_of handles operations) 1 operations all))
+
+some_alike : (worn other : ℕ → Bool) (thread : ℕ) (handles : List Handle) (operations : List Operation)
+    → AllByRecursion (Agree worn other) operations
+    → some_answer worn thread handles operations ≡ some_answer other thread handles operations
+some_alike worn other thread handles operations all =
+    ap (λ w. unless_fault (fault_of thread operations handles)
+    (if list_all (λ (handle : Handle). handle.serial == 0) handles || list_any (is_whole operations) handles
+    then synced.Ok else worn_or w))
+    (worn_alike worn other (chosen (members_of handles operations) 1 operations)
+    (chosen_all (Agree worn other) (members_of handles operations) 1 operations all))
+
+implicit_alike : (worn other : ℕ → Bool) (thread : ℕ) (some : Some3) (operations : List Operation)
+    → AllByRecursion (Agree worn other) operations
+    → implicit_answer worn thread some operations ≡ implicit_answer other thread some operations
+implicit_alike worn other thread some operations all =
+    sync_alike worn other (chosen (implicit_of thread some) 1 operations)
+    (chosen_all (Agree worn other) (implicit_of thread some) 1 operations all)
+
+pub same_core : (core : CoreState) → IsSameNode core core
+same_core core = record { settings = refl; me_is = refl; table = refl; segment_length = refl }
+
+-- a handle
+pub sync_does : (core : CoreState) (extended : Extended) (transfers : Transfers) (flags : List Bool) (thread : ℕ)
+    (handle : Handle) (says : Synced) → AreWorn core extended flags
+    → ((operations : List Operation) → TransfersStand extended.transfers operations
+    → says ≡ handle_answer (flag_at flags) thread handle.serial operations)
+    → ((operations : List Operation) → TransfersStand extended.transfers operations
+    → TransfersStand transfers (after_handle says handle.serial operations))
+    → room_of transfers ≡ room_of extended.transfers
+    → PartDoes (record { core = core; extended = extended }) thread
+    (λ caller kept. transfer_does caller (SyncHandle handle) kept) (answers.Synced says)
+    (record { core = core; extended = record extended { transfers = transfers } })
+sync_does core extended transfers flags thread handle says are answer stands room = record {
+  same = same_core core;
+  frame = record { nodes = refl; me_is = refl; threads = refl; room = room };
+  steps = λ node S.
+      let operations = node.local.operations in
+      let is = answer operations S.transfers
+      ∙ handle_alike (flag_at flags) (is_worn_out core.settings node) thread handle.serial operations
+      (agreed core extended flags are node S) in (
+        ap (λ (s : Synced). answers.Synced s) is,
+        record {
+          core = S.core;
+          transfers = subst (λ (s : Synced). TransfersStand transfers (after_handle s handle.serial operations)) is
+              (stands operations S.transfers);
+          regions_are = S.regions_are;
+          registers_are = S.registers_are;
+          barrier = S.barrier;
+        },
+      );
+}
+
+-- implicit operations
+pub implicit_does : (core : CoreState) (extended : Extended) (transfers : Transfers) (flags : List Bool) (thread : ℕ)
+    (some : Some3) (says : Synced) → AreWorn core extended flags
+    → has_begun extended.regions thread ≡ false
+    → ((operations : List Operation) → TransfersStand extended.transfers operations
+    → says ≡ implicit_answer (flag_at flags) thread some operations)
+    → ((operations : List Operation) → TransfersStand extended.transfers operations
+    → TransfersStand transfers (left_by says (implicit_of thread some) operations))
+    → room_of transfers ≡ room_of extended.transfers
+    → PartDoes (record { core = core; extended = extended }) thread
+    (λ caller kept. transfer_does caller (SyncImplicit some) kept) (answers.Synced says)
+    (record { core = core; extended = record extended { transfers = transfers } })
+implicit_does core extended transfers flags thread some says are out answer stands room = record {
+  same = same_core core;
+  frame = record { nodes = refl; me_is = refl; threads = refl; room = room };
+  steps = λ node S.
+      let operations = node.local.operations in
+      let none : has_begun node.local.regions thread ≡ false =
+      ap (λ rs. has_begun rs thread) (sym S.regions_are) ∙ out in
+      let is = answer operations S.transfers
+      ∙ implicit_alike (flag_at flags) (is_worn_out core.settings node) thread some operations
+      (agreed core extended flags are node S) in (
+        rw none (ap (λ (s : Synced). answers.Synced s) is),
+        rw none (record {
+          core = S.core;
+          transfers = subst (λ (s : Synced). TransfersStand transfers (left_by s (implicit_of thread some) operations)) is
+              (stands operations S.transfers);
+          regions_are = S.regions_are;
+          registers_are = S.registers_are;
+          barrier = S.barrier;
+        }),
+      );
+}
+
+-- the registers that become invalid
+pub emptied_unless : (says : Synced) (which : List ℕ) (registers : List Handle) → (says ≡ synced.Ok → ⊥)
+    → emptied_by says which registers ≡ registers
+emptied_unless synced.Ok which registers never = absurd (never refl)
+emptied_unless _ which registers never = refl
+
+-- all of some registers
+pub all_does : (core : CoreState) (extended : Extended) (transfers : Transfers) (flags : List Bool) (thread : ℕ)
+    (regs : List ℕ) (handles : List Handle) (says : Synced) (registers : List Handle) → AreWorn core extended flags
+    → handles ≡ map (handle_in extended.registers) regs
+    → registers ≡ emptied_by says regs extended.registers
+    → ((operations : List Operation) → TransfersStand extended.transfers operations
+    → says ≡ all_answer (flag_at flags) thread handles operations)
+    → ((operations : List Operation) → TransfersStand extended.transfers operations
+    → TransfersStand transfers (left_by says (members_of handles operations) operations))
+    → room_of transfers ≡ room_of extended.transfers
+    → PartDoes (record { core = core; extended = extended }) thread
+    (λ caller kept. transfer_does caller (SyncAll regs) kept) (answers.Synced says)
+    (record { core = core; extended = record extended { transfers = transfers; registers = registers } })
+all_does core extended transfers flags thread regs handles says registers are those emptied_so answer stands room =
+    record {
+      same = same_core core;
+      frame = record { nodes = refl; me_is = refl; threads = refl; room = room };
+      steps = λ node S.
+          let operations = node.local.operations in
+          let its : handles ≡ map (handle_in node.local.registers) regs =
+          those ∙ ap (λ rs. map (handle_in rs) regs) S.registers_are in
+          let is = answer operations S.transfers
+          ∙ all_alike (flag_at flags) (is_worn_out core.settings node) thread handles operations
+          (agreed core extended flags are node S)
+          ∙ ap (λ hs. all_answer (is_worn_out core.settings node) thread hs operations) its in (
+            ap (λ (s : Synced). answers.Synced s) is,
+            record {
+              core = S.core;
+              transfers = subst (λ (s : Synced). TransfersStand transfers
+                  (left_by s (members_of (map (handle_in node.local.registers) regs) operations) operations)) is
+                  (subst (λ hs. TransfersStand transfers (left_by says (members_of hs operations) operations)) its
+                  (stands operations S.transfers));
+              regions_are = S.regions_are;
+              registers_are = emptied_so ∙ ap (emptied_by says regs) S.registers_are
+                  ∙ ap (λ (s : Synced). emptied_by s regs node.local.registers) is;
+              barrier = S.barrier;
+            },
+          );
+    }
+
+-- some of them
+pub some_does : (core : CoreState) (extended : Extended) (transfers : Transfers) (flags : List Bool) (thread : ℕ)
+    (regs : List ℕ) (handles : List Handle) (whole : List ℕ) (says : Synced) (registers : List Handle)
+    → AreWorn core extended flags → handles ≡ map (handle_in extended.registers) regs
+    → ((operations : List Operation) → TransfersStand extended.transfers operations
+    → whole ≡ whole_registers operations extended.registers regs)
+    → registers ≡ emptied_by says whole extended.registers
+    → ((operations : List Operation) → TransfersStand extended.transfers operations
+    → says ≡ some_answer (flag_at flags) thread handles operations)
+    → ((operations : List Operation) → TransfersStand extended.transfers operations
+    → TransfersStand transfers (left_by says (whole_of handles operations) operations))
+    → room_of transfers ≡ room_of extended.transfers
+    → PartDoes (record { core = core; extended = extended }) thread
+    (λ caller kept. transfer_does caller (SyncSome regs) kept) (answers.Synced says)
+    (record { core = core; extended = record extended { transfers = transfers; registers = registers } })
+some_does core extended transfers flags thread regs handles whole says registers are those wholes emptied_so answer stands room =
+    record {
+      same = same_core core;
+      frame = record { nodes = refl; me_is = refl; threads = refl; room = room };
+      steps = λ node S.
+          let operations = node.local.operations in
+          let its : handles ≡ map (handle_in node.local.registers) regs =
+          those ∙ ap (λ rs. map (handle_in rs) regs) S.registers_are in
+          let is = answer operations S.transfers
+          ∙ some_alike (flag_at flags) (is_worn_out core.settings node) thread handles operations
+          (agreed core extended flags are node S)
+          ∙ ap (λ hs. some_answer (is_worn_out core.settings node) thread hs operations) its in (
+            ap (λ (s : Synced). answers.Synced s) is,
+            record {
+              core = S.core;
+              transfers = subst (λ (s : Synced). TransfersStand transfers
+                  (left_by s (whole_of (map (handle_in node.local.registers) regs) operations) operations)) is
+                  (subst (λ hs. TransfersStand transfers (left_by says (whole_of hs operations) operations)) its
+                  (stands operations S.transfers));
+              regions_are = S.regions_are;
+              registers_are = emptied_so
+                  ∙ ap (λ w. emptied_by says w extended.registers) (wholes operations S.transfers)
+                  ∙ ap (λ rs. emptied_by says (whole_registers operations rs regs) rs) S.registers_are
+                  ∙ ap (λ (s : Synced). emptied_by s (whole_registers operations node.local.registers regs)
+                  node.local.registers) is;
+              barrier = S.barrier;
+            },
+          );
+    }

@@ -1,0 +1,19 @@
+use Rattle.std.proofs.Common.{◌≡◌, ◌≤◌, subst}
+use Rattle.node_record.specs.Credits.{greatest_holding}
+use Rattle.node_record.specs.Held.{held}
+use Rattle.node_record.specs.Under.{under}
+use Rattle.endpoint_rules.specs.EndpointLocal.{core_of}
+use Rattle.gas_endpoint.specs.Endpoints.{EndpointState, ForItsRecord}
+use Rattle.gas_endpoint.proofs.endpoint.Endpoint.held.Goals as goal
+
+pub returns-clause-is : goal.returns-clause-is
+returns-clause-is c =
+    subst (λ (e : EndpointState). ForItsRecord e (λ node.
+    c.held.result ≡ held e.core.settings e.core.me node)) c.self.view_is
+    (λ node S. c.held.ensures.is (under core_of node) S.core)
+
+pub returns-clause-few : goal.returns-clause-few
+returns-clause-few c =
+    subst (λ (e : EndpointState). ForItsRecord e (λ node.
+    c.held.result ≤ greatest_holding e.core.settings e.core.me)) c.self.view_is
+    (λ node S. c.held.ensures.few (under core_of node) S.core)

@@ -1,0 +1,13 @@
+use Rattle.std.proofs.Common.{◌≡◌, subst}
+use Rattle.std.specs.Prelude.{option_copied}
+use Rattle.node_record.specs.SlotMessages.{message_at}
+use Rattle.node_record.specs.Under.{under}
+use Rattle.endpoint_rules.specs.EndpointLocal.{core_of}
+use Rattle.gas_endpoint.specs.Endpoints.{EndpointState, ForItsRecord}
+use Rattle.gas_endpoint.proofs.endpoint.Endpoint.message.Goals as goal
+
+pub returns : goal.returns
+returns c =
+    subst (λ (e : EndpointState). ForItsRecord e (λ node.
+    option_copied c.message.result ≡ message_at e.core.settings e.core.me node c.args.at)) c.self.view_is
+    (λ node S. c.message.ensures (under core_of node) S.core)

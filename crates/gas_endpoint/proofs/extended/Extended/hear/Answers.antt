@@ -1,0 +1,27 @@
+use Rattle.std.proofs.Common.{rules, ◌≡◌, true, refl, sym, subst}
+use Rattle.datagram_grammar.specs.declared.note.BarrierNote.{BarrierNote}
+use Rattle.endpoint_rules.specs.BarrierCalls.{has_ranges}
+use Rattle.node_record.specs.declared.answer.Delivered.{Delivered}
+use Rattle.named_barrier.specs.Record.{hear}
+use Rattle.named_barrier.specs.Stands.{Stands}
+use Rattle.gas_endpoint.specs.declared.extended.Extended.{Extended}
+use Rattle.gas_endpoint.specs.Parts.{Hears}
+use Rattle.gas_endpoint.proofs.extended.Extended.hear.Goals as goal
+
+pub returns-in-Noted : goal.returns-in-Noted
+returns-in-Noted c =
+    let new : Extended = record c.args.self.now { barrier = c.heard.new.self } in
+    let is : c.note_of-note.result ≡ c.in-Noted.note = search rules in
+    subst (λ (a : Delivered). Hears c.args.self.now a new) (sym c.in-Noted.is) (record {
+      frame = record { nodes = refl; me_is = refl; threads = refl; room = refl };
+      regions = refl;
+      registers = refl;
+      refused = λ reason e. absurd (cc);
+      ranged = λ at note e.
+          let same : c.in-Noted.note ≡ note = cc in
+          subst (λ (n : BarrierNote). has_ranges n ≡ true) same (subst (λ (n : BarrierNote). has_ranges n ≡ true) is c.note_of-note.ensures.ranged);
+      transfers = λ operations S. S;
+      barrier = λ nodes me kept S.
+          subst (λ (n : BarrierNote). Stands nodes me c.heard.new.self (hear kept n)) is
+          (c.heard.ensures.stands nodes me kept S);
+    })

@@ -1,0 +1,77 @@
+//! The calls on the barrier, and the note that goes next.
+
+ghost use Rattle.std.specs.Prelude.{◌≡◌, ◌<◌, ◌≤◌, ℕ, Some, IfSome};
+ghost use Rattle.handler_rules.specs.Runs.{Meaning};
+ghost use Rattle.node_record.specs.Step.{can_ask};
+ghost use Rattle.node_record.specs.NodeStep.{site_of};
+ghost use Rattle.named_barrier.specs.State.{note_at};
+ghost use Rattle.endpoint_rules.specs.BarrierCalls.{Notify, TryBarrier, barrier_does, worn_out_for};
+ghost use Rattle.endpoint_rules.specs.EndpointRules.{with_barrier, next_note};
+ghost use Rattle.gas_endpoint.specs.Endpoints.{ForItsRecord, job_here};
+ghost use Rattle.gas_endpoint.specs.Parts.{IsWhole, PartDoes, endpoint_of, caller_in, found_note};
+
+use crate::extended::Extended;
+use am_core::Core;
+use datagram_grammar::BarrierNote;
+use endpoint_rules::Answer;
+
+impl Extended {
+    /// Notifies the present phase.
+    pub(crate) fn notify(&mut self, core: &Core, id: i32, flags: u8) -> Answer
+        requires { IsWhole core.now self.old }
+        ensures { (thread : ℕ) → PartDoes (record { core = core.now; extended = self.old }) thread
+            (λ caller local. with_barrier local (barrier_does caller (Notify id flags) local.barrier))
+            result (record { core = core.now; extended = self.new }) }
+    {
+        Answer::Notified(self.barrier.notify(id, flags))
+    }
+
+    /// Tries the present phase.
+    pub(crate) fn try_barrier(&mut self, core: &Core, id: i32, flags: u8) -> Answer
+        requires { IsWhole core.now self.old }
+        ensures { (thread : ℕ) → PartDoes (record { core = core.now; extended = self.old }) thread
+            (λ caller local. with_barrier local
+            (barrier_does caller (TryBarrier id flags) local.barrier))
+            result (record { core = core.now; extended = self.new }) }
+    {
+        let worn = self.first_worn(core);
+        Answer::Barrier(self.barrier.try_wait(id, flags, worn))
+    }
+
+    /// The least node to which a note of the present phase must go, and for which no number is left.
+    fn first_worn(&self, core: &Core) -> Option<u16>
+        requires { IsWhole core.now self.now }
+        ensures { (thread : ℕ) → ForItsRecord (endpoint_of core.now self.now) (λ node.
+            result ≡ worn_out_for (caller_in core.now node thread) node.local.barrier) }
+    {
+        for node in 0..self.nodes {
+            if self.is_worn(core, node) && self.barrier.owes(node) {
+                return Some(node);
+            }
+        }
+        None
+    }
+
+    /// The note that is due to the least node that can be asked, with that node.
+    pub(crate) fn next_note(&self, core: &Core) -> Option<(u16, BarrierNote)>
+        requires { IsWhole core.now self.now }
+        ensures next { (meaning : Meaning) → ForItsRecord (endpoint_of core.now self.now) (λ node.
+            found_note result ≡ next_note core.now.settings core.now.me
+            (can_ask (site_of (job_here meaning (endpoint_of core.now self.now)) core.now.me) node)
+            node.local.barrier) }
+        ensures due { IfSome result (λ found. note_at self.now.barrier found.0 ≡ Some found.1) }
+        ensures there { IfSome result (λ found. found.0 < core.now.settings.nodes) }
+    {
+        if self.barrier.is_quiet() {
+            return None;
+        }
+        for to in 0..self.nodes {
+            if core.can_ask(to) {
+                if let Some(note) = self.barrier.note_to(to) {
+                    return Some((to, note));
+                }
+            }
+        }
+        None
+    }
+}
