@@ -3,7 +3,7 @@ use Rattle.std.proofs.Common.{ℕ, zero, suc, ◌<◌, List, [], ◌∷◌, ◌+
 use Rattle.std.specs.List.{AllByRecursion, flat_map}
 use Rattle.datagram_grammar.specs.Parameters.{Parameters}
 use Rattle.plain_world.specs.World.{Ticks, Timed, IsAmong, run}
-use Rattle.gas_world.specs.CallRules.{OtherCall, Records, timed}
+use Rattle.endpoint_rules.specs.EndpointRules.{OtherCall, Records, timed}
 use Rattle.gas_world.specs.Settling.{WorldJob, in_turn, open_numbers, exchange_events, turn_events, row_events}
 use Rattle.gas_world.specs.Settling.{tick_events, round_events, settle_events}
 

@@ -1,4 +1,4 @@
--- Each call of a thread and each tick, by what it did to its scene.
+-- Each call of a thread, by what it did to its scene.
 use Rattle.std.proofs.Common.{◌≡◌, inl, inr, ℕ, ◌+◌, ◌*◌, ◌<◌, max, Bool, true, false, true≢false, List, []}
 use Rattle.std.proofs.Common.{◌∷◌, ◌++◌, refl, sym, ap, ◌∙◌, subst, subst₂}
 use Rattle.std.specs.Prelude.{not, ◌==◌, Option, Some, ◌≢◌, ◌⊎◌}
@@ -10,54 +10,42 @@ use Rattle.node_record.specs.declared.answer.Asked.TheVariants as asked
 use Rattle.node_record.specs.Record.{Node}
 use Rattle.node_record.specs.Behaviour.{Ask}
 use Rattle.node_record.specs.Credits.{limits_of}
-use Rattle.node_record.specs.Step.{Site, put, said, request_answer, after_request, new_request, with_request}
+use Rattle.node_record.specs.Step.{put, said, request_answer, after_request, new_request, with_request}
 use Rattle.node_record.specs.Held.{held}
 use Rattle.node_record.specs.NodeStep.{Job, site_of, OfRequest, Asks, node_after}
 use Rattle.node_record.proofs.Answers.{accepted_says}
 use Rattle.node_record.proofs.Puts.{put_same, put_other}
-use Rattle.am_core.specs.Kept.{Local}
+use Rattle.endpoint_rules.specs.EndpointLocal.{EndpointLocal}
 use Rattle.handler_rules.specs.Runs.{Meaning, IsLawfulMeaning}
-use Rattle.am_core.specs.ClientRules.{content_refusal, rules}
-use Rattle.am_core.specs.Known.{is_accepted, WouldAccept}
-use Rattle.plain_world.specs.World.{OfNode, Ticks, IsAmong, falls}
-use Rattle.gas_world.specs.CallRules.{transition}
-use Rattle.gas_world.specs.CallRules.{OtherCall, Records, asked_answer}
-use Rattle.gas_world.specs.Called.{Meant, Requests, Performs, meant, node_event, called, event_at, called_at}
-use Rattle.gas_world.specs.Called.{IsAskedOf, HasTarget, is_of_another, is_to_other}
-use Rattle.gas_world.specs.Endpoints.{EndpointState, EndpointStands, NodeSteps, WouldAcceptCall}
-use Rattle.gas_world.specs.Sizes.{IsNodeOf}
+use Rattle.am_core.specs.ClientRules.{content_refusal}
+use Rattle.am_core.specs.Known.{is_accepted}
+use Rattle.plain_world.specs.World.{OfNode, IsAmong, falls}
+use Rattle.endpoint_rules.specs.EndpointRules.{transition}
+use Rattle.endpoint_rules.specs.EndpointRules.{OtherCall, Records, asked_answer, job_of}
+use Rattle.endpoint_rules.specs.Called.{Meant, Requests, Performs, meant, node_event, called, event_at, called_at}
+use Rattle.endpoint_rules.specs.Called.{IsAskedOf, HasTarget, is_of_another, is_to_other}
+use Rattle.gas_endpoint.specs.Endpoints.{EndpointState, EndpointStands, NodeSteps, WouldAcceptCall}
+use Rattle.gas_endpoint.specs.Endpoints.{IsNodeOf}
 use Rattle.gas_world.specs.Worlds.{WorldState}
 use Rattle.gas_world.specs.Scenes.{Scene, IsSame, MostIs, asked_list, AskFalls, AloneFallsIn, CallFalls}
 use Rattle.gas_world.specs.Stands.{StandsForPair, Stands}
 use Rattle.gas_world.specs.Events.{Accepts, Steps, job_in}
 use Rattle.gas_world.specs.declared.exchanges.Exchange.{Exchange}
-use Rattle.gas_world.specs.declared.event.Call.{Call}
-use Rattle.gas_world.specs.declared.event.Event.TheVariants as event
-use Rattle.gas_world.specs.declared.event.Answer.{Answer}
-use Rattle.gas_world.specs.declared.event.Answer.TheVariants as answers
+use Rattle.endpoint_rules.specs.declared.call.Call.{Call}
+use Rattle.endpoint_rules.specs.declared.call.Event.TheVariants as event
+use Rattle.endpoint_rules.specs.declared.answer.Answer.{Answer}
+use Rattle.endpoint_rules.specs.declared.answer.Answer.TheVariants as answers
 use Rattle.gas_world.specs.declared.event.WorldAnswer.{WorldAnswer}
 use Rattle.gas_world.specs.declared.event.WorldAnswer.TheVariants as world_answers
 use Rattle.gas_world.proofs.PairStands.{pair_accepted}
 use Rattle.gas_world.proofs.Standing.{Falls, Sends, IsQuiet, only_asked, same_stands}
 use Rattle.gas_world.proofs.Events.{Stepped, Stepping, scene_node, scene_pair, scene_steps, event_steps, quiet_sends}
-use Rattle.gas_world.proofs.Events.{same_quiet, choice_quiet, most_raised, at_home}
+use Rattle.gas_world.proofs.Events.{same_quiet, most_raised, at_home}
 
 -- ---- events that send nothing
 
--- a tick
-pub tick_steps : (meaning : Meaning) (v z : WorldState) (now i : ℕ) (a : WorldAnswer) (old new : Scene)
-    → IsLawfulMeaning meaning → i < v.settings.nodes → Falls v z i (i * v.settings.nodes + i) old new
-    → AloneFallsIn meaning old (transition now event.Tick a) new → Steps meaning v (transition now (Ticks i) a) z
-tick_steps meaning v z now i (world_answers.Node answer) old new lawful low F C = λ w most S.
-    let N = scene_steps meaning v z w most now i (i * v.settings.nodes + i) _ answer old new S F low C.steps in
-    event_steps meaning v z now (Ticks i) i i i _ answer old new w most lawful S low low low F refl N
-    (most_raised v.settings v.table i _ old new N.node N.stands C.most_is)
-    (quiet_sends v z w most i i i _ old new S low low F C.list (choice_quiet meaning v i now (w i) _ refl))
-tick_steps meaning v z now i world_answers.NoMemory old new lawful low F C = absurd C
-tick_steps meaning v z now i world_answers.Unsent old new lawful low F C = absurd C
-
 -- a request that isn't accepted leaves the node quiet
-request_quiet : (job : Job Local OtherCall Answer) (i now : ℕ) (r : Node Local) (ask : Ask)
+request_quiet : (job : Job EndpointLocal OtherCall Answer) (i now : ℕ) (r : Node EndpointLocal) (ask : Ask)
     → ask.to ≡ i → (a : AskedAnswer) → request_answer (site_of job i) r ask ≡ a
     → IsQuiet r (after_request (site_of job i) r now ask a)
 request_quiet job i now r ask own (asked.Accepted p q n) e =
@@ -65,7 +53,7 @@ request_quiet job i now r ask own (asked.Accepted p q n) e =
 request_quiet job i now r ask own _ e = same_quiet r _ refl refl
 
 -- a call that is no request to another node leaves the node quiet
-call_quiet : (job : Job Local OtherCall Answer) (i now thread : ℕ) (r : Node Local) (m : Meant)
+call_quiet : (job : Job EndpointLocal OtherCall Answer) (i now thread : ℕ) (r : Node EndpointLocal) (m : Meant)
     → ((to : ℕ) → IsAskedOf m to → to ≡ i)
     → IsQuiet r (node_after job i r now (node_event thread m))
 call_quiet job i now thread r (Requests to asking) own =
@@ -132,9 +120,9 @@ accepted_sends meaning v z now i p q n ask old new w most S i_in F e list =
     let x = with_request r now j q content in
     let pair = pair_accepted (limits_of s i j) (content_refusal v.settings v.table) old.exchanges.list xs ((w j).ran i) y
     (S.invariant_.pair i j) (scene_pair v z w most i i j old new S F i_in it.to_in) refl in
-    let asked_now : (put w i x i).asked j ≡ xs ++ y ∷ [] = ap (λ (t : Node Local). t.asked j) (put_same w i x)
+    let asked_now : (put w i x i).asked j ≡ xs ++ y ∷ [] = ap (λ (t : Node EndpointLocal). t.asked j) (put_same w i x)
     ∙ put_same r.asked j (xs ++ y ∷ []) in
-    let ran_now : (put w i x j).ran i ≡ (w j).ran i = ap (λ (t : Node Local). t.ran i) (put_other w i x j it.other) in
+    let ran_now : (put w i x j).ran i ≡ (w j).ran i = ap (λ (t : Node EndpointLocal). t.ran i) (put_other w i x j it.other) in
     record {
       pair = subst₂ (λ A R. StandsForPair new.exchanges.list A R) (sym asked_now) (sym ran_now)
           (subst (λ (l : List Exchange). StandsForPair l (xs ++ y ∷ []) ((w j).ran i)) (sym list) pair);
@@ -170,15 +158,17 @@ declined_sends meaning v z now i b ask old new w most S i_in b_in F list (asked.
 declined_sends meaning v z now i b ask old new w most S i_in b_in F list _ e declined =
     quiet_sends v z w most i i b _ old new S i_in b_in F list (same_quiet (w i) _ refl refl)
 
+-- what the endpoint says of a request that a thread would make
+abbrev pub WouldAccept : EndpointState → Ask → Bool → Type 0
+WouldAccept endpoint ask would = WouldAcceptCall endpoint ask.thread (Requests ask.to ask.what) would
+
 -- whether the record accepts it
-would_accept : (meaning : Meaning) (v : WorldState) (i : ℕ) (e : EndpointState) (r : Node Local) (ask : Ask)
-    (would : Bool) → IsNodeOf v.settings v.table i e → EndpointStands e r → WouldAccept e.core ask would
+would_accept : (meaning : Meaning) (v : WorldState) (i : ℕ) (e : EndpointState) (r : Node EndpointLocal) (ask : Ask)
+    (would : Bool) → IsNodeOf v.settings v.table i e → EndpointStands e r → WouldAccept e ask would
     → would ≡ is_accepted (request_answer (site_of (job_in meaning v) i) r ask)
 would_accept meaning v i e r ask would N S W =
-    let site_here : Parameters → List (Option Entry) → ℕ → Site Local =
-    λ s t m. record { settings = s; behaviour = rules s t meaning; me = m } in
     let P : Parameters → List (Option Entry) → ℕ → Type 0 =
-    λ s t m. would ≡ is_accepted (request_answer (site_here s t m) r ask) in
+    λ s t m. would ≡ is_accepted (request_answer (site_of (job_of s t meaning) m) r ask) in
     at_home v.settings v.table i e P N (W meaning r S)
 
 -- a request that is accepted is an answer that accepts
@@ -213,7 +203,7 @@ ask_sends : (meaning : Meaning) (v z : WorldState) (now i b : ℕ) (ask : Ask) (
     → (ask.to < v.settings.nodes → b ≡ ask.to) → Falls v z i (i * v.settings.nodes + b) old new
     → Stepping meaning v w now i (Asks ask) answer new.endpoint
     → (new.exchanges.list ≡ asked_list old.exchanges.list answer)
-    ⊎ ((new.exchanges.list ≡ old.exchanges.list) × WouldAccept old.endpoint.core ask false)
+    ⊎ ((new.exchanges.list ≡ old.exchanges.list) × WouldAccept old.endpoint ask false)
     → Sends w (put w i (node_after (job_in meaning v) i (w i) now (Asks ask))) i b new
 ask_sends meaning v z now i b ask answer old new w most S i_in b_in target F N (inl list) =
     request_sends meaning v z now i b ask answer old new w most S i_in b_in target F N list _ refl

@@ -9,6 +9,7 @@ use Rattle.datagram_grammar.specs.Message.{Message}
 use Rattle.datagram_grammar.specs.Content.{Content, content_of}
 use Rattle.handler_rules.specs.declared.table.Entry.{Entry}
 use Rattle.node_record.specs.declared.answer.Why.{Why}
+use Rattle.node_record.specs.declared.answer.SlotRef.{SlotRef}
 use Rattle.node_record.specs.Record.{Request, Run, Node, numbered, change}
 use Rattle.node_record.specs.Requests.{as_back}
 use Rattle.node_record.specs.Executed.{greatest, run_of}
@@ -23,17 +24,19 @@ use Rattle.node_record.specs.Invariant.{request_message, reply_message}
 use Rattle.node_record.proofs.Answers.{runs_says, returns_says}
 use Rattle.node_record.proofs.Lists.{numbered_in, run_of_there}
 use Rattle.node_record.proofs.Puts.{put_same, put_other}
-use Rattle.am_core.specs.Kept.{Local, IsKept}
+use Rattle.node_record.specs.Under.{under}
+use Rattle.endpoint_rules.specs.EndpointLocal.{EndpointLocal, IsEndpointKept, core_of}
 use Rattle.handler_rules.specs.Runs.{Meaning, IsLawfulMeaning}
 use Rattle.am_core.specs.ClientRules.{content_refusal}
+use Rattle.am_core.specs.Library.{run_answer, note_handler}
 use Rattle.plain_world.specs.World.{RequestComes, ReplyComes, request_event, reply_event}
 use Rattle.plain_world.specs.Invariant.{WorldInvariant}
 use Rattle.plain_world.proofs.Laws.{none_ran}
 use Rattle.plain_world.proofs.PlainDeliveries.{past, request_judged, reply_judged}
-use Rattle.gas_world.specs.CallRules.{transition}
-use Rattle.gas_world.specs.CallRules.{Records}
+use Rattle.endpoint_rules.specs.EndpointRules.{transition}
+use Rattle.endpoint_rules.specs.EndpointRules.{Records}
 use Rattle.gas_world.specs.State.{with_ran, with_returned}
-use Rattle.gas_world.specs.Endpoints.{EndpointState}
+use Rattle.gas_endpoint.specs.Endpoints.{EndpointState}
 use Rattle.gas_world.specs.Worlds.{WorldState}
 use Rattle.gas_world.specs.Scenes.{Scene, ran_list, returned_list, request_letter, reply_letter}
 use Rattle.gas_world.specs.Scenes.{RequestFalls, RequestRuns, RequestRepeats, repeated}
@@ -41,8 +44,8 @@ use Rattle.gas_world.specs.Scenes.{ReplyFalls, ReplyReturns, ReplyIsLate}
 use Rattle.gas_world.specs.Stands.{StandsForPair, Stands}
 use Rattle.gas_world.specs.Events.{Steps, job_in}
 use Rattle.gas_world.specs.declared.exchanges.Exchange.{Exchange}
-use Rattle.gas_world.specs.declared.event.Answer.{Answer}
-use Rattle.gas_world.specs.declared.event.Answer.TheVariants as answers
+use Rattle.endpoint_rules.specs.declared.answer.Answer.{Answer}
+use Rattle.endpoint_rules.specs.declared.answer.Answer.TheVariants as answers
 use Rattle.gas_world.specs.declared.event.WorldAnswer.{WorldAnswer}
 use Rattle.gas_world.specs.declared.event.WorldAnswer.TheVariants as world_answers
 use Rattle.gas_world.proofs.PairStands.{pair_ran, pair_returned, sent_is, none_sent}
@@ -69,7 +72,7 @@ no_run e = cc
 
 -- what didn't run isn't back
 pub not_back : (s : Parameters) (refuses : Content → Option Why) (w : Records) (i j k : ℕ) (x : Request)
-    → WorldInvariant s refuses (IsKept s) w → numbered ((w i).asked j) k ≡ Some x → run_of k ((w j).ran i) ≡ None
+    → WorldInvariant s refuses (IsEndpointKept s) w → numbered ((w i).asked j) k ≡ Some x → run_of k ((w j).ran i) ≡ None
     → x.back ≡ false
 not_back s refuses w i j k x holds at none = elim (cases_Bool x.back) [
   | inl back ↦ (let ran = (holds.pair i j).back_ran k x at back in absurd (no_run (sym none ∙ ran.1)))
@@ -96,9 +99,9 @@ ran_sends meaning v z now i j k x old new w most S i_in j_in apart F sent none l
     let y = with_run r (with_sender j m) (content_of m) out in
     let pair = pair_ran old.exchanges.list ((w i).asked j) rs t (numbered_in ((w i).asked j) k x sent).0 none
     (scene_pair v z w most j i j old new S F i_in j_in) in
-    let asked_now : (put w j y i).asked j ≡ (w i).asked j = ap (λ (q : Node Local). q.asked j)
+    let asked_now : (put w j y i).asked j ≡ (w i).asked j = ap (λ (q : Node EndpointLocal). q.asked j)
     (put_other w j y i apart) in
-    let ran_now : (put w j y j).ran i ≡ rs ++ t ∷ [] = ap (λ (q : Node Local). q.ran i) (put_same w j y)
+    let ran_now : (put w j y j).ran i ≡ rs ++ t ∷ [] = ap (λ (q : Node EndpointLocal). q.ran i) (put_same w j y)
     ∙ put_same r.ran i (rs ++ t ∷ []) in
     record {
       pair = subst₂ (λ A R. StandsForPair new.exchanges.list A R) (sym asked_now) (sym ran_now)
@@ -109,6 +112,14 @@ ran_sends meaning v z now i j k x old new w most S i_in j_in apart F sent none l
 -- the answer to a delivery, by what becomes of the message
 abbrev pub delivery_told : (meaning : Meaning) (v : WorldState) → Message → Verdict → Answer
 delivery_told meaning v m x = answers.Delivered (answer_by (job_in meaning v).behaviour.messages m x)
+
+-- whatever the run is, the exchanges have it as run
+ran_listed : (version : ℕ) (list : List Exchange) (k : ℕ) (content : Content) (at : SlotRef)
+    → ran_list list k (answers.Delivered (run_answer version content at)) ≡ with_ran list k
+ran_listed version list k content at = elim (cases_Bool (content.handler == note_handler)) [
+  | inl note ↦ rw note refl
+  | inr other ↦ rw other refl
+]
 
 -- by what becomes of it
 delivered_sends : (meaning : Meaning) (v z : WorldState) (now i j k : ℕ) (x : Request) (answer : Answer)
@@ -122,8 +133,9 @@ delivered_sends : (meaning : Meaning) (v z : WorldState) (now i j k : ℕ) (x : 
     i j new
 delivered_sends meaning v z now i j k x answer old new w most S i_in j_in apart F sent none request N list Runs e =
     ran_sends meaning v z now i j k x old new w most S i_in j_in apart F sent none
-    (list ∙ ap (ran_list old.exchanges.list k)
-    (N.answer_is ∙ ap (delivery_told meaning v (request_message v.settings i j k x)) e))
+    (list ∙ (ap (ran_list old.exchanges.list k)
+    (N.answer_is ∙ ap (delivery_told meaning v (request_message v.settings i j k x)) e)
+    ∙ ran_listed v.settings.version old.exchanges.list k x.content (reply_slot i x.slot)))
 delivered_sends meaning v z now i j k x answer old new w most S i_in j_in apart F sent none request N list Returns e =
     let says = returns_says (site_of (job_in meaning v) j) (w j) (request_message v.settings i j k x) e in
     absurd (true≢false (sym request ∙ says.reply))
@@ -160,7 +172,7 @@ first_steps meaning v z now i j k x sender answer old new w most lawful S i_in j
     refl)
 
 -- a number that isn't above the greatest one is answered by the numbers alone, and changes nothing
-repeats_by : (site : Site Local) (r : Node Local) (m : Message) (top : ℕ) (lock : Option ℕ) → m.number ≤ top
+repeats_by : (site : Site EndpointLocal) (r : Node EndpointLocal) (m : Message) (top : ℕ) (lock : Option ℕ) → m.number ≤ top
     → (answer_by site.behaviour m (judged m.number top lock) ≡ repeated m.from m.slot (m.number == top))
     × (after_delivery site r m (judged m.number top lock) ≡ r)
 repeats_by site r m top lock low = elim (cases_order m.number top) [
@@ -192,12 +204,12 @@ again_steps meaning v z now i j k x t answer old new w most lawful S i_in j_in a
     let top = greatest x.slot rs in
     let P = S.invariant_.pair i j in
     let low = past (limits_of s i j) (content_refusal v.settings v.table) ((w i).asked j) rs k x t P sent ran in
-    let judged_is = request_judged job (IsKept s) w i j k x S.invariant_ sent in
+    let judged_is = request_judged job (IsEndpointKept s) w i j k x S.invariant_ sent in
     let by = repeats_by (site_of job j) (w j) m top (job.behaviour.messages.waits x.content (w j).local) low in
     let here = scene_node v z w most j (i * s.nodes + j) old new S F j_in in
     let Q : Parameters → List (Option Entry) → ℕ → Type 0 =
     λ p table n. R.is_last ≡ ((nat_lt i p.nodes && not (i == n)) && (nat_lt x.slot (credits_of p i n) && (k == top))) in
-    let last_is = at_home s v.table j old.endpoint Q here.0 (R.told (w j) here.1)
+    let last_is = at_home s v.table j old.endpoint Q here.0 (R.told (under core_of (w j)) here.1.core)
     ∙ in_range i j x.slot s.nodes (credits_of s i j) (k == top) i_in apart (P.orderly.low k x sent) in
     still_steps meaning v z now (RequestComes i j k) j i j (Comes m) answer old new w most lawful S (i_in, j_in) j_in
     i_in j_in F (ap (request_event s i j k) sent)
@@ -235,7 +247,7 @@ request_steps meaning v z now i j k sender world_answers.Unsent old new lawful i
 -- ---- a reply is delivered
 
 -- one that comes back
-returned_sends : (meaning : Meaning) (v z : WorldState) (i j k : ℕ) (r : Run) (l : Local) (old new : Scene)
+returned_sends : (meaning : Meaning) (v z : WorldState) (i j k : ℕ) (r : Run) (l : EndpointLocal) (old new : Scene)
     (w : Records) (most : ℕ → ℕ) → Stands v w most → i < v.settings.nodes → j < v.settings.nodes → i ≢ j
     → Falls v z i (i * v.settings.nodes + j) old new
     → r.number ≡ k → 1 ≤ k → new.exchanges.list ≡ with_returned old.exchanges.list k
@@ -245,9 +257,9 @@ returned_sends meaning v z i j k r l old new w most S i_in j_in apart F number s
     let y = with_back (w i) j r.number l in
     let pair = pair_returned old.exchanges.list ((w i).asked j) ((w j).ran i) r.number
     (subst (λ n. 1 ≤ n) (sym number) some) (scene_pair v z w most i i j old new S F i_in j_in) in
-    let asked_now : (put w i y i).asked j ≡ xs = ap (λ (q : Node Local). q.asked j) (put_same w i y)
+    let asked_now : (put w i y i).asked j ≡ xs = ap (λ (q : Node EndpointLocal). q.asked j) (put_same w i y)
     ∙ put_same (w i).asked j xs in
-    let ran_now : (put w i y j).ran i ≡ (w j).ran i = ap (λ (q : Node Local). q.ran i)
+    let ran_now : (put w i y j).ran i ≡ (w j).ran i = ap (λ (q : Node EndpointLocal). q.ran i)
     (put_other w i y j (λ e. apart (sym e))) in
     record {
       pair = subst₂ (λ A R. StandsForPair new.exchanges.list A R) (sym asked_now) (sym ran_now)
@@ -299,7 +311,7 @@ take_steps meaning v z now i j k x r sender answer old new w most lawful S i_in 
     let there = run_of_there k ((w j).ran i) r ran in
     let at = other_node v w most j sender S lent j_in in
     let here = scene_node v z w most i (i * s.nodes + j) old new S F i_in in
-    let found = run_stands meaning v w i j k x r lawful S.invariant_ sent out ran in
+    let found = run_stands meaning v w i j k x r S.range lawful S.invariant_ sent out ran in
     let fits = (node_invariant s v.table j sender (w j) at.0 at.1).replied i there.1.0 r there.1.1 in
     let N = scene_steps meaning v z w most now i (i * s.nodes + j) (Comes m) answer old new S F i_in
     (carried s v.table j sender (w j) (reply_slot i x.slot) m meaning old.endpoint now answer new.endpoint at.0 at.1
@@ -324,7 +336,7 @@ late_steps meaning v z now i j k x r answer old new w most lawful S i_in j_in F 
     let m = reply_message s i j r in
     let there = run_of_there k ((w j).ran i) r ran in
     let says = run_says s (content_refusal s v.table) w i j k x r S.invariant_ sent ran in
-    let judged_is = reply_judged job (IsKept s) w i j r x S.invariant_
+    let judged_is = reply_judged job (IsEndpointKept s) w i j r x S.invariant_
     ((S.invariant_.pair i j).replies there.1.0 r there.1.1)
     (ap (numbered ((w i).asked j)) says.0 ∙ sent) says.1 in
     let missed : verdict (site_of job i) (w i) m ≡ Missed = judged_is ∙ rw back refl in

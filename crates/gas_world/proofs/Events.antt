@@ -8,32 +8,33 @@ use Rattle.datagram_grammar.specs.Parameters.{Parameters}
 use Rattle.handler_rules.specs.declared.table.Entry.{Entry}
 use Rattle.node_record.specs.Record.{Request, Node, change}
 use Rattle.node_record.specs.Requests.{Due, sent_at}
-use Rattle.node_record.specs.Step.{put, choice_of, after_resend, after_tick, next_due}
-use Rattle.node_record.specs.NodeStep.{Ticks, site_of, node_answer, node_after}
+use Rattle.node_record.specs.Step.{put, after_resend, after_tick, TickChoice, Resends, Sends, Rests}
+use Rattle.node_record.specs.NodeStep.{site_of, node_answer, node_after}
 use Rattle.node_record.specs.Held.{held}
-use Rattle.am_core.specs.Kept.{Local, IsKept}
+use Rattle.endpoint_rules.specs.EndpointLocal.{EndpointLocal, IsEndpointKept}
 use Rattle.handler_rules.specs.Runs.{Meaning, IsLawfulMeaning}
 use Rattle.am_core.specs.ClientRules.{content_refusal}
 use Rattle.node_record.proofs.Puts.{put_same, put_other}
 use Rattle.plain_world.specs.World.{IsAmong, falls, answer_at, after_at, world_answer, world_after}
 use Rattle.plain_world.specs.MostHeld.{most_then}
 use Rattle.plain_world.specs.Invariant.{WorldInvariant}
-use Rattle.gas_world.specs.CallRules.{Records, RecordsEvent, RecordEvent, timed, transition, job_of, told, world_told}
+use Rattle.endpoint_rules.specs.EndpointRules.{Records, RecordsEvent, RecordEvent, timed, transition, job_of, told}
+use Rattle.gas_world.specs.Told.{world_told}
 use Rattle.gas_world.specs.Exchanged.{ExchangesState}
-use Rattle.gas_world.specs.Endpoints.{EndpointState, EndpointStands, NodeSteps}
-use Rattle.gas_world.specs.Sizes.{IsNodeOf}
+use Rattle.gas_endpoint.specs.Endpoints.{EndpointState, EndpointStands, NodeSteps, sent_to}
+use Rattle.gas_endpoint.specs.Endpoints.{IsNodeOf}
 use Rattle.gas_world.specs.Worlds.{WorldState}
 use Rattle.gas_world.specs.Scenes.{Scene, MostIs, IsSame}
 use Rattle.gas_world.specs.Stands.{StandsForPair, Stands}
 use Rattle.gas_world.specs.Events.{job_in}
-use Rattle.gas_world.specs.declared.event.Answer.{Answer}
+use Rattle.endpoint_rules.specs.declared.answer.Answer.{Answer}
 use Rattle.gas_world.specs.declared.event.WorldAnswer.{WorldAnswer}
 use Rattle.gas_world.specs.declared.event.WorldAnswer.TheVariants as world_answers
 use Rattle.gas_world.specs.declared.exchanges.Exchange.{Exchange}
 use Rattle.plain_world.proofs.Worlds.{step_keeps}
-use Rattle.gas_world.proofs.Sound.{rules_sound}
+use Rattle.endpoint_rules.proofs.Sound.{rules_sound}
 use Rattle.gas_world.proofs.PairStands.{pair_sent}
-use Rattle.gas_world.proofs.Standing.{Falls, Sends, IsQuiet, quiet_pairs, Moves, moves_stand, still_stands, max_same}
+use Rattle.gas_world.proofs.Standing.{Falls, Sends as SendsAt, IsQuiet, quiet_pairs, Moves, moves_stand, still_stands, max_same}
 use Rattle.gas_world.proofs.Scenes.{node_kept}
 
 -- the answer is the records', and the world stands for the records' next ones
@@ -124,7 +125,7 @@ pub event_steps : (meaning : Meaning) (v z : WorldState) (now : ℕ) (e : Record
     → Falls v z i (a * v.settings.nodes + b) old new
     → falls v.settings w e ≡ Some (record { node = i; event = ne }) → Stepping meaning v w now i ne answer new.endpoint
     → new.most ≡ max old.most (held v.settings i (node_after (job_in meaning v) i (w i) now ne))
-    → Sends w (put w i (node_after (job_in meaning v) i (w i) now ne)) a b new
+    → SendsAt w (put w i (node_after (job_in meaning v) i (w i) now ne)) a b new
     → Stepped meaning v now e (world_answers.Node answer) z w most
 event_steps meaning v z now e i a b ne answer old new w most lawful S among i_in b_in F at N H A =
     let s = v.settings in
@@ -133,8 +134,8 @@ event_steps meaning v z now e i a b ne answer old new w most lawful S among i_in
     let after_is : world_after job w (timed now e) ≡ put w i x = ap (after_at job w now) at in
     let M : Moves v w most i x new = record {
       invariant_ =
-          subst (λ (y : Records). WorldInvariant s (content_refusal v.settings v.table) (IsKept v.settings) y) after_is
-          (step_keeps job (IsKept v.settings) w (timed now e) (rules_sound s v.table meaning lawful) S.invariant_ among);
+          subst (λ (y : Records). WorldInvariant s (content_refusal v.settings v.table) (IsEndpointKept v.settings) y) after_is
+          (step_keeps job (IsEndpointKept v.settings) w (timed now e) (rules_sound s v.table meaning S.range lawful) S.invariant_ among);
       node = N.node;
       stands = N.stands;
       most_is =
@@ -148,7 +149,7 @@ event_steps meaning v z now e i a b ne answer old new w most lawful S among i_in
     )
 
 -- the greatest number held, where it was raised to what the endpoint holds
-pub most_raised : (s : Parameters) (table : List (Option Entry)) (i : ℕ) (x : Node Local) (old new : Scene)
+pub most_raised : (s : Parameters) (table : List (Option Entry)) (i : ℕ) (x : Node EndpointLocal) (old new : Scene)
     → IsNodeOf s table i new.endpoint → EndpointStands new.endpoint x → MostIs old.most new.endpoint new.most
     → new.most ≡ max old.most (held s i x)
 most_raised s table i x old new N S H =
@@ -156,10 +157,10 @@ most_raised s table i x old new N S H =
     at_home s table i new.endpoint P N (H x S)
 
 -- nothing is sent that is new
-pub quiet_sends : (v z : WorldState) (w : Records) (most : ℕ → ℕ) (i a b : ℕ) (x : Node Local) (old new : Scene)
+pub quiet_sends : (v z : WorldState) (w : Records) (most : ℕ → ℕ) (i a b : ℕ) (x : Node EndpointLocal) (old new : Scene)
     → Stands v w most → a < v.settings.nodes → b < v.settings.nodes → Falls v z i (a * v.settings.nodes + b) old new
     → new.exchanges.list ≡ old.exchanges.list → IsQuiet (w i) x
-    → Sends w (put w i x) a b new
+    → SendsAt w (put w i x) a b new
 quiet_sends v z w most i a b x old new S a_in b_in F list Q = record {
   pair =
       subst (λ (l : List Exchange). StandsForPair l ((put w i x a).asked b) ((put w i x b).ran a)) (sym list)
@@ -170,7 +171,7 @@ quiet_sends v z w most i a b x old new S a_in b_in F list Q = record {
 -- ---- what is quiet
 
 -- a node that asked and ran the same
-pub same_quiet : (r x : Node Local) → x.asked ≡ r.asked → x.ran ≡ r.ran → IsQuiet r x
+pub same_quiet : (r x : Node EndpointLocal) → x.asked ≡ r.asked → x.ran ≡ r.ran → IsQuiet r x
 same_quiet r x asked ran = record {
   asked =
       λ peer list rs P. subst (λ (f : ℕ → List Request). StandsForPair list (f peer) rs) (sym asked) P;
@@ -178,7 +179,7 @@ same_quiet r x asked ran = record {
 }
 
 -- a tick
-pub tick_quiet : (now : ℕ) (r : Node Local) (d : Option Due) → IsQuiet r (after_resend r now d)
+pub tick_quiet : (now : ℕ) (r : Node EndpointLocal) (d : Option Due) → IsQuiet r (after_resend r now d)
 tick_quiet now r None = same_quiet r r refl refl
 tick_quiet now r (Some d) =
     let xs = change (sent_at now) (r.asked d.peer) d.number in
@@ -194,15 +195,15 @@ tick_quiet now r (Some d) =
       ran = refl;
     }
 
--- a tick of these handlers, which have no next request
-pub choice_quiet : (meaning : Meaning) (v : WorldState) (i now : ℕ) (r : Node Local) (due : Option Due)
-    → next_due v.settings r now ≡ due → IsQuiet r (node_after (job_in meaning v) i r now Ticks)
-choice_quiet meaning v i now r None e =
-    subst (λ o. IsQuiet r (after_tick (site_of (job_in meaning v) i) r now (choice_of o None))) (sym e)
-    (same_quiet r r refl refl)
-choice_quiet meaning v i now r (Some due) e =
-    subst (λ o. IsQuiet r (after_tick (site_of (job_in meaning v) i) r now (choice_of o None))) (sym e)
-    (tick_quiet now r (Some due))
+-- a tick that sends no request for the first time
+pub choice_quiet : (meaning : Meaning) (v : WorldState) (i now : ℕ) (r : Node EndpointLocal) (choice : TickChoice)
+    → None ≡ sent_to choice → IsQuiet r (after_tick (site_of (job_in meaning v) i) r now choice)
+choice_quiet meaning v i now r (Resends due) none = tick_quiet now r (Some due)
+choice_quiet meaning v i now r (Sends sending) none = absurd (none_some none)
+  where
+    none_some : {X : Type 0} {x : X} → None ≡ Some x → ⊥
+    none_some e = cc
+choice_quiet meaning v i now r Rests none = same_quiet r r refl refl
 
 -- ---- an event that changes no record
 
@@ -223,16 +224,16 @@ still_steps meaning v z now e i a b ne answer old new w most lawful S among i_in
     let most_was = scene_most v z w most i place old new S F i_in in
     let N : Stepping meaning v w now i ne answer new.endpoint = record {
       answer_is = answers;
-      stands = subst₂ (λ (d : EndpointState) (r : Node Local). EndpointStands d r) (sym I.endpoint) (sym after) node.1;
+      stands = subst₂ (λ (d : EndpointState) (r : Node EndpointLocal). EndpointStands d r) (sym I.endpoint) (sym after) node.1;
       node = subst (λ (d : EndpointState). IsNodeOf s v.table i d) (sym I.endpoint) node.0;
     } in
     let highest : old.most ≡ max old.most (held s i x) =
     most_was ∙ (max_same (most i) (held s i (w i)) (S.held_le i i_in)
-    ∙ ap₂ (λ m (r : Node Local). max m (held s i r)) (sym most_was) (sym after)) in
+    ∙ ap₂ (λ m (r : Node EndpointLocal). max m (held s i r)) (sym most_was) (sym after)) in
     event_steps meaning v z now e i a b ne answer old new w most lawful S among i_in b_in F at N
     (I.most_is ∙ highest)
     (quiet_sends v z w most i a b x old new S a_in b_in F I.list
-    (same_quiet (w i) x (ap (λ (r : Node Local). r.asked) after) (ap (λ (r : Node Local). r.ran) after)))
+    (same_quiet (w i) x (ap (λ (r : Node EndpointLocal). r.asked) after) (ap (λ (r : Node EndpointLocal). r.ran) after)))
 
 -- ---- a message that was never sent
 

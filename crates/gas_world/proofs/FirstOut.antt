@@ -4,7 +4,7 @@ use Rattle.std.proofs.Common.{ap, ◌∙◌, arith}
 use Rattle.std.proofs.lemmas.List.{length-map}
 use Rattle.std.proofs.lemmas.Option.{slice_get_cases}
 use Rattle.node_record.specs.Record.{Request, Run, numbered}
-use Rattle.gas_world.specs.CallRules.{Records}
+use Rattle.endpoint_rules.specs.EndpointRules.{Records}
 use Rattle.plain_world.specs.Plain.{IsFirstOut, plain_of, labelled, is_back}
 use Rattle.gas_world.specs.State.{front_back}
 use Rattle.gas_world.specs.Stands.{StandsForPair}

@@ -1,6 +1,4 @@
 pub mod Halves
-pub mod Kept
-pub mod Sound
 pub mod Headline
 pub mod PairStands
 pub mod Standing
@@ -8,17 +6,15 @@ pub mod Scenes
 pub mod Events
 pub mod Messages
 pub mod Asks
+pub mod Sendings
 pub mod Deliveries
 pub mod Lodgings
 pub mod Aimed
 pub mod Plainly
 pub mod Reading
-pub mod Calls
 pub mod Opening
 pub mod Fronts
 pub mod FirstOut
 pub mod Moving
 pub mod Turns
 pub mod Among
-pub mod SentSlots
-pub mod Calling

@@ -6,15 +6,15 @@ use Rattle.node_record.specs.Executed.{run_of}
 use Rattle.node_record.specs.Step.{request_slot, reply_slot}
 use Rattle.handler_rules.specs.Runs.{Meaning, IsLawfulMeaning}
 use Rattle.am_core.specs.ClientRules.{content_refusal}
-use Rattle.gas_world.specs.CallRules.{Records}
+use Rattle.endpoint_rules.specs.EndpointRules.{Records}
 use Rattle.gas_world.specs.Exchanged.{ExchangesState}
-use Rattle.gas_world.specs.Endpoints.{EndpointState}
+use Rattle.gas_endpoint.specs.Endpoints.{EndpointState}
 use Rattle.gas_world.specs.Worlds.{WorldState}
 use Rattle.gas_world.specs.Scenes.{HoldsMessage, HoldsRequest, HoldsReply, IsHeld, IsBetween}
 use Rattle.gas_world.specs.Scenes.{request_letter, reply_letter}
 use Rattle.gas_world.specs.Stands.{Stands, StandsForPair}
 use Rattle.gas_world.specs.declared.exchanges.Exchange.{Exchange}
-use Rattle.gas_world.specs.Aims.{AimsAt}
+use Rattle.gas_world.specs.Aims.{FallsAt}
 use Rattle.gas_world.specs.Events.{event_of}
 use Rattle.gas_world.specs.declared.world.Aim.{Aim}
 use Rattle.gas_world.specs.declared.event.WorldEvent.{WorldEvent}
@@ -63,23 +63,23 @@ reply_held meaning v w most i j k exchanges sender lawful S i_in j_in pair lent 
     (pair_there v w most i j exchanges S i_in j_in pair) at in
     let here = other_node v w most j sender S lent j_in in
     let r = did_run (run_of k ((w j).ran i)) (sym did ∙ it.stands.ran) in
-    let found = run_stands meaning v w i j k it.x r.0 lawful S.invariant_ it.at (sym it.stands.back ∙ out) r.1 in
+    let found = run_stands meaning v w i j k it.x r.0 S.range lawful S.invariant_ it.at (sym it.stands.back ∙ out) r.1 in
     subst (λ q. HoldsMessage sender (reply_slot i q)) (sym it.stands.slot)
     (held_there s v.table j sender (w j) (reply_slot i it.x.slot) _ here.0 here.1 found)
 
 -- what an event delivers, where it falls on this pair
-pub event_held : (meaning : Meaning) (v : WorldState) (w : Records) (most : ℕ → ℕ) (e : WorldEvent) (aim : Aim)
+pub event_held : (meaning : Meaning) (v : WorldState) (w : Records) (most : ℕ → ℕ) (e : WorldEvent) (now : ℕ) (aim : Aim)
     (exchanges : ExchangesState) → IsLawfulMeaning meaning → Stands v w most → IsAmong v.settings (event_of e)
-    → AimsAt v.settings e (Some aim)
+    → FallsAt v now e aim
     → slice_get v.exchanges (aim.from * v.settings.nodes + aim.to) ≡ Some exchanges
     → IsHeld v.endpoints exchanges.list e
-event_held meaning v w most (world_event.Call node thread k) aim exchanges lawful S among at pair = tt
-event_held meaning v w most (world_event.Request i j k) aim exchanges lawful S among at pair = λ sender lent.
+event_held meaning v w most (world_event.Call node thread k) now aim exchanges lawful S among at pair = tt
+event_held meaning v w most (world_event.Request i j k) now aim exchanges lawful S among at pair = λ sender lent.
     request_held v w most i j k exchanges sender S among.0 among.1 at.0
     (ap (λ n. slice_get v.exchanges (n * v.settings.nodes + j)) (sym at.1.from_is)
     ∙ (ap (λ n. slice_get v.exchanges (aim.from * v.settings.nodes + n)) (sym at.1.to_is) ∙ pair)) lent
-event_held meaning v w most (world_event.Reply i j k) aim exchanges lawful S among at pair = λ sender lent.
+event_held meaning v w most (world_event.Reply i j k) now aim exchanges lawful S among at pair = λ sender lent.
     reply_held meaning v w most i j k exchanges sender lawful S among.0 among.1
     (ap (λ n. slice_get v.exchanges (n * v.settings.nodes + j)) (sym at.1.from_is)
     ∙ (ap (λ n. slice_get v.exchanges (aim.from * v.settings.nodes + n)) (sym at.1.to_is) ∙ pair)) lent
-event_held meaning v w most (world_event.Tick i) aim exchanges lawful S among at pair = tt
+event_held meaning v w most (world_event.Tick i) now aim exchanges lawful S among at pair = tt

@@ -4,7 +4,7 @@ use Rattle.std.proofs.Common.{eq-eqb, ne_eqb, lt-ltb, eqb}
 use Rattle.std.specs.Prelude.{nat_lt, if◌then◌else◌, List}
 use Rattle.std.specs.Option.{option_map}
 use Rattle.std.proofs.lemmas.Option.{same_Some}
-use Rattle.datagram_grammar.specs.Parameters.{Parameters, credits_of}
+use Rattle.datagram_grammar.specs.Parameters.{Parameters, AreInRange, credits_of}
 use Rattle.datagram_grammar.specs.Message.{Message, IsMessage, spelling}
 use Rattle.datagram_grammar.specs.Content.{Content, addressed}
 use Rattle.handler_rules.specs.declared.table.Entry.{Entry}
@@ -19,7 +19,9 @@ use Rattle.node_record.specs.Invariant.{NodeInvariant, address_in, request_messa
 use Rattle.node_record.specs.SlotMessages.{message_at}
 use Rattle.node_record.proofs.Keeping.{open_says}
 use Rattle.node_record.proofs.Lists.{run_of_there}
-use Rattle.am_core.specs.Kept.{Local, IsKept}
+use Rattle.am_core.specs.Kept.{IsKept}
+use Rattle.node_record.specs.Under.{under}
+use Rattle.endpoint_rules.specs.EndpointLocal.{EndpointLocal, IsEndpointKept, core_of}
 use Rattle.handler_rules.specs.Runs.{Meaning, IsLawfulMeaning}
 use Rattle.am_core.specs.ClientRules.{content_refusal}
 use Rattle.plain_world.specs.Invariant.{WorldInvariant}
@@ -28,16 +30,16 @@ use Rattle.plain_world.specs.PlainStep.{named}
 use Rattle.lists.proofs.Numbered.{numbered_map}
 use Rattle.plain_world.proofs.PlainReadings.{is_back_at, reply_of_from}
 use Rattle.plain_world.proofs.PlainSlots.{none_passes, reply_stands}
-use Rattle.gas_world.specs.CallRules.{transition}
-use Rattle.gas_world.specs.CallRules.{Records}
-use Rattle.gas_world.specs.Endpoints.{EndpointState, EndpointStands, NodeSteps}
+use Rattle.endpoint_rules.specs.EndpointRules.{transition}
+use Rattle.endpoint_rules.specs.EndpointRules.{Records}
+use Rattle.gas_endpoint.specs.Endpoints.{EndpointState, EndpointStands, NodeSteps}
 use Rattle.gas_world.specs.Events.{job_in}
-use Rattle.gas_world.specs.Sizes.{IsNodeOf}
+use Rattle.gas_endpoint.specs.Endpoints.{IsNodeOf}
 use Rattle.gas_world.specs.Worlds.{WorldState}
 use Rattle.gas_world.specs.Scenes.{Carries, HoldsMessage}
-use Rattle.gas_world.specs.declared.event.Answer.{Answer}
+use Rattle.endpoint_rules.specs.declared.answer.Answer.{Answer}
 use Rattle.gas_world.proofs.Events.{at_home}
-use Rattle.gas_world.proofs.Sound.{rules_sound}
+use Rattle.endpoint_rules.proofs.Sound.{rules_sound}
 
 -- ---- what stands in a slot
 
@@ -48,7 +50,7 @@ gate a b c o e f g = rw (e, f, g) refl
 
 -- the message of a request that isn't back stands in its slot
 pub request_stands : (s : Parameters) (refuses : Content → Option Why) (w : Records) (i j k : ℕ) (x : Request)
-    → WorldInvariant s refuses (IsKept s) w → i ≢ j → numbered ((w i).asked j) k ≡ Some x → x.back ≡ false
+    → WorldInvariant s refuses (IsEndpointKept s) w → i ≢ j → numbered ((w i).asked j) k ≡ Some x → x.back ≡ false
     → message_at s i (w i) (request_slot j x.slot) ≡ Some (spelling (request_message s i j k x))
 request_stands s refuses w i j k x holds apart at out =
     let xs = (w i).asked j in
@@ -63,7 +65,7 @@ request_stands s refuses w i j k x holds apart at out =
 
 -- a run of a request, by its number and its slot
 pub run_says : (s : Parameters) (refuses : Content → Option Why) (w : Records) (i j k : ℕ) (x : Request) (r : Run)
-    → WorldInvariant s refuses (IsKept s) w → numbered ((w i).asked j) k ≡ Some x → run_of k ((w j).ran i) ≡ Some r
+    → WorldInvariant s refuses (IsEndpointKept s) w → numbered ((w i).asked j) k ≡ Some x → run_of k ((w j).ran i) ≡ Some r
     → (r.number ≡ k) × (x.slot ≡ r.slot)
 run_says s refuses w i j k x r holds at ran =
     let there = run_of_there k ((w j).ran i) r ran in
@@ -73,17 +75,19 @@ run_says s refuses w i j k x r holds at ran =
 
 -- the reply of a run whose request isn't back stands in the slot of the request
 pub run_stands : (meaning : Meaning) (v : WorldState) (w : Records) (i j k : ℕ) (x : Request) (r : Run)
-    → IsLawfulMeaning meaning → WorldInvariant v.settings (content_refusal v.settings v.table) (IsKept v.settings) w
+    → AreInRange v.settings → IsLawfulMeaning meaning
+    → WorldInvariant v.settings (content_refusal v.settings v.table) (IsEndpointKept v.settings) w
     → numbered ((w i).asked j) k ≡ Some x → x.back ≡ false → run_of k ((w j).ran i) ≡ Some r
     → message_at v.settings j (w j) (reply_slot i x.slot) ≡ Some (spelling (reply_message v.settings i j r))
-run_stands meaning v w i j k x r lawful holds at out ran =
+run_stands meaning v w i j k x r range lawful holds at out ran =
     let s = v.settings in
     let job = job_in meaning v in
     let says = run_says s (content_refusal s v.table) w i j k x r holds at ran in
     let is = numbered_map labelled ((w i).asked j) k x at in
-    let last = none_passes job (IsKept s) w holds i j k (labelled x) is
+    let last = none_passes job (IsEndpointKept s) w holds i j k (labelled x) is
     (is_back_at (numbered ((w i).asked j) k) x at ∙ out) in
-    let stands = reply_stands job (IsKept s) w (rules_sound s v.table meaning lawful) holds (named i j k) (labelled x)
+    let stands = reply_stands job (IsEndpointKept s) w (rules_sound s v.table meaning range lawful) holds (named i j k)
+    (labelled x)
     r.reply is (reply_of_from ((w j).ran i) k r ran) last in
     stands.message ∙ ap Some (same_spelling s r x.slot says.1 says.0)
   where
@@ -93,15 +97,15 @@ run_stands meaning v w i j k x r lawful holds at out ran =
 
 -- ---- what comes out of it
 
--- the invariant of an endpoint's node
-pub node_invariant : (s : Parameters) (table : List (Option Entry)) (i : ℕ) (e : EndpointState) (x : Node Local)
-    → IsNodeOf s table i e → EndpointStands e x → NodeInvariant s (IsKept s) i x
+-- the invariant of the part of an endpoint's node that its core keeps
+pub node_invariant : (s : Parameters) (table : List (Option Entry)) (i : ℕ) (e : EndpointState) (x : Node EndpointLocal)
+    → IsNodeOf s table i e → EndpointStands e x → NodeInvariant s (IsKept s) i (under core_of x)
 node_invariant s table i e x N S =
-    let P : Parameters → List (Option Entry) → ℕ → Type 0 = λ p t m. NodeInvariant p (IsKept p) m x in
-    at_home s table i e P N S.invariant_
+    let P : Parameters → List (Option Entry) → ℕ → Type 0 = λ p t m. NodeInvariant p (IsKept p) m (under core_of x) in
+    at_home s table i e P N S.core.invariant_
 
 -- the message that stands in the sender's slot comes
-pub carried : (s : Parameters) (table : List (Option Entry)) (i : ℕ) (sender : EndpointState) (r : Node Local)
+pub carried : (s : Parameters) (table : List (Option Entry)) (i : ℕ) (sender : EndpointState) (r : Node EndpointLocal)
     (at : SlotRef) (m : Message) (meaning : Meaning) (old : EndpointState) (now : ℕ) (answer : Answer)
     (new : EndpointState) → IsNodeOf s table i sender → EndpointStands sender r
     → message_at s i r at ≡ Some (spelling m) → IsMessage m → m.version ≡ old.core.settings.version
@@ -115,7 +119,7 @@ carried s table i sender r at m meaning old now answer new N S found fits versio
     })
 
 -- what stands in a slot by the world's record is held there
-pub held_there : (s : Parameters) (table : List (Option Entry)) (i : ℕ) (sender : EndpointState) (r : Node Local)
+pub held_there : (s : Parameters) (table : List (Option Entry)) (i : ℕ) (sender : EndpointState) (r : Node EndpointLocal)
     (at : SlotRef) (message : List ℕ) → IsNodeOf s table i sender → EndpointStands sender r
     → message_at s i r at ≡ Some message → HoldsMessage sender at
 held_there s table i sender r at message N S found =

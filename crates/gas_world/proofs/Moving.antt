@@ -6,7 +6,7 @@ use Rattle.std.specs.Prelude.{Option}
 use Rattle.handler_rules.specs.Runs.{Meaning}
 use Rattle.plain_world.specs.World.{Timed, world_after, run}
 use Rattle.plain_world.specs.MostHeld.{most_then, most_after}
-use Rattle.gas_world.specs.CallRules.{OtherCall, Records, RecordsEvent, timed, transition, job_of}
+use Rattle.endpoint_rules.specs.EndpointRules.{OtherCall, Records, RecordsEvent, timed, transition, job_of}
 use Rattle.gas_world.specs.Events.{Steps, job_in}
 use Rattle.gas_world.specs.Stands.{Stands}
 use Rattle.gas_world.specs.Worlds.{WorldState}

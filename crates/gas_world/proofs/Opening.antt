@@ -6,28 +6,29 @@ use Rattle.std.proofs.lemmas.List.{length-replicate}
 use Rattle.datagram_grammar.specs.Parameters.{Parameters, AreInRange}
 use Rattle.handler_rules.specs.declared.table.Entry.{Entry}
 use Rattle.node_record.specs.Record.{opening_node}
-use Rattle.am_core.specs.Kept.{nothing_done, IsKept}
+use Rattle.endpoint_rules.specs.EndpointLocal.{nothing_begun, IsEndpointKept}
 use Rattle.am_core.specs.ClientRules.{content_refusal}
 use Rattle.node_record.proofs.Lists.{slice_get_push, numbered_nil}
 use Rattle.node_record.proofs.Holding.{held_nothing}
-use Rattle.gas_world.specs.CallRules.{at_the_opening}
+use Rattle.endpoint_rules.specs.EndpointRules.{at_the_opening}
 use Rattle.gas_world.specs.Exchanged.{ExchangesState}
-use Rattle.gas_world.specs.Endpoints.{EndpointState, EndpointStands}
-use Rattle.gas_world.specs.Sizes.{IsWorldSized, IsNodeOf, AreOpening, AreEmpty}
+use Rattle.gas_endpoint.specs.Endpoints.{EndpointState, EndpointStands}
+use Rattle.gas_endpoint.specs.Endpoints.{IsNodeOf}
+use Rattle.gas_world.specs.Sizes.{IsWorldSized, AreOpening, AreEmpty}
 use Rattle.gas_world.specs.Stands.{Stands, StandsForPair, IsWhole}
 use Rattle.gas_world.specs.declared.exchanges.Exchange.{Exchange}
 use Rattle.plain_world.proofs.Worlds.{opening_keeps}
 use Rattle.gas_world.proofs.Scenes.{pair_place}
-use Rattle.gas_world.proofs.Kept.{opening_kept}
+use Rattle.endpoint_rules.proofs.Kept.{opening_kept}
 
 -- one endpoint more
 pub opening_push : (s : Parameters) (table : List (Option Entry)) (es : List EndpointState) (e : EndpointState)
-    → AreOpening s table es → IsNodeOf s table (length es) e → EndpointStands e (opening_node nothing_done)
+    → AreOpening s table es → IsNodeOf s table (length es) e → EndpointStands e (opening_node (nothing_begun s))
     → AreOpening s table (es ++ e ∷ [])
 opening_push s table es e A N S i x at = elim (slice_get_push es e i x at) [
   | inl was ↦ A i x was
   | inr last ↦ subst₂ (λ (n : ℕ) (y : EndpointState). IsNodeOf s table n y × EndpointStands y
-      (opening_node nothing_done)) (sym last.0) last.1 (N, S)
+      (opening_node (nothing_begun s))) (sym last.0) last.1 (N, S)
 ]
 
 -- what is at a place
@@ -55,10 +56,10 @@ pub stands_opening : (s : Parameters) (table : List (Option Entry)) (es : List E
     → AreInRange s → length es ≡ s.nodes → AreOpening s table es → length xs ≡ s.nodes * s.nodes → AreEmpty xs
     → most ≡ replicate s.nodes 0
     → Stands (record { settings = s; table = table; endpoints = es; exchanges = xs; most = most })
-    at_the_opening (λ i. 0)
+    (at_the_opening s) (λ i. 0)
 stands_opening s table es xs most range count A pairs E zeros = record {
   range = range;
-  invariant_ = opening_keeps s (content_refusal s table) (IsKept s) (λ i. nothing_done) (λ i. opening_kept s i);
+  invariant_ = opening_keeps s (content_refusal s table) (IsEndpointKept s) (λ i. nothing_begun s) (λ i. opening_kept s i);
   endpoints =
       λ i low. let it = item_in es i (omega (arith, low, count)) in let at = A i it.0 it.1 in (it.0, it.1, at.0, at.1);
   exchanges = λ i j i_in j_in.
@@ -66,7 +67,7 @@ stands_opening s table es xs most range count A pairs E zeros = record {
       (subst (λ n. i * s.nodes + j < n) (sym pairs) (pair_place s.nodes i j i_in j_in)) in
       (it.0.list, it.0.room, it.1, empty_pair it.0.list (E (i * s.nodes + j) it.0 it.1));
   most_is = λ i low. ap (λ ms. slice_get ms i) zeros ∙ slice_get-replicate s.nodes i 0 low;
-  held_le = λ i low. omega (arith, held_nothing s i nothing_done);
+  held_le = λ i low. omega (arith, held_nothing s i (nothing_begun s));
   most_few = λ i low. omega arith;
 }
 
@@ -90,7 +91,7 @@ pub whole_opening : (s : Parameters) (table : List (Option Entry)) (es : List En
 whole_opening s table es xs most range count A pairs E zeros = record {
   sized = sized_opening s table es xs most count A pairs zeros;
   founded = record {
-    records = at_the_opening;
+    records = at_the_opening s;
     most = λ i. 0;
     stands = stands_opening s table es xs most range count A pairs E zeros;
   };

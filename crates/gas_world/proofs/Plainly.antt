@@ -1,12 +1,13 @@
 -- What the records say of an event is a step of the plain world.
 use Rattle.std.proofs.Common.{◌≡◌, ℕ}
 use Rattle.handler_rules.specs.Runs.{Meaning, IsLawfulMeaning}
-use Rattle.am_core.specs.Kept.{IsKept}
+use Rattle.endpoint_rules.specs.EndpointLocal.{IsEndpointKept}
 use Rattle.plain_world.specs.World.{world_answer, world_after}
 use Rattle.plain_world.specs.PlainStep.{PlainStep}
 use Rattle.plain_world.specs.Plain.{plain_of}
-use Rattle.gas_world.specs.CallRules.{Records, RecordsEvent, timed, transition, world_told}
-use Rattle.gas_world.proofs.Sound.{rules_sound}
+use Rattle.endpoint_rules.specs.EndpointRules.{Records, RecordsEvent, timed, transition}
+use Rattle.gas_world.specs.Told.{world_told}
+use Rattle.endpoint_rules.proofs.Sound.{rules_sound}
 use Rattle.gas_world.specs.Worlds.{WorldState}
 use Rattle.gas_world.specs.Stands.{Stands}
 use Rattle.gas_world.specs.Events.{job_in, Steps, StepsPlainly}
@@ -25,7 +26,7 @@ answers_plainly : (meaning : Meaning) (v : WorldState) (now : ℕ) (e : RecordsE
     (plain_of (world_after (job_in meaning v) w (timed now e)))
 answers_plainly meaning v now e a w most lawful S is = (
   is,
-  step_plain (job_in meaning v) (IsKept v.settings) w (timed now e) (rules_sound v.settings v.table meaning lawful)
+  step_plain (job_in meaning v) (IsEndpointKept v.settings) w (timed now e) (rules_sound v.settings v.table meaning S.range lawful)
       S.invariant_,
 )
 
@@ -43,4 +44,4 @@ plainly meaning old now e answers.Unsent new sound steps =
 pub stands_lawful : (meaning : Meaning) (v : WorldState) (w : Records) (most : ℕ → ℕ) → IsLawfulMeaning meaning
     → Stands v w most → IsLawful (job_in meaning v) w
 stands_lawful meaning v w most sound S =
-    lawful (job_in meaning v) (IsKept v.settings) w (rules_sound v.settings v.table meaning sound) S.invariant_
+    lawful (job_in meaning v) (IsEndpointKept v.settings) w (rules_sound v.settings v.table meaning S.range sound) S.invariant_

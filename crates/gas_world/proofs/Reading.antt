@@ -1,18 +1,19 @@
 -- What is read of a world is what its records give.
 use Rattle.std.proofs.Common.{◌≡◌, ℕ, ◌+◌, ◌*◌, ◌<◌, List, length, get_or, Option, None, Some, refl, sym, ap, ◌∙◌}
 use Rattle.std.proofs.Common.{subst, subst₂, arith}
-use Rattle.std.specs.Prelude.{false}
+use Rattle.std.specs.Prelude.{false, ◌≢◌, IfSome, unwrap_or}
 use Rattle.std.specs.List.{slice_get}
 use Rattle.std.proofs.lemmas.Option.{slice_get_read, same_Some}
 use Rattle.datagram_grammar.specs.Parameters.{Parameters}
 use Rattle.handler_rules.specs.declared.table.Entry.{Entry}
 use Rattle.node_record.specs.Record.{Request, Run, numbered}
-use Rattle.gas_world.specs.CallRules.{Records}
+use Rattle.endpoint_rules.specs.EndpointRules.{Records}
 use Rattle.gas_world.specs.Exchanged.{ExchangesState}
-use Rattle.gas_world.specs.Endpoints.{EndpointState, EndpointStands}
+use Rattle.gas_endpoint.specs.Endpoints.{EndpointState, EndpointStands, IsTickTarget}
 use Rattle.gas_world.specs.Sizes.{IsWorldSized}
 use Rattle.gas_world.specs.Worlds.{WorldState}
-use Rattle.gas_world.specs.Stands.{StandsForPair, Stands}
+use Rattle.gas_world.specs.Stands.{StandsForPair, Stands, IsWhole}
+use Rattle.gas_world.specs.Aims.{IsAimOfTick}
 use Rattle.plain_world.specs.Plain.{is_back}
 use Rattle.gas_world.specs.declared.exchanges.Exchange.{Exchange}
 use Rattle.gas_world.proofs.Scenes.{pair_place}
@@ -70,6 +71,40 @@ most_read s table v es xs most node m view sized low read w greatest S =
     (arith, low, sized.most_are, ap (λ (t : WorldState). t.settings.nodes) view) in
     let at = slice_get_read most (length most) node m refl within read in
     same_Some _ _ (sym (ap (λ (t : WorldState). slice_get t.most node) (sym view) ∙ at) ∙ S.most_is node low)
+
+-- where a tick falls, by the node to which its endpoint says that it sends
+pub tick_aim : (inside v : WorldState) (now node : ℕ) (e : EndpointState) (target : Option ℕ) (to : ℕ)
+    → inside ≡ v → IsWhole inside → node < v.settings.nodes → e ≡ get_or inside.endpoints node e
+    → IsTickTarget e now target → IfSome target (λ t. t < e.core.settings.nodes) → IfSome target (λ t. t ≢ e.core.me)
+    → to ≡ unwrap_or target node
+    → IsAimOfTick v now node (record { node = node; from = node; to = to; target = target })
+tick_aim inside v now node e target to view whole low read sends there other is =
+    let within : node < length inside.endpoints = omega
+    (arith, low, whole.sized.endpoints_are, ap (λ (t : WorldState). t.settings.nodes) view) in
+    let at = slice_get_read inside.endpoints (length inside.endpoints) node e refl within read in
+    let here : slice_get v.endpoints node ≡ Some e = ap (λ (t : WorldState). slice_get t.endpoints node) (sym view) ∙ at
+    in
+    let home = whole.sized.nodes node e at in
+    record {
+      node_is = refl;
+      from_is = refl;
+      to_is = is;
+      there = λ t t_is. (
+        omega (
+          arith,
+          some_holds target t (λ n. n < e.core.settings.nodes) t_is there,
+          ap (λ (s : Parameters). s.nodes) home.settings_are,
+          ap (λ (w : WorldState). w.settings.nodes) view,
+        ),
+        subst (λ m. t ≢ m) home.me_is (some_holds target t (λ n. n ≢ e.core.me) t_is other),
+      );
+      sends = λ d d_at. subst (λ (y : EndpointState). IsTickTarget y now target)
+          (same_Some _ _ (sym here ∙ d_at)) sends;
+    }
+  where
+    some_holds : (o : Option ℕ) (t : ℕ) (P : ℕ → Type 0) → o ≡ Some t → IfSome o P → P t
+    some_holds (Some x) t P e h = subst P (same_Some _ _ e) h
+    some_holds None t P e h = cc
 
 -- whether a request is back, by its exchange
 pub back_is : (list : List Exchange) (xs : List Request) (rs : List Run) (k : ℕ) (e : Exchange)

@@ -10,16 +10,16 @@ use Rattle.handler_rules.specs.declared.table.Entry.{Entry}
 use Rattle.node_record.specs.Record.{Request, Run, Node}
 use Rattle.node_record.specs.Step.{put}
 use Rattle.node_record.specs.Held.{held}
-use Rattle.am_core.specs.Kept.{Local, IsKept}
+use Rattle.endpoint_rules.specs.EndpointLocal.{EndpointLocal, IsEndpointKept}
 use Rattle.am_core.specs.ClientRules.{content_refusal}
 use Rattle.node_record.proofs.Puts.{put_same, put_other}
 use Rattle.plain_world.specs.MostHeld.{most_then}
 use Rattle.plain_world.specs.Invariant.{WorldInvariant}
 use Rattle.node_record.specs.Credits.{greatest_holding}
-use Rattle.gas_world.specs.CallRules.{Records}
+use Rattle.endpoint_rules.specs.EndpointRules.{Records}
 use Rattle.gas_world.specs.Exchanged.{ExchangesState}
-use Rattle.gas_world.specs.Endpoints.{EndpointStands}
-use Rattle.gas_world.specs.Sizes.{IsNodeOf}
+use Rattle.gas_endpoint.specs.Endpoints.{EndpointStands}
+use Rattle.gas_endpoint.specs.Endpoints.{IsNodeOf}
 use Rattle.gas_world.specs.Worlds.{WorldState}
 use Rattle.gas_world.specs.Scenes.{Scene, IsSame}
 use Rattle.gas_world.specs.Stands.{StandsForPair, Stands}
@@ -82,7 +82,7 @@ pub record Sends (w z : Records) (a b : ℕ) (new : Scene) : Type 0 where
       → StandsForPair list ((z c).asked d) ((z d).ran c)
 
 -- the records changed at one node alone, in what it asked of one peer
-pub only_asked : (w : Records) (i : ℕ) (x : Node Local) (j : ℕ) (xs : List Request)
+pub only_asked : (w : Records) (i : ℕ) (x : Node EndpointLocal) (j : ℕ) (xs : List Request)
     → x.asked ≡ put (w i).asked j xs → x.ran ≡ (w i).ran
     → (c d : ℕ) → ((c ≡ i) × (d ≡ j) → ⊥) → (list : List Exchange)
     → StandsForPair list ((w c).asked d) ((w d).ran c)
@@ -95,21 +95,21 @@ only_asked w i x j xs asks runs c d other list P =
       | inl e ↦ elim (cases_eq d j) [
         | inl f ↦ absurd (other (e, f))
         | inr f ↦ ap (λ n. (put w i x n).asked d) e
-            ∙ (ap (λ (r : Node Local). r.asked d) (put_same w i x)
+            ∙ (ap (λ (r : Node EndpointLocal). r.asked d) (put_same w i x)
             ∙ (ap (λ g. g d) asks ∙ (put_other (w i).asked j xs d f ∙ ap (λ n. (w n).asked d) (sym e))))
       ]
-      | inr e ↦ ap (λ (r : Node Local). r.asked d) (put_other w i x c e)
+      | inr e ↦ ap (λ (r : Node EndpointLocal). r.asked d) (put_other w i x c e)
     ]
 
     ran_there : (put w i x d).ran c ≡ (w d).ran c
     ran_there = elim (cases_eq d i) [
       | inl e ↦ ap (λ n. (put w i x n).ran c) e
-          ∙ (ap (λ (r : Node Local). r.ran c) (put_same w i x) ∙ (ap (λ g. g c) runs ∙ ap (λ n. (w n).ran c) (sym e)))
-      | inr e ↦ ap (λ (r : Node Local). r.ran c) (put_other w i x d e)
+          ∙ (ap (λ (r : Node EndpointLocal). r.ran c) (put_same w i x) ∙ (ap (λ g. g c) runs ∙ ap (λ n. (w n).ran c) (sym e)))
+      | inr e ↦ ap (λ (r : Node EndpointLocal). r.ran c) (put_other w i x d e)
     ]
 
 -- the records changed at one node alone, in what it ran of one peer
-pub only_ran : (w : Records) (i : ℕ) (x : Node Local) (j : ℕ) (rs : List Run) → x.asked ≡ (w i).asked
+pub only_ran : (w : Records) (i : ℕ) (x : Node EndpointLocal) (j : ℕ) (rs : List Run) → x.asked ≡ (w i).asked
     → x.ran ≡ put (w i).ran j rs
     → (c d : ℕ) → ((c ≡ j) × (d ≡ i) → ⊥) → (list : List Exchange)
     → StandsForPair list ((w c).asked d) ((w d).ran c)
@@ -120,9 +120,9 @@ only_ran w i x j rs asks runs c d other list P =
     asked_there : (put w i x c).asked d ≡ (w c).asked d
     asked_there = elim (cases_eq c i) [
       | inl e ↦ ap (λ n. (put w i x n).asked d) e
-          ∙ (ap (λ (r : Node Local). r.asked d) (put_same w i x)
+          ∙ (ap (λ (r : Node EndpointLocal). r.asked d) (put_same w i x)
           ∙ (ap (λ g. g d) asks ∙ ap (λ n. (w n).asked d) (sym e)))
-      | inr e ↦ ap (λ (r : Node Local). r.asked d) (put_other w i x c e)
+      | inr e ↦ ap (λ (r : Node EndpointLocal). r.asked d) (put_other w i x c e)
     ]
 
     ran_there : (put w i x d).ran c ≡ (w d).ran c
@@ -130,44 +130,44 @@ only_ran w i x j rs asks runs c d other list P =
       | inl e ↦ elim (cases_eq c j) [
         | inl f ↦ absurd (other (f, e))
         | inr f ↦ ap (λ n. (put w i x n).ran c) e
-            ∙ (ap (λ (r : Node Local). r.ran c) (put_same w i x)
+            ∙ (ap (λ (r : Node EndpointLocal). r.ran c) (put_same w i x)
             ∙ (ap (λ g. g c) runs ∙ (put_other (w i).ran j rs c f ∙ ap (λ n. (w n).ran c) (sym e))))
       ]
-      | inr e ↦ ap (λ (r : Node Local). r.ran c) (put_other w i x d e)
+      | inr e ↦ ap (λ (r : Node EndpointLocal). r.ran c) (put_other w i x d e)
     ]
 
 -- the node x stands for its exchanges where the node r did: it ran the same, and what it asked has the same messages
-pub record IsQuiet (r x : Node Local) : Type 0 where
+pub record IsQuiet (r x : Node EndpointLocal) : Type 0 where
   pub asked : (peer : ℕ) (list : List Exchange) (rs : List Run)
       → StandsForPair list (r.asked peer) rs → StandsForPair list (x.asked peer) rs
   pub ran : x.ran ≡ r.ran
 
 -- every pair stands still
-pub quiet_pairs : (w : Records) (i : ℕ) (x : Node Local) → IsQuiet (w i) x
+pub quiet_pairs : (w : Records) (i : ℕ) (x : Node EndpointLocal) → IsQuiet (w i) x
     → (c d : ℕ) (list : List Exchange) → StandsForPair list ((w c).asked d) ((w d).ran c)
     → StandsForPair list ((put w i x c).asked d) ((put w i x d).ran c)
 quiet_pairs w i x Q c d list P =
     subst (λ R. StandsForPair list ((put w i x c).asked d) R) (sym ran_there) (elim (cases_eq c i) [
       | inl e ↦ subst (λ n. StandsForPair list ((put w i x n).asked d) ((w d).ran n)) (sym e)
-          (subst (λ (r : Node Local). StandsForPair list (r.asked d) ((w d).ran i)) (sym (put_same w i x))
+          (subst (λ (r : Node EndpointLocal). StandsForPair list (r.asked d) ((w d).ran i)) (sym (put_same w i x))
           (Q.asked d list ((w d).ran i)
           (subst (λ n. StandsForPair list ((w n).asked d) ((w d).ran n)) e P)))
-      | inr e ↦ subst (λ (r : Node Local). StandsForPair list (r.asked d) ((w d).ran c))
+      | inr e ↦ subst (λ (r : Node EndpointLocal). StandsForPair list (r.asked d) ((w d).ran c))
           (sym (put_other w i x c e)) P
     ])
   where
     ran_there : (put w i x d).ran c ≡ (w d).ran c
     ran_there = elim (cases_eq d i) [
       | inl e ↦ ap (λ n. (put w i x n).ran c) e
-          ∙ (ap (λ (r : Node Local). r.ran c) (put_same w i x) ∙ (ap (λ g. g c) Q.ran ∙ ap (λ n. (w n).ran c) (sym e)))
-      | inr e ↦ ap (λ (r : Node Local). r.ran c) (put_other w i x d e)
+          ∙ (ap (λ (r : Node EndpointLocal). r.ran c) (put_same w i x) ∙ (ap (λ g. g c) Q.ran ∙ ap (λ n. (w n).ran c) (sym e)))
+      | inr e ↦ ap (λ (r : Node EndpointLocal). r.ran c) (put_other w i x d e)
     ]
 
 -- ---- what stands
 
 -- what changed at a node
-pub record Moves (v : WorldState) (w : Records) (most : ℕ → ℕ) (i : ℕ) (x : Node Local) (new : Scene) : Type 0 where
-  pub invariant_ : WorldInvariant v.settings (content_refusal v.settings v.table) (IsKept v.settings) (put w i x)
+pub record Moves (v : WorldState) (w : Records) (most : ℕ → ℕ) (i : ℕ) (x : Node EndpointLocal) (new : Scene) : Type 0 where
+  pub invariant_ : WorldInvariant v.settings (content_refusal v.settings v.table) (IsEndpointKept v.settings) (put w i x)
   pub node : IsNodeOf v.settings v.table i new.endpoint
   pub stands : EndpointStands new.endpoint x
   pub most_is : new.most ≡ max (most i) (held v.settings i x)
@@ -188,7 +188,7 @@ max_few : (a b c : ℕ) → a ≤ c → b ≤ c → max a b ≤ c
 max_few a b c low few = omega arith
 
 -- the world stands where one node changed, and what it sent stands
-pub moves_stand : (v z : WorldState) (w : Records) (most : ℕ → ℕ) (i a b : ℕ) (x : Node Local) (old new : Scene)
+pub moves_stand : (v z : WorldState) (w : Records) (most : ℕ → ℕ) (i a b : ℕ) (x : Node EndpointLocal) (old new : Scene)
     → Stands v w most → b < v.settings.nodes → Falls v z i (a * v.settings.nodes + b) old new → Moves v w most i x new
     → Sends w (put w i x) a b new
     → Stands z (put w i x) (most_then v.settings (put w i x) most)
@@ -205,14 +205,14 @@ moves_stand v z w most i a b x old new S b_in F M A =
               ∙ set_here v.endpoints z.endpoints i old.endpoint new.endpoint F.endpoint_was F.endpoints,
           subst (λ n. IsNodeOf s v.table n new.endpoint) (sym e) M.node,
           subst (λ n. EndpointStands new.endpoint (put w i x n)) (sym e)
-              (subst (λ (r : Node Local). EndpointStands new.endpoint r) (sym (put_same w i x)) M.stands),
+              (subst (λ (r : Node EndpointLocal). EndpointStands new.endpoint r) (sym (put_same w i x)) M.stands),
         )
         | inr e ↦ (let it = S.endpoints k low in (
           it.0,
           set_there v.endpoints z.endpoints i k new.endpoint F.endpoints e
               ∙ it.1,
           it.2,
-          subst (λ (r : Node Local). EndpointStands it.0 r) (sym (put_other w i x k e)) it.3,
+          subst (λ (r : Node EndpointLocal). EndpointStands it.0 r) (sym (put_other w i x k e)) it.3,
         ))
       ];
       exchanges = λ c d c_in d_in. elim (cases_eq (c * s.nodes + d) (a * s.nodes + b)) [
@@ -237,17 +237,17 @@ moves_stand v z w most i a b x old new S b_in F M A =
             ap (slice_get z.most) e
             ∙ (set_here v.most z.most i old.most new.most F.most_was F.most_is
             ∙ ap Some (M.most_is
-            ∙ (ap (λ (r : Node Local). max (most i) (held s i r)) (sym (put_same w i x))
+            ∙ (ap (λ (r : Node EndpointLocal). max (most i) (held s i r)) (sym (put_same w i x))
             ∙ ap (λ n. max (most n) (held s n (put w i x n))) (sym e)))))
         | inr e ↦ set_there v.most z.most i k new.most F.most_is e
             ∙ (S.most_is k low ∙ ap Some
             (max_same (most k) (held s k (w k)) (S.held_le k low)
-            ∙ ap (λ (r : Node Local). max (most k) (held s k r)) (sym (put_other w i x k e))))
+            ∙ ap (λ (r : Node EndpointLocal). max (most k) (held s k r)) (sym (put_other w i x k e))))
       ];
       held_le = λ k low. omega arith;
       most_few =
           λ k low. max_few (most k) (held s k (w' k)) (greatest_holding s k) (S.most_few k low)
-          (few_records s (content_refusal v.settings v.table) (IsKept v.settings) w' M.invariant_ k);
+          (few_records s (content_refusal v.settings v.table) (IsEndpointKept v.settings) w' M.invariant_ k);
     })
 
 -- ---- nothing changed

@@ -11,7 +11,7 @@ use Rattle.lists.proofs.Update.{slice_get-update_other}
 use Rattle.node_record.specs.Executed.{run_of}
 use Rattle.node_record.specs.Invariant.{request_message, reply_message}
 use Rattle.node_record.specs.Requests.{as_back}
-use Rattle.am_core.specs.Kept.{Local}
+use Rattle.endpoint_rules.specs.EndpointLocal.{EndpointLocal}
 use Rattle.node_record.specs.Step.{Site, Verdict, Runs, Returns, verdict, after_delivery}
 use Rattle.node_record.proofs.Lists.{run_of_there}
 use Rattle.node_record.proofs.Puts.{put_same, put_other}
@@ -21,7 +21,7 @@ use Rattle.gas_world.specs.Stands.{Stands}
 use Rattle.gas_world.specs.Worlds.{WorldState}
 use Rattle.plain_world.specs.World.{RequestComes, ReplyComes, Timed, request_event, reply_event, after_at}
 use Rattle.plain_world.specs.World.{world_after, run}
-use Rattle.gas_world.specs.CallRules.{OtherCall, Records, timed}
+use Rattle.endpoint_rules.specs.EndpointRules.{OtherCall, Records, timed}
 use Rattle.plain_world.specs.Plain.{IsFirstOut, plain_of, is_back}
 use Rattle.plain_world.proofs.PlainReadings.{is_back_says}
 use Rattle.gas_world.specs.Settling.{WorldJob, Moves, exchange_events, turn_events, open_numbers}
@@ -49,7 +49,7 @@ request_keeps job w now from to number n = go (numbered ((w from).asked to) numb
         put_other w to (node_after job to (w to) now (Comes (request_message job.settings from to number x))) from n
 
 -- a reply that comes changes none but that of its number
-delivery_keeps : (site : Site Local) (r : Node Local) (m : Message) (v : Verdict) (k : ℕ) → suc k ≢ m.number
+delivery_keeps : (site : Site EndpointLocal) (r : Node EndpointLocal) (m : Message) (v : Verdict) (k : ℕ) → suc k ≢ m.number
     → slice_get ((after_delivery site r m v).asked m.from) k ≡ slice_get (r.asked m.from) k
 delivery_keeps site r m Runs k n = refl
 delivery_keeps site r m Returns k n =
@@ -70,7 +70,7 @@ reply_keeps job w now from to number k n = go (run_of number ((w to).ran from)) 
         let m = reply_message job.settings from to r in
         let site = site_of job from in
         let same : r.number ≡ number = (run_of_there number ((w to).ran from) r e).0 in
-        ap (λ (x : Node Local). slice_get (x.asked to) k) (put_same w from (node_after job from (w from) now (Comes m)))
+        ap (λ (x : Node EndpointLocal). slice_get (x.asked to) k) (put_same w from (node_after job from (w from) now (Comes m)))
         ∙ delivery_keeps site (w from) m (verdict site (w from) m) k (λ q. n (q ∙ same))
 
 -- the request of a number, and then its reply, change no other number of the pair
@@ -79,7 +79,7 @@ exchange_keeps : (job : WorldJob) (w : Records) (now from to number k : ℕ) →
 exchange_keeps job w now from to number k n other =
     let mid = world_after job w (timed now (RequestComes from to number)) in
     reply_keeps job mid now from to number k other
-    ∙ ap (λ (x : Node Local). slice_get (x.asked to) k) (request_keeps job w now from to number n)
+    ∙ ap (λ (x : Node EndpointLocal). slice_get (x.asked to) k) (request_keeps job w now from to number n)
 
 -- ---- numbers that are open
 

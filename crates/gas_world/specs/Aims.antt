@@ -1,10 +1,13 @@
 -- Where an event of a world falls.
-use Rattle.std.specs.Prelude.{ℕ, ◌≡◌, ◌≢◌, ◌<◌, Option, None, Some}
+use Rattle.std.specs.Prelude.{ℕ, ◌≡◌, ◌≢◌, ◌<◌, Option, None, Some, unwrap_or, slice_get}
 use Rattle.datagram_grammar.specs.Parameters.{Parameters}
-use Rattle.gas_world.specs.Called.{HasTarget}
-use Rattle.gas_world.specs.declared.event.Call.{Call}
+use Rattle.endpoint_rules.specs.Called.{HasTarget}
+use Rattle.endpoint_rules.specs.declared.call.Call.{Call}
 use Rattle.gas_world.specs.declared.event.WorldEvent.{WorldEvent}
 use Rattle.gas_world.specs.declared.event.WorldEvent.TheVariants as event
+use Rattle.node_record.specs.Transition.{Transition}
+use Rattle.gas_endpoint.specs.Endpoints.{EndpointState, IsTickTarget, MayBeCalled}
+use Rattle.gas_world.specs.Worlds.{WorldState}
 use Rattle.gas_world.specs.declared.world.Aim.{Aim}
 
 -- at the node, with the pair of these two
@@ -24,13 +27,40 @@ pub record IsAimOfCall (settings : Parameters) (node : ℕ) (call : Call) (aim :
   pub from_is : aim.from ≡ node
   pub target : IsTargetOf settings node call aim.to
 
--- a message of a node to itself is aimed at nothing
-abbrev pub AimsAt : Parameters → WorldEvent → Option Aim → Type 0
-AimsAt settings (event.Call node thread call) (Some aim) = IsAimOfCall settings node call aim
-AimsAt settings (event.Request from to number) (Some aim) = (from ≢ to) × IsAim to from to aim
-AimsAt settings (event.Reply from to number) (Some aim) = (from ≢ to) × IsAim from from to aim
-AimsAt settings (event.Tick node) (Some aim) = IsAim node node node aim
-AimsAt settings (event.Request from to number) None = from ≡ to
-AimsAt settings (event.Reply from to number) None = from ≡ to
-AimsAt settings (event.Call node thread call) None = ⊥
-AimsAt settings (event.Tick node) None = ⊥
+-- the pair of a tick is that of the node and of another one to which it sends a request of the node's own accord, else
+-- of the node and itself
+pub record IsAimOfTick (world : WorldState) (now node : ℕ) (aim : Aim) : Type 0 where
+  pub node_is : aim.node ≡ node
+  pub from_is : aim.from ≡ node
+  pub to_is : aim.to ≡ unwrap_or aim.target node
+  pub there : (to : ℕ) → aim.target ≡ Some to → (to < world.settings.nodes) × (to ≢ node)
+  pub sends : (endpoint : EndpointState) → slice_get world.endpoints node ≡ Some endpoint
+      → IsTickTarget endpoint now aim.target
+
+-- where an event at this time falls
+abbrev pub FallsAt : WorldState → (now : ℕ) → WorldEvent → Aim → Type 0
+FallsAt world now (event.Call node thread call) aim = IsAimOfCall world.settings node call aim
+FallsAt world now (event.Request from to number) aim = (from ≢ to) × IsAim to from to aim
+FallsAt world now (event.Reply from to number) aim = (from ≢ to) × IsAim from from to aim
+FallsAt world now (event.Tick node) aim = IsAimOfTick world now node aim
+
+-- a message of a node to itself falls nowhere
+abbrev pub FallsNowhere : WorldEvent → Type 0
+FallsNowhere (event.Call node thread call) = ⊥
+FallsNowhere (event.Request from to number) = from ≡ to
+FallsNowhere (event.Reply from to number) = from ≡ to
+FallsNowhere (event.Tick node) = ⊥
+
+-- where it falls, if it does
+abbrev pub AimsAt : WorldState → Transition WorldEvent (Option Aim) → Type 0
+AimsAt world step = elim step.answer [
+  | Some aim ↦ FallsAt world step.now step.event aim
+  | None ↦ FallsNowhere step.event
+]
+
+-- ---- what is asked of an event
+
+-- a call may be made
+abbrev pub MayFall : Parameters → WorldEvent → Type 0
+MayFall settings (event.Call node thread call) = MayBeCalled settings thread call
+MayFall settings _ = Unit {0}

@@ -1,7 +1,7 @@
 -- The events of the code, as those of the records, and what a step of a world does.
 use Rattle.std.specs.Prelude.{ℕ, ◌≡◌, ◌≢◌, List}
 use Rattle.std.specs.List.{AllByRecursion}
-use Rattle.am_core.specs.Kept.{Local, nothing_done}
+use Rattle.endpoint_rules.specs.EndpointLocal.{EndpointLocal, nothing_begun}
 use Rattle.handler_rules.specs.Runs.{Meaning, IsLawfulMeaning}
 use Rattle.node_record.specs.declared.answer.Asked.TheVariants as asked
 use Rattle.node_record.specs.declared.answer.Ticked.TheVariants as ticked
@@ -12,13 +12,15 @@ use Rattle.plain_world.specs.MostHeld.{most_then}
 use Rattle.plain_world.specs.PlainStep.{PlainStep}
 use Rattle.plain_world.specs.Plain.{plain_of}
 use Rattle.plain_world.specs.Headline.{Headline}
-use Rattle.gas_world.specs.CallRules.{OtherCall, Records, RecordsEvent, timed, job_of}
-use Rattle.gas_world.specs.CallRules.{world_told}
+use Rattle.transfer_laws.specs.TransferLaws.{TransfersHold}
+use Rattle.barrier_laws.specs.BarrierLaws.{BarrierHolds}
+use Rattle.endpoint_rules.specs.EndpointRules.{OtherCall, Records, RecordsEvent, timed, job_of}
+use Rattle.gas_world.specs.Told.{world_told}
 use Rattle.node_record.specs.Transition.{Transition}
-use Rattle.gas_world.specs.declared.event.Answer.{Answer}
+use Rattle.endpoint_rules.specs.declared.answer.Answer.{Answer}
 use Rattle.gas_world.specs.Worlds.{WorldState}
 use Rattle.gas_world.specs.Stands.{Stands}
-use Rattle.gas_world.specs.Called.{called_at}
+use Rattle.endpoint_rules.specs.Called.{called_at}
 use Rattle.gas_world.specs.declared.event.WorldEvent.{WorldEvent}
 use Rattle.gas_world.specs.declared.event.WorldEvent.TheVariants as event
 use Rattle.gas_world.specs.declared.event.WorldAnswer.{WorldAnswer}
@@ -31,7 +33,7 @@ event_of (event.Reply from to number) = ReplyComes from to number
 event_of (event.Tick node) = Ticks node
 
 -- what the handlers and calls do in this world
-abbrev pub job_in : Meaning → WorldState → Job Local OtherCall Answer
+abbrev pub job_in : Meaning → WorldState → Job EndpointLocal OtherCall Answer
 job_in meaning world = job_of world.settings world.table meaning
 
 -- by any lawful handlers, each run from the opening by events among the nodes has the headline
@@ -39,7 +41,13 @@ abbrev pub RunsHaveTheHeadline : WorldState → Type 0
 RunsHaveTheHeadline world =
     (meaning : Meaning) (events : List (Timed OtherCall)) → IsLawfulMeaning meaning
     → AllByRecursion (λ (timed : Timed OtherCall). IsAmong world.settings timed.event) events
-    → Headline (job_in meaning world) (λ node. nothing_done) events
+    → Headline (job_in meaning world) (λ node. nothing_begun world.settings) events
+
+-- by any lawful handlers, the laws of transfers and those of the barrier hold in each run from the opening
+abbrev pub RunsHaveTheLaws : WorldState → Type 0
+RunsHaveTheLaws world =
+    (meaning : Meaning) → IsLawfulMeaning meaning
+    → TransfersHold world.settings world.table meaning × BarrierHolds world.settings world.table meaning
 
 -- this holds of all records for which the world stands, and of what the nodes held at most
 abbrev pub ForItsRecords : WorldState → (Records → (ℕ → ℕ) → Type 0) → Type 0
@@ -63,14 +71,15 @@ Accepts (OfNode (OfTick (ticked.Note at))) = Unit {0}
 Accepts (OfNode (OfTick (ticked.Chunk at))) = Unit {0}
 Accepts _ = ⊥
 
--- the event is a request of a node to another one
-abbrev pub IsToAnother : RecordsEvent → Type 0
-IsToAnother (Asks node ask) = ask.to ≢ node
-IsToAnother _ = ⊥
+-- the event is a request of a node to another one, or a tick, which may send one
+abbrev pub MaySend : RecordsEvent → Type 0
+MaySend (Asks node ask) = ask.to ≢ node
+MaySend (Ticks node) = Unit {0}
+MaySend _ = ⊥
 
--- the event wants memory: it is a request to another node, and all records for which the world stands accept it
+-- the event wants memory: all records for which the world stands accept a request by it to another node
 pub record WantsMemory (meaning : Meaning) (old : WorldState) (event : Timed OtherCall) : Type 0 where
-  pub request : IsToAnother event.event
+  pub request : MaySend event.event
   pub accepts : ForItsRecords old (λ records most. Accepts (world_answer (job_in meaning old) records event))
 
 -- so it does for all records for which it stood; where memory ran out, they accept, and it stands for the same records

@@ -1,9 +1,6 @@
-pub mod Memory
-pub mod CallRules
-pub mod Called
+pub mod Told
 pub mod Exchanged
 pub mod State
-pub mod Endpoints
 pub mod Worlds
 pub mod Sizes
 pub mod Stands
@@ -11,4 +8,3 @@ pub mod Events
 pub mod Scenes
 pub mod Aims
 pub mod Settling
-pub mod Sends

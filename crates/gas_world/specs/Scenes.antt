@@ -1,35 +1,36 @@
 -- What an event does to the endpoint on which it falls, the exchanges of the pair, and the greatest number held.
 use Rattle.std.specs.Prelude.{ℕ, ◌≡◌, ◌≢◌, ◌<◌, ◌==◌, ◌++◌, ◌∷◌, [], List, max, set, None, Some, Bool}
-use Rattle.std.specs.Prelude.{true, false, not, slice_get, ◌⊎◌}
+use Rattle.std.specs.Prelude.{true, false, not, slice_get, ◌⊎◌, Option, is_some}
 use Rattle.node_record.specs.declared.answer.Side.TheVariants as side
 use Rattle.node_record.specs.declared.answer.SlotRef.{SlotRef}
 use Rattle.node_record.specs.declared.answer.Asked.TheVariants as asked
 use Rattle.node_record.specs.declared.answer.Delivered.{Delivered}
+use Rattle.node_record.specs.declared.answer.Ticked.TheVariants as ticked
 use Rattle.node_record.specs.declared.answer.Delivered.TheVariants as delivered
 use Rattle.node_record.specs.Record.{Node, numbered}
 use Rattle.node_record.specs.Step.{request_slot, reply_slot}
 use Rattle.node_record.specs.SlotMessages.{message_at}
 use Rattle.node_record.specs.Held.{held}
 use Rattle.am_core.specs.CoreContracts.{IsSameNode}
-use Rattle.am_core.specs.Kept.{Local}
+use Rattle.endpoint_rules.specs.EndpointLocal.{EndpointLocal}
 use Rattle.handler_rules.specs.Runs.{Meaning}
 use Rattle.am_core.specs.Known.{IsLastRun}
-use Rattle.gas_world.specs.CallRules.{transition}
+use Rattle.endpoint_rules.specs.EndpointRules.{transition}
 use Rattle.gas_world.specs.Exchanged.{ExchangesState}
 use Rattle.gas_world.specs.State.{requested, with_ran, with_returned}
-use Rattle.gas_world.specs.Endpoints.{EndpointState, EndpointStands, EndpointSteps, BytesCome, WouldAcceptAt}
-use Rattle.gas_world.specs.Endpoints.{ForItsRecord}
+use Rattle.gas_endpoint.specs.Endpoints.{EndpointState, EndpointStands, EndpointSteps, BytesCome, WouldAcceptAt}
+use Rattle.gas_endpoint.specs.Endpoints.{ForItsRecord, IsTickTarget, MayBeCalled}
 use Rattle.gas_world.specs.declared.exchanges.Exchange.{Exchange}
 use Rattle.node_record.specs.Transition.{Transition}
-use Rattle.gas_world.specs.Called.{is_to_other}
-use Rattle.gas_world.specs.declared.event.Event.{Event}
-use Rattle.gas_world.specs.declared.event.Event.TheVariants as event
+use Rattle.endpoint_rules.specs.Called.{is_to_other}
+use Rattle.endpoint_rules.specs.declared.call.Event.{Event}
+use Rattle.endpoint_rules.specs.declared.call.Event.TheVariants as event
 use Rattle.gas_world.specs.declared.event.WorldEvent.{WorldEvent}
 use Rattle.gas_world.specs.declared.event.WorldEvent.TheVariants as world_event
 use Rattle.gas_world.specs.declared.step.Letter.{Letter}
 use Rattle.gas_world.specs.declared.step.Scene.{Scene as Spot}
-use Rattle.gas_world.specs.declared.event.Answer.{Answer}
-use Rattle.gas_world.specs.declared.event.Answer.TheVariants as answers
+use Rattle.endpoint_rules.specs.declared.answer.Answer.{Answer}
+use Rattle.endpoint_rules.specs.declared.answer.Answer.TheVariants as answers
 use Rattle.gas_world.specs.declared.event.WorldAnswer.{WorldAnswer}
 use Rattle.gas_world.specs.declared.event.WorldAnswer.TheVariants as world_answers
 
@@ -60,7 +61,8 @@ pub record IsSame (old new : Scene) : Type 0 where
 
 -- the greatest number held was raised to what the endpoint holds
 abbrev pub MostIs : ℕ → EndpointState → ℕ → Type 0
-MostIs old endpoint new = ForItsRecord endpoint (λ node. new ≡ max old (held endpoint.core.settings endpoint.core.me node))
+MostIs old endpoint new =
+    ForItsRecord endpoint (λ node. new ≡ max old (held endpoint.core.settings endpoint.core.me node))
 
 -- ---- an event of one node
 
@@ -70,10 +72,21 @@ pub record AloneFalls (meaning : Meaning) (old : Scene) (step : Transition Event
   pub list : new.exchanges.list ≡ old.exchanges.list
   pub most_is : MostIs old.most new.endpoint new.most
 
--- what the answer to a request leaves of the exchanges
+-- the slot of the request that an answer tells to be accepted: of a thread's, or one that a tick sends for the first
+-- time
+abbrev pub accepted_slot : Answer → Option ℕ
+accepted_slot (answers.Asked (asked.Accepted to slot number)) = Some slot
+accepted_slot (answers.Ticked (ticked.Note at)) = Some at.slot
+accepted_slot (answers.Ticked (ticked.Chunk at)) = Some at.slot
+accepted_slot _ = None
+
+abbrev pub with_accepted : List Exchange → Option ℕ → List Exchange
+with_accepted list None = list
+with_accepted list (Some slot) = list ++ requested slot ∷ []
+
+-- what the answer to a request or a tick leaves of the exchanges
 abbrev pub asked_list : List Exchange → Answer → List Exchange
-asked_list list (answers.Asked (asked.Accepted to slot number)) = list ++ requested slot ∷ []
-asked_list list _ = list
+asked_list list answer = with_accepted list (accepted_slot answer)
 
 -- a request of the pair, for which there is room
 pub record IsAsked (meaning : Meaning) (old : Scene) (step : Transition Event Answer) (new : Scene) : Type 0 where
@@ -84,18 +97,18 @@ pub record IsAsked (meaning : Meaning) (old : Scene) (step : Transition Event An
 -- a request of the pair that wouldn't be accepted
 pub record IsDeclined (meaning : Meaning) (old : Scene) (step : Transition Event Answer) (new : Scene) : Type 0 where
   pub falls : AloneFalls meaning old step new
-  pub declined : WouldAcceptAt old.endpoint step.event false
+  pub declined : WouldAcceptAt old.endpoint (transition step.now step.event false)
 
 -- one that would be accepted, for which there is no memory
-pub record HasNoRoom (old : Scene) (event : Event) (new : Scene) : Type 0 where
+pub record HasNoRoom (old : Scene) (now : ℕ) (event : Event) (new : Scene) : Type 0 where
   pub same : IsSame old new
-  pub accepted : WouldAcceptAt old.endpoint event true
+  pub accepted : WouldAcceptAt old.endpoint (transition now event true)
 
 abbrev pub AskFalls : Meaning → Scene → Transition Event WorldAnswer → Scene → Type 0
 AskFalls meaning old step new = elim step.answer [
   | world_answers.Node answer ↦ IsAsked meaning old (transition step.now step.event answer) new
       ⊎ IsDeclined meaning old (transition step.now step.event answer) new
-  | world_answers.NoMemory ↦ HasNoRoom old step.event new
+  | world_answers.NoMemory ↦ HasNoRoom old step.now step.event new
   | world_answers.Unsent ↦ ⊥
 ]
 
@@ -111,7 +124,7 @@ pub record Carries (meaning : Meaning) (sender old : EndpointState) (step : Tran
 
 -- a message stands there, by a record for which the sender stands
 pub record HoldsMessage (sender : EndpointState) (at : SlotRef) : Type 0 where
-  pub node : Node Local
+  pub node : Node EndpointLocal
   pub stands : EndpointStands sender node
   pub bytes : List ℕ
   pub message : message_at sender.core.settings sender.core.me node at ≡ Some bytes
@@ -124,6 +137,7 @@ pub record Lodged : Type 0 where
 -- what the answer to a delivered request leaves of the exchanges
 abbrev pub ran_list : List Exchange → (number : ℕ) → Answer → List Exchange
 ran_list list number (answers.Delivered (delivered.Ran at)) = with_ran list number
+ran_list list number (answers.Delivered (delivered.Noted at note)) = with_ran list number
 ran_list list number _ = list
 
 -- a request that didn't run
@@ -253,10 +267,17 @@ AloneFallsIn meaning old step new = elim step.answer [
   | world_answers.Unsent ↦ ⊥
 ]
 
--- a call of a thread, which may be a request to another node
+-- a call of a thread or a tick, which may send a request to another node
 abbrev pub CallFalls : Meaning → Scene → (is_ask : Bool) → Transition Event WorldAnswer → Scene → Type 0
 CallFalls meaning old true step new = AskFalls meaning old step new
 CallFalls meaning old false step new = AloneFallsIn meaning old step new
+
+-- a tick, which is a request of the pair where it sends one
+pub record TickFalls (meaning : Meaning) (old : Scene) (step : Transition Event WorldAnswer) (new : Scene) : Type 0
+  where
+    pub target : Option ℕ
+    pub sends : IsTickTarget old.endpoint step.now target
+    pub falls : CallFalls meaning old (is_some target) step new
 
 -- a message comes from one of these endpoints
 pub record Meets (meaning : Meaning) (endpoints : List EndpointState) (old : Scene)
@@ -281,7 +302,7 @@ SceneSteps meaning endpoints old step new = elim step.event [
       Meets meaning endpoints old (transition step.now (request_letter from to number) step.answer) new
   | world_event.Reply from to number ↦
       Meets meaning endpoints old (transition step.now (reply_letter from to number) step.answer) new
-  | world_event.Tick node ↦ AloneFallsIn meaning old (transition step.now event.Tick step.answer) new
+  | world_event.Tick node ↦ TickFalls meaning old (transition step.now event.Tick step.answer) new
 ]
 
 -- the node on which an event falls
@@ -297,6 +318,26 @@ IsBetween count (world_event.Call node thread call) = node < count
 IsBetween count (world_event.Request from to number) = (from < count) × (to < count) × (from ≢ to)
 IsBetween count (world_event.Reply from to number) = (from < count) × (to < count) × (from ≢ to)
 IsBetween count (world_event.Tick node) = node < count
+
+-- where the event is a tick, this is the node to which it sends a request of its node's own accord
+abbrev pub IsPlanned : List EndpointState → Transition WorldEvent (Option ℕ) → Type 0
+IsPlanned endpoints step = elim step.event [
+  | world_event.Call node thread call ↦ Unit {0}
+  | world_event.Request from to number ↦ Unit {0}
+  | world_event.Reply from to number ↦ Unit {0}
+  | world_event.Tick node ↦
+      (endpoint : EndpointState) → slice_get endpoints node ≡ Some endpoint
+      → IsTickTarget endpoint step.now step.answer
+]
+
+-- a call may be made at its node's endpoint
+abbrev pub IsCallable : List EndpointState → WorldEvent → Type 0
+IsCallable endpoints (world_event.Call node thread call) =
+    (endpoint : EndpointState) → slice_get endpoints node ≡ Some endpoint
+    → MayBeCalled endpoint.core.settings thread call
+IsCallable endpoints (world_event.Request from to number) = Unit {0}
+IsCallable endpoints (world_event.Reply from to number) = Unit {0}
+IsCallable endpoints (world_event.Tick node) = Unit {0}
 
 -- the message that an event delivers is held
 abbrev pub IsHeld : List EndpointState → List Exchange → WorldEvent → Type 0

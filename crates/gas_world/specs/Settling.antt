@@ -3,18 +3,18 @@ use Rattle.std.specs.Prelude.{ℕ, zero, suc, List, [], ◌∷◌, ◌++◌, if�
 use Rattle.std.specs.List.{flat_map}
 use Rattle.node_record.specs.Record.{Request}
 use Rattle.node_record.specs.NodeStep.{Job}
-use Rattle.am_core.specs.Kept.{Local}
+use Rattle.endpoint_rules.specs.EndpointLocal.{EndpointLocal}
 use Rattle.plain_world.specs.World.{RequestComes, ReplyComes, Ticks, Timed, run}
 use Rattle.plain_world.specs.MostHeld.{most_after}
-use Rattle.gas_world.specs.CallRules.{OtherCall, Records, timed}
+use Rattle.endpoint_rules.specs.EndpointRules.{OtherCall, Records, timed}
 use Rattle.gas_world.specs.Events.{ForItsRecords}
 use Rattle.gas_world.specs.Stands.{Stands}
 use Rattle.gas_world.specs.Worlds.{WorldState}
-use Rattle.gas_world.specs.declared.event.Answer.{Answer}
+use Rattle.endpoint_rules.specs.declared.answer.Answer.{Answer}
 
 -- a job as a world of nodes runs it: its settings, and what its nodes do
 abbrev pub WorldJob : Type 0
-WorldJob = Job Local OtherCall Answer
+WorldJob = Job EndpointLocal OtherCall Answer
 
 -- of all records for which the world stood: by what the nodes of the job do it stands for the records after the events,
 -- which the records decide

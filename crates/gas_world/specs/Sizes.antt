@@ -3,16 +3,9 @@ use Rattle.std.specs.Prelude.{ℕ, ◌≡◌, ◌*◌, List, [], Option, length,
 use Rattle.datagram_grammar.specs.Parameters.{Parameters}
 use Rattle.handler_rules.specs.declared.table.Entry.{Entry}
 use Rattle.node_record.specs.Record.{opening_node}
-use Rattle.am_core.specs.Kept.{nothing_done}
+use Rattle.endpoint_rules.specs.EndpointLocal.{nothing_begun}
 use Rattle.gas_world.specs.Exchanged.{ExchangesState}
-use Rattle.gas_world.specs.Endpoints.{EndpointState, EndpointStands}
-
--- the core is that of the node `me` of a job with these settings, with this table
-pub record IsNodeOf (settings : Parameters) (table : List (Option Entry)) (me : ℕ) (endpoint : EndpointState) : Type 0
-  where
-    pub settings_are : endpoint.core.settings ≡ settings
-    pub me_is : endpoint.core.me ≡ me
-    pub table_is : endpoint.core.table ≡ table
+use Rattle.gas_endpoint.specs.Endpoints.{EndpointState, EndpointStands, IsNodeOf}
 
 -- an endpoint for each node, a place for each pair of nodes, and a number for each node
 pub record IsWorldSized (settings : Parameters) (table : List (Option Entry)) (endpoints : List EndpointState)
@@ -27,7 +20,7 @@ pub record IsWorldSized (settings : Parameters) (table : List (Option Entry)) (e
 abbrev pub AreOpening : Parameters → List (Option Entry) → List EndpointState → Type 0
 AreOpening settings table endpoints =
     (node : ℕ) (endpoint : EndpointState) → slice_get endpoints node ≡ Some endpoint
-    → IsNodeOf settings table node endpoint × EndpointStands endpoint (opening_node nothing_done)
+    → IsNodeOf settings table node endpoint × EndpointStands endpoint (opening_node (nothing_begun settings))
 
 -- no pair has exchanges
 abbrev pub AreEmpty : List ExchangesState → Type 0

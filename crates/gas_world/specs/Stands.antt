@@ -5,12 +5,13 @@ use Rattle.node_record.specs.Record.{Request, Run, numbered}
 use Rattle.node_record.specs.Executed.{run_of}
 use Rattle.node_record.specs.Held.{held}
 use Rattle.am_core.specs.ClientRules.{content_refusal}
-use Rattle.am_core.specs.Kept.{IsKept}
+use Rattle.endpoint_rules.specs.EndpointLocal.{IsEndpointKept}
 use Rattle.plain_world.specs.Invariant.{WorldInvariant}
 use Rattle.node_record.specs.Credits.{greatest_holding}
-use Rattle.gas_world.specs.CallRules.{Records}
-use Rattle.gas_world.specs.Endpoints.{EndpointState, EndpointStands}
-use Rattle.gas_world.specs.Sizes.{IsNodeOf, IsWorldSized}
+use Rattle.endpoint_rules.specs.EndpointRules.{Records}
+use Rattle.gas_endpoint.specs.Endpoints.{EndpointState, EndpointStands}
+use Rattle.gas_endpoint.specs.Endpoints.{IsNodeOf}
+use Rattle.gas_world.specs.Sizes.{IsWorldSized}
 use Rattle.gas_world.specs.Worlds.{WorldState}
 use Rattle.gas_world.specs.declared.exchanges.Exchange.{Exchange}
 
@@ -35,7 +36,8 @@ pub record StandsForPair (exchanges : List Exchange) (requests : List Request) (
 -- that node (`greatest_holding`)
 pub record Stands (world : WorldState) (records : Records) (most : ℕ → ℕ) : Type 0 where
   pub range : AreInRange world.settings
-  pub invariant_ : WorldInvariant world.settings (content_refusal world.settings world.table) (IsKept world.settings) records
+  pub invariant_ : WorldInvariant
+      world.settings (content_refusal world.settings world.table) (IsEndpointKept world.settings) records
   pub endpoints : (node : ℕ) → node < world.settings.nodes
       → (endpoint : EndpointState) × (slice_get world.endpoints node ≡ Some endpoint)
       × IsNodeOf world.settings world.table node endpoint × EndpointStands endpoint (records node)

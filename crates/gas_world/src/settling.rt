@@ -2,8 +2,9 @@
 
 ghost use Rattle.std.specs.Prelude.{◌≡◌, ◌<◌, ◌∷◌, [], OnOk, OnErr, IsOk};
 ghost use Rattle.plain_world.specs.World.{IsAmong};
-ghost use Rattle.gas_world.specs.CallRules.{timed};
-ghost use Rattle.gas_world.specs.Events.{event_of, job_in, IsToAnother};
+ghost use Rattle.endpoint_rules.specs.EndpointRules.{timed};
+ghost use Rattle.gas_world.specs.Events.{event_of, job_in, MaySend};
+ghost use Rattle.gas_world.specs.Aims.{MayFall};
 ghost use Rattle.gas_world.specs.Settling.{Moves, turn_events, row_events, pair_events};
 ghost use Rattle.gas_world.specs.Settling.{tick_events, round_events, settle_events};
 
@@ -18,9 +19,9 @@ impl World {
     /// one: each request of the pair that isn't back is delivered, in rising order of numbers, and
     /// then its reply, where it was sent.
     ///
-    /// Its events are those of `settle_events`, each by `step`. Want of memory would be its one
-    /// error, but it comes only at a request of a thread to another node, and a round has none: so
-    /// it is never refused.
+    /// Its events are those of `settle_events`, each by `step`. Want of memory is its one error: it
+    /// comes at a tick that sends a request for the first time, and then the rest of the rounds isn't
+    /// done.
     pub fn settle<H: Handlers>(
         &mut self,
         handlers: &H,
@@ -29,7 +30,6 @@ impl World {
     ) -> Result<(), AllocError>
         ensures settings { self.new.settings ≡ self.old.settings }
         ensures table { self.new.table ≡ self.old.table }
-        ensures never { IsOk result }
         ensures moves { OnOk result (Moves (job_in (H.meaning handlers.now) self.old)
             (settle_events (job_in (H.meaning handlers.now) self.old) now rounds)
             self.old self.new) }
@@ -45,7 +45,6 @@ impl World {
     fn round<H: Handlers>(&mut self, handlers: &H, now: u64) -> Result<(), AllocError>
         ensures settings { self.new.settings ≡ self.old.settings }
         ensures table { self.new.table ≡ self.old.table }
-        ensures never { IsOk result }
         ensures moves { OnOk result (Moves (job_in (H.meaning handlers.now) self.old)
             (round_events (job_in (H.meaning handlers.now) self.old) now) self.old self.new) }
     {
@@ -57,7 +56,6 @@ impl World {
     fn ticks<H: Handlers>(&mut self, handlers: &H, now: u64) -> Result<(), AllocError>
         ensures settings { self.new.settings ≡ self.old.settings }
         ensures table { self.new.table ≡ self.old.table }
-        ensures never { IsOk result }
         ensures moves { OnOk result (Moves (job_in (H.meaning handlers.now) self.old)
             (tick_events (job_in (H.meaning handlers.now) self.old) now) self.old self.new) }
     {
@@ -67,7 +65,8 @@ impl World {
         Ok(())
     }
 
-    /// The turns of all pairs, in rising order of the first node and then of the other one.
+    /// The turns of all pairs, in rising order of the first node and then of the other one. No
+    /// delivery wants memory.
     fn pairs<H: Handlers>(&mut self, handlers: &H, now: u64) -> Result<(), AllocError>
         ensures settings { self.new.settings ≡ self.old.settings }
         ensures table { self.new.table ≡ self.old.table }
@@ -129,17 +128,19 @@ impl World {
         Ok(())
     }
 
-    /// An event whose answer nobody asks for. It is refused at a request to another node alone.
+    /// An event whose answer nobody asks for. It is refused at a request to another node alone, of a
+    /// thread or of a tick.
     fn happens<H: Handlers>(
         &mut self,
         handlers: &H,
         now: u64,
         event: &WorldEvent<'_>,
     ) -> Result<(), AllocError>
-        requires { IsAmong self.old.settings (event_of event.now) }
+        requires among { IsAmong self.old.settings (event_of event.now) }
+        requires called { MayFall self.old.settings event.now }
         ensures settings { self.new.settings ≡ self.old.settings }
         ensures table { self.new.table ≡ self.old.table }
-        ensures wants { OnErr result (IsToAnother (event_of event.now)) }
+        ensures wants { OnErr result (MaySend (event_of event.now)) }
         ensures moves { OnOk result (Moves (job_in (H.meaning handlers.now) self.old)
             (λ world. timed now (event_of event.now) ∷ []) self.old self.new) }
     {

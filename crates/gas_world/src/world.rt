@@ -1,23 +1,28 @@
 //! A world of endpoints.
 
 ghost use Rattle.std.specs.Prelude.{◌≡◌, ◌≢◌, ◌<◌, ◌≤◌, ◌+◌, ◌*◌, ℕ, IfOk, length, Some};
-ghost use Rattle.gas_world.specs.Sizes.{AreOpening, AreEmpty, IsNodeOf};
-ghost use Rattle.gas_world.specs.CallRules.{at_the_opening, transition};
+ghost use Rattle.gas_endpoint.specs.Endpoints.{IsNodeOf};
+ghost use Rattle.gas_world.specs.Sizes.{AreOpening, AreEmpty};
+ghost use Rattle.endpoint_rules.specs.EndpointRules.{at_the_opening, transition};
 ghost use Rattle.plain_world.specs.World.{IsAmong};
 ghost use Rattle.plain_world.specs.Plain.{plain_of, IsFirstOut};
 ghost use Rattle.plain_world.specs.Laws.{IsLawful};
 ghost use Rattle.node_record.specs.Credits.{greatest_holding};
-ghost use Rattle.gas_world.specs.Endpoints.{EndpointStands};
+ghost use Rattle.gas_endpoint.specs.Endpoints.{EndpointStands};
 ghost use Rattle.gas_world.specs.Stands.{Stands};
-ghost use Rattle.gas_world.specs.Aims.{AimsAt, IsTargetOf};
+ghost use Rattle.gas_world.specs.Aims.{AimsAt, MayFall, IsTargetOf};
 ghost use Rattle.gas_world.specs.Events.{event_of, ForItsRecords, job_in, RunsHaveTheHeadline};
+ghost use Rattle.gas_world.specs.Events.{RunsHaveTheLaws};
+ghost use Rattle.transfer_laws.specs.TransferLaws.{TransfersHold};
+ghost use Rattle.barrier_laws.specs.BarrierLaws.{BarrierHolds};
 ghost use Rattle.gas_world.specs.Events.{Steps, StepsPlainly};
 
-use crate::endpoint::Endpoint;
-use crate::event::{Call, WorldAnswer, WorldEvent};
+use crate::event::{WorldAnswer, WorldEvent};
 use crate::exchanges::Exchanges;
 use crate::step::{Happening, happen};
 use datagram_grammar::Settings;
+use endpoint_rules::Call;
+use gas_endpoint::Endpoint;
 use handler_rules::{Handlers, Table};
 use std::alloc::{AllocError, Global};
 use std::marker::Model;
@@ -63,12 +68,14 @@ impl World {
     /// A world of endpoints that asked and ran nothing. It keeps copies of the table.
     ///
     /// Want of memory is its one error. Each run from here, by any lawful handlers and any
-    /// events among the nodes, has the headline.
+    /// events among the nodes, has the headline; and the laws of synchronised transfers and those of
+    /// the barrier hold in it.
     pub fn new(alloc: Global, settings: &Settings, table: &Table) -> Result<World, AllocError>
         ensures settings { IfOk result (λ v. v.settings ≡ settings.now) }
         ensures table { IfOk result (λ v. v.table ≡ table.now) }
-        ensures stands { IfOk result (λ v. Stands v at_the_opening (λ i. 0)) }
+        ensures stands { IfOk result (λ v. Stands v (at_the_opening settings.now) (λ i. 0)) }
         ensures headline { IfOk result RunsHaveTheHeadline }
+        ensures laws { IfOk result RunsHaveTheLaws }
     {
         let nodes = settings.nodes();
         let pairs = usize::from(nodes) * usize::from(nodes);
@@ -83,18 +90,24 @@ impl World {
 
     /// One event at the time `now`.
     ///
-    /// The node on which a call or a tick falls, and both nodes of a delivery, are there. `Unsent`
-    /// comes exactly where that message was never sent. `NoMemory` comes only at a request to another
-    /// node that would be accepted, and then the world stands for the same records. Else, read as a plain world,
+    /// The node on which a call or a tick falls, and both nodes of a delivery, are there; so is the
+    /// thread of a call, and a list of registers has at most 256. `Unsent` comes exactly where that
+    /// message was never sent. `NoMemory` comes only at a request to another node that would be
+    /// accepted, of a thread or of a tick, and then the world stands for the same records. Else, read as a plain world,
     /// one without buffers, kept replies and times, it steps by the same event with the same
-    /// answer. The laws of the headline hold of each state that it comes to.
+    /// answer. The laws of the headline hold of each state that it comes to. In each run of this
+    /// job, by these handlers, what a synchronisation of transfers that answers `Ok` tells was done
+    /// between the beginning and the answer; and a try of the barrier that ends a phase tells the
+    /// outcome of the nodes' notifies.
+    #[inline(always)]
     pub fn step<H: Handlers>(
         &mut self,
         handlers: &H,
         now: u64,
         event: &WorldEvent<'_>,
     ) -> WorldAnswer
-        requires { IsAmong self.old.settings (event_of event.now) }
+        requires among { IsAmong self.old.settings (event_of event.now) }
+        requires called { MayFall self.old.settings event.now }
         ensures settings { self.new.settings ≡ self.old.settings }
         ensures table { self.new.table ≡ self.old.table }
         ensures steps { Steps (H.meaning handlers.now) self.old
@@ -103,7 +116,11 @@ impl World {
             (transition now (event_of event.now) result) }
         ensures lawful { ForItsRecords self.new (λ records most.
             IsLawful (job_in (H.meaning handlers.now) self.new) records) }
+        ensures transfers { TransfersHold self.new.settings self.new.table
+            (H.meaning handlers.now) }
+        ensures barrier { BarrierHolds self.new.settings self.new.table (H.meaning handlers.now) }
     {
+        let _ = &self.settings;
         self.step_as_recorded(handlers, now, event)
     }
 
@@ -211,25 +228,13 @@ struct Aim {
     from: u16,
     /// And it ends with this one. Where there is no other node, it is the same.
     to: u16,
-}
-
-/// Where an event falls; None where a node is to deliver a message to itself, since it sends itself
-/// none.
-fn aim_of(settings: &Settings, event: &WorldEvent<'_>) -> Option<Aim>
-    ensures { AimsAt settings.now event.now result }
-{
-    let (node, from, to) = match event {
-        WorldEvent::Call { node, call, .. } => (*node, *node, target_of(settings, *node, call)),
-        WorldEvent::Tick { node } => (*node, *node, *node),
-        WorldEvent::Request { from, to, .. } if *from != *to => (*to, *from, *to),
-        WorldEvent::Reply { from, to, .. } if *from != *to => (*from, *from, *to),
-        _ => return None,
-    };
-    Some(Aim { node, from, to })
+    /// The node to which a tick sends a request of its node's own accord, if it does.
+    target: Option<u16>,
 }
 
 /// The node of which a call is asked, where that is a request and the node is there; else the own
 /// node.
+#[inline(always)]
 fn target_of(settings: &Settings, node: u16, call: &Call<'_>) -> u16
     ensures { IsTargetOf settings.now node call.now result }
 {
@@ -247,20 +252,49 @@ fn place_of(settings: &Settings, from: u16, to: u16) -> usize
 }
 
 impl World {
+    /// Where an event at the time `now` falls; None where a node is to deliver a message to itself,
+    /// since it sends itself none.
+    #[inline(always)]
+    fn aim(&self, now: u64, event: &WorldEvent<'_>) -> Option<Aim>
+        requires { IsAmong self.now.settings (event_of event.now) }
+        ensures { AimsAt self.now (transition now event.now result) }
+    {
+        let (node, from, to, target) = match event {
+            WorldEvent::Call { node, call, .. } => {
+                (*node, *node, target_of(&self.settings, *node, call), None)
+            }
+            WorldEvent::Tick { node } => {
+                let target = self.endpoints[usize::from(*node)].next_target(now);
+                (*node, *node, target.unwrap_or(*node), target)
+            }
+            WorldEvent::Request { from, to, .. } if *from != *to => (*to, *from, *to, None),
+            WorldEvent::Reply { from, to, .. } if *from != *to => (*from, *from, *to, None),
+            _ => return None,
+        };
+        Some(Aim {
+            node,
+            from,
+            to,
+            target,
+        })
+    }
+
     /// One event at the time `now`, as the records of the nodes say it.
+    #[inline(always)]
     fn step_as_recorded<H: Handlers>(
         &mut self,
         handlers: &H,
         now: u64,
         event: &WorldEvent<'_>,
     ) -> WorldAnswer
-        requires { IsAmong self.old.settings (event_of event.now) }
+        requires among { IsAmong self.old.settings (event_of event.now) }
+        requires called { MayFall self.old.settings event.now }
         ensures settings { self.new.settings ≡ self.old.settings }
         ensures table { self.new.table ≡ self.old.table }
         ensures steps { Steps (H.meaning handlers.now) self.old
             (transition now (event_of event.now) result) self.new }
     {
-        let Some(aim) = aim_of(&self.settings, event) else {
+        let Some(aim) = self.aim(now, event) else {
             return WorldAnswer::Unsent;
         };
         let place = place_of(&self.settings, aim.from, aim.to);
@@ -269,6 +303,7 @@ impl World {
             handlers,
             now,
             event,
+            target: aim.target,
         };
         happen(
             happening,

@@ -2,6 +2,8 @@ use Rattle.std.proofs.Common.{◌≡◌, ◌*◌, length, replicate, rules, sym,
 use Rattle.gas_world.specs.Sizes.{AreOpening}
 use Rattle.gas_world.proofs.Opening.{stands_opening, whole_opening}
 use Rattle.gas_world.proofs.Headline.{headline}
+use Rattle.transfer_laws.proofs.Laws.{transfers_hold}
+use Rattle.barrier_laws.proofs.Laws.{barrier_holds}
 use Rattle.gas_world.proofs.world.World.new.Goals as goal
 
 pub invariant_of-result : goal.invariant_of-result
@@ -31,4 +33,11 @@ returns-clause-stands c =
     c.in_ok-opening_endpoints.ensures.count open_ pairs c.in_ok-no_exchanges.ensures.1 zeros
 
 pub returns-clause-headline : goal.returns-clause-headline
-returns-clause-headline c = headline c.args.settings.now c.in_ok-copy.field-0
+returns-clause-headline c = λ meaning events.
+    headline c.args.settings.now c.in_ok-copy.field-0 meaning events c.nodes-nodes.ensures.range
+
+pub returns-clause-laws : goal.returns-clause-laws
+returns-clause-laws c = λ meaning lawful. (
+  transfers_hold c.args.settings.now c.in_ok-copy.field-0 meaning c.nodes-nodes.ensures.range lawful,
+  barrier_holds c.args.settings.now c.in_ok-copy.field-0 meaning c.nodes-nodes.ensures.range lawful,
+)

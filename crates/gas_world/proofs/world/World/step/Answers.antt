@@ -1,5 +1,14 @@
+use Rattle.std.proofs.Common.{List, Option, sym, subst, subst₂}
+use Rattle.datagram_grammar.specs.Parameters.{Parameters, AreInRange}
+use Rattle.handler_rules.specs.declared.table.Entry.{Entry}
+use Rattle.transfer_laws.specs.TransferLaws.{TransfersHold}
+use Rattle.transfer_laws.proofs.Laws.{transfers_hold}
+use Rattle.barrier_laws.specs.BarrierLaws.{BarrierHolds}
+use Rattle.barrier_laws.proofs.Laws.{barrier_holds}
 use Rattle.gas_world.specs.Events.{event_of}
+use Rattle.gas_world.specs.Worlds.{WorldState}
 use Rattle.gas_world.proofs.Plainly.{plainly, stands_lawful}
+use Rattle.gas_world.proofs.world.World.step.Given.{Over}
 use Rattle.gas_world.proofs.world.World.step.Goals as goal
 
 pub returns-clause-plain : goal.returns-clause-plain
@@ -12,3 +21,23 @@ pub returns-clause-lawful : goal.returns-clause-lawful
 returns-clause-lawful g c =
     λ w most S. stands_lawful (g.H.Handlers.meaning c.args.handlers.now) c.step_as_recorded.new.self w most
     (g.met.H.Handlers.is_lawful c.args.handlers.now) S
+
+-- the settings of a world are in range
+abbrev in_range : (g : Over) (c : goal.After-step_as_recorded g) → AreInRange c.args.self.now.settings
+in_range g c = subst (λ (w : WorldState). AreInRange w.settings) c.self.view_is c.self.invariant.founded.stands.range
+
+pub returns-clause-transfers : goal.returns-clause-transfers
+returns-clause-transfers g c =
+    let v = c.args.self.now in
+    let meaning = g.H.Handlers.meaning c.args.handlers.now in
+    subst₂ (λ (s : Parameters) (t : List (Option Entry)). TransfersHold s t meaning)
+    (sym c.step_as_recorded.ensures.settings) (sym c.step_as_recorded.ensures.table)
+    (transfers_hold v.settings v.table meaning (in_range g c) (g.met.H.Handlers.is_lawful c.args.handlers.now))
+
+pub returns-clause-barrier : goal.returns-clause-barrier
+returns-clause-barrier g c =
+    let v = c.args.self.now in
+    let meaning = g.H.Handlers.meaning c.args.handlers.now in
+    subst₂ (λ (s : Parameters) (t : List (Option Entry)). BarrierHolds s t meaning)
+    (sym c.step_as_recorded.ensures.settings) (sym c.step_as_recorded.ensures.table)
+    (barrier_holds v.settings v.table meaning (in_range g c) (g.met.H.Handlers.is_lawful c.args.handlers.now))

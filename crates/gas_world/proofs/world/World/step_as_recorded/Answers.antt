@@ -1,28 +1,32 @@
-use Rattle.std.proofs.Common.{rules, List, length, take, ◌++◌, None, Some, refl, ap, sym, ◌∙◌, subst}
+use Rattle.std.proofs.Common.{rules, List, length, take, ◌++◌, ◌<◌, Option, refl, ap, sym, ◌∙◌, subst}
 use Rattle.plain_world.specs.World.{IsAmong}
-use Rattle.gas_world.specs.CallRules.{transition}
+use Rattle.endpoint_rules.specs.EndpointRules.{transition}
 use Rattle.gas_world.specs.Events.{event_of}
 use Rattle.gas_world.specs.Worlds.{WorldState}
-use Rattle.gas_world.specs.Aims.{AimsAt}
-use Rattle.gas_world.specs.Endpoints.{EndpointState}
-use Rattle.gas_world.specs.Scenes.{Scene, SceneSteps, IsHeld, ChangesOne}
+use Rattle.gas_world.specs.Aims.{AimsAt, FallsAt, MayFall}
+use Rattle.gas_world.specs.declared.world.Aim.{Aim}
+use Rattle.gas_endpoint.specs.Endpoints.{EndpointState}
+use Rattle.gas_world.specs.Scenes.{Scene, SceneSteps, IsHeld, IsCallable, IsPlanned, ChangesOne}
 use Rattle.gas_world.proofs.Scenes.{sized_after, pair_place, changes_kept}
-use Rattle.gas_world.proofs.Aimed.{Happened, recorded, spot_held, founded_after, unaimed_steps, aim_among, aims_node}
+use Rattle.gas_world.proofs.Aimed.{Happened, recorded, spot_held, founded_after, unaimed_steps, aim_among, aims_node, callable, planned}
 use Rattle.gas_world.proofs.world.World.step_as_recorded.Given.{Over}
+use Rattle.gas_world.proofs.Reading.{world_of}
 use Rattle.gas_world.proofs.world.World.step_as_recorded.Goals as goal
 
 pub returns-in_default-clause-steps : goal.returns-in_default-clause-steps
 returns-in_default-clause-steps g c =
     unaimed_steps (g.H.Handlers.meaning c.args.handlers.now) c.args.self.now c.args.now c.args.event.now
-    (subst (λ s. AimsAt s c.args.event.now None) (ap (λ (w : WorldState). w.settings) c.self.view_is)
-    c.in_default.ensures)
+    c.in_default.ensures
 
 pub index_mut-requires : goal.index_mut-requires
 index_mut-requires g c =
     let s = c.self.inside.settings in
-    let at = subst (λ o. AimsAt s c.args.event.now o) c.in-Some.is c.aim_of.ensures in
-    let low = aim_among s c.args.event.now c.in-Some.aim
-    (subst (λ (v : WorldState). IsAmong v.settings (event_of c.args.event.now)) (sym c.self.view_is) c.requires) at in
+    let v = c.args.self.now in
+    let at : FallsAt v c.args.now c.args.event.now c.in-Some.aim =
+    subst (λ (o : Option Aim). AimsAt v (transition c.args.now c.args.event.now o)) c.in-Some.is c.aim.ensures in
+    let there = aim_among v c.args.now c.args.event.now c.in-Some.aim c.requires.among at in
+    let low = subst (λ (w : WorldState). (c.in-Some.aim.node < w.settings.nodes)
+    × (c.in-Some.aim.from < w.settings.nodes) × (c.in-Some.aim.to < w.settings.nodes)) (sym c.self.view_is) there in
     let place = pair_place s.nodes c.in-Some.aim.from c.in-Some.aim.to low.1 low.2 in
     search (rules, c.place_of-place.ensures, c.self.invariant.sized.exchanges_are, place)
 
@@ -36,10 +40,13 @@ happen-requires-clause-held g c =
       exchanges = c.self.inside.exchanges.items;
       most = c.self.inside.most.items;
     } in
-    let aims = subst (λ o. AimsAt inside.settings c.args.event.now o) c.in-Some.is c.aim_of.ensures in
-    let held = spot_held (g.H.Handlers.meaning c.args.handlers.now) inside c.args.self.now c.args.event.now aim
-    c.from-node.result c.place_of-place.result _ _ (g.met.H.Handlers.is_lawful c.args.handlers.now) c.self.view_is
-    c.self.invariant c.requires aims (record {
+    let aims : FallsAt inside c.args.now c.args.event.now aim =
+    subst (λ (w : WorldState). FallsAt w c.args.now c.args.event.now aim) (sym c.self.view_is)
+    (subst (λ (o : Option Aim). AimsAt c.args.self.now (transition c.args.now c.args.event.now o)) c.in-Some.is
+    c.aim.ensures) in
+    let held = spot_held (g.H.Handlers.meaning c.args.handlers.now) inside c.args.self.now c.args.event.now c.args.now
+    aim c.from-node.result c.place_of-place.result _ _ (g.met.H.Handlers.is_lawful c.args.handlers.now) c.self.view_is
+    c.self.invariant c.requires.among aims (record {
       node_is = c.from-node.ensures;
       place_is = c.place_of-place.ensures;
       exchanges_were = c.index_mut.ensures.value;
@@ -47,6 +54,23 @@ happen-requires-clause-held g c =
     }) in
     subst (λ (l : List EndpointState). IsHeld l c.index_mut.result.now.list c.args.event.now)
     (sym c.deref_mut.ensures.value) held
+
+pub happen-requires-clause-called : goal.happen-requires-clause-called
+happen-requires-clause-called g c =
+    subst (λ (l : List EndpointState). IsCallable l c.args.event.now)
+    (sym c.deref_mut.ensures.value)
+    (callable (world_of c.self.inside.settings c.self.inside.table c.self.inside.endpoints.items
+    c.self.inside.exchanges.items c.self.inside.most.items) c.args.event.now c.self.invariant
+    (subst (λ (w : WorldState). MayFall w.settings c.args.event.now) (sym c.self.view_is) c.requires.called))
+
+pub happen-requires-clause-target : goal.happen-requires-clause-target
+happen-requires-clause-target g c =
+    let at : FallsAt c.args.self.now c.args.now c.args.event.now c.in-Some.aim =
+    subst (λ (o : Option Aim). AimsAt c.args.self.now (transition c.args.now c.args.event.now o)) c.in-Some.is
+    c.aim.ensures in
+    subst (λ (l : List EndpointState). IsPlanned l (transition c.args.now c.args.event.now c.in-Some.aim.target))
+    (sym (c.deref_mut.ensures.value ∙ ap (λ (w : WorldState). w.endpoints) c.self.view_is))
+    (planned c.args.self.now c.args.now c.args.event.now c.in-Some.aim at)
 
 -- what was read of the world
 abbrev inside_of : (g : Over) → goal.After-self-3-1 g → WorldState
@@ -76,7 +100,9 @@ abbrev happened : (g : Over) (c : goal.After-self-3-1 g)
     (transition c.args.now c.args.event.now c.happen.result) (is g c) c.in-Some.aim c.from-node.result
     c.place_of-place.result
 happened g c = record {
-  aims = subst (λ o. AimsAt c.self.inside.settings c.args.event.now o) c.in-Some.is c.aim_of.ensures;
+  aims = subst (λ (w : WorldState). FallsAt w c.args.now c.args.event.now c.in-Some.aim) (sym c.self.view_is)
+      (subst (λ (o : Option Aim). AimsAt c.args.self.now (transition c.args.now c.args.event.now o)) c.in-Some.is
+      c.aim.ensures);
   spot = record {
     node_is = c.from-node.ensures;
     place_is = c.place_of-place.ensures;
@@ -96,7 +122,7 @@ changed g c behind =
     changes_kept (inside_of g c).endpoints c.deref_mut.result.now c.happen.new.endpoints behind
     c.self.inside.endpoints.len _ c.from-node.result c.happen.ensures.was c.happen.ensures.is c.deref_mut.ensures.value
     (sym (ap (λ (l : List EndpointState). length l) c.deref_mut.ensures.value) ∙ c.deref_mut.ensures.len)
-    (aims_node c.self.inside.settings c.args.event.now c.in-Some.aim (happened g c).aims ∙ sym c.from-node.ensures)
+    (aims_node (inside_of g c) c.args.now c.args.event.now c.in-Some.aim (happened g c).aims ∙ sym c.from-node.ensures)
     c.happen.ensures.changes
 
 pub invariant_of-self : goal.invariant_of-self
@@ -111,7 +137,7 @@ invariant_of-self g c =
           (recorded meaning inside inside _ c.args.now c.args.event.now c.in-Some.aim c.happen.result _
           c.from-node.result c.place_of-place.result (was g c) (is g c) (g.met.H.Handlers.is_lawful c.args.handlers.now)
           refl c.self.invariant
-          (subst (λ (v : WorldState). IsAmong v.settings (event_of c.args.event.now)) (sym c.self.view_is) c.requires)
+          (subst (λ (v : WorldState). IsAmong v.settings (event_of c.args.event.now)) (sym c.self.view_is) c.requires.among)
           (happened g c) (changed g c _) refl);
     }
 
@@ -119,5 +145,5 @@ pub returns-clause-steps : goal.returns-clause-steps
 returns-clause-steps g c =
     recorded (g.H.Handlers.meaning c.args.handlers.now) (inside_of g c) c.args.self.now _ c.args.now c.args.event.now
     c.in-Some.aim c.happen.result _ c.from-node.result c.place_of-place.result (was g c) (is g c)
-    (g.met.H.Handlers.is_lawful c.args.handlers.now) c.self.view_is c.self.invariant c.requires (happened g c)
+    (g.met.H.Handlers.is_lawful c.args.handlers.now) c.self.view_is c.self.invariant c.requires.among (happened g c)
     (changed g c _) refl

@@ -1,6 +1,6 @@
 use Rattle.std.proofs.Common.{[], ◌∷◌, arith}
 use Rattle.plain_world.specs.World.{Ticks}
-use Rattle.gas_world.specs.CallRules.{timed}
+use Rattle.endpoint_rules.specs.EndpointRules.{timed}
 use Rattle.gas_world.proofs.Moving.{turns_none, turns_next, turns_all}
 use Rattle.gas_world.proofs.world.World.ticks.Goals as goal
 

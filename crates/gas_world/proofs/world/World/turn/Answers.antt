@@ -2,7 +2,7 @@ use Rattle.std.proofs.Common.{◌≡◌, ℕ, ◌+◌, ◌<◌, ◌≤◌, List,
 use Rattle.handler_rules.specs.Runs.{Meaning}
 use Rattle.plain_world.specs.Plain.{plain_of}
 use Rattle.plain_world.specs.World.{RequestComes, ReplyComes, Timed}
-use Rattle.gas_world.specs.CallRules.{OtherCall, Records, timed}
+use Rattle.endpoint_rules.specs.EndpointRules.{OtherCall, Records, timed}
 use Rattle.gas_world.specs.Events.{job_in}
 use Rattle.gas_world.specs.Settling.{Moves}
 use Rattle.gas_world.specs.Worlds.{WorldState}

@@ -1,0 +1,22 @@
+use Rattle.std.proofs.Common.{rules, ◌≡◌, ◌<◌, get_or, length, sym, subst}
+use Rattle.std.specs.Prelude.{Bool}
+use Rattle.std.proofs.lemmas.Option.{slice_get-get_or}
+use Rattle.gas_endpoint.specs.Endpoints.{EndpointState}
+use Rattle.gas_world.specs.Scenes.{IsBetween}
+use Rattle.gas_world.specs.declared.event.WorldEvent.{WorldEvent}
+use Rattle.gas_world.proofs.Sendings.{tick_happens}
+use Rattle.gas_world.proofs.step.happen.Goals as goal
+
+pub returns-in-Tick : goal.returns-in-Tick
+returns-in-Tick g c =
+    let node = c.in-Tick.node in
+    let was : EndpointState = get_or c.args.endpoints.now node c.index-endpoints-node-in-Tick.result in
+    let low : node < length c.args.endpoints.now =
+    subst (λ (e : WorldEvent). IsBetween (length c.args.endpoints.now) e) c.in-Tick.is c.requires.between in
+    tick_happens (g.H.Handlers.meaning c.args.happening.handlers.now)
+    (record { endpoints = c.args.endpoints.now; exchanges = c.args.exchanges.now; most = c.args.most.now })
+    c.args.happening.now node c.args.happening.event.now c.args.happening.target c.fall-in-Tick.result was
+    (record { endpoint = c.fall-in-Tick.new.self.endpoint.now; exchanges = _; most = _ })
+    c.in-Tick.is (slice_get-get_or c.args.endpoints.now node c.index-endpoints-node-in-Tick.result low)
+    c.fall-in-Tick.ensures.same c.requires.target
+    (search (rules, c.fall-in-Tick.ensures.steps, c.is_some-is_ask.ensures))
