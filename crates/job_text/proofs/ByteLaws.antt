@@ -1,12 +1,12 @@
 -- Reading bytes is the inverse of writing them.
-use Rattle.std.proofs.Common.{◌≡◌, ℕ, ◌-◌, ◌+◌, ◌*◌, ◌/◌, ◌%◌, ◌<◌, ◌≤◌, ◌&&◌, ltb, leb, eqb, Bool, true, false, cond}
-use Rattle.std.proofs.Common.{List, [], ◌∷◌, ◌++◌, length, Option, Some, None, refl, ap, sym, ◌∙◌, arith}
+use Rattle.std.proofs.Common.{◌≡◌, ℕ, ◌-◌, ◌+◌, ◌*◌, ◌/◌, ◌%◌, ◌<◌, ◌&&◌, ltb, leb, eqb, Bool, true, false, cond}
+use Rattle.std.proofs.Common.{List, [], ◌∷◌, ◌++◌, length, Some, None, refl, ap, sym, ◌∙◌, arith}
 use Rattle.std.specs.List.{AllByRecursion, flat_map}
 use Rattle.std.proofs.lemmas.Bool.{and_parts, and_from, leb-true, le-leb, lt-leb, lt-ltb, le-ltb, ltb-true, ltb-false}
 use Rattle.std.proofs.lemmas.Bool.{eqb-true}
 use Rattle.job_text.specs.Lines.{Word, is_stop}
 use Rattle.job_text.specs.Payloads.{digit_value, hex_digit, hex_byte, byte_of, pairs_of, most_bytes, bytes_word}
-use Rattle.job_text.specs.Payloads.{few_bytes, bytes_of, AreBytes}
+use Rattle.job_text.specs.Payloads.{bytes_of, AreBytes}
 use Rattle.job_text.proofs.Fronts.{cond_yes, cond_no}
 use Rattle.job_text.proofs.Takes.{Takes, takes_some, takes_none, takes_then, takes_if}
 use Rattle.job_text.proofs.WordRuns.{IsRun, high_run}

@@ -7,7 +7,7 @@ use Rattle.job_text.specs.declared.job.Operand.TheVariants as operand
 use Rattle.job_text.specs.Lines.{◌>>=◌, is_stop, front, back}
 use Rattle.job_text.specs.Words.{number_of, number_read, number_in, negated, plain, integer_of, integer_read}
 use Rattle.job_text.specs.Words.{schedule_operand, body_operand}
-use Rattle.job_text.specs.Forms.{Value, BodyValue, word_at, value_read, body_value_read}
+use Rattle.job_text.specs.Forms.{Integer, Value, BodyValue, word_at, value_read, body_value_read}
 
 -- a first byte that ends no word, by whether a word ends
 first_by : (t : Bool) (b : ℕ) (bs : List ℕ) (letter : ℕ) → is_stop b ≡ t → is_stop letter ≡ false → eqb 0 letter
@@ -57,8 +57,13 @@ integer_by true bs e = rw (letter_is bs 45 e refl) (signed_is (drop 1 bs))
 integer_by false bs e = plain_is bs e
 
 -- an integer, by the first byte
-integer_is : (bs : List ℕ) → (integer_of (front bs) >>= λ z. Some (z, back bs)) ≡ integer_read bs
-integer_is bs = integer_by (eqb (get_or bs 0 0) 45) bs refl
+integer_found : (bs : List ℕ) → (integer_of (front bs) >>= λ z. Some (z, back bs)) ≡ integer_read bs
+integer_found bs = integer_by (eqb (get_or bs 0 0) 45) bs refl
+
+-- the first word as an integer
+pub integer_is : (bs : List ℕ) → word_at Integer bs ≡ integer_read bs
+unfolding word_at
+integer_is bs = integer_found bs
 
 -- a cell
 cell_is : (bs : List ℕ) → word_at Value (99 ∷ bs) ≡ value_read (99 ∷ bs)
@@ -69,7 +74,7 @@ cell_is bs = map_word (number_in 0 255 (front bs)) operand.Cell (back bs)
 number_is : (bs : List ℕ) → eqb (get_or bs 0 0) 99 ≡ false → word_at Value bs ≡ value_read bs
 unfolding word_at value_read schedule_operand
 number_is bs e = rw (first_same bs 99 refl refl, e) (map_word (integer_of (front bs)) operand.Number (back bs) ∙ ap
-    (λ (o : Option (ℤ × List ℕ)). o >>= λ x. Some (operand.Number x.0, x.1)) (integer_is bs))
+    (λ (o : Option (ℤ × List ℕ)). o >>= λ x. Some (operand.Number x.0, x.1)) (integer_found bs))
 
 value_by : (t : Bool) (bs : List ℕ) → eqb (get_or bs 0 0) 99 ≡ t → word_at Value bs ≡ value_read bs
 value_by true bs e = rw (letter_is bs 99 e refl) (cell_is (drop 1 bs))

@@ -1,7 +1,6 @@
 -- Reading a payload is the inverse of writing it.
-use Rattle.std.proofs.Common.{◌≡◌, ℕ, ◌^◌, ◌<◌, ◌≤◌, List, [], ◌∷◌, ◌++◌, length, get_or, Option, Some, None, Bool}
+use Rattle.std.proofs.Common.{◌≡◌, ℕ, ◌^◌, ◌<◌, List, [], ◌∷◌, ◌++◌, length, get_or, Some, Bool}
 use Rattle.std.proofs.Common.{true, false, cond, eqb, refl, ap, ◌∙◌, arith, decimal, codes}
-use Rattle.std.specs.List.{AllByRecursion}
 use Rattle.std.specs.Str.{bytes_eq}
 use Rattle.std.specs.Str.Parse.{AllDigits}
 use Rattle.std.proofs.lemmas.Str.Parse.{digit_from_value}
@@ -13,7 +12,7 @@ use Rattle.job_text.specs.declared.job.Payload.TheVariants as payload
 use Rattle.job_text.specs.Lines.{Word}
 use Rattle.job_text.specs.Payloads.{bytes_word, AreBytes, plus_front, plus_back, range_of, payload_of, body_payload_of}
 use Rattle.job_text.specs.Payloads.{payload_word, IsPayload, IsBodyPayload}
-use Rattle.job_text.proofs.Fronts.{cond_yes, cond_no}
+use Rattle.job_text.proofs.Fronts.{cond_no}
 use Rattle.job_text.proofs.Decimals.{own, number_of-decimal}
 use Rattle.job_text.proofs.Integers.{number_takes}
 use Rattle.job_text.proofs.Takes.{Takes, takes_some, takes_then, takes_if, takes_weaker}

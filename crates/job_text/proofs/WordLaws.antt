@@ -1,7 +1,6 @@
 -- Reading a word is the inverse of writing it.
-use Rattle.std.proofs.Common.{FitsSigned, ℤ, pos, negsuc, ◌≡◌, ℕ, suc, ◌^◌, ◌<◌, ◌≤◌, List, [], ◌∷◌, drop, get_or}
+use Rattle.std.proofs.Common.{FitsSigned, ℤ, pos, negsuc, ◌≡◌, ℕ, ◌^◌, ◌<◌, ◌≤◌, List, [], ◌∷◌, drop, get_or}
 use Rattle.std.proofs.Common.{Option, Some, true, false, cond, eqb, refl, ap, ◌∙◌, arith, decimal, codes}
-use Rattle.std.specs.List.{AllByRecursion}
 use Rattle.std.specs.Str.{bytes_eq}
 use Rattle.std.specs.Str.Parse.{AllDigits}
 use Rattle.std.specs.Int.{w32}
@@ -14,17 +13,20 @@ use Rattle.handler_rules.specs.declared.rules.CallKind.{CallKind}
 use Rattle.handler_rules.specs.declared.rules.CallKind.TheVariants as kind
 use Rattle.handler_rules.specs.declared.rules.Role.{Role as HandlerRole}
 use Rattle.handler_rules.specs.declared.rules.Role.TheVariants as role
+use Rattle.job_text.specs.declared.job.ImplicitKind.{ImplicitKind}
+use Rattle.job_text.specs.declared.job.ImplicitKind.TheVariants as implicit
 use Rattle.job_text.specs.declared.job.Operand.{Operand}
 use Rattle.job_text.specs.declared.job.Operand.TheVariants as operand
-use Rattle.job_text.specs.Lines.{Word, is_stop}
+use Rattle.job_text.specs.Lines.{Word}
 use Rattle.job_text.specs.Words.{number_in, schedule_operand, body_operand, operand_word, IsBodyOperand}
 use Rattle.job_text.specs.Words.{IsScheduleOperand, kind_of, kind_word, IsNamed, role_of, role_word}
-use Rattle.job_text.specs.Forms.{Bytes, Payload, BodyPayload}
+use Rattle.job_text.specs.Words.{implicit_of, implicit_word}
+use Rattle.job_text.specs.Forms.{Bytes, Payload, BodyPayload, Integer, Implicit}
 use Rattle.job_text.specs.Forms.{Part, Number, Value, BodyValue, Kind, Role, Meaning, word_text, IsSaid, word_says}
 use Rattle.job_text.proofs.Fronts.{cond_yes, cond_no}
 use Rattle.job_text.proofs.Decimals.{own, number_of-decimal}
 use Rattle.job_text.proofs.Integers.{IsInteger, number_takes, integer_takes, integer_again, first_is}
-use Rattle.job_text.proofs.WordRuns.{IsRun, high_run, decimal_run, integer_run}
+use Rattle.job_text.proofs.WordRuns.{IsRun, decimal_run, integer_run}
 use Rattle.job_text.proofs.ByteLaws.{bytes_take, bytes_again, bytes_run}
 use Rattle.job_text.proofs.PayloadLaws.{payload_takes, payload_again, payload_run, also_in_body}
 use Rattle.job_text.proofs.PayloadLaws.{body_payload_takes, body_payload_again}
@@ -190,6 +192,29 @@ role_run : (r : HandlerRole) → IsRun (role_word r)
 role_run role.Request = (refl, (refl, (refl, (refl, (refl, (refl, (refl, tt)))))))
 role_run role.Reply = (refl, (refl, (refl, (refl, (refl, tt)))))
 
+-- ---- implicit operations
+
+-- a word that was read as implicit operations
+implicit_takes : (word : Word) → Takes (λ k. word ≡ implicit_word k) (implicit_of word)
+unfolding implicit_of
+implicit_takes word =
+    one_of {P = λ k. word ≡ implicit_word k} {word = word} {name = codes "puts"} implicit.Puts (λ e. e)
+    (one_of {P = λ k. word ≡ implicit_word k} {word = word} {name = codes "gets"} implicit.Gets (λ e. e)
+    (one_of {P = λ k. word ≡ implicit_word k} {word = word} {name = codes "all"} implicit.All (λ e. e) takes_none))
+
+-- implicit operations are read again
+implicit_again : (k : ImplicitKind) → implicit_of (implicit_word k) ≡ Some k
+unfolding implicit_of
+implicit_again implicit.Puts = refl
+implicit_again implicit.Gets = refl
+implicit_again implicit.All = refl
+
+-- their word ends nowhere within
+implicit_run : (k : ImplicitKind) → IsRun (implicit_word k)
+implicit_run implicit.Puts = (refl, (refl, (refl, (refl, tt))))
+implicit_run implicit.Gets = (refl, (refl, (refl, (refl, tt))))
+implicit_run implicit.All = (refl, (refl, (refl, tt)))
+
 -- ---- words of each kind
 
 -- a word that was read
@@ -202,6 +227,8 @@ word_takes Role word = takes_weaker (λ w. word ≡ role_word w) (role_takes wor
 word_takes Bytes word = bytes_take word
 word_takes Payload word = payload_takes word
 word_takes BodyPayload word = body_payload_takes word
+word_takes Integer word = takes_weaker (IsInteger word) (integer_takes word) (λ z h. (h.spells, h.fits))
+word_takes Implicit word = takes_weaker (λ w. word ≡ implicit_word w) (implicit_takes word) (λ w h. (h, tt))
 
 -- a word is read again
 pub word_again : (p : Part) (x : Meaning p) → IsSaid p x → word_says p (word_text p x) ≡ Some x
@@ -213,6 +240,8 @@ word_again Role x h = role_again x
 word_again Bytes x h = bytes_again x h
 word_again Payload x h = payload_again x h
 word_again BodyPayload x h = body_payload_again x h
+word_again Integer x h = integer_again x h
+word_again Implicit x h = implicit_again x
 
 -- no word ends within it
 pub word_run : (p : Part) (x : Meaning p) → IsSaid p x → IsRun (word_text p x)
@@ -224,3 +253,5 @@ word_run Role x h = role_run x
 word_run Bytes x h = bytes_run x
 word_run Payload x h = payload_run x (also_in_body x h)
 word_run BodyPayload x h = payload_run x h
+word_run Integer x h = integer_run x h
+word_run Implicit x h = implicit_run x

@@ -1,5 +1,5 @@
 -- Bytes at which no word ends.
-use Rattle.std.proofs.Common.{FitsSigned, ℤ, pos, negsuc, ◌≡◌, ℕ, suc, ◌^◌, ◌<◌, ◌≤◌, List, [], ◌∷◌, ◌++◌, true, false}
+use Rattle.std.proofs.Common.{FitsSigned, ℤ, pos, negsuc, ◌≡◌, ℕ, suc, ◌^◌, ◌<◌, ◌≤◌, List, [], ◌∷◌, ◌++◌, false}
 use Rattle.std.proofs.Common.{refl, arith, decimal}
 use Rattle.std.specs.List.{AllByRecursion}
 use Rattle.std.specs.Str.Parse.{AllDigits}

@@ -1,13 +1,16 @@
 -- The forms of calls in a schedule.
 use Rattle.std.specs.Prelude.{ℕ, List, [], ◌∷◌, Option, Bool, true, false, codes}
 use Rattle.job_text.specs.Lines.{Word}
-use Rattle.job_text.specs.Forms.{Number, Value, Kind, Bytes, Payload, Shape, End, ◌▸◌, Many, Maker, Values, Row, Entry}
+use Rattle.job_text.specs.Forms.{Number, Value, Kind, Bytes, Payload, Integer, Implicit, Shape, End, ◌▸◌, Many, Maker}
+use Rattle.job_text.specs.Forms.{Values, Row, Entry}
 use Rattle.job_text.specs.Forms.{table_at, entry_text, IsOf, none_at, none_text, none_fits, U64, U16, U8}
 use Rattle.job_text.specs.Reasons.{table_form}
 use Rattle.job_text.specs.declared.job.MediumText.{MediumText}
 use Rattle.job_text.specs.declared.job.LongText.{LongText}
 use Rattle.job_text.specs.declared.job.Payload.{Payload as PayloadValue}
 use Rattle.job_text.specs.declared.job.Operand.{Operand}
+use Rattle.job_text.specs.declared.job.TransferText.{TransferText}
+use Rattle.job_text.specs.declared.job.TransferText.TheVariants as transfer
 use Rattle.job_text.specs.declared.job.ScheduledCall.{ScheduledCall}
 use Rattle.job_text.specs.declared.job.ScheduledCall.TheVariants as call
 
@@ -72,9 +75,92 @@ word_row = form (codes "word") (U64 ▸ End) call.Word
 abbrev pub set_word_row : Row ⊥ ScheduledCall
 set_word_row = form (codes "set-word") (U64 ▸ U64 ▸ End) call.SetWord
 
--- the forms of calls on the own segment
+-- the words of a put and of a get (GASNet 1.8.1, extended API): the node, the offset in its segment, that in the own
+-- one, and how many bytes
+abbrev pub move_shape : Shape
+move_shape = U16 ▸ U64 ▸ U64 ▸ U64 ▸ End
+
+-- the words of a memset: the node, the offset in its segment, how many bytes, and the byte
+abbrev pub fill_shape : Shape
+fill_shape = U16 ▸ U64 ▸ U64 ▸ U8 ▸ End
+
+-- explicit transfers, each behind the register of its handle
+abbrev pub put_row : Row ⊥ ScheduledCall
+put_row = form (codes "put-nb-bulk") (U8 ▸ move_shape)
+    (λ register to remote local len. call.Begin register (transfer.Put to remote local len))
+
+abbrev pub get_row : Row ⊥ ScheduledCall
+get_row = form (codes "get-nb") (U8 ▸ move_shape)
+    (λ register to remote local len. call.Begin register (transfer.Get to remote local len))
+
+abbrev pub memset_row : Row ⊥ ScheduledCall
+memset_row = form (codes "memset-nb") (U8 ▸ fill_shape)
+    (λ register to remote len byte. call.Begin register (transfer.Memset to remote len byte))
+
+-- implicit transfers
+abbrev pub implicit_put_row : Row ⊥ ScheduledCall
+implicit_put_row = form (codes "put-nbi-bulk") move_shape
+    (λ to remote local len. call.BeginImplicit (transfer.Put to remote local len))
+
+abbrev pub implicit_get_row : Row ⊥ ScheduledCall
+implicit_get_row = form (codes "get-nbi") move_shape
+    (λ to remote local len. call.BeginImplicit (transfer.Get to remote local len))
+
+abbrev pub implicit_memset_row : Row ⊥ ScheduledCall
+implicit_memset_row = form (codes "memset-nbi") fill_shape
+    (λ to remote len byte. call.BeginImplicit (transfer.Memset to remote len byte))
+
+abbrev pub issued_row : Row ⊥ ScheduledCall
+issued_row = form (codes "issued") (U8 ▸ End) call.IsIssued
+
+-- synchronisation without waiting (GASNet 1.8.1, extended API: gasnet_try_syncnb and its like), of up to 16 registers
+abbrev pub try_row : Row ⊥ ScheduledCall
+try_row = form (codes "try") (U8 ▸ End) call.Sync
+
+abbrev pub try_all_row : Row ⊥ ScheduledCall
+try_all_row = form (codes "try-all") (Many 1 16 U8) call.SyncAll
+
+abbrev pub try_some_row : Row ⊥ ScheduledCall
+try_some_row = form (codes "try-some") (Many 1 16 U8) call.SyncSome
+
+abbrev pub try_implicit_row : Row ⊥ ScheduledCall
+try_implicit_row = form (codes "try-nbi") (Implicit ▸ End) call.SyncImplicit
+
+-- access regions (GASNet 1.8.1, extended API: gasnet_begin_nbi_accessregion, gasnet_end_nbi_accessregion)
+abbrev pub region_begin_row : Row ⊥ ScheduledCall
+region_begin_row = form (codes "region-begin") End call.RegionBegin
+
+abbrev pub region_end_row : Row ⊥ ScheduledCall
+region_end_row = form (codes "region-end") (U8 ▸ End) call.RegionEnd
+
+-- barriers (GASNet 1.8.1, extended API: gasnet_barrier_notify, gasnet_barrier_try)
+abbrev pub notify_row : Row ⊥ ScheduledCall
+notify_row = form (codes "notify") (Integer ▸ U8 ▸ End) call.Notify
+
+abbrev pub try_barrier_row : Row ⊥ ScheduledCall
+try_barrier_row = form (codes "try-barrier") (Integer ▸ U8 ▸ End) call.TryBarrier
+
+-- the forms of calls on the barrier
+unfoldable pub barrier_calls : List (Row ⊥ ScheduledCall)
+barrier_calls = notify_row ∷ try_barrier_row ∷ []
+
+-- from `issued` on
+unfoldable pub sync_calls : List (Row ⊥ ScheduledCall)
+sync_calls =
+    issued_row ∷ try_row ∷ try_all_row ∷ try_some_row ∷ try_implicit_row ∷ region_begin_row ∷ region_end_row
+    ∷ barrier_calls
+
+-- from `put-nbi-bulk` on
+unfoldable pub implicit_calls : List (Row ⊥ ScheduledCall)
+implicit_calls = implicit_put_row ∷ implicit_get_row ∷ implicit_memset_row ∷ sync_calls
+
+-- from `put-nb-bulk` on
+unfoldable pub transfer_calls : List (Row ⊥ ScheduledCall)
+transfer_calls = put_row ∷ get_row ∷ memset_row ∷ implicit_calls
+
+-- from `show` on
 unfoldable pub segment_calls : List (Row ⊥ ScheduledCall)
-segment_calls = show_row ∷ set_row ∷ fill_row ∷ word_row ∷ set_word_row ∷ []
+segment_calls = show_row ∷ set_row ∷ fill_row ∷ word_row ∷ set_word_row ∷ transfer_calls
 
 -- from `lock` on
 unfoldable pub own_calls : List (Row ⊥ ScheduledCall)
@@ -91,6 +177,21 @@ calls = short_row ∷ later_calls
 -- the words of a call
 abbrev pub words : (row : Row ⊥ ScheduledCall) → Values ⊥ row.shape → Entry ⊥ ScheduledCall
 words row values = record { row = row; values = values }
+
+-- how an explicit transfer is written
+abbrev pub begin_entry : (register : ℕ) → TransferText → Entry ⊥ ScheduledCall
+begin_entry register (transfer.Put to remote local len) =
+    words put_row (register, (to, (remote, (local, (len, tt)))))
+begin_entry register (transfer.Get to remote local len) =
+    words get_row (register, (to, (remote, (local, (len, tt)))))
+begin_entry register (transfer.Memset to remote len byte) =
+    words memset_row (register, (to, (remote, (len, (byte, tt)))))
+
+-- and an implicit one
+abbrev pub implicit_entry : TransferText → Entry ⊥ ScheduledCall
+implicit_entry (transfer.Put to remote local len) = words implicit_put_row (to, (remote, (local, (len, tt))))
+implicit_entry (transfer.Get to remote local len) = words implicit_get_row (to, (remote, (local, (len, tt))))
+implicit_entry (transfer.Memset to remote len byte) = words implicit_memset_row (to, (remote, (len, (byte, tt))))
 
 -- how a call is written
 abbrev pub call_entry : ScheduledCall → Entry ⊥ ScheduledCall
@@ -111,6 +212,17 @@ call_entry (call.Set offset bytes) = words set_row (offset, (bytes, tt))
 call_entry (call.Fill offset len byte) = words fill_row (offset, (len, (byte, tt)))
 call_entry (call.Word offset) = words word_row (offset, tt)
 call_entry (call.SetWord offset number) = words set_word_row (offset, (number, tt))
+call_entry (call.Begin register transfer) = begin_entry register transfer
+call_entry (call.BeginImplicit transfer) = implicit_entry transfer
+call_entry (call.IsIssued register) = words issued_row (register, tt)
+call_entry (call.Sync register) = words try_row (register, tt)
+call_entry (call.SyncAll registers) = words try_all_row registers
+call_entry (call.SyncSome registers) = words try_some_row registers
+call_entry (call.SyncImplicit which) = words try_implicit_row (which, tt)
+call_entry call.RegionBegin = words region_begin_row tt
+call_entry (call.RegionEnd register) = words region_end_row (register, tt)
+call_entry (call.Notify id flags) = words notify_row (id, (flags, tt))
+call_entry (call.TryBarrier id flags) = words try_barrier_row (id, (flags, tt))
 
 -- what reads a call
 unfoldable pub call_at : List ℕ → Option (ScheduledCall × List ℕ)

@@ -1,14 +1,19 @@
 -- The forms of lines, as data: which words follow a name, and what value they make.
-use Rattle.std.specs.Prelude.{◌≡◌, ℕ, zero, suc, ◌<◌, ◌≤◌, ◌-◌, ◌^◌, List, [], ◌∷◌, ◌++◌, length, Option, Some, None}
+use Rattle.std.specs.Prelude.{◌≡◌, ℕ, ℤ, zero, suc, ◌<◌, ◌≤◌, ◌-◌, ◌^◌, List, [], ◌∷◌, ◌++◌, length, Option, Some, None}
 use Rattle.std.specs.Prelude.{Bool, true, false, ◌&&◌, nat_le, ◌==◌, nat_lt, slice_index, if◌then◌else◌, decimal}
 use Rattle.std.specs.Prelude.{drop}
+use Rattle.std.specs.Fmt.{signed_decimal}
+use Rattle.std.specs.Int.{w32}
+use Rattle.std.specs.Int.RustNames.{FitsSigned}
 use Rattle.std.specs.List.{AllByRecursion, flat_map}
 use Rattle.std.specs.Str.{bytes_eq}
 use Rattle.job_text.specs.Lines.{Word, ◌>>=◌, front, back, spaced}
-use Rattle.job_text.specs.Words.{integer_read, number_in, schedule_operand, body_operand, operand_word}
+use Rattle.job_text.specs.Words.{integer_of, integer_read, number_in, schedule_operand, body_operand, operand_word}
 use Rattle.job_text.specs.Words.{IsScheduleOperand, IsBodyOperand, kind_of, kind_word, IsNamed, role_of, role_word}
+use Rattle.job_text.specs.Words.{implicit_of, implicit_word}
 use Rattle.job_text.specs.Payloads.{payload_of, body_payload_of, payload_word, IsPayload, IsBodyPayload, bytes_of}
 use Rattle.job_text.specs.Payloads.{bytes_word, AreBytes}
+use Rattle.job_text.specs.declared.job.ImplicitKind.{ImplicitKind}
 use Rattle.job_text.specs.declared.job.Operand.{Operand}
 use Rattle.job_text.specs.declared.job.Operand.TheVariants as operand
 use Rattle.job_text.specs.declared.job.Payload.{Payload as PayloadValue}
@@ -27,6 +32,8 @@ pub data Part : Type 0 where
   Bytes : Part  -- bytes, as `x` and two digits for each
   Payload : Part  -- a payload of a schedule: bytes, or `OFF+LEN`
   BodyPayload : Part  -- a payload of a handler's body: also `p`
+  Integer : Part  -- a number of 32 bits, itself
+  Implicit : Part  -- implicit operations
 
 -- what such a word says
 abbrev pub Meaning : Part → Type 0
@@ -38,6 +45,8 @@ Meaning Role = HandlerRole
 Meaning Bytes = List ℕ
 Meaning Payload = PayloadValue
 Meaning BodyPayload = PayloadValue
+Meaning Integer = ℤ
+Meaning Implicit = ImplicitKind
 
 -- the word that says it
 abbrev pub word_text : (p : Part) → Meaning p → Word
@@ -49,6 +58,8 @@ word_text Role r = role_word r
 word_text Bytes bytes = bytes_word bytes
 word_text Payload said = payload_word said
 word_text BodyPayload said = payload_word said
+word_text Integer n = signed_decimal n
+word_text Implicit kind = implicit_word kind
 
 -- what can be said so
 abbrev pub IsSaid : (p : Part) → Meaning p → Type 0
@@ -60,6 +71,8 @@ IsSaid Role r = Unit {0}
 IsSaid Bytes bytes = AreBytes bytes
 IsSaid Payload said = IsPayload said
 IsSaid BodyPayload said = IsBodyPayload said
+IsSaid Integer n = FitsSigned w32 n
+IsSaid Implicit kind = Unit {0}
 
 -- what a word says
 abbrev pub word_says : (p : Part) → Word → Option (Meaning p)
@@ -71,6 +84,8 @@ word_says Role word = role_of word
 word_says Bytes word = bytes_of word
 word_says Payload word = payload_of word
 word_says BodyPayload word = body_payload_of word
+word_says Integer word = integer_of word
+word_says Implicit word = implicit_of word
 
 -- what the first word says, and the bytes after it
 unfoldable pub word_at : (p : Part) → List ℕ → Option (Meaning p × List ℕ)

@@ -9,6 +9,8 @@ use Rattle.std.specs.Str.{bytes_eq}
 use Rattle.std.specs.Str.Parse.{digits_value, AllDigits}
 use Rattle.std.specs.Int.{IsInRange}
 use Rattle.job_text.specs.Lines.{Word, ◌>>=◌, is_stop, front, back}
+use Rattle.job_text.specs.declared.job.ImplicitKind.{ImplicitKind}
+use Rattle.job_text.specs.declared.job.ImplicitKind.TheVariants as implicit
 use Rattle.job_text.specs.declared.job.Operand.{Operand}
 use Rattle.job_text.specs.declared.job.Operand.TheVariants as operand
 use Rattle.handler_rules.specs.declared.rules.CallKind.{CallKind}
@@ -160,3 +162,16 @@ unfoldable pub role_of : Word → Option Role
 role_of word =
     if bytes_eq word (codes "request") then Some role.Request else (
     if bytes_eq word (codes "reply") then Some role.Reply else None)
+
+-- the word of implicit operations (GASNet 1.8.1, extended API: gasnet_try_syncnbi_puts, _gets and _all)
+abbrev pub implicit_word : ImplicitKind → Word
+implicit_word implicit.Puts = codes "puts"
+implicit_word implicit.Gets = codes "gets"
+implicit_word implicit.All = codes "all"
+
+-- implicit operations by their word
+unfoldable pub implicit_of : Word → Option ImplicitKind
+implicit_of word =
+    if bytes_eq word (codes "puts") then Some implicit.Puts else (
+    if bytes_eq word (codes "gets") then Some implicit.Gets else (
+    if bytes_eq word (codes "all") then Some implicit.All else None))

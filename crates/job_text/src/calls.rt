@@ -17,6 +17,7 @@ use crate::operand_lists::values_at;
 use crate::operands::value_at;
 use crate::payloads::payload_at;
 use crate::reasons::{is_between, words_left};
+use crate::transfer_calls::{transfer_call_at, transfer_call_form};
 use crate::words::{behind_name, is_name, name_of};
 use std::alloc::Global;
 
@@ -61,7 +62,7 @@ fn medium_at(alloc: Global, bytes: &[u8]) -> Result<(BoxedMedium, &[u8]), Miss>
     Ok((BoxedMedium { inside }, rest))
 }
 
-/// The call on the own segment that a line says, by its name and the bytes after it.
+/// The call that a line says, by its name and the bytes after it, from `show` on.
 #[tactic(auto, unfolding(crate::specs::Calls::segment_calls))]
 fn segment_call_at<'a>(
     alloc: Global,
@@ -96,7 +97,7 @@ fn segment_call_at<'a>(
         let (number, rest) = number_at(rest, 0, u64::MAX)?;
         return Ok((ScheduledCall::SetWord { offset, number }, rest));
     }
-    Err(Miss::Unlike)
+    transfer_call_at(alloc, name, rest)
 }
 
 /// The call that a line says, by its name and the bytes after it, from `lock` on.
@@ -179,7 +180,7 @@ pub fn call_at(alloc: Global, bytes: &[u8]) -> Result<(ScheduledCall, &[u8]), Mi
     later_call_at(alloc, name, rest)
 }
 
-/// Whether a count of words after a name is a form of call on the own segment.
+/// Whether a count of words after a name is a form of call, from `show` on.
 #[tactic(auto, unfolding(crate::specs::Calls::segment_calls))]
 fn segment_call_form(name: &[u8], rest: &[u8]) -> bool
     ensures { result ≡ named_form (λ b. false) segment_calls name.now rest.now }
@@ -200,7 +201,7 @@ fn segment_call_form(name: &[u8], rest: &[u8]) -> bool
     if is_name(name, b"set-word") {
         return count == 2;
     }
-    false
+    transfer_call_form(name, rest)
 }
 
 /// Whether a count of words after a name is a form of call, from `lock` on.

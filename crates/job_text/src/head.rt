@@ -54,7 +54,8 @@ fn are_nodes(version: u64, nodes: u64) -> bool
 /// The nodes, of which version 1 has at most 64.
 #[tactic(auto, unfolding(crate::specs::HeadReading::fitting_line))]
 fn nodes_line(version: u64, bytes: &[u8]) -> Result<(u64, &[u8]), Other>
-    ensures value { Finds (λ x. (x.0, x.1.now)) result (fitting_line (codes "nodes") 1 256
+    ensures value { Finds (λ x. (x.0, x.1.now)) result
+        (fitting_line (codes "nodes") 1 256
         (λ n. nat_le n 64 || (version == 2)) bytes.now) }
     ensures range { IfOk result (λ x. (1 ≤ x.0) × (x.0 ≤ 256)) }
     ensures few { IfOk result (λ x. (nat_le x.0 64 || (version == 2)) ≡ true) }
@@ -79,7 +80,8 @@ fn are_credits(nodes: u64, credits: u64) -> bool
 #[tactic(auto, unfolding(crate::specs::HeadReading::fitting_line))]
 fn credits_line(nodes: u64, bytes: &[u8]) -> Result<(u64, &[u8]), Other>
     requires { nodes ≤ 256 }
-    ensures value { Finds (λ x. (x.0, x.1.now)) result (fitting_line (codes "credits") 1 32 (λ n. nat_le
+    ensures value { Finds (λ x. (x.0, x.1.now)) result
+        (fitting_line (codes "credits") 1 32 (λ n. nat_le
         (nodes * (nodes - 1) * n) 65536) bytes.now) }
     ensures range { IfOk result (λ x. (1 ≤ x.0) × (x.0 ≤ 32)) }
     ensures few { IfOk result (λ x. nat_le (nodes * (nodes - 1) * x.0) 65536 ≡ true) }
@@ -104,7 +106,8 @@ fn are_segments(nodes: u64, segment: u64) -> bool
 #[tactic(auto, unfolding(crate::specs::HeadReading::fitting_line))]
 fn segment_line(nodes: u64, bytes: &[u8]) -> Result<(u64, &[u8]), Other>
     requires { nodes ≤ 256 }
-    ensures value { Finds (λ x. (x.0, x.1.now)) result (fitting_line (codes "segment") 4096 67108864 (λ n.
+    ensures value { Finds (λ x. (x.0, x.1.now)) result
+        (fitting_line (codes "segment") 4096 67108864 (λ n.
         (n % 4096 == 0) && nat_le (nodes * n) 268435456) bytes.now) }
     ensures range { IfOk result (λ x. (4096 ≤ x.0) × (x.0 ≤ 67108864)) }
     ensures few { IfOk result (λ x. ((x.0 % 4096 == 0) && nat_le (nodes * x.0) 268435456) ≡ true) }
@@ -159,7 +162,8 @@ fn number_from<'a>(
     high: u64,
     bytes: &'a [u8],
 ) -> Result<(u64, &'a [u8]), JobFault>
-    ensures value { GivesAt (λ x. (x.0, x.1.now)) result (number_from name.now low high
+    ensures value { GivesAt (λ x. (x.0, x.1.now)) result
+        (number_from name.now low high
         (λ n. true) line bytes.now) }
     ensures range { IfOk result (λ x. (low ≤ x.0) × (x.0 ≤ high)) }
 {
@@ -175,7 +179,8 @@ fn number_from<'a>(
 /// The nodes, and the bytes after their line.
 #[tactic(auto, unfolding(crate::specs::HeadReading::number_from))]
 fn nodes_from(line: u32, version: u64, bytes: &[u8]) -> Result<(u64, &[u8]), JobFault>
-    ensures value { GivesAt (λ x. (x.0, x.1.now)) result (number_from (codes "nodes") 1 256
+    ensures value { GivesAt (λ x. (x.0, x.1.now)) result
+        (number_from (codes "nodes") 1 256
         (λ n. nat_le n 64 || (version == 2)) line bytes.now) }
     ensures range { IfOk result (λ x. (1 ≤ x.0) × (x.0 ≤ 256)) }
     ensures few { IfOk result (λ x. (nat_le x.0 64 || (version == 2)) ≡ true) }
@@ -193,7 +198,8 @@ fn nodes_from(line: u32, version: u64, bytes: &[u8]) -> Result<(u64, &[u8]), Job
 #[tactic(auto, unfolding(crate::specs::HeadReading::number_from))]
 fn credits_from(line: u32, nodes: u64, bytes: &[u8]) -> Result<(u64, &[u8]), JobFault>
     requires { nodes ≤ 256 }
-    ensures value { GivesAt (λ x. (x.0, x.1.now)) result (number_from (codes "credits") 1 32 (λ n. nat_le
+    ensures value { GivesAt (λ x. (x.0, x.1.now)) result
+        (number_from (codes "credits") 1 32 (λ n. nat_le
         (nodes * (nodes - 1) * n) 65536) line bytes.now) }
     ensures range { IfOk result (λ x. (1 ≤ x.0) × (x.0 ≤ 32)) }
     ensures few { IfOk result (λ x. nat_le (nodes * (nodes - 1) * x.0) 65536 ≡ true) }
@@ -211,7 +217,8 @@ fn credits_from(line: u32, nodes: u64, bytes: &[u8]) -> Result<(u64, &[u8]), Job
 #[tactic(auto, unfolding(crate::specs::HeadReading::number_from))]
 fn segment_from(line: u32, nodes: u64, bytes: &[u8]) -> Result<(u64, &[u8]), JobFault>
     requires { nodes ≤ 256 }
-    ensures value { GivesAt (λ x. (x.0, x.1.now)) result (number_from (codes "segment") 4096 67108864 (λ n.
+    ensures value { GivesAt (λ x. (x.0, x.1.now)) result
+        (number_from (codes "segment") 4096 67108864 (λ n.
         (n % 4096 == 0) && nat_le (nodes * n) 268435456) line bytes.now) }
     ensures range { IfOk result (λ x. (4096 ≤ x.0) × (x.0 ≤ 67108864)) }
     ensures few { IfOk result (λ x. ((x.0 % 4096 == 0) && nat_le (nodes * x.0) 268435456) ≡ true) }

@@ -121,6 +121,75 @@ impl Model for BoxedLong {
     ghost view = { λ b. box_value b.inside };
 }
 
+/// What a transfer of a schedule moves between the own segment and that of the node `to`: `remote` and `local` are
+/// offsets there and here, `len` is how many bytes.
+#[derive(Clone, Copy, Debug, PartialEq, Eq)]
+pub enum TransferText {
+    /// Bytes of the own segment are written there.
+    Put {
+        to: u16,
+        remote: u64,
+        local: u64,
+        len: u64,
+    },
+    /// Bytes of that segment are written here.
+    Get {
+        to: u16,
+        remote: u64,
+        local: u64,
+        len: u64,
+    },
+    /// Each byte of a range there becomes `byte`.
+    Memset {
+        to: u16,
+        remote: u64,
+        len: u64,
+        byte: u8,
+    },
+}
+
+/// A transfer in an allocation of its own, so that a line of a schedule stays small.
+#[derive(Debug, Drop)]
+pub struct BoxedTransfer {
+    pub(crate) inside: Box<TransferText>,
+}
+
+impl Model for BoxedTransfer {
+    ghost use Rattle.std.specs.Box.{box_value};
+    ghost use Rattle.job_text.specs.declared.job.TransferText.{TransferText};
+
+    ghost Value = { TransferText };
+
+    ghost view = { λ b. box_value b.inside };
+}
+
+/// A list of at most 16 registers of a thread's handles; of at least one where the job was read.
+#[derive(Debug, Drop)]
+pub struct Registers {
+    pub(crate) items: Vec<u8>,
+}
+
+impl Model for Registers {
+    ghost use Rattle.std.specs.Prelude.{◌≤◌, ℕ, List, length};
+
+    ghost Value = { List ℕ };
+
+    ghost view = { λ r. r.items.items };
+
+    ghost invariant = { λ r. length r.items.items ≤ 16 };
+}
+
+/// Of which implicit operations of its thread a synchronisation speaks.
+#[derive(Clone, Copy, Debug, PartialEq, Eq)]
+pub enum ImplicitKind {
+    /// Puts and memsets.
+    Puts,
+    /// Gets.
+    Gets,
+    /// All of them.
+    All,
+}
+
 /// The locks that a handler lists, each 0 to 63, in rising order.
 #[derive(Debug, Drop)]
 pub struct ListedLocks {
@@ -252,6 +321,51 @@ pub enum ScheduledCall {
     SetWord {
         offset: u64,
         number: u64,
+    },
+    /// Begins an explicit transfer, whose handle is put into the register.
+    Begin {
+        register: u8,
+        transfer: BoxedTransfer,
+    },
+    /// Begins an implicit transfer.
+    BeginImplicit {
+        transfer: BoxedTransfer,
+    },
+    /// Whether all of the transfer whose handle is in the register was sent.
+    IsIssued {
+        register: u8,
+    },
+    /// Synchronises the transfer or the region whose handle is in the register, where it is complete.
+    Sync {
+        register: u8,
+    },
+    /// Synchronises all of them, where each is complete.
+    SyncAll {
+        registers: Registers,
+    },
+    /// Synchronises those of them that are complete, where one is.
+    SyncSome {
+        registers: Registers,
+    },
+    /// Synchronises implicit transfers of the thread.
+    SyncImplicit {
+        which: ImplicitKind,
+    },
+    /// Begins an access region.
+    RegionBegin,
+    /// Ends the access region, whose handle is put into the register.
+    RegionEnd {
+        register: u8,
+    },
+    /// Notifies the barrier.
+    Notify {
+        id: i32,
+        flags: u8,
+    },
+    /// Passes the barrier, where it is complete.
+    TryBarrier {
+        id: i32,
+        flags: u8,
     },
 }
 
@@ -424,6 +538,25 @@ impl BoxedLong {
         ensures { result.now ≡ self.now }
     {
         &self.inside
+    }
+}
+
+impl BoxedTransfer {
+    /// The transfer.
+    pub fn text(&self) -> &TransferText
+        ensures { result.now ≡ self.now }
+    {
+        &self.inside
+    }
+}
+
+impl Registers {
+    /// The registers, at most 16.
+    pub fn items(&self) -> &[u8]
+        ensures items { result.now ≡ self.now }
+        ensures few { length result.now ≤ 16 }
+    {
+        &self.items
     }
 }
 

@@ -1,11 +1,12 @@
-//! Kinds of calls and roles, as words of a line.
+//! Kinds of calls and of implicit operations, and roles, as words of a line.
 
 ghost use Rattle.std.specs.Prelude.{◌≡◌};
-ghost use Rattle.job_text.specs.Words.{kind_of, role_of};
-ghost use Rattle.job_text.specs.Forms.{Kind, Role as RolePart, part_at};
+ghost use Rattle.job_text.specs.Words.{implicit_of, kind_of, role_of};
+ghost use Rattle.job_text.specs.Forms.{Implicit, Kind, Role as RolePart, part_at};
 ghost use Rattle.job_text.specs.Reading.{Finds};
 
 use crate::fault::Other;
+use crate::job::ImplicitKind;
 use crate::words::{is_name, name_of, spaced};
 use handler_rules::{CallKind, Role};
 
@@ -79,4 +80,34 @@ pub fn role_at(bytes: &[u8]) -> Result<(Role, &[u8]), Other>
         return Err(Other);
     };
     Ok((role, rest))
+}
+
+/// The kind of implicit operations that a word names.
+#[tactic(auto, unfolding(crate::specs::Words::implicit_of))]
+fn implicit_of(word: &[u8]) -> Option<ImplicitKind>
+    ensures { result ≡ implicit_of word.now }
+{
+    if is_name(word, b"puts") {
+        return Some(ImplicitKind::Puts);
+    }
+    if is_name(word, b"gets") {
+        return Some(ImplicitKind::Gets);
+    }
+    if is_name(word, b"all") {
+        return Some(ImplicitKind::All);
+    }
+    None
+}
+
+/// A kind of implicit operations behind a space.
+#[tactic(auto, unfolding(crate::specs::Forms::part_at, crate::specs::Forms::word_at))]
+pub fn implicit_at(bytes: &[u8]) -> Result<(ImplicitKind, &[u8]), Other>
+    ensures { Finds (λ x. (x.0, x.1.now)) result (part_at Implicit bytes.now) }
+{
+    let bytes = spaced(bytes)?;
+    let (word, rest) = name_of(bytes);
+    let Some(kind) = implicit_of(word) else {
+        return Err(Other);
+    };
+    Ok((kind, rest))
 }

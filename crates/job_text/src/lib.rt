@@ -29,12 +29,13 @@ mod reading;
 mod reasons;
 mod schedules;
 mod sections;
+mod transfer_calls;
 mod words;
 
 pub use fault::{JobFault, JobWhy};
 pub use job::{
-    Action, Body, BoxedLong, BoxedMedium, Bytes, HandlerText, HandlerTexts, Job, ListedLocks,
-    LongText, MediumText, Operand, Operands, Payload, ReplyAction, Schedule, ScheduledCall,
-    ScheduledEvent, SieveRule, TimedEvent,
+    Action, Body, BoxedLong, BoxedMedium, BoxedTransfer, Bytes, HandlerText, HandlerTexts,
+    ImplicitKind, Job, ListedLocks, LongText, MediumText, Operand, Operands, Payload, Registers,
+    ReplyAction, Schedule, ScheduledCall, ScheduledEvent, SieveRule, TimedEvent, TransferText,
 };
 pub use reading::read_job;

@@ -2,7 +2,7 @@
 
 ghost use Rattle.std.specs.Prelude.{◌≡◌, ◌==◌, ◌<◌, slice_index, drop};
 ghost use Rattle.job_text.specs.Words.{negated, plain, integer_read};
-ghost use Rattle.job_text.specs.Forms.{BodyValue, Value, body_value_read, part_at, value_read};
+ghost use Rattle.job_text.specs.Forms.{BodyValue, Integer, Value, body_value_read, part_at, value_read};
 ghost use Rattle.job_text.specs.Reading.{Finds};
 
 use crate::fault::Other;
@@ -11,6 +11,7 @@ use crate::numbers::{number_from, number_here};
 use crate::words::spaced;
 
 /// Whether bytes begin with this one.
+#[inline(always)]
 pub fn starts(bytes: &[u8], byte: u8) -> bool
     requires { 0 < byte }
     ensures { result ≡ (slice_index bytes.now 0 == byte) }
@@ -22,6 +23,7 @@ pub fn starts(bytes: &[u8], byte: u8) -> bool
 }
 
 /// Bytes without the first one.
+#[inline(always)]
 fn after_first(bytes: &[u8]) -> &[u8]
     ensures { result.now ≡ drop 1 bytes.now }
 {
@@ -33,6 +35,7 @@ fn after_first(bytes: &[u8]) -> &[u8]
 }
 
 /// A number from 1 to 2 ^ 31, negated.
+#[inline(always)]
 fn negated(number: u64) -> Option<i32>
     ensures { result ≡ negated number }
 {
@@ -44,6 +47,7 @@ fn negated(number: u64) -> Option<i32>
 }
 
 /// A number below 2 ^ 31.
+#[inline(always)]
 fn plain(number: u64) -> Option<i32>
     ensures { result ≡ plain number }
 {
@@ -56,6 +60,7 @@ fn plain(number: u64) -> Option<i32>
 
 /// The number of 32 bits that the first word is, and the bytes after it.
 #[tactic(auto, unfolding(crate::specs::Words::integer_read))]
+#[inline(always)]
 fn integer_here(bytes: &[u8]) -> Result<(i32, &[u8]), Other>
     ensures { Finds (λ x. (x.0, x.1.now)) result (integer_read bytes.now) }
 {
@@ -73,8 +78,18 @@ fn integer_here(bytes: &[u8]) -> Result<(i32, &[u8]), Other>
     Ok((number, rest))
 }
 
+/// A number of 32 bits behind a space.
+#[tactic(auto, using(crate::proofs::FirstBytes::integer_is), unfolding(crate::specs::Forms::part_at))]
+pub fn integer_at(bytes: &[u8]) -> Result<(i32, &[u8]), Other>
+    ensures { Finds (λ x. (x.0, x.1.now)) result (part_at Integer bytes.now) }
+{
+    let bytes = spaced(bytes)?;
+    integer_here(bytes)
+}
+
 /// The number of a schedule that the first word is, and the bytes after it.
 #[tactic(auto, unfolding(crate::specs::Forms::value_read))]
+#[inline(always)]
 fn value_here(bytes: &[u8]) -> Result<(Operand, &[u8]), Other>
     ensures { Finds (λ x. (x.0, x.1.now)) result (value_read bytes.now) }
 {
@@ -88,6 +103,7 @@ fn value_here(bytes: &[u8]) -> Result<(Operand, &[u8]), Other>
 
 /// A number of a schedule behind a space.
 #[tactic(auto, using(crate::proofs::FirstBytes::value_is), unfolding(crate::specs::Forms::part_at))]
+#[inline(always)]
 pub fn value_at(bytes: &[u8]) -> Result<(Operand, &[u8]), Other>
     ensures { Finds (λ x. (x.0, x.1.now)) result (part_at Value bytes.now) }
 {

@@ -153,7 +153,8 @@ fn even_sum(settings: &Settings) -> u32
 /// The pairs up to the first line of another kind, with its number and the bytes from it on.
 pub fn pairs_at(first: Head, bytes: &[u8]) -> Result<(Head, u32, &[u8]), JobFault>
     requires { first.settings.pairs ≡ [] }
-    ensures value { Continues (λ x. read (record { place = AtHandlers; job = job_of_head x.0 }) x.1 x.2.now)
+    ensures value { Continues
+        (λ x. read (record { place = AtHandlers; job = job_of_head x.0 }) x.1 x.2.now)
         result (read (record { place = AtPairs; job = job_of_head first }) 11 bytes.now) }
     ensures later { IfOk result (λ x. x.1 ≤ 75) }
 {

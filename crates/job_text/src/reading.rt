@@ -52,7 +52,8 @@ pub fn read_job(alloc: Global, bytes: &[u8]) -> Result<Job, JobFault>
     // What that means, apart from the reader.
     ensures meant { IfErr result (λ fault. IsMeant bytes.now fault) }
     // Where no job is read, no job has these bytes as its text, unless memory ran out.
-    ensures none { IfErr result (λ fault. IsNoMemory fault ⊎ ((job : JobState) → JobText job bytes.now → ⊥)) }
+    ensures none { IfErr result (λ fault.
+        IsNoMemory fault ⊎ ((job : JobState) → JobText job bytes.now → ⊥)) }
 {
     job_at(alloc, bytes)
 }

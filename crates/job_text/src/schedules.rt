@@ -24,7 +24,8 @@ fn next_timed(
     threads: u16,
     bytes: &[u8],
 ) -> Result<(Option<TimedEvent>, &[u8]), Miss>
-    ensures { Reads (λ x. (x.0, x.1.now)) result (lined (end_or (timed_at nodes threads)) bytes.now) }
+    ensures { Reads (λ x. (x.0, x.1.now)) result
+        (lined (end_or (timed_at nodes threads)) bytes.now) }
 {
     if is_end(bytes) {
         let (_, rest) = name_of(bytes);

@@ -24,6 +24,7 @@ pub fn is_stop(byte: u8) -> bool
 }
 
 /// Whether the first word goes on at a place.
+#[inline(always)]
 pub fn goes_on(bytes: &[u8], i: usize) -> bool
     ensures { IsTrue result ↔ GoesOn bytes.now i }
 {
@@ -43,6 +44,7 @@ pub fn name_of(bytes: &[u8]) -> (&[u8], &[u8])
 }
 
 /// Whether the first word goes on at a place with the byte that a name has there.
+#[inline(always)]
 fn goes_with(bytes: &[u8], name: &[u8], i: usize) -> bool
     ensures { IsTrue result ↔ GoesWith bytes.now name.now i }
 {
@@ -50,6 +52,7 @@ fn goes_with(bytes: &[u8], name: &[u8], i: usize) -> bool
 }
 
 /// Whether the first word is this one.
+#[inline(always)]
 pub fn begins(name: &[u8], bytes: &[u8]) -> bool
     ensures { result ≡ bytes_eq (front bytes.now) name.now }
 {
@@ -64,6 +67,7 @@ pub fn begins(name: &[u8], bytes: &[u8]) -> bool
 }
 
 /// The bytes after the first word, where it is this one.
+#[inline(always)]
 pub fn behind_name<'a>(bytes: &'a [u8], name: &[u8]) -> Option<&'a [u8]>
     ensures name { is_some result ≡ bytes_eq (front bytes.now) name.now }
     ensures rest { IfSome result (λ rest. rest.now ≡ back bytes.now) }
@@ -90,6 +94,7 @@ pub fn has_more(count: usize, most: usize, bytes: &[u8]) -> bool
 }
 
 /// The bytes after a space.
+#[inline(always)]
 pub fn spaced(bytes: &[u8]) -> Result<&[u8], Other>
     ensures { Finds (λ b. b.now) result (spaced bytes.now) }
 {
@@ -104,6 +109,7 @@ pub fn spaced(bytes: &[u8]) -> Result<&[u8], Other>
 }
 
 /// The bytes after the end of the line.
+#[inline(always)]
 pub fn ended(bytes: &[u8]) -> Result<&[u8], Other>
     ensures { Finds (λ b. b.now) result (ended bytes.now) }
 {

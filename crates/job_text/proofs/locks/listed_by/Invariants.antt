@@ -1,6 +1,6 @@
-use Rattle.std.proofs.Common.{◌≡◌, ◌≤◌, ◌^◌, drop, bit_or, true}
+use Rattle.std.proofs.Common.{◌≡◌, ◌^◌, drop, bit_or}
 use Rattle.std.specs.List.{fold}
-use Rattle.job_text.specs.Locks.{are_listed, listed_by}
+use Rattle.job_text.specs.Locks.{listed_by}
 use Rattle.job_text.proofs.LockLaws.{AreLocks}
 use Rattle.job_text.proofs.locks.listed_by.Given as goal
 

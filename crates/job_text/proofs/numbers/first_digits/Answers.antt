@@ -1,4 +1,4 @@
-use Rattle.std.proofs.Common.{arith, ◌<◌, ◌≤◌, ◌≡◌, ◌∙◌, sym, length}
+use Rattle.std.proofs.Common.{arith}
 use Rattle.job_text.proofs.Decimals.{few_digits, step}
 use Rattle.job_text.proofs.numbers.first_digits.Goals as goal
 

@@ -1,4 +1,4 @@
-use Rattle.std.proofs.Common.{length, ◌-◌, ◌≡◌, ◌≤◌, take, ◌<◌, ◌^◌}
+use Rattle.std.proofs.Common.{length, ◌-◌}
 use Rattle.job_text.specs.Words.{BeginWith}
 use Rattle.job_text.proofs.numbers.first_digits.Given as goal
 

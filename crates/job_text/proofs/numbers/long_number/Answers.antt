@@ -1,4 +1,4 @@
-use Rattle.std.proofs.Common.{◌∙◌, sym, arith, ◌<◌, ◌≤◌}
+use Rattle.std.proofs.Common.{◌∙◌, sym, arith}
 use Rattle.job_text.proofs.Decimals.{overflows, step, fitting_some}
 use Rattle.job_text.proofs.numbers.long_number.Goals as goal
 

@@ -1,4 +1,4 @@
-use Rattle.std.proofs.Common.{sym, arith, ◌<◌, ◌≤◌, true, false, length}
+use Rattle.std.proofs.Common.{sym, arith}
 use Rattle.job_text.proofs.Fronts.{stops_from}
 use Rattle.job_text.proofs.Names.{name_found, name_longer, name_other, ends_by}
 use Rattle.job_text.proofs.words.begins.Goals as goal
