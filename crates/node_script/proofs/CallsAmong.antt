@@ -2,7 +2,7 @@
 use Rattle.std.proofs.Common.{ℕ, ◌<◌}
 use Rattle.datagram_grammar.specs.Parameters.{Parameters}
 use Rattle.plain_world.specs.World.{IsAmong}
-use Rattle.gas_world.specs.Called.{Meant, Requests, Performs, event_at}
+use Rattle.endpoint_rules.specs.Called.{Meant, Requests, Performs, event_at}
 
 pub call_among : (settings : Parameters) (node thread : ℕ) (call : Meant) → node < settings.nodes
     → IsAmong settings (event_at node thread call)

@@ -1,4 +1,4 @@
--- The nodes that the lines of a job's schedule name are there.
+-- The nodes and threads that the lines of a job's schedule name are there.
 use Rattle.std.proofs.Common.{◌≡◌, ℕ, zero, suc, ◌-◌, ◌<◌, ◌≤◌, List, [], ◌∷◌, Option, Some, None, subst, arith}
 use Rattle.std.specs.List.{AllByRecursion}
 use Rattle.datagram_grammar.specs.Parameters.{Parameters}
@@ -36,34 +36,52 @@ call_given (calls.Set offset bytes) h = tt
 call_given (calls.Fill offset len byte) h = tt
 call_given (calls.Word offset) h = tt
 call_given (calls.SetWord offset number) h = tt
+call_given (calls.Begin register transfer) h = tt
+call_given (calls.BeginImplicit transfer) h = tt
+call_given (calls.IsIssued register) h = tt
+call_given (calls.Sync register) h = tt
+call_given (calls.SyncAll registers) h = tt
+call_given (calls.SyncSome registers) h = tt
+call_given (calls.SyncImplicit which) h = tt
+call_given calls.RegionBegin h = tt
+call_given (calls.RegionEnd register) h = tt
+call_given (calls.Notify id flags) h = tt
+call_given (calls.TryBarrier id flags) h = tt
 
 -- an event in range is within
-event_within : (nodes threads : ℕ) (e : ScheduledEvent) → 1 ≤ nodes → IsEvent nodes threads e → IsWithin nodes e
-event_within nodes threads (event.Call node thread call) some h =
-    (below node nodes some h.0.0.1, call_given call h.0.1.1)
-event_within nodes threads (event.Request from to number) some h =
-    (below from nodes some h.0.0.1, below to nodes some h.0.1.0.1)
-event_within nodes threads (event.Reply from to number) some h =
-    (below from nodes some h.0.0.1, below to nodes some h.0.1.0.1)
-event_within nodes threads (event.Tick node) some h = below node nodes some h.0.0.1
-event_within nodes threads (event.Settle rounds) some h = tt
+event_within : (settings : Parameters) (e : ScheduledEvent) → 1 ≤ settings.nodes → 1 ≤ settings.threads
+    → IsEvent settings.nodes settings.threads e → IsWithin settings e
+event_within settings (event.Call node thread call) some thread_there h = (
+  below node settings.nodes some h.0.0.1,
+  below thread settings.threads thread_there h.0.1.0.1,
+  call_given call h.0.1.1,
+)
+event_within settings (event.Request from to number) some thread_there h =
+    (below from settings.nodes some h.0.0.1, below to settings.nodes some h.0.1.0.1)
+event_within settings (event.Reply from to number) some thread_there h =
+    (below from settings.nodes some h.0.0.1, below to settings.nodes some h.0.1.0.1)
+event_within settings (event.Tick node) some thread_there h = below node settings.nodes some h.0.0.1
+event_within settings (event.Settle rounds) some thread_there h = tt
 
 -- so are those of lines in range
-lines_within : (nodes threads : ℕ) (es : List TimedEvent) → 1 ≤ nodes → AllByRecursion (IsTimed nodes threads) es
-    → AreWithin nodes es
-lines_within nodes threads [] some h i e at = absurd (cc)
-lines_within nodes threads (x ∷ xs) some h zero e at =
-    let same : x ≡ e =
-    cc in subst (λ (y : TimedEvent). IsWithin nodes y.event) same (event_within nodes threads x.event some h.0.event)
-lines_within nodes threads (x ∷ xs) some h (suc i) e at = lines_within nodes threads xs some h.1 i e at
+lines_within : (settings : Parameters) (es : List TimedEvent) → 1 ≤ settings.nodes → 1 ≤ settings.threads
+    → AllByRecursion (IsTimed settings.nodes settings.threads) es → AreWithin settings es
+lines_within settings [] some thread_there h i e at = absurd (cc)
+lines_within settings (x ∷ xs) some thread_there h zero e at =
+    let same : x ≡ e = cc in
+    subst (λ (y : TimedEvent). IsWithin settings y.event) same
+    (event_within settings x.event some thread_there h.0.event)
+lines_within settings (x ∷ xs) some thread_there h (suc i) e at =
+    lines_within settings xs some thread_there h.1 i e at
 
 -- and those of a schedule in range, where there is one
 pub schedule_within : (settings : Parameters) (schedule : Option (List TimedEvent)) → 1 ≤ settings.nodes
-    → IsScheduleOrNone settings schedule → AreWithin settings.nodes (lines_of schedule)
-schedule_within settings None some h i e at = absurd (cc)
-schedule_within settings (Some es) some h i e at =
-    lines_within settings.nodes settings.threads es some h.events_are i e at
+    → 1 ≤ settings.threads → IsScheduleOrNone settings schedule → AreWithin settings (lines_of schedule)
+schedule_within settings None some thread_there h i e at = absurd (cc)
+schedule_within settings (Some es) some thread_there h i e at =
+    lines_within settings es some thread_there h.events_are i e at
 
 -- and those of a job
-pub job_within : (job : JobState) → IsJob job → AreWithin job.settings.nodes (lines_of job.schedule)
-job_within job h = schedule_within job.settings job.schedule h.settings.some_node h.schedule
+pub job_within : (job : JobState) → IsJob job → AreWithin job.settings (lines_of job.schedule)
+job_within job h =
+    schedule_within job.settings job.schedule h.settings.some_node h.settings.some_thread h.schedule

@@ -1,21 +1,24 @@
--- A request that a tick sent stands at its slot after it, with its number.
-use Rattle.std.proofs.Common.{◌≡◌, ◌≢◌, ℕ, suc, ◌+◌, ◌<◌, true, List, [], Some, None}
+-- A request that a tick sent stands at its slot after it, with its number: again, or for the first time.
+use Rattle.std.proofs.Common.{◌≡◌, ◌≢◌, ℕ, suc, ◌+◌, ◌<◌, ◌==◌, ◌&&◌, not, true, List, [], ◌∷◌, ◌++◌, Some, None, length}
 use Rattle.std.proofs.Common.{refl, sym, ap, ◌∙◌, subst, arith, ne_eqb}
 use Rattle.std.specs.Prelude.{nat_lt}
 use Rattle.std.specs.List.{slice_get}
 use Rattle.std.specs.Option.{option_map}
+use Rattle.std.proofs.lemmas.Bool.{and_parts, lt-ltb, ltb-true}
 use Rattle.std.proofs.lemmas.Bool.Decides.{nat_tests}
 use Rattle.datagram_grammar.specs.Parameters.{Parameters, credits_of}
 use Rattle.lists.specs.Numbered.{numbered, change}
 use Rattle.lists.proofs.Put.{put_same}
 use Rattle.node_record.specs.Record.{Request, Node}
 use Rattle.node_record.specs.Credits.{limits_of}
-use Rattle.node_record.specs.Requests.{Due, all_dues, open_in, sent_at}
-use Rattle.node_record.specs.Step.{after_resend, next_due, put, request_slot}
+use Rattle.node_record.specs.Behaviour.{Sending}
+use Rattle.node_record.specs.Requests.{Due, all_dues, free_slot, next_claim, open_in, sent_at, unreturned}
+use Rattle.node_record.specs.Step.{Site, after_resend, after_sending, can_ask, new_request, next_due, put, request_slot}
 use Rattle.node_record.specs.Invariant.{NodeInvariant}
 use Rattle.node_record.specs.SlotMessages.{has_slot, number_at}
-use Rattle.node_record.proofs.Keeping.{open_sent_here}
+use Rattle.node_record.proofs.Keeping.{none_is, open_new, open_sent_here, open_taken}
 use Rattle.node_record.proofs.Orderly.{orderly_sent}
+use Rattle.node_record.proofs.Slots.{free_le, free_outside}
 use Rattle.am_core.proofs.Dues.{IsDueOf, all_dues_has, dues_has, earliest_in}
 
 -- a node asks nothing of itself
@@ -81,3 +84,35 @@ resent_there settings IsKept me node now due holds first =
     let it = all_dues_has now settings.resend node.asked settings.nodes due among in
     sent_there settings IsKept me node now due it.0 holds it.1
     (dues_has now settings.resend it.0 1 (node.asked it.0) due it.2)
+
+-- ---- for the first time
+
+-- no request that isn't back has the slot that is free
+none_open : (requests : List Request) → open_in (free_slot requests) requests ≡ None
+none_open requests =
+    none_is (open_in (free_slot requests) requests)
+    (open_taken (free_slot requests) 1 requests ∙ free_outside requests)
+
+-- a request of the node's own accord stands at its slot once it was accepted
+pub first_sent_there : {Local : Type 0} (site : Site Local) (node : Node Local) (now : ℕ) (sending : Sending)
+    → can_ask site node sending.to ≡ true
+    → number_at site.settings site.me (after_sending site node now sending)
+    (request_slot sending.to (next_claim (node.asked sending.to)).slot)
+    ≡ Some (next_claim (node.asked sending.to)).number
+first_sent_there site node now sending can =
+    let requests = node.asked sending.to in
+    let limits = limits_of site.settings site.me sending.to in
+    let parts = and_parts (nat_lt sending.to site.settings.nodes && not (sending.to == site.me))
+    (nat_lt (length requests) limits.last && nat_lt (unreturned requests) limits.credits) can in
+    let ends = and_parts (nat_lt sending.to site.settings.nodes) (not (sending.to == site.me)) parts.0 in
+    let room = and_parts (nat_lt (length requests) limits.last) (nat_lt (unreturned requests) limits.credits) parts.1 in
+    let few = ltb-true (unreturned requests) limits.credits room.1 in
+    let low : nat_lt (free_slot requests) limits.credits ≡ true =
+    lt-ltb (free_slot requests) limits.credits (omega (arith, few, free_le requests)) in
+    let new = new_request now (free_slot requests) sending.content in
+    let one_more : 1 + length requests ≡ suc (length requests) = omega arith in
+    rw (ends.0, ends.1, low)
+    (ap (λ (all : List Request). option_map (λ open_. open_.0) (open_in (free_slot requests) all))
+    (put_same node.asked sending.to (requests ++ new ∷ []))
+    ∙ ap (option_map (λ open_. open_.0)) (open_new requests new (none_open requests) refl)
+    ∙ ap Some one_more)

@@ -1,5 +1,5 @@
 -- The words of an answer.
-use Rattle.std.specs.Prelude.{ℕ, List, [], ◌∷◌, codes, decimal, unwrap_or}
+use Rattle.std.specs.Prelude.{ℕ, List, [], ◌∷◌, Bool, true, false, Option, None, Some, codes, decimal, unwrap_or}
 use Rattle.std.specs.Fmt.{signed_decimal}
 use Rattle.std.specs.List.{flat_map}
 use Rattle.raw_segment.specs.Bytes.{part}
@@ -17,7 +17,8 @@ use Rattle.handler_rules.specs.declared.rules.Forbidden.TheVariants as forbidden
 use Rattle.datagram_grammar.specs.Parameters.{Parameters}
 use Rattle.node_record.specs.Record.{Node}
 use Rattle.node_record.specs.SlotMessages.{number_at}
-use Rattle.am_core.specs.Kept.{Local, segment_of}
+use Rattle.am_core.specs.Kept.{segment_of}
+use Rattle.endpoint_rules.specs.EndpointLocal.{EndpointLocal}
 use Rattle.node_record.specs.declared.answer.Asked.{Asked}
 use Rattle.node_record.specs.declared.answer.Asked.TheVariants as asked
 use Rattle.node_record.specs.declared.answer.Delivered.{Delivered}
@@ -27,10 +28,20 @@ use Rattle.node_record.specs.declared.answer.Why.TheVariants as why
 use Rattle.node_record.specs.declared.answer.SlotRef.{SlotRef}
 use Rattle.node_record.specs.declared.answer.Ticked.{Ticked}
 use Rattle.node_record.specs.declared.answer.Ticked.TheVariants as ticked
-use Rattle.gas_world.specs.declared.event.Answer.{Answer}
-use Rattle.gas_world.specs.declared.event.Answer.TheVariants as answers
-use Rattle.gas_world.specs.declared.event.Local.{Local as LocalAnswer}
-use Rattle.gas_world.specs.declared.event.Local.TheVariants as local
+use Rattle.endpoint_rules.specs.declared.answer.Answer.{Answer}
+use Rattle.endpoint_rules.specs.declared.answer.Answer.TheVariants as answers
+use Rattle.endpoint_rules.specs.declared.answer.Begun.{Begun}
+use Rattle.endpoint_rules.specs.declared.answer.Begun.TheVariants as begun
+use Rattle.endpoint_rules.specs.declared.answer.Region.{Region}
+use Rattle.endpoint_rules.specs.declared.answer.Region.TheVariants as region
+use Rattle.endpoint_rules.specs.declared.answer.Local.{Local as LocalAnswer}
+use Rattle.endpoint_rules.specs.declared.answer.Local.TheVariants as local
+use Rattle.put_get.specs.declared.operation.Synced.{Synced}
+use Rattle.put_get.specs.declared.operation.Synced.TheVariants as synced
+use Rattle.named_barrier.specs.declared.answer.Notified.{Notified}
+use Rattle.named_barrier.specs.declared.answer.Notified.TheVariants as notified
+use Rattle.named_barrier.specs.declared.answer.BarrierAnswer.{BarrierAnswer}
+use Rattle.named_barrier.specs.declared.answer.BarrierAnswer.TheVariants as barrier
 use Rattle.node_script.specs.Lines.{Word, Line}
 
 -- the word of the part of a call that is bad
@@ -68,18 +79,23 @@ refusal_word why.Receiver = codes "receiver"
 refusal_word why.Sender = codes "sender"
 refusal_word why.Slot = codes "slot"
 refusal_word why.Handler = codes "handler"
+refusal_word why.Args = codes "args"
 refusal_word why.Range = codes "range"
 
 -- the words of a call that the rule table forbids
 abbrev pub forbidden_words : Forbidden → Line
 forbidden_words rule = codes "forbidden" ∷ rule_word rule ∷ []
 
+-- the words of a call of which a part is bad
+abbrev pub bad_words : Which → Line
+bad_words part = codes "bad-arg" ∷ bad_word part ∷ []
+
 -- the words of the answer to a request
 abbrev pub asked_words : Asked → Line
 asked_words (asked.Accepted to slot number) =
     codes "accepted" ∷ decimal to ∷ decimal slot ∷ decimal number ∷ []
 asked_words asked.Ran = codes "ran" ∷ []
-asked_words (asked.BadArg part) = codes "bad-arg" ∷ bad_word part ∷ []
+asked_words (asked.BadArg part) = bad_words part
 asked_words (asked.Forbidden rule) = forbidden_words rule
 asked_words (asked.LockBusy lock) = codes "lock-busy" ∷ decimal lock ∷ []
 asked_words asked.WornOut = codes "worn-out" ∷ []
@@ -88,6 +104,7 @@ asked_words asked.NotYet = codes "not-yet" ∷ []
 -- the words of the answer to bytes that were delivered
 abbrev pub delivered_words : Delivered → Line
 delivered_words (delivered.Ran at) = codes "ran" ∷ []
+delivered_words (delivered.Noted at note) = codes "ran" ∷ []
 delivered_words (delivered.Again at) = codes "again" ∷ []
 delivered_words delivered.Stale = codes "stale" ∷ []
 delivered_words (delivered.Returned to slot number) = codes "returned" ∷ []
@@ -105,6 +122,54 @@ lock_words (locking.Refused fault) = codes "lock-fault" ∷ lock_fault_word faul
 abbrev pub unlock_words : UnlockAnswer → Line
 unlock_words unlocking.Freed = codes "freed" ∷ []
 unlock_words (unlocking.Refused fault) = codes "lock-fault" ∷ lock_fault_word fault ∷ []
+
+-- ---- transfers and barriers
+
+-- the words of the answer to the beginning of a transfer, where this word stands before its number
+abbrev pub begun_words : Word → Begun → Line
+begun_words word (begun.Handle handle) = word ∷ decimal handle.serial ∷ []
+begun_words word begun.Done = codes "done" ∷ []
+begun_words word (begun.BadArg part) = bad_words part
+begun_words word begun.TooMany = codes "too-many" ∷ []
+
+-- the words of the answer to the question whether all of it was issued
+abbrev pub issued_words : Option Bool → Line
+issued_words None = codes "bad-handle" ∷ []
+issued_words (Some true) = codes "issued" ∷ []
+issued_words (Some false) = codes "not-ready" ∷ []
+
+-- the words of the answer to a synchronisation
+abbrev pub synced_words : Synced → Line
+synced_words synced.Ok = codes "ok" ∷ []
+synced_words synced.NotReady = codes "not-ready" ∷ []
+synced_words synced.NotYours = codes "not-yours" ∷ []
+synced_words synced.BadHandle = codes "bad-handle" ∷ []
+synced_words (synced.WornOut node) = codes "worn-out" ∷ decimal node ∷ []
+
+-- the words of the answer to a call on access regions
+abbrev pub region_words : Region → Line
+region_words region.Begun = codes "ok" ∷ []
+region_words region.Done = codes "done" ∷ []
+region_words (region.Handle handle) = codes "handle" ∷ decimal handle.serial ∷ []
+region_words region.Nested = codes "nested" ∷ []
+region_words region.NoRegion = codes "no-region" ∷ []
+region_words region.InRegion = codes "in-region" ∷ []
+
+-- the words of the answer to a notify
+abbrev pub notified_words : Notified → Line
+notified_words notified.Ok = codes "ok" ∷ []
+notified_words notified.BadFlags = codes "bad-flags" ∷ []
+notified_words notified.Twice = codes "twice" ∷ []
+notified_words notified.WornOut = codes "worn-out" ∷ []
+
+-- the words of the answer to a try of the barrier
+abbrev pub barrier_words : BarrierAnswer → Line
+barrier_words barrier.Ok = codes "ok" ∷ []
+barrier_words barrier.Mismatch = codes "mismatch" ∷ []
+barrier_words barrier.NotReady = codes "not-ready" ∷ []
+barrier_words barrier.NoNotify = codes "no-notify" ∷ []
+barrier_words barrier.BadFlags = codes "bad-flags" ∷ []
+barrier_words (barrier.WornOut node) = codes "worn-out" ∷ decimal node ∷ []
 
 -- ---- the own cells and segment
 
@@ -125,7 +190,7 @@ local_words segment (local.Cell value) = codes "cell" ∷ signed_decimal value �
 -- ---- ticks
 
 -- the number of the message at each slot of the node `me`, which has this record; 0 where there is none
-abbrev pub numbers_of : Parameters → (me : ℕ) → Node Local → SlotRef → ℕ
+abbrev pub numbers_of : Parameters → (me : ℕ) → Node EndpointLocal → SlotRef → ℕ
 numbers_of settings me node at = unwrap_or (number_at settings me node at) 0
 
 -- this word, and the target, the slot and the number of the request at this slot
@@ -147,9 +212,9 @@ pub record Sight : Type 0 where
   pub segment : List ℕ
 
 -- that of the node `me`, which has this record
-abbrev pub sight_of : Parameters → (me : ℕ) → Node Local → Sight
+abbrev pub sight_of : Parameters → (me : ℕ) → Node EndpointLocal → Sight
 sight_of settings me node =
-    record { numbers = numbers_of settings me node; segment = segment_of settings node.local }
+    record { numbers = numbers_of settings me node; segment = segment_of settings node.local.core }
 
 -- the words of the answer of a node, by what it names as it stands after it
 abbrev pub answer_words : Sight → Answer → Line
@@ -159,6 +224,13 @@ answer_words sight answers.Allowed = codes "allowed" ∷ []
 answer_words sight (answers.Forbidden rule) = forbidden_words rule
 answer_words sight (answers.Lock answer) = lock_words answer
 answer_words sight (answers.Unlock answer) = unlock_words answer
+answer_words sight (answers.Begun answer) = begun_words (codes "handle") answer
+answer_words sight (answers.Started answer) = begun_words (codes "started") answer
+answer_words sight (answers.Issued answer) = issued_words answer
+answer_words sight (answers.Synced answer) = synced_words answer
+answer_words sight (answers.Region answer) = region_words answer
+answer_words sight (answers.Notified answer) = notified_words answer
+answer_words sight (answers.Barrier answer) = barrier_words answer
 answer_words sight (answers.Local answer) = local_words sight.segment answer
 answer_words sight (answers.Delivered answer) = delivered_words answer
 answer_words sight (answers.Ticked sent) = ticked_words sight.numbers sent

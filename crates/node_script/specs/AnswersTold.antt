@@ -5,30 +5,31 @@ use Rattle.node_record.specs.SlotMessages.{number_at}
 use Rattle.node_record.specs.declared.answer.SlotRef.{SlotRef}
 use Rattle.node_record.specs.declared.answer.Ticked.{Ticked}
 use Rattle.node_record.specs.declared.answer.Ticked.TheVariants as ticked
-use Rattle.am_core.specs.Kept.{Local, segment_of}
-use Rattle.gas_world.specs.Endpoints.{EndpointState, EndpointStands}
-use Rattle.gas_world.specs.declared.event.Answer.{Answer}
-use Rattle.gas_world.specs.declared.event.Answer.TheVariants as answers
-use Rattle.gas_world.specs.declared.event.Local.{Local as LocalAnswer}
-use Rattle.gas_world.specs.declared.event.Local.TheVariants as local
+use Rattle.am_core.specs.Kept.{segment_of}
+use Rattle.endpoint_rules.specs.EndpointLocal.{EndpointLocal}
+use Rattle.gas_endpoint.specs.Endpoints.{EndpointState, EndpointStands}
+use Rattle.endpoint_rules.specs.declared.answer.Answer.{Answer}
+use Rattle.endpoint_rules.specs.declared.answer.Answer.TheVariants as answers
+use Rattle.endpoint_rules.specs.declared.answer.Local.{Local as LocalAnswer}
+use Rattle.endpoint_rules.specs.declared.answer.Local.TheVariants as local
 use Rattle.node_script.specs.AnswerWords.{Sight, sight_of}
 
 -- what an answer names of the endpoint, whose node has this record
-abbrev pub sight_at : EndpointState → Node Local → Sight
+abbrev pub sight_at : EndpointState → Node EndpointLocal → Sight
 sight_at endpoint node = sight_of endpoint.core.settings endpoint.core.me node
 
 -- the slot of the endpoint has a message, with its number
 pub record HasNumber (endpoint : EndpointState) (at : SlotRef) : Type 0 where
-  pub node : Node Local
+  pub node : Node EndpointLocal
   pub stands : EndpointStands endpoint node
   pub number : ℕ
   pub there : number_at endpoint.core.settings endpoint.core.me node at ≡ Some number
 
 -- the range lies inside the segment of the endpoint
 pub record HasRange (endpoint : EndpointState) (offset len : ℕ) : Type 0 where
-  pub node : Node Local
+  pub node : Node EndpointLocal
   pub stands : EndpointStands endpoint node
-  pub inside : offset + len ≤ length (segment_of endpoint.core.settings node.local)
+  pub inside : offset + len ≤ length (segment_of endpoint.core.settings node.local.core)
 
 -- the slot of what a tick sent has it
 abbrev pub TicksItsNumbers : EndpointState → Ticked → Type 0

@@ -1,17 +1,29 @@
 -- What the calls of a schedule are to the records of the nodes.
-use Rattle.std.specs.Prelude.{ℤ, List, [], map}
+use Rattle.std.specs.Prelude.{ℤ, List, [], map, Some}
 use Rattle.node_record.specs.Behaviour.{PayloadFrom, Lent, Own}
 use Rattle.am_core.specs.ClientRules.{short_asking, medium_asking, long_asking}
-use Rattle.gas_world.specs.CallRules.{Poll, Attempt, Lock, Unlock, Cell, SetCell, OnSegment}
-use Rattle.gas_world.specs.Memory.{Show, Set, Fill, LoadWord, SetWord}
-use Rattle.gas_world.specs.Called.{Meant, Requests, Performs}
+use Rattle.endpoint_rules.specs.EndpointRules.{OnCore, OnTransfers, OnBarrier}
+use Rattle.endpoint_rules.specs.CoreCalls.{Poll, Attempt, Lock, Unlock, Cell, SetCell, OnSegment}
+use Rattle.endpoint_rules.specs.Memory.{Show, Set, Fill, LoadWord, SetWord}
+use Rattle.endpoint_rules.specs.TransferCalls.{Begin, BeginImplicit, IsIssued, Sync, SyncAll, SyncSome, SyncImplicit}
+use Rattle.endpoint_rules.specs.TransferCalls.{RegionBegin, RegionEnd}
+use Rattle.endpoint_rules.specs.BarrierCalls.{Notify, TryBarrier}
+use Rattle.endpoint_rules.specs.Called.{Meant, Requests, Performs}
+use Rattle.put_get.specs.declared.operation.Some3.{Some3}
+use Rattle.put_get.specs.declared.operation.Some3.TheVariants as some
+use Rattle.put_get.specs.declared.operation.Transfer.{Transfer}
+use Rattle.put_get.specs.declared.operation.Transfer.TheVariants as transfers
 use Rattle.job_text.specs.Payloads.{IsPayload}
+use Rattle.job_text.specs.declared.job.ImplicitKind.{ImplicitKind}
+use Rattle.job_text.specs.declared.job.ImplicitKind.TheVariants as implicit
 use Rattle.job_text.specs.declared.job.LongText.{LongText}
 use Rattle.job_text.specs.declared.job.MediumText.{MediumText}
 use Rattle.job_text.specs.declared.job.Payload.{Payload}
 use Rattle.job_text.specs.declared.job.Payload.TheVariants as payload
 use Rattle.job_text.specs.declared.job.ScheduledCall.{ScheduledCall}
 use Rattle.job_text.specs.declared.job.ScheduledCall.TheVariants as call
+use Rattle.job_text.specs.declared.job.TransferText.{TransferText}
+use Rattle.job_text.specs.declared.job.TransferText.TheVariants as text
 use Rattle.node_script.specs.Bodies.{operand_value}
 
 -- where a payload is. No schedule has that of a message, which would have no bytes
@@ -32,6 +44,18 @@ meant_long cells text =
     Requests text.to
     (long_asking text.handler (map (operand_value cells []) text.operands) (given_from text.payload) text.offset)
 
+-- a transfer
+abbrev pub transfer_of : TransferText → Transfer
+transfer_of (text.Put to remote local len) = transfers.Put to remote local len
+transfer_of (text.Get to remote local len) = transfers.Get to remote local len
+transfer_of (text.Memset to remote len byte) = transfers.Memset to remote len byte
+
+-- the implicit operations of a synchronisation
+abbrev pub some_of : ImplicitKind → Some3
+some_of implicit.Puts = some.Puts
+some_of implicit.Gets = some.Gets
+some_of implicit.All = some.All
+
 -- a call, by the cells of its node
 abbrev pub meant_by : (cells : List ℤ) → ScheduledCall → Meant
 meant_by cells (call.Short to handler operands) =
@@ -39,17 +63,30 @@ meant_by cells (call.Short to handler operands) =
 meant_by cells (call.Medium text) = meant_medium cells text
 meant_by cells (call.Long text) = meant_long cells text
 meant_by cells (call.LongAsync text) = meant_long cells text
-meant_by cells (call.Lock lock) = Performs (Lock lock)
-meant_by cells (call.Unlock lock) = Performs (Unlock lock)
-meant_by cells call.Poll = Performs Poll
-meant_by cells (call.Attempt kind) = Performs (Attempt kind)
-meant_by cells (call.Cell cell) = Performs (Cell cell)
-meant_by cells (call.SetCell cell operand) = Performs (SetCell cell (operand_value cells [] operand))
-meant_by cells (call.Show offset len) = Performs (OnSegment (Show offset len))
-meant_by cells (call.Set offset bytes) = Performs (OnSegment (Set (record { offset = offset; bytes = bytes })))
-meant_by cells (call.Fill offset len byte) = Performs (OnSegment (Fill offset len byte))
-meant_by cells (call.Word offset) = Performs (OnSegment (LoadWord offset))
-meant_by cells (call.SetWord offset number) = Performs (OnSegment (SetWord offset number))
+meant_by cells (call.Lock lock) = Performs (OnCore (Lock lock))
+meant_by cells (call.Unlock lock) = Performs (OnCore (Unlock lock))
+meant_by cells call.Poll = Performs (OnCore Poll)
+meant_by cells (call.Attempt kind) = Performs (OnCore (Attempt kind))
+meant_by cells (call.Cell cell) = Performs (OnCore (Cell cell))
+meant_by cells (call.SetCell cell operand) = Performs (OnCore (SetCell cell (operand_value cells [] operand)))
+meant_by cells (call.Show offset len) = Performs (OnCore (OnSegment (Show offset len)))
+meant_by cells (call.Set offset bytes) =
+    Performs (OnCore (OnSegment (Set (record { offset = offset; bytes = bytes }))))
+meant_by cells (call.Fill offset len byte) = Performs (OnCore (OnSegment (Fill offset len byte)))
+meant_by cells (call.Word offset) = Performs (OnCore (OnSegment (LoadWord offset)))
+meant_by cells (call.SetWord offset number) = Performs (OnCore (OnSegment (SetWord offset number)))
+meant_by cells (call.Begin register transfer) =
+    Performs (OnTransfers (Begin (Some register) (transfer_of transfer)))
+meant_by cells (call.BeginImplicit transfer) = Performs (OnTransfers (BeginImplicit (transfer_of transfer)))
+meant_by cells (call.IsIssued register) = Performs (OnTransfers (IsIssued register))
+meant_by cells (call.Sync register) = Performs (OnTransfers (Sync register))
+meant_by cells (call.SyncAll registers) = Performs (OnTransfers (SyncAll registers))
+meant_by cells (call.SyncSome registers) = Performs (OnTransfers (SyncSome registers))
+meant_by cells (call.SyncImplicit which) = Performs (OnTransfers (SyncImplicit (some_of which)))
+meant_by cells call.RegionBegin = Performs (OnTransfers RegionBegin)
+meant_by cells (call.RegionEnd register) = Performs (OnTransfers (RegionEnd register))
+meant_by cells (call.Notify id flags) = Performs (OnBarrier (Notify id flags))
+meant_by cells (call.TryBarrier id flags) = Performs (OnBarrier (TryBarrier id flags))
 
 -- the payload of a request is one of a schedule
 abbrev pub IsGiven : ScheduledCall → Type 0
@@ -74,3 +111,18 @@ IsOnSegment (call.Fill offset len byte) = Unit {0}
 IsOnSegment (call.Word offset) = Unit {0}
 IsOnSegment (call.SetWord offset number) = Unit {0}
 IsOnSegment _ = ⊥
+
+-- the call is one on transfers, regions or the barrier
+abbrev pub IsOnTransfers : ScheduledCall → Type 0
+IsOnTransfers (call.Begin register transfer) = Unit {0}
+IsOnTransfers (call.BeginImplicit transfer) = Unit {0}
+IsOnTransfers (call.IsIssued register) = Unit {0}
+IsOnTransfers (call.Sync register) = Unit {0}
+IsOnTransfers (call.SyncAll registers) = Unit {0}
+IsOnTransfers (call.SyncSome registers) = Unit {0}
+IsOnTransfers (call.SyncImplicit which) = Unit {0}
+IsOnTransfers call.RegionBegin = Unit {0}
+IsOnTransfers (call.RegionEnd register) = Unit {0}
+IsOnTransfers (call.Notify id flags) = Unit {0}
+IsOnTransfers (call.TryBarrier id flags) = Unit {0}
+IsOnTransfers _ = ⊥

@@ -1,8 +1,8 @@
 -- What the lines of a schedule stand for.
 use Rattle.std.specs.Prelude.{ℕ, List, [], ◌∷◌, ◌++◌, Option, Some, None}
 use Rattle.plain_world.specs.World.{RequestComes, ReplyComes, Ticks, Timed, run}
-use Rattle.gas_world.specs.CallRules.{OtherCall, Records, RecordsEvent, timed, job_of}
-use Rattle.gas_world.specs.Called.{event_at}
+use Rattle.endpoint_rules.specs.EndpointRules.{OtherCall, Records, RecordsEvent, timed, job_of}
+use Rattle.endpoint_rules.specs.Called.{event_at}
 use Rattle.gas_world.specs.Settling.{WorldJob, settle_events}
 use Rattle.job_text.specs.declared.job.Job.{Job as JobState}
 use Rattle.node_script.specs.Registration.{registered}
@@ -21,7 +21,7 @@ world_job text = job_of text.settings (registered text.handlers).table (script_m
 
 -- a call of a thread of a node, where the nodes have these records
 abbrev pub call_event : Records → (node thread : ℕ) → ScheduledCall → RecordsEvent
-call_event world node thread call = event_at node thread (meant_by (world node).local.cells call)
+call_event world node thread call = event_at node thread (meant_by (world node).local.core.cells call)
 
 -- ---- lines
 

@@ -1,117 +1,147 @@
-//! The texts of answers that name nothing but what they say.
+//! The texts of answers that name nothing but what they say: what stands behind the number of a line. There is room for
+//! each, and no fault comes.
 
 ghost use Rattle.std.specs.Prelude.{◌≡◌, ◌≤◌, ◌∷◌, [], codes, decimal, length};
 ghost use Rattle.std.specs.Fmt.{signed_decimal};
+ghost use Rattle.gas_outside.specs.Buffered.{GathersAll, outbox};
 ghost use Rattle.node_script.specs.Lines.{ending};
 ghost use Rattle.node_script.specs.AnswerWords.{asked_words, delivered_words, lock_words, unlock_words};
 
 use crate::answer_words::{bad_word, lock_fault_word, refusal_word, rule_word};
-use crate::line_text::LineText;
+use crate::line_text::{put_end, put_number, put_word};
 use am_core::{Asked, Delivered};
+use gas_outside::{BufferedSink, Sink, Wrote};
 use hsl_locks::{LockAnswer, UnlockAnswer};
 use itoa::Buffer;
 
 /// The text of one word.
-pub(crate) fn word_text(word: &[u8]) -> LineText
-    requires { length word.now ≤ 20 }
-    ensures { result ≡ ending (word.now ∷ []) }
+#[inline(always)]
+pub(crate) fn write_word<K: Sink>(word: &[u8], sink: &mut BufferedSink<K>) -> Wrote
+    requires word { length word.now ≤ 20 }
+    requires room { 100 ≤ sink.old.room }
+    ensures { GathersAll (outbox K.taken K.faults sink.old) (outbox K.taken K.faults sink.new)
+        (ending (word.now ∷ [])) result }
 {
-    let mut text = LineText::new();
-    text.put_word(word);
-    text
+    put_word(word, sink);
+    put_end(sink);
+    Wrote::Done
 }
 
 /// The text of two words.
-pub(crate) fn reason_text(word: &[u8], reason: &[u8]) -> LineText
+#[inline(always)]
+pub(crate) fn write_reason<K: Sink>(word: &[u8], reason: &[u8], sink: &mut BufferedSink<K>) -> Wrote
     requires word { length word.now ≤ 20 }
     requires reason { length reason.now ≤ 40 }
-    ensures { result ≡ ending (word.now ∷ reason.now ∷ []) }
+    requires room { 100 ≤ sink.old.room }
+    ensures { GathersAll (outbox K.taken K.faults sink.old) (outbox K.taken K.faults sink.new)
+        (ending (word.now ∷ reason.now ∷ [])) result }
 {
-    let mut text = LineText::new();
-    text.put_word(reason);
-    text.put_word(word);
-    text
+    put_word(word, sink);
+    put_word(reason, sink);
+    put_end(sink);
+    Wrote::Done
 }
 
 /// The text of a word and a number.
-pub(crate) fn numbered_text(word: &[u8], number: u64) -> LineText
-    requires { length word.now ≤ 20 }
-    ensures { result ≡ ending (word.now ∷ decimal number ∷ []) }
+#[inline(always)]
+pub(crate) fn write_numbered<K: Sink>(word: &[u8], number: u64, sink: &mut BufferedSink<K>) -> Wrote
+    requires word { length word.now ≤ 20 }
+    requires room { 100 ≤ sink.old.room }
+    ensures { GathersAll (outbox K.taken K.faults sink.old) (outbox K.taken K.faults sink.new)
+        (ending (word.now ∷ decimal number ∷ [])) result }
 {
-    let mut text = LineText::new();
-    text.put_number(number);
-    text.put_word(word);
-    text
+    put_word(word, sink);
+    put_number(number, sink);
+    put_end(sink);
+    Wrote::Done
 }
 
 /// The text of a request: a word, its target, its slot and its number.
-pub(crate) fn request_text(word: &[u8], to: u16, slot: u16, number: u64) -> LineText
-    requires { length word.now ≤ 10 }
-    ensures { result ≡ ending (word.now ∷ decimal to ∷ decimal slot ∷ decimal number ∷ []) }
+pub(crate) fn write_request<K: Sink>(
+    word: &[u8],
+    to: u16,
+    slot: u16,
+    number: u64,
+    sink: &mut BufferedSink<K>,
+) -> Wrote
+    requires word { length word.now ≤ 20 }
+    requires room { 100 ≤ sink.old.room }
+    ensures { GathersAll (outbox K.taken K.faults sink.old) (outbox K.taken K.faults sink.new)
+        (ending (word.now ∷ decimal to ∷ decimal slot ∷ decimal number ∷ [])) result }
 {
-    let mut text = LineText::new();
-    text.put_number(number);
-    text.put_short(slot);
-    text.put_short(to);
-    text.put_word(word);
-    text
+    put_word(word, sink);
+    put_number(u64::from(to), sink);
+    put_number(u64::from(slot), sink);
+    put_number(number, sink);
+    put_end(sink);
+    Wrote::Done
 }
 
 /// The text of the answer to a request.
-pub(crate) fn asked_text(answer: Asked) -> LineText
-    ensures { result ≡ ending (asked_words answer) }
+pub(crate) fn write_asked<K: Sink>(answer: Asked, sink: &mut BufferedSink<K>) -> Wrote
+    requires { 100 ≤ sink.old.room }
+    ensures { GathersAll (outbox K.taken K.faults sink.old) (outbox K.taken K.faults sink.new)
+        (ending (asked_words answer)) result }
 {
     match answer {
-        Asked::Accepted { to, slot, number } => request_text(b"accepted", to, slot, number),
-        Asked::Ran => word_text(b"ran"),
-        Asked::BadArg(part) => reason_text(b"bad-arg", bad_word(part)),
-        Asked::Forbidden(rule) => reason_text(b"forbidden", rule_word(rule)),
-        Asked::LockBusy(lock) => numbered_text(b"lock-busy", u64::from(lock)),
-        Asked::WornOut => word_text(b"worn-out"),
-        Asked::NotYet => word_text(b"not-yet"),
+        Asked::Accepted { to, slot, number } => write_request(b"accepted", to, slot, number, sink),
+        Asked::Ran => write_word(b"ran", sink),
+        Asked::BadArg(part) => write_reason(b"bad-arg", bad_word(part), sink),
+        Asked::Forbidden(rule) => write_reason(b"forbidden", rule_word(rule), sink),
+        Asked::LockBusy(lock) => write_numbered(b"lock-busy", u64::from(lock), sink),
+        Asked::WornOut => write_word(b"worn-out", sink),
+        Asked::NotYet => write_word(b"not-yet", sink),
     }
 }
 
 /// The text of the answer to bytes that were delivered.
-pub(crate) fn delivered_text(answer: Delivered) -> LineText
-    ensures { result ≡ ending (delivered_words answer) }
+pub(crate) fn write_delivered<K: Sink>(answer: Delivered, sink: &mut BufferedSink<K>) -> Wrote
+    requires { 100 ≤ sink.old.room }
+    ensures { GathersAll (outbox K.taken K.faults sink.old) (outbox K.taken K.faults sink.new)
+        (ending (delivered_words answer)) result }
 {
     match answer {
-        Delivered::Ran(_) => word_text(b"ran"),
-        Delivered::Again(_) => word_text(b"again"),
-        Delivered::Stale => word_text(b"stale"),
-        Delivered::Returned { .. } => word_text(b"returned"),
-        Delivered::Late => word_text(b"late"),
-        Delivered::Deferred(lock) => numbered_text(b"deferred", u64::from(lock)),
-        Delivered::Refused(reason) => reason_text(b"refused", refusal_word(reason)),
+        Delivered::Ran(_) | Delivered::Noted(..) => write_word(b"ran", sink),
+        Delivered::Again(_) => write_word(b"again", sink),
+        Delivered::Stale => write_word(b"stale", sink),
+        Delivered::Returned { .. } => write_word(b"returned", sink),
+        Delivered::Late => write_word(b"late", sink),
+        Delivered::Deferred(lock) => write_numbered(b"deferred", u64::from(lock), sink),
+        Delivered::Refused(reason) => write_reason(b"refused", refusal_word(reason), sink),
     }
 }
 
 /// The text of the number in a cell.
-pub(crate) fn cell_text(value: i32) -> LineText
-    ensures { result ≡ ending (codes "cell" ∷ signed_decimal value ∷ []) }
+pub(crate) fn write_cell<K: Sink>(value: i32, sink: &mut BufferedSink<K>) -> Wrote
+    requires { 100 ≤ sink.old.room }
+    ensures { GathersAll (outbox K.taken K.faults sink.old) (outbox K.taken K.faults sink.new)
+        (ending (codes "cell" ∷ signed_decimal value ∷ [])) result }
 {
     let mut digits = Buffer::new();
-    reason_text(b"cell", digits.format(value).as_bytes())
+    write_reason(b"cell", digits.format(value).as_bytes(), sink)
 }
 
 /// The text of the answer to taking a lock.
-pub(crate) fn lock_text(answer: LockAnswer) -> LineText
-    ensures { result ≡ ending (lock_words answer) }
+pub(crate) fn write_lock<K: Sink>(answer: LockAnswer, sink: &mut BufferedSink<K>) -> Wrote
+    requires { 100 ≤ sink.old.room }
+    ensures { GathersAll (outbox K.taken K.faults sink.old) (outbox K.taken K.faults sink.new)
+        (ending (lock_words answer)) result }
 {
     match answer {
-        LockAnswer::Taken => word_text(b"taken"),
-        LockAnswer::Held => word_text(b"held"),
-        LockAnswer::Refused(fault) => reason_text(b"lock-fault", lock_fault_word(fault)),
+        LockAnswer::Taken => write_word(b"taken", sink),
+        LockAnswer::Held => write_word(b"held", sink),
+        LockAnswer::Refused(fault) => write_reason(b"lock-fault", lock_fault_word(fault), sink),
     }
 }
 
 /// The text of the answer to giving a lock back.
-pub(crate) fn unlock_text(answer: UnlockAnswer) -> LineText
-    ensures { result ≡ ending (unlock_words answer) }
+pub(crate) fn write_unlock<K: Sink>(answer: UnlockAnswer, sink: &mut BufferedSink<K>) -> Wrote
+    requires { 100 ≤ sink.old.room }
+    ensures { GathersAll (outbox K.taken K.faults sink.old) (outbox K.taken K.faults sink.new)
+        (ending (unlock_words answer)) result }
 {
     match answer {
-        UnlockAnswer::Freed => word_text(b"freed"),
-        UnlockAnswer::Refused(fault) => reason_text(b"lock-fault", lock_fault_word(fault)),
+        UnlockAnswer::Freed => write_word(b"freed", sink),
+        UnlockAnswer::Refused(fault) => write_reason(b"lock-fault", lock_fault_word(fault), sink),
     }
 }

@@ -64,6 +64,7 @@ pub fn refusal_word(reason: Why) -> &'static [u8]
         Why::Sender => b"sender",
         Why::Slot => b"slot",
         Why::Handler => b"handler",
+        Why::Args => b"args",
         Why::Range => b"range",
     }
 }

@@ -8,7 +8,7 @@
 //! - `ScriptHandlers` is a `Handlers` whose meaning is the body of the text (`script_meaning`): `run` leaves what its
 //!   actions leave, in order. It is lawful: what a body writes lies inside the segment, the locks of threads stay theirs,
 //!   and a reply is one that was let through.
-//! - `write_answer` writes a line: the words that its caller gives, and those of an answer (`answer_words`) by the numbers
+//! - `write_answer` writes a line: a number, and the words of an answer (`answer_words`) by the numbers
 //!   at the endpoint's slots and its segment, for every record for which the endpoint stands; at a fault of the sink a
 //!   front of it. `write_line` writes any line.
 #![tactic(auto)]
@@ -26,6 +26,7 @@ mod line_text;
 mod line_writer;
 mod script;
 mod shown;
+mod transfer_texts;
 
 pub use answer_words::{lock_fault_word, rule_word};
 pub use answers::write_answer;

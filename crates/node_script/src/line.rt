@@ -2,23 +2,27 @@
 
 ghost use Rattle.std.specs.Prelude.{◌≡◌, ℤ, List, [], IfSome, map, slice_get};
 ghost use Rattle.am_core.specs.AskedFor.{payload_from};
-ghost use Rattle.gas_world.specs.Called.{meant};
+ghost use Rattle.endpoint_rules.specs.Called.{meant};
 ghost use Rattle.gas_world.specs.Events.{ForItsRecords};
 ghost use Rattle.node_script.specs.ScriptInvariant.{IsWithin};
-ghost use Rattle.node_script.specs.ScheduleLine.{IsLine, IsLineOf, NamesNodes};
+ghost use Rattle.node_script.specs.ScheduleLine.{IsCallable, IsLine, IsLineOf, MayBeTaken, NamesNodes};
 ghost use Rattle.node_script.specs.Bodies.{operand_value};
-ghost use Rattle.node_script.specs.ScheduledCalls.{IsGiven, IsOnSegment, IsOwn, given_from, meant_by, meant_long, meant_medium};
+ghost use Rattle.node_script.specs.ScheduledCalls.{IsGiven, IsOnSegment, IsOnTransfers, IsOwn, given_from, meant_by};
+ghost use Rattle.node_script.specs.ScheduledCalls.{meant_long, meant_medium, some_of, transfer_of};
 ghost use Rattle.job_text.specs.Payloads.{IsPayload};
 ghost use Rattle.job_text.specs.JobReading.{lines_of};
 
 use crate::body_numbers::{value_of, values_of};
 use crate::script::Script;
 use am_core::Payload;
-use gas_world::{Call, World, WorldEvent};
+use endpoint_rules::Call;
+use gas_world::{World, WorldEvent};
 use handler_rules::Cells;
 use job_text::{
-    LongText, MediumText, Operands, Payload as Given, ScheduledCall, ScheduledEvent, TimedEvent,
+    ImplicitKind, LongText, MediumText, Operands, Payload as Given, ScheduledCall, ScheduledEvent,
+    TimedEvent, TransferText,
 };
+use put_get::{Some3, Transfer};
 
 /// A line of a schedule, as it is run.
 #[derive(Clone, Copy, Debug)]
@@ -47,6 +51,7 @@ impl Script {
         ensures line { ForItsRecords world.now (λ records most.
             IsLine records (slice_get (lines_of self.now.schedule) i) result) }
         ensures nodes { IfSome result (NamesNodes self.now.settings) }
+        ensures called { IfSome result (MayBeTaken self.now.settings) }
     {
         match self.timed(i) {
             Some(timed) => Some(line_of(timed, world, args)),
@@ -57,9 +62,10 @@ impl Script {
 
 /// A line, by the cells of the nodes in this world.
 fn line_of<'a>(timed: &'a TimedEvent, world: &World, args: &'a mut [i32; 17]) -> Line<'a>
-    requires { IsWithin world.now.settings.nodes timed.now.event }
+    requires { IsWithin world.now.settings timed.now.event }
     ensures line { ForItsRecords world.now (λ records most. IsLineOf records timed.now result) }
     ensures nodes { NamesNodes world.now.settings result }
+    ensures called { MayBeTaken world.now.settings result }
 {
     let now = timed.time;
     let event = match &timed.event {
@@ -92,7 +98,8 @@ fn line_of<'a>(timed: &'a TimedEvent, world: &World, args: &'a mut [i32; 17]) ->
 /// A call, by the cells of its node.
 fn call_of<'a>(call: &'a ScheduledCall, cells: &Cells, args: &'a mut [i32; 17]) -> Call<'a>
     requires { IsGiven call.now }
-    ensures { meant result ≡ meant_by cells.now call.now }
+    ensures meant { meant result ≡ meant_by cells.now call.now }
+    ensures callable { IsCallable result }
 {
     match call {
         ScheduledCall::Short {
@@ -139,7 +146,8 @@ fn payload_of(payload: &Given) -> Payload<'_>
 /// A Medium request.
 fn medium_of<'a>(text: &'a MediumText, cells: &Cells, args: &'a mut [i32; 17]) -> Call<'a>
     requires { IsPayload text.now.payload }
-    ensures { meant result ≡ meant_medium cells.now text.now }
+    ensures meant { meant result ≡ meant_medium cells.now text.now }
+    ensures callable { IsCallable result }
 {
     Call::Medium {
         to: text.to,
@@ -152,7 +160,8 @@ fn medium_of<'a>(text: &'a MediumText, cells: &Cells, args: &'a mut [i32; 17]) -
 /// A Long request.
 fn long_of<'a>(text: &'a LongText, cells: &Cells, args: &'a mut [i32; 17]) -> Call<'a>
     requires { IsPayload text.now.payload }
-    ensures { meant result ≡ meant_long cells.now text.now }
+    ensures meant { meant result ≡ meant_long cells.now text.now }
+    ensures callable { IsCallable result }
 {
     Call::Long {
         to: text.to,
@@ -166,7 +175,8 @@ fn long_of<'a>(text: &'a LongText, cells: &Cells, args: &'a mut [i32; 17]) -> Ca
 /// A Long request whose payload may be read later.
 fn async_of<'a>(text: &'a LongText, cells: &Cells, args: &'a mut [i32; 17]) -> Call<'a>
     requires { IsPayload text.now.payload }
-    ensures { meant result ≡ meant_long cells.now text.now }
+    ensures meant { meant result ≡ meant_long cells.now text.now }
+    ensures callable { IsCallable result }
 {
     Call::LongAsync {
         to: text.to,
@@ -180,7 +190,8 @@ fn async_of<'a>(text: &'a LongText, cells: &Cells, args: &'a mut [i32; 17]) -> C
 /// A call that makes no request.
 fn own_call_of<'a>(call: &'a ScheduledCall, cells: &Cells) -> Call<'a>
     requires { IsOwn call.now }
-    ensures { meant result ≡ meant_by cells.now call.now }
+    ensures meant { meant result ≡ meant_by cells.now call.now }
+    ensures callable { IsCallable result }
 {
     match call {
         ScheduledCall::Lock { lock } => Call::Lock { k: *lock },
@@ -192,14 +203,20 @@ fn own_call_of<'a>(call: &'a ScheduledCall, cells: &Cells) -> Call<'a>
             c: *cell,
             value: value_of(*operand, cells, &[]),
         },
-        _ => segment_call_of(call),
+        ScheduledCall::Show { .. }
+        | ScheduledCall::Set { .. }
+        | ScheduledCall::Fill { .. }
+        | ScheduledCall::Word { .. }
+        | ScheduledCall::SetWord { .. } => segment_call_of(call),
+        _ => transfer_call_of(call),
     }
 }
 
 /// A call on the own segment.
 fn segment_call_of(call: &ScheduledCall) -> Call<'_>
     requires { IsOnSegment call.now }
-    ensures { (cells : List ℤ) → meant result ≡ meant_by cells call.now }
+    ensures meant { (cells : List ℤ) → meant result ≡ meant_by cells call.now }
+    ensures callable { IsCallable result }
 {
     match call {
         ScheduledCall::Show { offset, len } => Call::Show {
@@ -219,6 +236,97 @@ fn segment_call_of(call: &ScheduledCall) -> Call<'_>
         ScheduledCall::SetWord { offset, number } => Call::SetWord {
             offset: *offset,
             value: *number,
+        },
+        _ => unreachable!(),
+    }
+}
+
+/// A transfer.
+fn transfer_of(text: &TransferText) -> Transfer
+    ensures { result ≡ transfer_of text.now }
+{
+    match *text {
+        TransferText::Put {
+            to,
+            remote,
+            local,
+            len,
+        } => Transfer::Put {
+            to,
+            remote,
+            local,
+            len,
+        },
+        TransferText::Get {
+            to,
+            remote,
+            local,
+            len,
+        } => Transfer::Get {
+            to,
+            remote,
+            local,
+            len,
+        },
+        TransferText::Memset {
+            to,
+            remote,
+            len,
+            byte,
+        } => Transfer::Memset {
+            to,
+            remote,
+            len,
+            byte,
+        },
+    }
+}
+
+/// The implicit operations of a synchronisation.
+fn some_of(kind: ImplicitKind) -> Some3
+    ensures { result ≡ some_of kind }
+{
+    match kind {
+        ImplicitKind::Puts => Some3::Puts,
+        ImplicitKind::Gets => Some3::Gets,
+        ImplicitKind::All => Some3::All,
+    }
+}
+
+/// A call on transfers, regions or the barrier.
+fn transfer_call_of(call: &ScheduledCall) -> Call<'_>
+    requires { IsOnTransfers call.now }
+    ensures meant { (cells : List ℤ) → meant result ≡ meant_by cells call.now }
+    ensures callable { IsCallable result }
+{
+    match call {
+        ScheduledCall::Begin { register, transfer } => Call::Begin {
+            reg: Some(*register),
+            transfer: transfer_of(transfer.text()),
+        },
+        ScheduledCall::BeginImplicit { transfer } => Call::BeginImplicit {
+            transfer: transfer_of(transfer.text()),
+        },
+        ScheduledCall::IsIssued { register } => Call::IsIssued { reg: *register },
+        ScheduledCall::Sync { register } => Call::Sync { reg: *register },
+        ScheduledCall::SyncAll { registers } => Call::SyncAll {
+            regs: registers.items(),
+        },
+        ScheduledCall::SyncSome { registers } => Call::SyncSome {
+            regs: registers.items(),
+        },
+        ScheduledCall::SyncImplicit { which } => Call::SyncImplicit {
+            which: some_of(*which),
+        },
+        ScheduledCall::RegionBegin => Call::RegionBegin,
+        ScheduledCall::RegionEnd { register } => Call::RegionEnd { reg: *register },
+        ScheduledCall::Notify { id, flags } => Call::Notify {
+            id: *id,
+            flags: *flags,
+        },
+        ScheduledCall::TryBarrier { id, flags } => Call::TryBarrier {
+            id: *id,
+            flags: *flags,
         },
         _ => unreachable!(),
     }

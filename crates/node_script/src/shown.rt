@@ -5,7 +5,7 @@ ghost use Rattle.std.specs.List.{flat_map};
 ghost use Rattle.gas_outside.specs.Buffered.{GathersAll, outbox};
 ghost use Rattle.job_text.specs.Payloads.{hex_byte, hex_digit};
 ghost use Rattle.node_script.specs.AnswerWords.{shown_word};
-ghost use Rattle.node_script.specs.Lines.{line_text};
+ghost use Rattle.node_script.specs.Lines.{ending};
 
 use gas_outside::{BufferedSink, Sink, Wrote};
 
@@ -59,14 +59,11 @@ fn write_shown_word<K: Sink>(bytes: &[u8], sink: &mut BufferedSink<K>) -> Wrote
     write_digits(bytes, sink)
 }
 
-/// Writes the line of bytes that are shown.
-pub(crate) fn write_shown<K: Sink>(first: &[u8], bytes: &[u8], sink: &mut BufferedSink<K>) -> Wrote
+/// The text of bytes that are shown, behind the number of a line.
+pub(crate) fn write_shown<K: Sink>(bytes: &[u8], sink: &mut BufferedSink<K>) -> Wrote
     ensures { GathersAll (outbox K.taken K.faults sink.old) (outbox K.taken K.faults sink.new)
-        (line_text (first.now ∷ codes "bytes" ∷ shown_word bytes.now ∷ [])) result }
+        (ending (codes "bytes" ∷ shown_word bytes.now ∷ [])) result }
 {
-    if let Wrote::Fault = sink.write_all(first) {
-        return Wrote::Fault;
-    }
     if let Wrote::Fault = sink.write_all(b" bytes ") {
         return Wrote::Fault;
     }

@@ -1,5 +1,5 @@
 use Rattle.std.proofs.Common.{◌≡◌, Option, Some, subst}
-use Rattle.gas_world.specs.CallRules.{Records}
+use Rattle.endpoint_rules.specs.EndpointRules.{Records}
 use Rattle.job_text.specs.declared.job.TimedEvent.{TimedEvent}
 use Rattle.node_script.specs.declared.line.Line.{Line}
 use Rattle.node_script.specs.ScheduleLine.{IsLine, IsLineOf}

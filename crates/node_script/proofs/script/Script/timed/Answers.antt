@@ -1,5 +1,6 @@
 use Rattle.std.proofs.Common.{◌≡◌, ℕ, List, Option, Some, None, Bor, sym, subst, slice_get}
 use Rattle.std.specs.Option.{IfSome, option_map}
+use Rattle.datagram_grammar.specs.Parameters.{Parameters}
 use Rattle.job_text.specs.declared.job.Job.{Job as JobState}
 use Rattle.node_script.specs.ScriptInvariant.{IsWithin, AreWithin}
 use Rattle.job_text.specs.JobReading.{lines_of}
@@ -7,15 +8,16 @@ use Rattle.job_text.specs.declared.job.TimedEvent.{TimedEvent}
 use Rattle.node_script.proofs.script.Script.timed.Goals as goal
 
 -- a line of lines whose calls are within is within
-line_within : (nodes : ℕ) (es : List TimedEvent) (i : ℕ) (r : Option (Bor TimedEvent))
-    → option_map (λ e. e.now) r ≡ slice_get es i → AreWithin nodes es → IfSome r (λ e. IsWithin nodes e.now.event)
-line_within nodes es i None e h = tt
-line_within nodes es i (Some x) e h = h i x.now (sym e)
+line_within : (settings : Parameters) (es : List TimedEvent) (i : ℕ) (r : Option (Bor TimedEvent))
+    → option_map (λ e. e.now) r ≡ slice_get es i → AreWithin settings es
+    → IfSome r (λ e. IsWithin settings e.now.event)
+line_within settings es i None e h = tt
+line_within settings es i (Some x) e h = h i x.now (sym e)
 
 pub returns-clause-within : goal.returns-clause-within
 returns-clause-within c =
-    let h : AreWithin c.args.self.now.settings.nodes (lines_of c.self.inside.schedule) =
-    subst (λ (j : JobState). AreWithin j.settings.nodes (lines_of c.self.inside.schedule)) c.self.view_is
+    let h : AreWithin c.args.self.now.settings (lines_of c.self.inside.schedule) =
+    subst (λ (j : JobState). AreWithin j.settings (lines_of c.self.inside.schedule)) c.self.view_is
     c.self.invariant.within in
-    line_within c.args.self.now.settings.nodes (lines_of c.self.inside.schedule) c.args.i c.line_at.result
+    line_within c.args.self.now.settings (lines_of c.self.inside.schedule) c.args.i c.line_at.result
     c.line_at.ensures h
