@@ -31,8 +31,8 @@ IsReadJob job (reads.NoJob line why) = ⊥
 IsReadJob job reads.Fault = ⊥
 IsReadJob job reads.NoMemory = ⊤
 
--- the status line of this end went in, and so the command ended, with this world; or the sink failed, and a front of that
--- line went in
+-- the status line of this end went in, and so the command ended, with this world; or the sink failed, and a front of
+-- that line went in
 abbrev pub Says : End → Option WorldState → (old new : Outbox) → Ended → Type 0
 Says end world old new ended =
     ((ended ≡ record { end = end; world = world }) × Gathers old new (line_text (status_line end)))

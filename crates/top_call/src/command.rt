@@ -48,7 +48,8 @@ fn registered(alloc: Global, job: Job) -> JobRead
 
 /// Reads all, and the job whose text it is.
 fn job_from<S: Source>(alloc: Global, source: &mut S) -> JobRead
-    ensures { ReadsOrNot (input S.left S.faults source.old) (input S.left S.faults source.new) result }
+    ensures { ReadsOrNot (input S.left S.faults source.old)
+        (input S.left S.faults source.new) result }
 {
     match read_all(alloc, source, LIMIT) {
         ReadAll::Bytes(bytes) => match read_job(alloc, &bytes) {

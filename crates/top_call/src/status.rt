@@ -59,7 +59,8 @@ pub fn write_status<K: Sink>(sink: &mut BufferedSink<K>, end: End) -> Wrote
 /// Writes the status line of an end behind what was written before, and answers how the command ended: so, with this world;
 /// or, without one, as the sink failed.
 pub fn say<K: Sink>(sink: &mut BufferedSink<K>, end: End, world: Option<World>) -> Ended
-    ensures { Says end world (outbox K.taken K.faults sink.old) (outbox K.taken K.faults sink.new) result }
+    ensures { Says end world (outbox K.taken K.faults sink.old)
+        (outbox K.taken K.faults sink.new) result }
 {
     match write_status(sink, end) {
         Wrote::Done => Ended { end, world },

@@ -29,7 +29,8 @@ pub fn run_streams<R: Read, W: Write>(
         (streams_seen R.remaining W.contents (uncounted reader) (uncounted writer))
         (streams_seen R.remaining W.contents result.1.source result.1.sink) world)
         (exit_status result.0) }
-    ensures complete { (world : Option WorldState) × IsComplete (call_of (map string_bytes words.now)
+    ensures complete { (world : Option WorldState) × IsComplete
+        (call_of (map string_bytes words.now)
         (streams_seen R.remaining W.contents (uncounted reader) (uncounted writer))
         (streams_seen R.remaining W.contents result.1.source result.1.sink) world)
         (exit_status result.0) }

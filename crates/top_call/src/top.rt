@@ -23,7 +23,8 @@ pub struct Status {
 
 /// Gives on what the sink still holds back; a fault of that is how the call ends. After a fault of the sink it is left.
 fn flushed<K: Sink>(sink: &mut BufferedSink<K>, ended: Ended) -> Ended
-    ensures { GivesOn (outbox K.taken K.faults sink.old) (outbox K.taken K.faults sink.new) ended result }
+    ensures { GivesOn (outbox K.taken K.faults sink.old) (outbox K.taken K.faults sink.new)
+        ended result }
 {
     if let End::WriteFault = ended.end {
         return ended;

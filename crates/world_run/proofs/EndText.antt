@@ -1,7 +1,7 @@
 -- What is written of a world that stands.
 use Rattle.std.proofs.Common.{◌≡◌, ℕ, suc, ◌+◌, ◌-◌, ◌<◌, true, refl, arith}
 use Rattle.std.proofs.Common.{ne_eqb}
-use Rattle.gas_world.specs.CallRules.{Records}
+use Rattle.endpoint_rules.specs.EndpointRules.{Records}
 use Rattle.world_run.specs.RunText.{any_violation, violations}
 
 -- a node without violations is passed

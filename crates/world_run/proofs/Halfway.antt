@@ -2,7 +2,7 @@
 use Rattle.std.proofs.Common.{◌≡◌, ℕ, List, [], ◌++◌, refl, sym, ap, subst, ◌∙◌}
 use Rattle.plain_world.specs.World.{Timed, run}
 use Rattle.plain_world.specs.MostHeld.{most_after}
-use Rattle.gas_world.specs.CallRules.{OtherCall, Records}
+use Rattle.endpoint_rules.specs.EndpointRules.{OtherCall, Records}
 use Rattle.gas_world.specs.Settling.{WorldJob, Moves}
 use Rattle.gas_world.specs.Stands.{Stands}
 use Rattle.gas_world.specs.Worlds.{WorldState}

@@ -8,7 +8,7 @@ use Rattle.datagram_grammar.specs.Parameters.{Parameters}
 use Rattle.datagram_grammar.specs.Message.{Message}
 use Rattle.node_record.specs.Record.{Request, Run, numbered}
 use Rattle.node_record.specs.Executed.{run_of}
-use Rattle.am_core.specs.Kept.{nothing_done}
+use Rattle.endpoint_rules.specs.EndpointLocal.{nothing_begun}
 use Rattle.node_record.specs.declared.answer.Delivered.{Delivered}
 use Rattle.node_record.specs.declared.answer.Delivered.TheVariants as delivered
 use Rattle.node_record.specs.NodeStep.{Comes, OfDelivery}
@@ -16,8 +16,9 @@ use Rattle.plain_world.specs.World.{RequestComes, ReplyComes, Timed, Fall, World
 use Rattle.plain_world.specs.World.{reply_event, falls, answer_at, world_after, run, answers_of}
 use Rattle.plain_world.specs.PlainStep.{named}
 use Rattle.plain_world.specs.Headline.{Headline, after_first, Happens, IsRanAnswer, IsReturned}
-use Rattle.gas_world.specs.CallRules.{OtherCall, Records, RecordsEvent, at_the_opening, timed, world_told}
-use Rattle.gas_world.specs.declared.event.Answer.{Answer}
+use Rattle.endpoint_rules.specs.EndpointRules.{OtherCall, Records, RecordsEvent, at_the_opening, timed}
+use Rattle.gas_world.specs.Told.{world_told}
+use Rattle.endpoint_rules.specs.declared.answer.Answer.{Answer}
 use Rattle.node_script.specs.Lines.{Line}
 use Rattle.job_text.specs.declared.job.Job.{Job as JobState}
 use Rattle.node_script.specs.AnswerWords.{Sight, sight_of, delivered_words}
@@ -135,14 +136,14 @@ line_told job (f ∷ es) w first (suc line) e h one =
 
 -- the place of the event of a line of a job's schedule among the events of its run
 abbrev event_place : JobState → (line : ℕ) → ℕ
-event_place j line = events_before (world_job j) (lines_of j.schedule) at_the_opening line
+event_place j line = events_before (world_job j) (lines_of j.schedule) (at_the_opening j.settings) line
 
 -- each line of a job's schedule that is one event, at that place of the run
 pub lines_tell : (j : JobState) → LinesTell j
 lines_tell j line e h one =
     let job = world_job j in
-    let a = line_told job (lines_of j.schedule) at_the_opening 1 line e h one in
-    let told = get_kept (answer_lines job 1 (lines_of j.schedule) at_the_opening)
+    let a = line_told job (lines_of j.schedule) (at_the_opening j.settings) 1 line e h one in
+    let told = get_kept (answer_lines job 1 (lines_of j.schedule) (at_the_opening j.settings))
     (end_lines j.settings (run_records j) (run_most j)) line
     (decimal (line + 1) ∷ event_words job a.records (timed e.time a.event)) a.told in
     record {
@@ -209,10 +210,10 @@ message_answer job w now sight o words (inr found) sent h =
 
 -- that message is delivered at that place of the events of a job's run, with an answer that says this
 abbrev HappensInRun : JobState → RecordsEvent → (Delivered → Type 0) → (place : ℕ) → Type 0
-HappensInRun j = Happens (run_events j) (answers_of (world_job j) (run_events j) at_the_opening)
+HappensInRun j = Happens (run_events j) (answers_of (world_job j) (run_events j) (at_the_opening j.settings))
 
 -- where a line that delivers a message is told these words, the message is delivered, with an answer of these words
-told_delivers : (j : JobState) → Headline (world_job j) (λ i. nothing_done) (run_events j)
+told_delivers : (j : JobState) → Headline (world_job j) (λ i. nothing_begun j.settings) (run_events j)
     → (line : ℕ) (e : ScheduledEvent) (words : Line) (x : RecordsEvent) → IsOneEvent e
     → ((w : Records) → scheduled_event w e ≡ Some x) → ((w : Records) → NoneOrMessage (falls j.settings w x))
     → (codes "unsent" ∷ [] ≡ words → ⊥) → Tells j line e words
@@ -251,7 +252,7 @@ same_line : (j : JobState) (line other : ℕ) (e : ScheduledEvent) (words : Line
     → IsOneEvent e → Tells j line e words → Tells j other e words → event_place j line ≡ event_place j other
     → line ≡ other
 same_line j line other e words one h k same =
-    lines_apart (world_job j) (lines_of j.schedule) at_the_opening line other (record { time = h.time; event = e })
+    lines_apart (world_job j) (lines_of j.schedule) (at_the_opening j.settings) line other (record { time = h.time; event = e })
     (record { time = k.time; event = e }) h.line one k.line one same
 
 -- ---- at most one
@@ -259,6 +260,7 @@ same_line j line other e words one h k same =
 -- an answer of the word `ran` says that a request was run
 ran_says : (d : Delivered) → delivered_words d ≡ codes "ran" ∷ [] → IsRanAnswer d
 ran_says (delivered.Ran at) e = (at, refl)
+ran_says (delivered.Noted at note) e = (at, refl)
 ran_says (delivered.Again at) e = absurd (cc)
 ran_says delivered.Stale e = absurd (cc)
 ran_says (delivered.Returned to slot number) e = absurd (cc)
@@ -269,6 +271,7 @@ ran_says (delivered.Refused reason) e = absurd (cc)
 -- an answer of the word `returned` says that a reply was taken
 returned_says : (d : Delivered) → delivered_words d ≡ codes "returned" ∷ [] → IsReturned d
 returned_says (delivered.Ran at) e = absurd (cc)
+returned_says (delivered.Noted at note) e = absurd (cc)
 returned_says (delivered.Again at) e = absurd (cc)
 returned_says delivered.Stale e = absurd (cc)
 returned_says (delivered.Returned to slot number) e = tt
@@ -283,7 +286,7 @@ says_more j x P Q place more h =
     record { answer = h.answer; says = more h.answer h.says; delivers = h.delivers }
 
 -- the request of a line that is told `ran` is run by it
-request_ran : (j : JobState) → Headline (world_job j) (λ i. nothing_done) (run_events j)
+request_ran : (j : JobState) → Headline (world_job j) (λ i. nothing_begun j.settings) (run_events j)
     → (from to number place : ℕ) → Tells j place (scheduled.Request from to number) (codes "ran" ∷ [])
     → HappensInRun j (RequestComes from to number) IsRanAnswer (event_place j place)
 request_ran j headline from to number place h =
@@ -293,7 +296,7 @@ request_ran j headline from to number place h =
     (λ w. request_or_none j.settings from to number (numbered ((w from).asked to) number)) (λ e. absurd (cc)) h)
 
 -- the reply of a line that is told `returned` brings its request back
-reply_returned : (j : JobState) → Headline (world_job j) (λ i. nothing_done) (run_events j)
+reply_returned : (j : JobState) → Headline (world_job j) (λ i. nothing_begun j.settings) (run_events j)
     → (from to number place : ℕ) → Tells j place (scheduled.Reply from to number) (codes "returned" ∷ [])
     → HappensInRun j (ReplyComes from to number) IsReturned (event_place j place)
 reply_returned j headline from to number place h =
@@ -303,7 +306,7 @@ reply_returned j headline from to number place h =
     (λ w. reply_or_none j.settings from to (run_of number ((w to).ran from))) (λ e. absurd (cc)) h)
 
 -- of the lines that deliver one request at most one is told that it ran
-pub ran_told_once : (j : JobState) → Headline (world_job j) (λ i. nothing_done) (run_events j) → RanToldOnce j
+pub ran_told_once : (j : JobState) → Headline (world_job j) (λ i. nothing_begun j.settings) (run_events j) → RanToldOnce j
 ran_told_once j headline from to number place other h k =
     let a = request_ran j headline from to number place h in
     let b = request_ran j headline from to number other k in
@@ -311,7 +314,7 @@ ran_told_once j headline from to number place other h k =
     (headline.once (named from to number) (event_place j place) (event_place j other) a b)
 
 -- of the lines that deliver one reply at most one is told that it brought its request back
-pub returned_told_once : (j : JobState) → Headline (world_job j) (λ i. nothing_done) (run_events j) → ReturnedToldOnce j
+pub returned_told_once : (j : JobState) → Headline (world_job j) (λ i. nothing_begun j.settings) (run_events j) → ReturnedToldOnce j
 returned_told_once j headline from to number place other h k =
     let a = reply_returned j headline from to number place h in
     let b = reply_returned j headline from to number other k in

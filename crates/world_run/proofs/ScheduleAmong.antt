@@ -3,7 +3,7 @@ use Rattle.std.proofs.Common.{◌≡◌, ℕ, suc, ◌<◌, List, [], ◌∷◌,
 use Rattle.std.proofs.lemmas.Option.{same_Some}
 use Rattle.datagram_grammar.specs.Parameters.{Parameters}
 use Rattle.plain_world.specs.World.{Asks, Does, RequestComes, ReplyComes, Ticks, IsAmong, run}
-use Rattle.gas_world.specs.CallRules.{Records, RecordsEvent}
+use Rattle.endpoint_rules.specs.EndpointRules.{Records, RecordsEvent}
 use Rattle.node_script.specs.ScriptInvariant.{IsWithin, AreWithin}
 use Rattle.gas_world.specs.Settling.{WorldJob}
 use Rattle.gas_world.proofs.Among.{AreAmong, both_among, settle_among}
@@ -18,10 +18,10 @@ use Rattle.world_run.specs.RunText.{node_of}
 -- ---- one event
 
 -- the one event of a line that is no `settle`
-pub event_among : (s : Parameters) (w : Records) (e : ScheduledEvent) (x : RecordsEvent) → IsWithin s.nodes e
+pub event_among : (s : Parameters) (w : Records) (e : ScheduledEvent) (x : RecordsEvent) → IsWithin s e
     → scheduled_event w e ≡ Some x → IsAmong s x
 event_among s w (scheduled.Call node thread c) x h is =
-    subst (IsAmong s) (same_Some _ x is) (call_among s node thread (meant_by (w node).local.cells c) h.0)
+    subst (IsAmong s) (same_Some _ x is) (call_among s node thread (meant_by (w node).local.core.cells c) h.0)
 event_among s w (scheduled.Request from to number) x h is = subst (IsAmong s) (same_Some _ x is) h
 event_among s w (scheduled.Reply from to number) x h is = subst (IsAmong s) (same_Some _ x is) h
 event_among s w (scheduled.Tick node) x h is = subst (IsAmong s) (same_Some _ x is) h
@@ -38,16 +38,17 @@ node_among s (Ticks node) h = h
 -- ---- lines
 
 -- of a line
-line_among : (job : WorldJob) (w : Records) (now : ℕ) (e : ScheduledEvent) → IsWithin job.settings.nodes e
+line_among : (job : WorldJob) (w : Records) (now : ℕ) (e : ScheduledEvent) → IsWithin job.settings e
     → AreAmong job.settings (line_events job w now e)
-line_among job w now (scheduled.Call node thread c) h = (call_among job.settings node thread (meant_by (w node).local.cells c) h.0, tt)
+line_among job w now (scheduled.Call node thread c) h =
+    (call_among job.settings node thread (meant_by (w node).local.core.cells c) h.0, tt)
 line_among job w now (scheduled.Request from to number) h = (h, tt)
 line_among job w now (scheduled.Reply from to number) h = (h, tt)
 line_among job w now (scheduled.Tick node) h = (h, tt)
 line_among job w now (scheduled.Settle rounds) h = settle_among job now rounds w
 
 -- of the lines of a schedule
-pub lines_among : (job : WorldJob) (es : List TimedEvent) (w : Records) → AreWithin job.settings.nodes es
+pub lines_among : (job : WorldJob) (es : List TimedEvent) (w : Records) → AreWithin job.settings es
     → AreAmong job.settings (schedule_events job es w)
 lines_among job [] w h = tt
 lines_among job (e ∷ es) w h =

@@ -2,11 +2,14 @@
 use Rattle.std.proofs.Common.{◌≡◌, ℕ, zero, suc, ◌+◌, ◌<◌, List, [], ◌∷◌, length, drop, Option, None, Some, refl, ap}
 use Rattle.std.proofs.Common.{subst, ◌∙◌, arith}
 use Rattle.std.specs.List.{slice_get}
+use Rattle.std.specs.Option.{IfSome}
 use Rattle.std.proofs.lemmas.Option.{same_Some}
+use Rattle.datagram_grammar.specs.Parameters.{Parameters}
+use Rattle.gas_world.specs.Aims.{MayFall}
 use Rattle.gas_world.specs.Events.{event_of}
-use Rattle.gas_world.specs.CallRules.{Records, RecordsEvent, timed}
+use Rattle.endpoint_rules.specs.EndpointRules.{Records, RecordsEvent, timed}
 use Rattle.gas_world.specs.declared.event.WorldEvent.{WorldEvent}
-use Rattle.node_script.specs.ScheduleLine.{IsLine}
+use Rattle.node_script.specs.ScheduleLine.{IsLine, MayBeTaken}
 use Rattle.gas_world.specs.Settling.{WorldJob}
 use Rattle.node_script.specs.Schedules.{scheduled_event, line_events}
 use Rattle.node_script.specs.declared.line.Line.{Line}
@@ -51,6 +54,12 @@ pub settle_line : (w : Records) (o : Option TimedEvent) (e : TimedEvent) (read :
     → (now ≡ e.time) × (e.event ≡ scheduled.Settle rounds)
 settle_line w o e read line now rounds at is line_is h =
     read_at w o e read (Some (lines.Settle now rounds)) at (is ∙ ap (λ (l : Line). Some l) line_is) h
+
+-- an event that was read may fall
+pub event_may : (settings : Parameters) (read : Option Line) (line : Line) (now : ℕ) (event : WorldEvent)
+    → read ≡ Some line → line ≡ lines.Event now event → IfSome read (MayBeTaken settings) → MayFall settings event
+event_may settings read line now event is line_is may =
+    subst (MayBeTaken settings) line_is (subst (λ (o : Option Line). IfSome o (MayBeTaken settings)) is may)
 
 -- a line that is there is read
 pub never_none : (w : Records) (o : Option TimedEvent) (e : TimedEvent) (read : Option Line) → o ≡ Some e → read ≡ None

@@ -5,7 +5,8 @@ use Rattle.gas_outside.specs.Buffered.{Outbox, Gathers, GathersAll}
 use Rattle.gas_outside.specs.declared.writing.Wrote.{Wrote}
 use Rattle.handler_rules.specs.Runs.{Meaning}
 use Rattle.plain_world.specs.World.{Timed, world_answer, world_after}
-use Rattle.gas_world.specs.CallRules.{OtherCall, Records, RecordsEvent, timed, transition, world_told}
+use Rattle.endpoint_rules.specs.EndpointRules.{OtherCall, Records, RecordsEvent, timed, transition}
+use Rattle.gas_world.specs.Told.{world_told}
 use Rattle.gas_world.specs.Events.{ForItsRecords, Steps, job_in}
 use Rattle.gas_world.specs.Worlds.{WorldState}
 use Rattle.gas_world.specs.declared.event.WorldAnswer.{WorldAnswer}

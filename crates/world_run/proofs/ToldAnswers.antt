@@ -1,44 +1,66 @@
 -- What an answer names is there after the event: the slot of what a tick sent has it, with its number, and the range
 -- that is shown lies inside the segment.
 use Rattle.std.proofs.Common.{◌≡◌, ℕ, ◌+◌, ◌<◌, ◌≤◌, ◌%◌, ◌==◌, Option, Some, None, Result, Ok, Err, refl, sym, ◌∙◌}
-use Rattle.std.proofs.Common.{subst, Bool, true, false, List, [], length, if◌then◌else◌}
+use Rattle.std.proofs.Common.{inl, inr, subst, Bool, true, false, List, [], length, if◌then◌else◌}
 use Rattle.std.specs.Prelude.{nat_lt}
 use Rattle.std.proofs.lemmas.Bool.{ltb-false}
 use Rattle.raw_segment.specs.Image.{Write}
 use Rattle.raw_segment.proofs.Images.{length-image}
-use Rattle.datagram_grammar.specs.Parameters.{Parameters}
+use Rattle.access_region.specs.declared.Region.{Region}
+use Rattle.access_region.specs.Regions.{has_begun, region_of}
+use Rattle.datagram_grammar.specs.Content.{Content}
+use Rattle.datagram_grammar.specs.Parameters.{Parameters, AreInRange}
+use Rattle.handler_rules.specs.declared.table.Entry.{Entry}
 use Rattle.handler_rules.specs.declared.rules.CallKind.TheVariants as kind
 use Rattle.handler_rules.specs.declared.rules.Forbidden.{Forbidden}
 use Rattle.handler_rules.specs.Runs.{Meaning}
+use Rattle.lists.proofs.Cases.{cases_option}
 use Rattle.lists.proofs.Put.{put_same}
 use Rattle.lists.specs.Numbered.{numbered}
 use Rattle.node_record.specs.declared.answer.Asked.{Asked}
 use Rattle.node_record.specs.declared.answer.Asked.TheVariants as asked
-use Rattle.node_record.specs.Behaviour.{Behaviour}
+use Rattle.named_barrier.specs.Record.{BarrierRecord}
+use Rattle.node_record.specs.declared.answer.SlotRef.{SlotRef}
+use Rattle.node_record.specs.declared.answer.Ticked.TheVariants as ticked
+use Rattle.node_record.specs.Behaviour.{Behaviour, Sending}
 use Rattle.node_record.specs.Executed.{run_of}
 use Rattle.node_record.specs.Invariant.{NodeInvariant}
 use Rattle.node_record.specs.NodeStep.{site_of}
 use Rattle.node_record.specs.Record.{Node, Request, Run}
-use Rattle.node_record.specs.Requests.{Due}
-use Rattle.node_record.specs.Step.{after_resend, after_tick, choice_of, next_due, tick_answer}
+use Rattle.node_record.specs.Requests.{Due, next_claim}
+use Rattle.node_record.specs.Step.{after_resend, after_sending, after_tick, can_ask, choice_of, is_worn_out, next_due}
+use Rattle.node_record.specs.Step.{request_slot, tick_answer}
+use Rattle.node_record.specs.Under.{under}
+use Rattle.am_core.specs.ClientRules.{rules}
 use Rattle.am_core.specs.Kept.{IsKept, Local, segment_of}
+use Rattle.am_core.specs.Library.{note_handler}
 use Rattle.plain_world.specs.World.{Asks, Does, RequestComes, ReplyComes, Ticks, IsAmong, world_after, world_answer}
 use Rattle.plain_world.specs.World.{answer_at, reply_event, request_event}
-use Rattle.gas_world.specs.CallRules.{OtherCall, Poll, Attempt, Lock, Unlock, Cell, SetCell, OnSegment, Records}
-use Rattle.gas_world.specs.CallRules.{RecordsEvent, asked_answer, does_call, if_allowed, timed, transition, world_told}
-use Rattle.gas_world.specs.Memory.{SegmentCall, Show, Set, Fill, LoadWord, SetWord, segment_does, unless_fault}
-use Rattle.gas_world.specs.Endpoints.{EndpointState, EndpointStands}
+use Rattle.endpoint_rules.specs.EndpointLocal.{EndpointLocal, IsEndpointKept, core_of}
+use Rattle.endpoint_rules.specs.EndpointRules.{OtherCall, OnCore, OnTransfers, OnBarrier, Records, RecordsEvent}
+use Rattle.endpoint_rules.specs.EndpointRules.{asked_answer, does_call, next_sending, sent_as, timed, transition}
+use Rattle.endpoint_rules.specs.EndpointRules.{unless_forbidden}
+use Rattle.endpoint_rules.specs.BarrierCalls.{BarrierCall, Notify, TryBarrier, barrier_does}
+use Rattle.endpoint_rules.specs.CoreCalls.{LocalCall, Poll, Attempt, Lock, Unlock, Cell, SetCell, OnSegment}
+use Rattle.endpoint_rules.specs.CoreCalls.{if_allowed, local_does}
+use Rattle.endpoint_rules.specs.TransferCalls.{TransferCall, Begin, BeginImplicit, IsIssued, Sync, SyncHandle, SyncAll}
+use Rattle.endpoint_rules.specs.TransferCalls.{SyncSome, SyncImplicit, RegionBegin, RegionEnd, Caller, ended}
+use Rattle.endpoint_rules.specs.TransferCalls.{transfer_does, transfer_kind}
+use Rattle.endpoint_rules.proofs.Works.{sending_well}
+use Rattle.gas_world.specs.Told.{world_told}
+use Rattle.endpoint_rules.specs.Memory.{SegmentCall, Show, Set, Fill, LoadWord, SetWord, segment_does, unless_fault}
+use Rattle.gas_endpoint.specs.Endpoints.{EndpointState, EndpointStands}
 use Rattle.gas_world.specs.Events.{Steps, job_in}
 use Rattle.gas_world.specs.Stands.{Stands}
 use Rattle.gas_world.specs.Worlds.{WorldState}
-use Rattle.gas_world.specs.declared.event.Answer.{Answer}
-use Rattle.gas_world.specs.declared.event.Answer.TheVariants as answers
-use Rattle.gas_world.specs.declared.event.Local.{Local as LocalAnswer}
-use Rattle.gas_world.specs.declared.event.Local.TheVariants as local
+use Rattle.endpoint_rules.specs.declared.answer.Answer.{Answer}
+use Rattle.endpoint_rules.specs.declared.answer.Answer.TheVariants as answers
+use Rattle.endpoint_rules.specs.declared.answer.Local.{Local as LocalAnswer}
+use Rattle.endpoint_rules.specs.declared.answer.Local.TheVariants as local
 use Rattle.gas_world.specs.declared.event.WorldAnswer.{WorldAnswer}
 use Rattle.gas_world.specs.declared.event.WorldAnswer.TheVariants as world_answers
-use Rattle.node_script.specs.AnswersTold.{HasRange, NamesItsBytes, NamesWhatIs}
-use Rattle.node_script.proofs.SentNumbers.{resent_there}
+use Rattle.node_script.specs.AnswersTold.{HasNumber, HasRange, NamesItsBytes, NamesWhatIs}
+use Rattle.node_script.proofs.SentNumbers.{first_sent_there, resent_there}
 use Rattle.world_run.specs.RunText.{node_of}
 use Rattle.world_run.specs.ScheduleRun.{Stood, TellsWhatIs}
 
@@ -90,21 +112,81 @@ segment_names endpoint bytes (LoadWord offset) has =
 segment_names endpoint bytes (SetWord offset value) has =
     word_names endpoint (nat_lt (length bytes) (offset + 8)) (offset % 8 == 0) _ tt
 
--- a call that makes no request, where each range inside the segment is there
-call_names : (endpoint : EndpointState) (settings : Parameters) (rules : Behaviour Local) (thread : ℕ)
-    (call : OtherCall) (kept : Local)
+-- a call on what a core keeps, where each range inside the segment is there
+core_names : (endpoint : EndpointState) (settings : Parameters) (rules : Behaviour Local) (thread : ℕ)
+    (call : LocalCall) (kept : Local)
     → ((offset len : ℕ) → offset + len ≤ length (segment_of settings kept) → HasRange endpoint offset len)
-    → NamesWhatIs endpoint (does_call settings rules thread call kept).0
-call_names endpoint settings rules thread Poll kept has =
+    → NamesWhatIs endpoint (local_does settings rules thread call kept).0
+core_names endpoint settings rules thread Poll kept has =
     judged_names endpoint rules thread (rules.judges thread kind.Poll kept) answers.Polled kept tt
-call_names endpoint settings rules thread (Attempt call) kept has =
+core_names endpoint settings rules thread (Attempt call) kept has =
     judged_names endpoint rules thread (rules.judges thread call kept) answers.Allowed kept tt
-call_names endpoint settings rules thread (Lock lock) kept has = tt
-call_names endpoint settings rules thread (Unlock lock) kept has = tt
-call_names endpoint settings rules thread (Cell cell) kept has = tt
-call_names endpoint settings rules thread (SetCell cell value) kept has = tt
-call_names endpoint settings rules thread (OnSegment call) kept has =
+core_names endpoint settings rules thread (Lock lock) kept has = tt
+core_names endpoint settings rules thread (Unlock lock) kept has = tt
+core_names endpoint settings rules thread (Cell cell) kept has = tt
+core_names endpoint settings rules thread (SetCell cell value) kept has = tt
+core_names endpoint settings rules thread (OnSegment call) kept has =
     segment_names endpoint (segment_of settings kept) call has
+
+-- one of two outcomes
+either_names : (endpoint : EndpointState) (test : Bool) (first second : Answer × EndpointLocal)
+    → NamesWhatIs endpoint first.0 → NamesWhatIs endpoint second.0
+    → NamesWhatIs endpoint (if test then first else second).0
+either_names endpoint true first second one other = one
+either_names endpoint false first second one other = other
+
+-- the end of a region
+ended_names : (endpoint : EndpointState) (caller : Caller) (register : ℕ) (was : Option Region)
+    (local : EndpointLocal) → NamesWhatIs endpoint (ended caller register was local).0
+ended_names endpoint caller register None local = tt
+ended_names endpoint caller register (Some was) local = elim (cases_option was.name) [
+  | inl none ↦ rw none tt
+  | inr some ↦ rw some.1 tt
+]
+
+-- a call on transfers
+transfer_names : (endpoint : EndpointState) (caller : Caller) (call : TransferCall) (local : EndpointLocal)
+    → NamesWhatIs endpoint (transfer_does caller call local).0
+transfer_names endpoint caller (Begin register transfer) local = tt
+transfer_names endpoint caller (BeginImplicit transfer) local = tt
+transfer_names endpoint caller (IsIssued register) local = tt
+transfer_names endpoint caller (Sync register) local = tt
+transfer_names endpoint caller (SyncHandle handle) local = tt
+transfer_names endpoint caller (SyncAll registers) local = tt
+transfer_names endpoint caller (SyncSome registers) local = tt
+transfer_names endpoint caller (SyncImplicit some) local =
+    either_names endpoint (has_begun local.regions caller.thread) _ _ tt tt
+transfer_names endpoint caller RegionBegin local =
+    either_names endpoint (has_begun local.regions caller.thread) _ _ tt tt
+transfer_names endpoint caller (RegionEnd register) local =
+    ended_names endpoint caller register (region_of local.regions caller.thread) local
+
+-- a call on the barrier
+barrier_names : (endpoint : EndpointState) (caller : Caller) (call : BarrierCall) (barrier : BarrierRecord)
+    → NamesWhatIs endpoint (barrier_does caller call barrier).0
+barrier_names endpoint caller (Notify id flags) barrier = tt
+barrier_names endpoint caller (TryBarrier id flags) barrier = tt
+
+-- a call that the rule table judges
+unless_names : (endpoint : EndpointState) (rules : Behaviour EndpointLocal) (thread : ℕ)
+    (judged : Result (Unit {0}) Forbidden) (local : EndpointLocal) (outcome : Answer × EndpointLocal)
+    → NamesWhatIs endpoint outcome.0 → NamesWhatIs endpoint (unless_forbidden rules thread judged local outcome).0
+unless_names endpoint rules thread (Ok allowed) local outcome names = names
+unless_names endpoint rules thread (Err forbidden) local outcome names = tt
+
+-- a call that makes no request, where each range inside the segment is there
+call_names : (endpoint : EndpointState) (rules : Behaviour EndpointLocal) (own : Behaviour Local) (caller : Caller)
+    (call : OtherCall) (local : EndpointLocal)
+    → ((offset len : ℕ) → offset + len ≤ length (segment_of caller.settings local.core) → HasRange endpoint offset len)
+    → NamesWhatIs endpoint (does_call rules own caller call local).0
+call_names endpoint rules own caller (OnCore call) local has =
+    core_names endpoint caller.settings own caller.thread call local.core has
+call_names endpoint rules own caller (OnTransfers call) local has =
+    unless_names endpoint rules caller.thread (rules.judges caller.thread (transfer_kind call) local) local _
+    (transfer_names endpoint caller call local)
+call_names endpoint rules own caller (OnBarrier call) local has =
+    unless_names endpoint rules caller.thread (rules.judges caller.thread kind.Barrier local) local _
+    (barrier_names endpoint caller call local.barrier)
 
 -- a request
 asked_names : (endpoint : EndpointState) (answer : Asked) → NamesWhatIs endpoint (asked_answer answer)
@@ -146,29 +228,70 @@ reply_names endpoint meaning old records now from to (Some run) answer same =
 
 -- ---- a tick
 
--- by the request that is due first, if any
-tick_names : (meaning : Meaning) (old : WorldState) (node : ℕ) (record_ : Node Local) (now : ℕ)
-    (endpoint : EndpointState) (first : Option Due) → NodeInvariant old.settings (IsKept old.settings) node record_
+-- a note, or a chunk, of the slot that has it
+sent_names : (endpoint : EndpointState) (content : Content) (at : SlotRef) → HasNumber endpoint at
+    → NamesWhatIs endpoint (answers.Ticked (sent_as content at))
+sent_names endpoint content at has = by_test (content.handler == note_handler)
+  where
+    by_test : (test : Bool)
+        → NamesWhatIs endpoint (answers.Ticked (if test then ticked.Note at else ticked.Chunk at))
+    by_test true = has
+    by_test false = has
+
+-- what is sent goes to a node that can be asked
+sent_can : (settings : Parameters) (table : List (Option Entry)) (me : ℕ) (can : ℕ → Bool) (local : EndpointLocal)
+    (sending : Sending) → AreInRange settings → IsEndpointKept settings me local
+    → next_sending settings me can local ≡ Some sending → can sending.to ≡ true
+sent_can settings table me can local sending range kept is =
+    (sending_well settings table me can local sending range kept is).0
+
+-- the record of a node of a world that stands
+pub record Holds (settings : Parameters) (node : ℕ) (record_ : Node EndpointLocal) : Type 0 where
+  pub range : AreInRange settings
+  pub core : NodeInvariant settings (IsKept settings) node (under core_of record_)
+  pub kept : IsEndpointKept settings node record_.local
+
+-- by what it does
+choice_names : (meaning : Meaning) (old : WorldState) (node : ℕ) (record_ : Node EndpointLocal) (now : ℕ)
+    (endpoint : EndpointState) (first : Option Due) (next : Option Sending) → Holds old.settings node record_
     → next_due old.settings record_ now ≡ first
-    → EndpointStands endpoint (after_tick (site_of (job_in meaning old) node) record_ now (choice_of first None))
+    → next_sending old.settings node (can_ask (site_of (job_in meaning old) node) record_) record_.local ≡ next
+    → EndpointStands endpoint (after_tick (site_of (job_in meaning old) node) record_ now (choice_of first next))
     → endpoint.core.settings ≡ old.settings → endpoint.core.me ≡ node
     → NamesWhatIs endpoint
-    (answers.Ticked (tick_answer (job_in meaning old).behaviour.messages record_ (choice_of first None)))
-tick_names meaning old node record_ now endpoint None holds first stands settings me = tt
-tick_names meaning old node record_ now endpoint (Some due) holds first stands settings me = record {
+    (answers.Ticked (tick_answer (job_in meaning old).behaviour.messages record_ (choice_of first next)))
+choice_names meaning old node record_ now endpoint None None holds due goes stands settings me = tt
+choice_names meaning old node record_ now endpoint None (Some sending) holds due goes stands settings me =
+    let site = site_of (job_in meaning old) node in
+    let claim = next_claim (record_.asked sending.to) in
+    let can = sent_can old.settings old.table node (can_ask site record_) record_.local sending holds.range holds.kept
+    goes in
+    sent_names endpoint sending.content (request_slot sending.to claim.slot)
+    (record {
+      node = after_sending site record_ now sending;
+      stands = stands;
+      number = claim.number;
+      there = rw (settings, me) (first_sent_there site record_ now sending can);
+    })
+choice_names meaning old node record_ now endpoint (Some due) next holds first goes stands settings me = record {
   node = after_resend record_ now (Some due);
   stands = stands;
   number = due.number;
-  there = rw (settings, me) (resent_there old.settings (IsKept old.settings) node record_ now due holds first);
+  there = rw (settings, me)
+      (resent_there old.settings (IsKept old.settings) node (under core_of record_) now due holds.core first);
 }
 
--- the record of a node of a world that stands
+-- each node of a world that stands
 node_holds : (old : WorldState) (records : Records) (most : ℕ → ℕ) (node : ℕ) → Stands old records most
-    → node < old.settings.nodes → NodeInvariant old.settings (IsKept old.settings) node (records node)
+    → node < old.settings.nodes → Holds old.settings node (records node)
 node_holds old records most node stands low =
     let it = stands.endpoints node low in
-    subst (λ (settings : Parameters). NodeInvariant settings (IsKept settings) node (records node)) it.2.settings_are
-    (subst (λ (me : ℕ). NodeInvariant it.0.core.settings (IsKept it.0.core.settings) me (records node)) it.2.me_is it.3.invariant_)
+    subst (λ (settings : Parameters). Holds settings node (records node)) it.2.settings_are
+    (subst (λ (me : ℕ). Holds it.0.core.settings me (records node)) it.2.me_is (record {
+      range = it.3.core.range;
+      core = it.3.core.invariant_;
+      kept = it.3.kept;
+    }))
 
 -- a segment has its length, whatever was written
 segment_length : (settings : Parameters) (me : ℕ) (kept : Local) → IsKept settings me kept
@@ -176,12 +299,12 @@ segment_length : (settings : Parameters) (me : ℕ) (kept : Local) → IsKept se
 segment_length settings me kept holds = length-image settings.segment kept.writes holds.writes
 
 -- a range inside the segment as it was is inside it as it is
-range_there : (settings : Parameters) (me : ℕ) (kept : Local) (endpoint : EndpointState) (after : Node Local)
+range_there : (settings : Parameters) (me : ℕ) (kept : Local) (endpoint : EndpointState) (after : Node EndpointLocal)
     → IsKept settings me kept → EndpointStands endpoint after → endpoint.core.settings ≡ settings
     → (offset len : ℕ) → offset + len ≤ length (segment_of settings kept) → HasRange endpoint offset len
 range_there settings me kept endpoint after holds stands same = λ offset len inside.
     let long = segment_length settings me kept holds in
-    let now = segment_length endpoint.core.settings endpoint.core.me after.local stands.invariant_.kept in
+    let now = segment_length endpoint.core.settings endpoint.core.me after.local.core stands.kept.core in
     record {
       node = after;
       stands = stands;
@@ -202,9 +325,15 @@ event_names meaning old records most now (Asks node ask) endpoint answer stood a
     told_names endpoint answer _ same (asked_names endpoint _)
 event_names meaning old records most now (Does node thread call) endpoint answer stood among stands settings me same =
     told_names endpoint answer _ same
-    (call_names endpoint old.settings (job_in meaning old).behaviour.messages thread call (records node).local
-    (range_there old.settings node (records node).local endpoint _
-    (node_holds old records most node stood among).kept stands settings))
+    (call_names endpoint (job_in meaning old).behaviour.messages (rules old.settings old.table meaning)
+    (record {
+      settings = old.settings;
+      me = node;
+      thread = thread;
+      worn = is_worn_out old.settings (records node);
+    }) call (records node).local
+    (range_there old.settings node (records node).local.core endpoint _
+    (node_holds old records most node stood among).core.kept stands settings))
 event_names meaning old records most now (RequestComes from to number) endpoint answer stood among stands settings me
     same =
     request_names endpoint meaning old records now from to number (numbered ((records from).asked to) number) answer
@@ -214,8 +343,9 @@ event_names meaning old records most now (ReplyComes from to number) endpoint an
     reply_names endpoint meaning old records now from to (run_of number ((records to).ran from)) answer same
 event_names meaning old records most now (Ticks node) endpoint answer stood among stands settings me same =
     told_names endpoint answer _ same
-    (tick_names meaning old node (records node) now endpoint (next_due old.settings (records node) now)
-    (node_holds old records most node stood among) refl
+    (choice_names meaning old node (records node) now endpoint (next_due old.settings (records node) now)
+    (next_sending old.settings node (can_ask (site_of (job_in meaning old) node) (records node)) (records node).local)
+    (node_holds old records most node stood among) refl refl
     (subst (EndpointStands endpoint) (put_same records node _) stands) settings me)
 
 -- an answer of a world that stood

@@ -1,10 +1,16 @@
 -- What holds of the run of a job.
 use Rattle.std.specs.Prelude.{ℕ, ◌≡◌, ◌+◌, [], ◌∷◌, Some, slice_get, codes, decimal}
-use Rattle.am_core.specs.Kept.{nothing_done}
-use Rattle.gas_world.specs.CallRules.{Records, RecordsEvent, at_the_opening, timed}
+use Rattle.endpoint_rules.specs.EndpointLocal.{nothing_begun}
+use Rattle.endpoint_rules.specs.EndpointRules.{OtherCall, Records, RecordsEvent, at_the_opening, timed}
+use Rattle.std.specs.List.{AllByRecursion}
+use Rattle.plain_world.specs.World.{Timed, IsAmong}
 use Rattle.plain_world.specs.Headline.{Headline, IsGreatest, after_first}
+use Rattle.transfer_laws.specs.TransferLaws.{TransfersHold}
+use Rattle.barrier_laws.specs.BarrierLaws.{BarrierHolds}
 use Rattle.job_text.specs.declared.job.Job.{Job as JobState}
+use Rattle.node_script.specs.Bodies.{script_meaning}
 use Rattle.node_script.specs.Lines.{Line}
+use Rattle.node_script.specs.Registration.{registered}
 use Rattle.node_script.specs.Schedules.{world_job, scheduled_event}
 use Rattle.job_text.specs.JobReading.{lines_of}
 use Rattle.job_text.specs.declared.job.ScheduledEvent.{ScheduledEvent}
@@ -16,7 +22,7 @@ use Rattle.world_run.specs.RunText.{event_words, run_events, run_lines, run_most
 
 -- the records after the first events of the run
 abbrev pub records_at : JobState → (count : ℕ) → Records
-records_at job count = after_first (world_job job) (run_events job) at_the_opening count
+records_at job count = after_first (world_job job) (run_events job) (at_the_opening job.settings) count
 
 -- a line of the schedule, counted from 0, that is one event: where the event stands in the run, and that the line of
 -- the output at its place says its number and the answer to it there
@@ -60,11 +66,17 @@ ReturnedToldOnce job =
 
 -- ---- all of them
 
--- the headline holds of it; its lines tell the answers of its events, so that no line tells again that a request ran or
--- came back; and the most that the end lines tell of a node is the greatest number of message buffers that it held
+-- its events are among the nodes of the job; the headline holds of it; its lines tell the answers of its events, so that no line tells again that a request ran or
+-- came back; the most that the end lines tell of a node is the greatest number of message buffers that it held; and in
+-- it, as in each run of a job with its settings and handlers, what a synchronisation of transfers that answers Ok tells
+-- was done, and a try of the barrier that ends a phase tells the outcome of the nodes' notifies
 pub record RunLaws (job : JobState) : Type 0 where
-  pub headline : Headline (world_job job) (λ node. nothing_done) (run_events job)
+  pub among : AllByRecursion (λ (timed : Timed OtherCall). IsAmong job.settings timed.event) (run_events job)
+  pub headline : Headline (world_job job) (λ node. nothing_begun job.settings) (run_events job)
   pub told : LinesTell job
   pub ran : RanToldOnce job
   pub returned : ReturnedToldOnce job
-  pub most : (node : ℕ) → IsGreatest (world_job job) (run_events job) at_the_opening node (run_most job node)
+  pub most : (node : ℕ)
+      → IsGreatest (world_job job) (run_events job) (at_the_opening job.settings) node (run_most job node)
+  pub transfers : TransfersHold job.settings (registered job.handlers).table (script_meaning job.handlers)
+  pub barrier : BarrierHolds job.settings (registered job.handlers).table (script_meaning job.handlers)

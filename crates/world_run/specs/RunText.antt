@@ -10,10 +10,11 @@ use Rattle.handler_rules.specs.declared.rules.Fault.TheVariants as fault
 use Rattle.handler_rules.specs.declared.rules.Violation.{Violation}
 use Rattle.node_record.specs.Record.{Node}
 use Rattle.node_record.specs.Held.{held}
-use Rattle.am_core.specs.Kept.{Local}
+use Rattle.endpoint_rules.specs.EndpointLocal.{EndpointLocal}
 use Rattle.plain_world.specs.World.{Asks, Does, RequestComes, ReplyComes, Ticks, Timed, world_answer, world_after, run}
 use Rattle.plain_world.specs.MostHeld.{most_after}
-use Rattle.gas_world.specs.CallRules.{OtherCall, Records, RecordsEvent, at_the_opening, timed, world_told}
+use Rattle.endpoint_rules.specs.EndpointRules.{OtherCall, Records, RecordsEvent, at_the_opening, timed}
+use Rattle.gas_world.specs.Told.{world_told}
 use Rattle.gas_world.specs.declared.event.WorldAnswer.{WorldAnswer}
 use Rattle.gas_world.specs.declared.event.WorldAnswer.TheVariants as answers
 use Rattle.node_script.specs.Lines.{Word, Line}
@@ -67,12 +68,12 @@ answer_lines job number (entry ∷ entries) records =
 -- ---- nodes
 
 -- how many violations a node noted; it stands still at 2 ^ 64 - 1
-abbrev pub violations : Node Local → ℕ
-violations kept = (log_of kept.local.violations).count
+abbrev pub violations : Node EndpointLocal → ℕ
+violations kept = (log_of kept.local.core.violations).count
 
 -- the last 64 violations that a node noted, the oldest first
-abbrev pub last_violations : Node Local → List Violation
-last_violations kept = (log_of kept.local.violations).newest
+abbrev pub last_violations : Node EndpointLocal → List Violation
+last_violations kept = (log_of kept.local.core.violations).newest
 
 -- the words of who made a call
 abbrev pub context_words : Context → Line
@@ -97,7 +98,7 @@ node_line node now most violations =
     ∷ codes "violations" ∷ decimal violations ∷ []
 
 -- the lines of a node with this record, which held at most so much: its own, and those of its last violations
-abbrev pub lines_of_node : Parameters → (node most : ℕ) → Node Local → List Line
+abbrev pub lines_of_node : Parameters → (node most : ℕ) → Node EndpointLocal → List Line
 lines_of_node settings node most kept =
     node_line node (held settings node kept) most (violations kept) ∷ map (violation_line node) (last_violations kept)
 
@@ -120,15 +121,15 @@ end_lines settings records most = node_lines settings records most 0 settings.no
 
 -- the events of a job's run
 abbrev pub run_events : JobState → List (Timed OtherCall)
-run_events job = schedule_events (world_job job) (lines_of job.schedule) at_the_opening
+run_events job = schedule_events (world_job job) (lines_of job.schedule) (at_the_opening job.settings)
 
 -- the records at the end of a job's run
 abbrev pub run_records : JobState → Records
-run_records job = run (world_job job) (run_events job) at_the_opening
+run_records job = run (world_job job) (run_events job) (at_the_opening job.settings)
 
 -- the most that each node held in a job's run
 abbrev pub run_most : JobState → ℕ → ℕ
-run_most job = most_after (world_job job) (run_events job) at_the_opening (λ node. 0)
+run_most job = most_after (world_job job) (run_events job) (at_the_opening job.settings) (λ node. 0)
 
 -- a node noted a violation in a job's run
 abbrev pub is_violated : JobState → Bool
@@ -137,5 +138,5 @@ is_violated job = any_violation (run_records job) 0 job.settings.nodes
 -- the lines of a job's run: the answers, and the lines at the end
 abbrev pub run_lines : JobState → List Line
 run_lines job =
-    answer_lines (world_job job) 1 (lines_of job.schedule) at_the_opening
+    answer_lines (world_job job) 1 (lines_of job.schedule) (at_the_opening job.settings)
     ++ end_lines job.settings (run_records job) (run_most job)

@@ -5,11 +5,11 @@ use Rattle.gas_outside.specs.Buffered.{Gathering, Outbox, outbox, GathersAll}
 use Rattle.gas_outside.specs.declared.writing.Wrote.{Wrote}
 use Rattle.plain_world.specs.World.{Timed, run}
 use Rattle.plain_world.specs.MostHeld.{most_after}
-use Rattle.gas_world.specs.CallRules.{OtherCall, Records}
+use Rattle.endpoint_rules.specs.EndpointRules.{OtherCall, Records}
 use Rattle.gas_world.specs.Events.{ForItsRecords, job_in}
 use Rattle.gas_world.specs.Stands.{Stands}
-use Rattle.gas_world.specs.Endpoints.{EndpointState, EndpointStands}
-use Rattle.gas_world.specs.Sizes.{IsNodeOf}
+use Rattle.gas_endpoint.specs.Endpoints.{EndpointState, EndpointStands}
+use Rattle.gas_endpoint.specs.Endpoints.{IsNodeOf}
 use Rattle.gas_world.specs.Worlds.{WorldState}
 use Rattle.gas_world.specs.declared.event.WorldAnswer.{WorldAnswer}
 use Rattle.gas_world.specs.declared.event.WorldAnswer.TheVariants as answers

@@ -11,7 +11,9 @@
 //!     (`LinesTell`). So of the lines that deliver one request at most one is told `ran`, and of those that deliver one reply at
 //!     most one `returned` (`RanToldOnce`, `ReturnedToldOnce`);
 //!   - the `most` of a node's line is the greatest number of message buffers that the node held in a state of the run
-//!     (`IsGreatest`).
+//!     (`IsGreatest`);
+//!   - what a synchronisation of transfers that answers `ok` tells was done between the beginning and the answer
+//!     (`TransfersHold`), and a try of the barrier that ends a phase tells the outcome of the nodes' notifies (`BarrierHolds`).
 //!
 //! The crate uses the public clauses of the world alone, and knows nothing of buffers and slots. What a sink took is said of
 //! its outbox in one clause: the bytes in order, up to where, and that a fault comes only where its count of faults rose.

@@ -37,11 +37,7 @@ pub fn write_event_answer<K: Sink>(
         (outbox K.taken K.faults sink.old) (outbox K.taken K.faults sink.new) result }
 {
     match answer {
-        WorldAnswer::Node(answer) => {
-            let mut first = Buffer::new();
-            let first = first.format(number).as_bytes();
-            write_answer(first, answer, world.endpoint(node), sink)
-        }
+        WorldAnswer::Node(answer) => write_answer(number, answer, world.endpoint(node), sink),
         WorldAnswer::Unsent => write_numbered(sink, number, b"unsent"),
         WorldAnswer::NoMemory => write_numbered(sink, number, b"no-memory"),
     }

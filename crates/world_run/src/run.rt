@@ -2,7 +2,8 @@
 
 ghost use Rattle.std.specs.Prelude.{◌≡◌, ◌<◌, ◌+◌, length, Some, slice_get};
 ghost use Rattle.gas_outside.specs.Buffered.{outbox};
-ghost use Rattle.gas_world.specs.CallRules.{at_the_opening, timed};
+ghost use Rattle.endpoint_rules.specs.EndpointRules.{at_the_opening, timed};
+ghost use Rattle.gas_world.specs.Aims.{MayFall};
 ghost use Rattle.gas_world.specs.Events.{event_of, job_in};
 ghost use Rattle.gas_world.specs.Stands.{Stands};
 ghost use Rattle.plain_world.specs.World.{IsAmong};
@@ -55,10 +56,12 @@ fn run_event<K: Sink>(
     sink: &mut BufferedSink<K>,
 ) -> Said
     requires among { IsAmong world.old.settings (event_of event.now) }
+    requires called { MayFall world.old.settings event.now }
     requires stood { Stood world.old }
     ensures settings { world.new.settings ≡ world.old.settings }
     ensures table { world.new.table ≡ world.old.table }
-    ensures runs { RunsByScript script.now (event_plan at.number (timed at.now (event_of event.now)))
+    ensures runs { RunsByScript script.now
+        (event_plan at.number (timed at.now (event_of event.now)))
         (stage K.taken K.faults world.old sink.old) (stage K.taken K.faults world.new sink.new) result }
 {
     match world.step(script.handlers(), at.now, event) {
@@ -147,7 +150,7 @@ fn run_in<K: Sink>(world: &mut World, script: &Script, sink: &mut BufferedSink<K
     requires job { IsJob script.now }
     requires settings { world.old.settings ≡ script.now.settings }
     requires table { world.old.table ≡ (registered script.now.handlers).table }
-    requires stands { Stands world.old at_the_opening (λ i. 0) }
+    requires stands { Stands world.old (at_the_opening script.now.settings) (λ i. 0) }
     ensures lines { Says (outbox K.taken K.faults sink.old) (outbox K.taken K.faults sink.new)
         (run_lines script.now) result }
     ensures world { OnDone result (StandsForRun script.now world.new) }

@@ -1,5 +1,5 @@
 use Rattle.std.proofs.Common.{◌≡◌, ℕ, ◌-◌}
-use Rattle.gas_world.specs.CallRules.{Records}
+use Rattle.endpoint_rules.specs.EndpointRules.{Records}
 use Rattle.gas_world.specs.Stands.{Stands}
 use Rattle.world_run.specs.RunText.{any_violation}
 use Rattle.world_run.proofs.output.any_violation.Given as goal

@@ -1,4 +1,4 @@
-use Rattle.std.proofs.Common.{ℕ, subst, ◌∷◌, ◌∙◌, decimal}
+use Rattle.std.proofs.Common.{ℕ, subst, ◌∷◌, decimal}
 use Rattle.datagram_grammar.specs.Parameters.{Parameters}
 use Rattle.gas_outside.specs.Buffered.{GathersAll, outbox}
 use Rattle.node_script.specs.AnswerWords.{sight_of, answer_words}
@@ -11,16 +11,14 @@ write_answer-requires g c =
 
 pub returns-in-Node : goal.returns-in-Node
 returns-in-Node g c = λ w most h.
-    let text = c.as_bytes-first.ensures.value ∙ c.format.ensures.text in
     let written = c.write_answer.ensures (w c.args.node) (c.endpoint.ensures.stands w most h) in
     let Written : Parameters → ℕ → Type 0 = λ settings me.
     GathersAll (outbox g.K.Sink.taken g.K.Sink.faults c.args.sink.now) (outbox g.K.Sink.taken g.K.Sink.faults c.write_answer.new.sink)
     (line_text (decimal c.args.number ∷ answer_words (sight_of settings me (w c.args.node)) c.in-Node.answer))
     c.write_answer.result
     in
-    let first : Written c.endpoint.result.now.core.settings c.endpoint.result.now.core.me = rw text at written in
     let here = subst (λ (s : Parameters). Written s c.endpoint.result.now.core.me) c.endpoint.ensures.node.settings_are
-    first in
+    written in
     rw c.in-Node.is (subst (Written c.args.world.now.settings) c.endpoint.ensures.node.me_is here)
 
 pub returns-in-Unsent : goal.returns-in-Unsent

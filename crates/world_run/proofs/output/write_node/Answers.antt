@@ -46,4 +46,4 @@ returns g c = λ w most h.
     (outbox g.K.Sink.taken g.K.Sink.faults c.write_violations.new.sink) (spell (map (violation_line node) l.newest))
     c.write_violations.result) log c.write_violations.ensures in
     past_last _ _ _ _ _ _ (past_done _ _ _ _ _ _ _ refl (nothing_yet _ _) line)
-    (others (few_kept (w node).local.violations))
+    (others (few_kept (w node).local.core.violations))

@@ -1,7 +1,7 @@
 use Rattle.std.proofs.Common.{◌≡◌, ℕ, suc, ◌+◌, ◌-◌, ◌<◌, ◌++◌, ap, arith}
 use Rattle.datagram_grammar.specs.Parameters.{Parameters}
 use Rattle.std.proofs.lemmas.List.Concat.{flat_map-append}
-use Rattle.gas_world.specs.CallRules.{Records}
+use Rattle.endpoint_rules.specs.EndpointRules.{Records}
 use Rattle.node_script.specs.Lines.{spell, line_text}
 use Rattle.world_run.specs.RunText.{lines_of_node, node_lines}
 use Rattle.gas_outside.proofs.Outboxes.{nothing_yet, past_done, past_fault, all_gathered}

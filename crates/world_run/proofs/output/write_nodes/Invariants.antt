@@ -1,6 +1,6 @@
 use Rattle.std.proofs.Common.{ℕ, ◌-◌}
 use Rattle.gas_outside.specs.Buffered.{GathersUpTo, outbox}
-use Rattle.gas_world.specs.CallRules.{Records}
+use Rattle.endpoint_rules.specs.EndpointRules.{Records}
 use Rattle.gas_world.specs.Stands.{Stands}
 use Rattle.node_script.specs.Lines.{spell}
 use Rattle.world_run.specs.RunText.{node_lines}

@@ -1,6 +1,6 @@
 use Rattle.gas_outside.specs.Buffered.{outbox}
 use Rattle.std.proofs.Common.{List, subst}
-use Rattle.gas_world.specs.CallRules.{timed, transition}
+use Rattle.endpoint_rules.specs.EndpointRules.{timed, transition}
 use Rattle.gas_world.specs.Events.{Steps, event_of, job_in}
 use Rattle.node_script.specs.Bodies.{script_meaning}
 use Rattle.job_text.specs.declared.job.HandlerText.{HandlerText}

@@ -1,6 +1,6 @@
 use Rattle.std.proofs.Common.{refl, subst, ◌∙◌}
 use Rattle.datagram_grammar.specs.Parameters.{Parameters}
-use Rattle.gas_world.specs.CallRules.{at_the_opening}
+use Rattle.endpoint_rules.specs.EndpointRules.{at_the_opening}
 use Rattle.gas_outside.specs.Buffered.{GathersAll, outbox}
 use Rattle.node_script.specs.Lines.{spell}
 use Rattle.node_script.specs.Schedules.{world_job}
@@ -15,10 +15,10 @@ returns-in_default g c =
     let ran = rw (
       c.requires.settings,
       c.requires.table,
-    ) at (c.run_schedule.ensures.runs at_the_opening (λ i. 0) c.requires.stands) in
+    ) at (c.run_schedule.ensures.runs (at_the_opening job.settings) (λ i. 0) c.requires.stands) in
     record {
       lines = lines_said _ _ _ (run_lines job) (run_lines job)
-          (answer_lines (world_job job) 1 (lines_of job.schedule) at_the_opening)
+          (answer_lines (world_job job) 1 (lines_of job.schedule) (at_the_opening job.settings))
           (end_lines job.settings (run_records job) (run_most job)) c.run_schedule.result c.in_default.not-Done refl
           (no_lines_yet _ _) ran.0;
       world = not_done c.run_schedule.result _ c.in_default.not-Done;
@@ -31,7 +31,7 @@ returns-in-Done-clause-lines g c =
       c.requires.settings,
       c.requires.table,
       c.in-Done.is,
-    ) at (c.run_schedule.ensures.runs at_the_opening (λ i. 0) c.requires.stands) in
+    ) at (c.run_schedule.ensures.runs (at_the_opening job.settings) (λ i. 0) c.requires.stands) in
     let same = c.run_schedule.ensures.settings ∙ c.requires.settings in
     let taken = g.K.Sink.taken in
     let faults = g.K.Sink.faults in
@@ -42,16 +42,17 @@ returns-in-Done-clause-lines g c =
     (spell (end_lines settings (run_records job) (run_most job))) wrote) same
     (c.write_nodes.ensures (run_records job) (run_most job) ran.1) in
     rw c.from_wrote.ensures
-    (both_said _ _ _ (answer_lines (world_job job) 1 (lines_of job.schedule) at_the_opening)
+    (both_said _ _ _ (answer_lines (world_job job) 1 (lines_of job.schedule) (at_the_opening job.settings))
     (end_lines job.settings (run_records job) (run_most job)) wrote ran.0 end)
 
 pub returns-in-Done-clause-world : goal.returns-in-Done-clause-world
 returns-in-Done-clause-world g c =
+    let job = c.args.script.now in
     let ran = rw (
       c.requires.settings,
       c.requires.table,
       c.in-Done.is,
-    ) at (c.run_schedule.ensures.runs at_the_opening (λ i. 0) c.requires.stands) in
+    ) at (c.run_schedule.ensures.runs (at_the_opening job.settings) (λ i. 0) c.requires.stands) in
     let same = c.run_schedule.ensures.settings ∙ c.requires.settings in
     rw c.from_wrote.ensures
     (on_done c.write_nodes.result _

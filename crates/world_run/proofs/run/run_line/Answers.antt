@@ -2,7 +2,8 @@ use Rattle.std.proofs.Common.{◌+◌, sym, subst}
 use Rattle.std.specs.List.{slice_get}
 use Rattle.datagram_grammar.specs.Parameters.{Parameters}
 use Rattle.plain_world.specs.World.{IsAmong}
-use Rattle.gas_world.specs.CallRules.{timed}
+use Rattle.endpoint_rules.specs.EndpointRules.{timed}
+use Rattle.gas_world.specs.Aims.{MayFall}
 use Rattle.gas_world.specs.Events.{event_of, job_in}
 use Rattle.node_script.specs.Bodies.{script_meaning}
 use Rattle.job_text.specs.JobReading.{lines_of}
@@ -10,7 +11,7 @@ use Rattle.world_run.specs.ScheduleRun.{stage, event_plan, settle_plan, line_pla
 use Rattle.world_run.proofs.ScheduleAmong.{event_among}
 use Rattle.node_script.proofs.ScheduleNodes.{job_within}
 use Rattle.world_run.proofs.ScheduleRuns.{same_plan, event_is_line, settle_is_line}
-use Rattle.world_run.proofs.ScheduleLines.{timed_there, event_line, settle_line, never_none}
+use Rattle.world_run.proofs.ScheduleLines.{timed_there, event_line, event_may, settle_line, never_none}
 use Rattle.world_run.proofs.run.run_line.Goals as goal
 
 pub run_event-requires-clause-among : goal.run_event-requires-clause-among
@@ -28,6 +29,12 @@ run_event-requires-clause-among g c =
     let within = job_within j c.requires.job c.args.place there.0 there.1 in
     subst (λ (settings : Parameters). IsAmong settings event) (sym c.requires.settings)
     (event_among j.settings stood.records there.0.event event within line.1)
+
+pub run_event-requires-clause-called : goal.run_event-requires-clause-called
+run_event-requires-clause-called g c =
+    subst (λ (settings : Parameters). MayFall settings c.in-Some-Event.event) (sym c.requires.settings)
+    (event_may c.args.script.now.settings c.line.result c.in-Some-Event.field-0 c.in-Some-Event.now
+    c.in-Some-Event.event c.in-Some-Event.is c.in-Some-Event.field-0-is c.line.ensures.called)
 
 pub returns-in-Some-Event-clause-runs : goal.returns-in-Some-Event-clause-runs
 returns-in-Some-Event-clause-runs g c = λ line at.
