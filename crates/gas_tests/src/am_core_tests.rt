@@ -480,9 +480,17 @@ fn forged_addresses(rt: HostRuntime) -> Result<(), Fail> {
     ] {
         assert_eq!(rt; forged(&mut node, first, second), refused(why));
     }
-    for handler in [130, 127, 64, 66, 67] {
+    for (handler, why) in [
+        (130, Why::Handler),
+        (127, Why::Handler),
+        (64, Why::Handler),
+        (68, Why::Handler),
+        (65, Why::Args),
+        (66, Why::Args),
+        (67, Why::Args),
+    ] {
         let answer = forged(&mut node, (5, handler), (5, handler));
-        assert_eq!(rt; answer, refused(Why::Handler));
+        assert_eq!(rt; answer, refused(why));
     }
     assert_eq!(rt; node.core.held(), 0);
     Ok(())

@@ -1,10 +1,13 @@
 //! `gas_world`: schedules of one node and of two, step by step, and each call of an endpoint.
 
 ghost use Rattle.std.specs.Prelude.{◌≡◌, ◌<◌, IfOk, pos, slice_index_or};
+ghost use Rattle.gas_endpoint.specs.Endpoints.{MayBeCalled};
 
 use am_core::{Asked, Delivered, Payload, Side, SlotRef, Why};
 use datagram_grammar::{Refused, Settings};
-use gas_world::{Answer, Call, Endpoint, Event, Local, Ticked, World, WorldAnswer, WorldEvent};
+use endpoint_rules::{Answer, Call, Event, Local, Ticked};
+use gas_endpoint::Endpoint;
+use gas_world::{World, WorldAnswer, WorldEvent};
 use handler_rules::{
     CallKind, Cells, Context, Desk, Entry, Fault, Forbidden, Handlers, Role, Table, Violation,
     Which,
@@ -154,7 +157,8 @@ fn registered(alloc: Global) -> Result<Table, Fail> {
 
 // A world of job 7.
 fn opened_with(alloc: Global, nodes: u16, credits: u16) -> Result<World, Fail>
-    ensures { IfOk result (λ world. world.settings.nodes ≡ nodes) }
+    ensures nodes { IfOk result (λ world. world.settings.nodes ≡ nodes) }
+    ensures threads { IfOk result (λ world. world.settings.threads ≡ 1) }
 {
     let settings = Settings::new(1, 7, nodes, credits, 1, 4096, 100, 10).ok_or("the settings")?;
     let table = registered(alloc)?;
@@ -163,14 +167,16 @@ fn opened_with(alloc: Global, nodes: u16, credits: u16) -> Result<World, Fail>
 
 // A world of job 7 with one credit.
 fn opened(alloc: Global, nodes: u16) -> Result<World, Fail>
-    ensures { IfOk result (λ world. world.settings.nodes ≡ nodes) }
+    ensures nodes { IfOk result (λ world. world.settings.nodes ≡ nodes) }
+    ensures threads { IfOk result (λ world. world.settings.threads ≡ 1) }
 {
     opened_with(alloc, nodes, 1)
 }
 
 // A call of thread 0 of node 0 at time 0.
 fn call<H: Handlers>(world: &mut World, handlers: &H, call: Call<'_>) -> WorldAnswer
-    requires { 0 < world.old.settings.nodes }
+    requires nodes { 0 < world.old.settings.nodes }
+    requires called { MayBeCalled world.old.settings 0 call }
     ensures { world.new.settings ≡ world.old.settings }
 {
     let event = WorldEvent::Call {
@@ -183,7 +189,8 @@ fn call<H: Handlers>(world: &mut World, handlers: &H, call: Call<'_>) -> WorldAn
 
 // Node 0 asks node 1.
 fn ask<H: Handlers>(world: &mut World, handlers: &H, handler: u8) -> WorldAnswer
-    requires { 0 < world.old.settings.nodes }
+    requires nodes { 0 < world.old.settings.nodes }
+    requires threads { world.old.settings.threads ≡ 1 }
     ensures { world.new.settings ≡ world.old.settings }
 {
     let request = Call::Short {
@@ -329,7 +336,8 @@ fn the_first_that_is_out(rt: HostRuntime) -> Result<(), Fail> {
 
 // Node 0 asks a node.
 fn ask_node(world: &mut World, to: u16) -> WorldAnswer
-    requires { 0 < world.old.settings.nodes }
+    requires nodes { 0 < world.old.settings.nodes }
+    requires threads { world.old.settings.threads ≡ 1 }
     ensures { world.new.settings ≡ world.old.settings }
 {
     let request = Call::Short {
@@ -346,7 +354,8 @@ fn accepted_at(to: u16, slot: u16, number: u64) -> WorldAnswer {
 
 // A world of job 7 of three nodes with two credits, but one of node 0 towards node 1.
 fn with_a_narrow_pair(alloc: Global) -> Result<World, Fail>
-    ensures { IfOk result (λ world. world.settings.nodes ≡ 3) }
+    ensures nodes { IfOk result (λ world. world.settings.nodes ≡ 3) }
+    ensures threads { IfOk result (λ world. world.settings.threads ≡ 1) }
 {
     let wide = Settings::new(1, 7, 3, 2, 1, 4096, 100, 10).ok_or("the settings")?;
     let settings = wide.with_pair(0, 1, 1).ok_or("the pair")?;
@@ -358,6 +367,7 @@ fn with_a_narrow_pair(alloc: Global) -> Result<World, Fail>
 fn ask_and_run(world: &mut World, from: u16, to: u16, number: u64) -> WorldAnswer
     requires from { from < world.old.settings.nodes }
     requires to { to < world.old.settings.nodes }
+    requires threads { world.old.settings.threads ≡ 1 }
     ensures { world.new.settings ≡ world.old.settings }
 {
     let call = Call::Short {
@@ -379,6 +389,7 @@ fn ask_and_run(world: &mut World, from: u16, to: u16, number: u64) -> WorldAnswe
 fn fill(world: &mut World, from: u16, to: u16)
     requires from { from < world.old.settings.nodes }
     requires to { to < world.old.settings.nodes }
+    requires threads { world.old.settings.threads ≡ 1 }
     ensures { world.new.settings ≡ world.old.settings }
 {
     let _ = ask_and_run(world, from, to, 1);
@@ -509,7 +520,10 @@ fn forbidden_calls(rt: HostRuntime) -> Result<(), Fail> {
 }
 
 // A call of thread 0 at an endpoint.
-fn at_endpoint(endpoint: &mut Endpoint, call: Call<'_>) -> Answer {
+fn at_endpoint(endpoint: &mut Endpoint, call: Call<'_>) -> Answer
+    requires { MayBeCalled endpoint.old.core.settings 0 call }
+    ensures { endpoint.new.core.settings ≡ endpoint.old.core.settings }
+{
     endpoint.step(&Adds, 0, &Event::Call { thread: 0, call })
 }
 
@@ -550,12 +564,15 @@ fn an_endpoint(rt: HostRuntime) -> Result<(), Fail> {
         args: &[5],
     };
     assert!(rt;
-        endpoint.would_accept(&Event::Call {
-            thread: 0,
-            call: request
-        })
+        endpoint.would_accept(
+            0,
+            &Event::Call {
+                thread: 0,
+                call: request
+            }
+        )
     );
-    assert!(rt; !endpoint.would_accept(&Event::Tick));
+    assert!(rt; !endpoint.would_accept(0, &Event::Tick));
     assert!(rt; !endpoint.is_last_run(0, 0, 1));
     assert_eq!(rt;
         endpoint.step(&Adds, 10, &Event::Tick),
@@ -587,41 +604,6 @@ fn a_medium_request(rt: HostRuntime) -> Result<(), Fail> {
     assert_eq!(rt; request(&mut world, &Notes, 1), ran);
     assert_eq!(rt; world.endpoint(1).cells().get(0), 10);
     Ok(())
-}
-
-#[test]
-fn a_long_request(rt: HostRuntime) -> Result<(), Fail> {
-    let mut world = opened(rt.alloc(), 2)?;
-    let done = WorldAnswer::Node(Answer::Local(Local::Done));
-    let set = Call::Set {
-        offset: 4094,
-        bytes: &[1, 2],
-    };
-    assert_eq!(rt; call(&mut world, &Adds, set), done);
-    let bad_source = WorldAnswer::Node(Answer::Asked(Asked::BadArg(Which::Source)));
-    assert_eq!(rt; call(&mut world, &Adds, long_from(4095, 0)), bad_source);
-    let bad_offset = WorldAnswer::Node(Answer::Asked(Asked::BadArg(Which::Offset)));
-    assert_eq!(rt; call(&mut world, &Adds, long_from(0, 4095)), bad_offset);
-    assert_eq!(rt; call(&mut world, &Adds, long_from(4094, 8)), accepted(1));
-    let ran = delivered(Delivered::Ran(slot(Side::Reply, 0)));
-    assert_eq!(rt; request(&mut world, &Adds, 1), ran);
-    let there = world.endpoint(1).segment().part(7, 4).ok_or("inside")?;
-    assert!(rt; there == [0, 1, 2, 0].as_slice());
-    Ok(())
-}
-
-// Two bytes of the own segment from there on go to that place of node 1.
-fn long_from(own: u64, offset: u64) -> Call<'static> {
-    Call::LongAsync {
-        to: 1,
-        handler: 128,
-        args: &[5],
-        payload: Payload::Own {
-            offset: own,
-            len: 2,
-        },
-        offset,
-    }
 }
 
 #[test]
@@ -680,78 +662,5 @@ fn under_a_lock(rt: HostRuntime) -> Result<(), Fail> {
     let not_held = Answer::Unlock(UnlockAnswer::Refused(LockFault::NotHeld));
     assert_eq!(rt; at_endpoint(&mut endpoint, Call::Unlock { k: 4 }), not_held);
     assert_eq!(rt; (endpoint.log().count(), endpoint.polls(1)), (3, true));
-    Ok(())
-}
-
-#[test]
-fn the_own_segment(rt: HostRuntime) -> Result<(), Fail> {
-    let settings = Settings::new(1, 7, 2, 1, 1, 4096, 100, 10).ok_or("the settings")?;
-    let table = registered(rt.alloc())?;
-    let mut endpoint = Endpoint::new(rt.alloc(), &settings, 1, &table)?;
-    let rows = [
-        (
-            Call::SetWord {
-                offset: 8,
-                value: 258,
-            },
-            Local::Done,
-        ),
-        (Call::LoadWord { offset: 8 }, Local::Number(258)),
-        (Call::LoadWord { offset: 4 }, Local::Unaligned),
-        (Call::LoadWord { offset: 4089 }, Local::Outside),
-        (
-            Call::SetWord {
-                offset: 4096,
-                value: 1,
-            },
-            Local::Outside,
-        ),
-        (
-            Call::Fill {
-                offset: 0,
-                len: 3,
-                byte: 7,
-            },
-            Local::Done,
-        ),
-        (
-            Call::Fill {
-                offset: 4095,
-                len: 2,
-                byte: 7,
-            },
-            Local::Outside,
-        ),
-        (
-            Call::Set {
-                offset: 2,
-                bytes: &[9],
-            },
-            Local::Done,
-        ),
-        (
-            Call::Show {
-                offset: 4096,
-                len: 0,
-            },
-            Local::Shown {
-                offset: 4096,
-                len: 0,
-            },
-        ),
-        (
-            Call::Show {
-                offset: 4096,
-                len: 1,
-            },
-            Local::Outside,
-        ),
-    ];
-    for (call, answer) in rows {
-        assert_eq!(rt; at_endpoint(&mut endpoint, call), Answer::Local(answer));
-    }
-    let bytes = endpoint.segment().part(0, 16).ok_or("inside")?;
-    let expected = [7, 7, 9, 0, 0, 0, 0, 0, 2, 1, 0, 0, 0, 0, 0, 0];
-    assert!(rt; bytes == expected.as_slice());
     Ok(())
 }

@@ -1,7 +1,7 @@
 use Rattle.std.proofs.Common.{arith, replicate}
 use Rattle.lists.proofs.Indexes.{replicate-is}
 use Rattle.slot_table.proofs.New.{narrow-others}
-use Rattle.gas_tests.proofs.credit_slots_tests.a_slot_for_each_of_many_peers.Goals as goal
+use Rattle.part_tests.proofs.credit_slots_tests.a_slot_for_each_of_many_peers.Goals as goal
 
 pub new-requires-clause-few : goal.new-requires-clause-few
 new-requires-clause-few c = λ _. omega arith

@@ -1,5 +1,5 @@
 use Rattle.std.proofs.Common.{◌≡◌}
-use Rattle.gas_tests.proofs.named_barrier_tests.the_last_of_sixty_five_nodes.Given as goal
+use Rattle.part_tests.proofs.named_barrier_tests.the_last_of_sixty_five_nodes.Given as goal
 
 -- its number of nodes stays
 abbrev pub invariant-loop-mask : goal.invariant-loop-mask

@@ -1,6 +1,6 @@
 use Rattle.std.proofs.Common.{rules}
 use Rattle.credit_slots.proofs.Requests.{request_sealed}
-use Rattle.gas_tests.proofs.credit_slots_tests.send.Goals as goal
+use Rattle.part_tests.proofs.credit_slots_tests.send.Goals as goal
 
 pub returns-clause-sent : goal.returns-clause-sent
 returns-clause-sent c =
