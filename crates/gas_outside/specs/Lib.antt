@@ -1,6 +1,9 @@
 pub mod Faults
+pub mod Told
 pub mod Source
 pub mod Sink
+pub mod Link
+pub mod Clock
 pub mod Whole
 pub mod Memory
 pub mod Buffered

@@ -1,4 +1,4 @@
-//! The outside of the program as traits: sources and sinks of bytes that count their faults.
+//! The outside of the program as traits: sources and sinks of bytes, links of datagrams, clocks and gates of turns.
 //!
 //! A source may tell the bytes that are left, and a sink the bytes that it took; what a function read or wrote is then a
 //! fact of its contract. Each has a count of faults that never falls, and fails only where that count rose. `MemorySource`
@@ -11,12 +11,19 @@
 //!   of the sink behind. What went in is what was given on, then what waits, in order; a fault comes only where that count rose,
 //!   and then a front of the bytes went in (`GathersAll`). `flush` gives on what waits (`Flushes`). After `make_room` there is
 //!   room for so many bytes, and what is `put` there goes in without a fault (`Gathers`).
+//! - `Link` [`bound`, `sent`, `received`, `waiting`, `later`, `cause`]: what each call changes of what a link tells, where it can
+//!   (`Told`): a link may tell the datagrams sent, received and waiting, and a fault comes only where the count of faults rose.
+//! - `Clock` [`asked`, `said`, `fixed`, `one`]: it counts how often it is asked, and `FixedClock` always says one value. A `Gate`,
+//!   as `OpenGate`, promises nothing.
 //! - `MemorySource` and `MemorySink` [`exact`] number their calls, and fail at the listed ones.
 //!
 //! That memory ran out where `NoMemory` is told isn't proved.
 #![tactic(auto)]
 
 mod buffered;
+mod clock;
+mod gate;
+mod link;
 mod memory;
 mod reading;
 mod sink;
@@ -24,6 +31,9 @@ mod source;
 mod writing;
 
 pub use buffered::BufferedSink;
+pub use clock::{Clock, FixedClock};
+pub use gate::{Gate, OpenGate};
+pub use link::{Link, LinkAnswer, Received};
 pub use memory::{MemorySink, MemorySource};
 pub use reading::{ReadAll, read_all};
 pub use sink::{Put, Sink};

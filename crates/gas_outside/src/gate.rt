@@ -1,0 +1,18 @@
+//! Gates, which are told of each turn before it is taken.
+
+/// What a thread passes before each of its turns; it may wait there, and can't fail.
+pub trait Gate {
+    /// Called before each turn of the thread with this number.
+    ///
+    /// `quiet` says whether the thread's last turn was quiet: it got nothing and did nothing. It is false before its first.
+    fn before_turn(&self, thread: u16, quiet: bool);
+}
+
+/// The gate that lets each thread pass at once.
+#[derive(Clone, Copy, Debug, PartialEq, Eq)]
+pub struct OpenGate;
+
+impl Gate for OpenGate {
+    /// Nothing.
+    fn before_turn(&self, _thread: u16, _quiet: bool) {}
+}
