@@ -1,0 +1,9 @@
+pub mod FrontLemmas
+pub mod Deciding
+pub mod NodeLemmas
+pub mod SetLemmas
+pub mod Walking
+pub mod PlaceLemmas
+pub mod MarkLemmas
+pub mod StartLemmas
+pub mod Ending
