@@ -6,4 +6,7 @@ pub mod Link
 pub mod Clock
 pub mod Whole
 pub mod Memory
+pub mod Datagrams
+pub mod MemoryLink
+pub mod Sieve
 pub mod Buffered

@@ -1,8 +1,9 @@
 //! The outside of the program as traits: sources and sinks of bytes, links of datagrams, clocks and gates of turns.
 //!
 //! A source may tell the bytes that are left, and a sink the bytes that it took; what a function read or wrote is then a
-//! fact of its contract. Each has a count of faults that never falls, and fails only where that count rose. `MemorySource`
-//! and `MemorySink` tell all, and fail at the calls that a list numbers. `BufferedSink` gathers small pieces before any sink.
+//! fact of its contract. Each has a count of faults that never falls, and fails only where that count rose. `MemorySource`,
+//! `MemorySink` and `MemoryLink` tell all, and fail at the calls that a list numbers. `BufferedSink` gathers small pieces before
+//! any sink, and `Sieve` drops, repeats and swaps datagrams before any link.
 //!
 //! What is proved, by the names of clauses (in `src/`) and definitions (in `specs/`):
 //!
@@ -15,7 +16,10 @@
 //!   (`Told`): a link may tell the datagrams sent, received and waiting, and a fault comes only where the count of faults rose.
 //! - `Clock` [`asked`, `said`, `fixed`, `one`]: it counts how often it is asked, and `FixedClock` always says one value. A `Gate`,
 //!   as `OpenGate`, promises nothing.
-//! - `MemorySource` and `MemorySink` [`exact`] number their calls, and fail at the listed ones.
+//! - `MemorySource`, `MemorySink` and `MemoryLink` [`exact`] number their calls, and fail at the listed ones.
+//! - `Sieve` loses, repeats and swaps datagrams by their numbers: `hand` [`follows`, `keeps`] sends the link behind what the first
+//!   rule that applies says (`next_plan`), or a front of it where that link failed. It tells what that link tells, but what was
+//!   sent only where its numbers are 0.
 //!
 //! That memory ran out where `NoMemory` is told isn't proved.
 #![tactic(auto)]
@@ -25,7 +29,10 @@ mod clock;
 mod gate;
 mod link;
 mod memory;
+mod memory_link;
 mod reading;
+mod sieve;
+mod sieve_rule;
 mod sink;
 mod source;
 mod writing;
@@ -35,7 +42,9 @@ pub use clock::{Clock, FixedClock};
 pub use gate::{Gate, OpenGate};
 pub use link::{Link, LinkAnswer, Received};
 pub use memory::{MemorySink, MemorySource};
+pub use memory_link::MemoryLink;
 pub use reading::{ReadAll, read_all};
+pub use sieve::Sieve;
 pub use sink::{Put, Sink};
 pub use source::{Got, Source};
 pub use writing::{Wrote, write_all};

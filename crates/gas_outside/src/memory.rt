@@ -90,7 +90,7 @@ impl Source for MemorySource {
 }
 
 /// Copies as much of the front as there is room for, and answers how much.
-fn copy_front(from: &[u8], buf: &mut [u8]) -> usize
+pub(crate) fn copy_front(from: &[u8], buf: &mut [u8]) -> usize
     ensures count { result ≡ min (length from.now) (length buf.old) }
     ensures copied { buf.new ≡ take result from.now ++ drop result buf.old }
 {
