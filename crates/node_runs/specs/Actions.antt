@@ -1,0 +1,156 @@
+-- The steps of scripts: how each is tried, and when it ends.
+-- Origin: this project's profile; waiting is that of the blocking calls of GASNet 1.8.1.
+use Rattle.std.specs.Prelude.{ℕ, ℤ, int_le, ◌≡◌, Bool, true, false, not, ◌&&◌, if◌then◌else◌, List, [], ◌∷◌}
+use Rattle.std.specs.Prelude.{Option, None, Some, is_some, is_none}
+use Rattle.std.specs.List.{AllByRecursion}
+use Rattle.lists.specs.Put.{put}
+use Rattle.node_record.specs.Record.{Node}
+use Rattle.endpoint_rules.specs.Called.{Performs}
+use Rattle.endpoint_rules.specs.CoreCalls.{Cell}
+use Rattle.endpoint_rules.specs.EndpointRules.{OnCore}
+use Rattle.endpoint_rules.specs.declared.answer.Answer.{Answer}
+use Rattle.endpoint_rules.specs.declared.answer.Answer.TheVariants as answers
+use Rattle.endpoint_rules.specs.declared.answer.Local.TheVariants as local
+use Rattle.node_runs.specs.Scripts.{ThreadCall, Tried, Scripts}
+
+-- how a step is tried
+pub data Form (Kept : Type 0) : Type 0 where
+  -- one call, whatever its answer
+  Once : ThreadCall → Form Kept
+  -- one call, again at each turn while its answer is one to wait at: a request at not-yet, a lock at held, a wait and a
+  -- barrier-wait at not-ready
+  Again : (waits : Answer → Bool) → ThreadCall → Form Kept
+  -- until the cell is at least the value; the answer is then ok
+  Until : (cell : ℕ) → (value : ℤ) → Form Kept
+  -- the first try begins, and ends the step only where its answer names no second call; each later try makes the second
+  -- call, again while its answer is one to wait at: a blocking transfer, whose second call is the sync of the handle
+  -- that was given. `says` is the answer of the step
+  Twice : (begin : ThreadCall) → (next : Answer → Option ThreadCall) → (waits : Answer → Bool)
+      → (says : Answer → Answer) → Form Kept
+  -- the first try begins; then each try, the first one too, looks whether what was begun has come so far, and makes no
+  -- call for it: a put whose chunks are to be issued
+  Looks : (begin : ThreadCall) → (ready : Answer → Node Kept → Bool) → Form Kept
+
+-- the call of a try, by the answer with which the step began
+abbrev pub call_of : {Kept : Type 0} → Form Kept → (began : Option Answer) → Option ThreadCall
+call_of (Once call) began = Some call
+call_of (Again waits call) began = Some call
+call_of (Until cell value) began = Some (Performs (OnCore (Cell cell)))
+call_of (Twice begin next waits says) None = Some begin
+call_of (Twice begin next waits says) (Some answer) = next answer
+call_of (Looks begin ready) None = Some begin
+call_of (Looks begin ready) (Some answer) = None
+
+-- ok, where the cell that was read is at least the value
+abbrev pub reached : (value : ℤ) → Answer → Option Answer
+reached value (answers.Local (local.Cell number)) =
+    if int_le value number then Some (answers.Local local.Done) else None
+reached value _ = None
+
+-- the answer, unless it is one to wait at
+abbrev pub unless : Bool → Answer → Option Answer
+unless true answer = None
+unless false answer = Some answer
+
+-- the answer of the step, where a try ended it whose call had this answer and left this record
+abbrev pub ended_by : {Kept : Type 0}
+    → Form Kept → (began : Option Answer) → (after : Node Kept) → (answer : Option Answer) → Option Answer
+ended_by (Once call) began after answer = answer
+ended_by (Again waits call) began after None = None
+ended_by (Again waits call) began after (Some answer) = unless (waits answer) answer
+ended_by (Until cell value) began after None = None
+ended_by (Until cell value) began after (Some answer) = reached value answer
+ended_by (Twice begin next waits says) None after None = None
+ended_by (Twice begin next waits says) None after (Some answer) = unless (is_some (next answer)) (says answer)
+ended_by (Twice begin next waits says) (Some first) after None = None
+ended_by (Twice begin next waits says) (Some first) after (Some answer) = unless (waits answer) (says answer)
+ended_by (Looks begin ready) None after None = None
+ended_by (Looks begin ready) None after (Some answer) = unless (not (ready answer after)) answer
+ended_by (Looks begin ready) (Some first) after answer = unless (not (ready first after)) first
+
+-- the step begins something that a later try finds again
+abbrev pub begins : {Kept : Type 0} → Form Kept → Bool
+begins (Once call) = false
+begins (Again waits call) = false
+begins (Until cell value) = false
+begins (Twice begin next waits says) = true
+begins (Looks begin ready) = true
+
+-- ---- the scripts of a node
+
+-- what is left of a thread's script, and the answer with which its next step began
+pub record Progress (Action : Type 0) : Type 0 where
+  pub left : List Action
+  pub began : Option Answer
+
+-- of each thread
+abbrev pub OwnScripts : Type 0 → Type 0
+OwnScripts Action = (thread : ℕ) → Progress Action
+
+-- how an action is tried, by the record as the try begins: an action may name cells
+abbrev pub Reading : (Kept Action : Type 0) → Type 0
+Reading Kept Action = Action → Node Kept → Form Kept
+
+-- the call of the thread's next step, if it has one, where this is left of its script
+abbrev pub next_call : {Kept Action : Type 0}
+    → Reading Kept Action → (began : Option Answer) → (left : List Action) → Node Kept → Option ThreadCall
+next_call form began [] node = None
+next_call form began (action ∷ rest) node = call_of (form action node) began
+
+-- the script after a try of this form: it goes on, or its step has begun, or it is as it was
+abbrev pub progress_after : {Kept Action : Type 0}
+    → Form Kept → (action : Action) → (rest : List Action) → (began : Option Answer) → (ended answer : Option Answer)
+    → Progress Action
+progress_after form action rest began ended answer =
+    if is_some ended then record { left = rest; began = None }
+    else (if begins form && is_none began then record { left = action ∷ rest; began = answer }
+    else record { left = action ∷ rest; began = began })
+
+-- how a try of this form went
+abbrev pub tried_form : {Kept Action : Type 0}
+    → Form Kept → (action : Action) → (rest : List Action) → (began : Option Answer)
+    → (after : Node Kept) → (answer : Option Answer) → Tried (Progress Action)
+tried_form form action rest began after answer =
+    let ended = ended_by form began after answer in
+    record {
+      left = progress_after form action rest began ended answer;
+      ended = ended;
+      began = begins form && is_none began && is_none ended;
+    }
+
+-- how a try of the thread's next step went, where this is left of its script
+abbrev pub tried_step : {Kept Action : Type 0}
+    → Reading Kept Action → (began : Option Answer) → (left : List Action) → (before after : Node Kept)
+    → (answer : Option Answer) → Tried (Progress Action)
+tried_step form began [] before after answer =
+    record { left = record { left = []; began = began }; ended = None; began = false }
+tried_step form began (action ∷ rest) before after answer =
+    tried_form (form action before) action rest began after answer
+
+-- the scripts of a node whose actions are read so
+abbrev pub scripts_of : {Kept Action : Type 0} → Reading Kept Action → Scripts Kept (OwnScripts Action)
+scripts_of form = record {
+  call = λ thread own before. next_call form (own thread).began (own thread).left before;
+  tried = λ thread own before after answer.
+      let tried = tried_step form (own thread).began (own thread).left before after answer in
+      record { left = put own thread tried.left; ended = tried.ended; began = tried.began };
+}
+
+-- ---- what actions may say
+
+-- each call of the form is one that may be made
+abbrev pub FormMay : {Kept : Type 0} → (ThreadCall → Type 0) → Form Kept → Type 0
+FormMay May (Once call) = May call
+FormMay May (Again waits call) = May call
+FormMay May (Until cell value) = May (Performs (OnCore (Cell cell)))
+FormMay May (Twice begin next waits says) =
+    May begin × ((answer : Answer) (call : ThreadCall) → next answer ≡ Some call → May call)
+FormMay May (Looks begin ready) = May begin
+
+-- each action that is left is read as such a form, where the node keeps what fits
+abbrev pub ActionsMay : {Kept Action : Type 0}
+    → (Fits : Kept → Type 0) → (ThreadCall → Type 0) → Reading Kept Action → OwnScripts Action → Type 0
+ActionsMay {Kept} {Action} Fits May form own =
+    (thread : ℕ)
+    → AllByRecursion (λ (action : Action). (node : Node Kept) → Fits node.local → FormMay May (form action node))
+    (own thread).left

@@ -1,0 +1,93 @@
+-- What is asked of handlers and of the calls of scripts, so that each number fits its place in a message.
+-- Origin: this project's profile.
+use Rattle.std.specs.Prelude.{ℕ, ℤ, ◌<◌, ◌≤◌, ◌^◌, List, Option, None, Some, length, slice_index}
+use Rattle.std.specs.List.{AllByRecursion}
+use Rattle.std.specs.Int.{w32}
+use Rattle.std.specs.Int.RustNames.{FitsSigned}
+use Rattle.datagram_grammar.specs.Parameters.{Parameters, AreInRange}
+use Rattle.datagram_grammar.specs.Content.{Content}
+use Rattle.raw_segment.specs.Image.{Write}
+use Rattle.handler_rules.specs.declared.table.Entry.{Entry as TableEntry}
+use Rattle.handler_rules.specs.Runs.{Frame, Start, Outcome, Meaning, IsLawfulMeaning}
+use Rattle.node_record.specs.Behaviour.{PayloadFrom, Lent, Own}
+use Rattle.endpoint_rules.specs.Called.{Requests, Performs}
+use Rattle.endpoint_rules.specs.CoreCalls.{SetCell, OnSegment}
+use Rattle.endpoint_rules.specs.EndpointLocal.{EndpointLocal}
+use Rattle.endpoint_rules.specs.EndpointRules.{OtherCall, OnCore}
+use Rattle.endpoint_rules.specs.Memory.{Set, Fill}
+use Rattle.node_runs.specs.Scripts.{ThreadCall}
+
+-- numbers of 32 bits
+abbrev pub AreNumbers : List ℤ → Type 0
+AreNumbers numbers = AllByRecursion (FitsSigned w32) numbers
+
+abbrev pub AreBytes : List ℕ → Type 0
+AreBytes bytes = (place : ℕ) → slice_index bytes place < 2 ^ 8
+
+-- all that was written are bytes
+abbrev pub WriteBytes : List Write → Type 0
+WriteBytes writes = AllByRecursion (λ (write : Write). AreBytes write.bytes) writes
+
+-- what an endpoint's node keeps fits its places in messages: its cells are numbers of 32 bits, and the segment has
+-- bytes
+pub record KeptFits (local : EndpointLocal) : Type 0 where
+  pub cells : AreNumbers local.core.cells
+  pub writes : WriteBytes local.core.writes
+
+-- ---- handlers
+
+-- what a handler finds fits its places
+pub record FindsFitting (frame : Frame) (start : Start) : Type 0 where
+  pub source : frame.arrival.source < 2 ^ 16
+  pub args : AreNumbers frame.arrival.args
+  pub payload : AreBytes frame.arrival.payload
+  pub cells : AreNumbers start.cells
+  pub segment : AreBytes start.segment
+
+-- so does a reply, where there is one
+abbrev pub ReplyFits : Option Content → Type 0
+ReplyFits None = Unit {0}
+ReplyFits (Some content) = AreNumbers content.args × AreBytes content.payload
+
+-- so does what a handler leaves and says
+pub record LeavesFitting (outcome : Outcome) : Type 0 where
+  pub cells : AreNumbers outcome.cells
+  pub writes : WriteBytes outcome.writes
+  pub reply : ReplyFits outcome.reply
+
+-- where a handler finds what fits, it leaves and says what fits
+abbrev pub IsFittingMeaning : Meaning → Type 0
+IsFittingMeaning meaning =
+    (handler : ℕ) (frame : Frame) (start : Start) → FindsFitting frame start
+    → LeavesFitting (meaning handler frame start)
+
+-- ---- calls
+
+-- a payload that is given has bytes
+abbrev pub PayloadFits : PayloadFrom → Type 0
+PayloadFits (Lent bytes) = AreBytes bytes
+PayloadFits (Own offset len) = Unit {0}
+
+-- what a call writes into a cell or the segment fits
+abbrev pub OtherFits : OtherCall → Type 0
+OtherFits (OnCore (SetCell cell value)) = FitsSigned w32 value
+OtherFits (OnCore (OnSegment (Set write))) = AreBytes write.bytes
+OtherFits (OnCore (OnSegment (Fill offset len byte))) = byte < 2 ^ 8
+OtherFits call = Unit {0}
+
+-- what a call says, where it is a request, and what it writes fits
+abbrev pub CallFits : ThreadCall → Type 0
+CallFits (Requests to asking) = AreNumbers asking.args × PayloadFits asking.payload
+CallFits (Performs call) = OtherFits call
+
+-- ---- jobs
+
+-- the settings are within their limits, and their numbers fit their places in a message; so do the table's indexes;
+-- the handlers are lawful, and what they leave and say fits
+pub record IsFittingJob (settings : Parameters) (table : List (Option TableEntry)) (meaning : Meaning) : Type 0 where
+  pub range : AreInRange settings
+  pub job : settings.job < 2 ^ 64
+  pub last : settings.last < 2 ^ 64
+  pub indexes : length table ≤ 128
+  pub lawful : IsLawfulMeaning meaning
+  pub fitting : IsFittingMeaning meaning

@@ -1,0 +1,10 @@
+pub mod Scripts
+pub mod Actions
+pub mod Turn
+pub mod Order
+pub mod Merged
+pub mod Most
+pub mod Fitting
+pub mod WorldRun
+pub mod Empty
+pub mod Outgoing

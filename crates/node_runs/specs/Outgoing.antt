@@ -1,0 +1,66 @@
+-- Where the datagrams of a turn stand: each in the slot of its message.
+-- Origin: slots are this project's profile.
+use Rattle.std.specs.Prelude.{ℕ, ◌≡◌, List, [], ◌∷◌, map, Some}
+use Rattle.std.specs.Option.{option_to_list}
+use Rattle.std.specs.List.{Contains}
+use Rattle.datagram_grammar.specs.Content.{spelling}
+use Rattle.datagram_grammar.specs.Message.{IsMessage}
+use Rattle.node_record.specs.declared.answer.SlotRef.{SlotRef}
+use Rattle.node_record.specs.Record.{Node}
+use Rattle.node_record.specs.Step.{request_slot, reply_slot}
+use Rattle.node_record.specs.Invariant.{NodeInvariant}
+use Rattle.node_record.specs.SlotMessages.{message_at}
+use Rattle.node_record.specs.NodeStep.{Job, NodeEvent, Asks, Does, Comes, Ticks, node_answer, node_after}
+use Rattle.plain_world.specs.Sent.{Packet, Asking, Replying, sends}
+use Rattle.endpoint_rules.specs.EndpointRules.{OtherCall, told}
+use Rattle.endpoint_rules.specs.Sends.{sends as told_slot}
+use Rattle.endpoint_rules.specs.declared.answer.Answer.{Answer}
+use Rattle.node_runs.specs.Turn.{message_of, node_run, node_sends}
+
+-- the slot of the node that sends it
+abbrev pub slot_of : Packet → SlotRef
+slot_of (Asking place content) = request_slot place.to place.slot
+slot_of (Replying place content) = reply_slot place.from place.slot
+
+-- the answer tells the slots of what the event sends
+abbrev pub TellsSlots : {Kept : Type 0}
+    → Job Kept OtherCall Answer → (me now : ℕ) → NodeEvent OtherCall → Node Kept → Type 0
+TellsSlots job me now event node =
+    option_to_list (told_slot (told (node_answer job me node now event))) ≡ map slot_of (sends job me node now event)
+
+-- the invariant holds of the node's record before and after each of these events
+abbrev pub StaysWell : {Local Call Told : Type 0}
+    → Job Local Call Told → (IsKept : (me : ℕ) → Local → Type 0) → (me now : ℕ) → List (NodeEvent Call) → Node Local
+    → Type 0
+StaysWell job IsKept me now [] node = NodeInvariant job.settings IsKept me node
+StaysWell job IsKept me now (event ∷ events) node =
+    NodeInvariant job.settings IsKept me node
+    × StaysWell job IsKept me now events (node_after job me node now event)
+
+-- none of them is a delivery
+abbrev pub AreOwn : {Call : Type 0} → List (NodeEvent Call) → Type 0
+AreOwn [] = Unit {0}
+AreOwn (Asks ask ∷ events) = AreOwn events
+AreOwn (Does thread call ∷ events) = AreOwn events
+AreOwn (Comes message ∷ events) = ⊥
+AreOwn (Ticks ∷ events) = AreOwn events
+
+-- it is no delivery, or that of a message
+abbrev pub IsFirst : {Call : Type 0} → NodeEvent Call → Type 0
+IsFirst (Asks ask) = Unit {0}
+IsFirst (Does thread call) = Unit {0}
+IsFirst (Comes message) = IsMessage message
+IsFirst Ticks = Unit {0}
+
+-- at most the first is a delivery, and then that of a message
+abbrev pub ComesFirst : {Call : Type 0} → List (NodeEvent Call) → Type 0
+ComesFirst [] = Unit {0}
+ComesFirst (event ∷ events) = IsFirst event × AreOwn events
+
+-- after these events each message that they sent stands in its slot
+abbrev pub SentStands : {Local Call Told : Type 0}
+    → Job Local Call Told → (me now : ℕ) → List (NodeEvent Call) → Node Local → Type 0
+SentStands job me now events node =
+    (packet : Packet) → Contains (node_sends job me now events node) packet
+    → message_at job.settings me (node_run job me now events node) (slot_of packet)
+    ≡ Some (spelling (message_of job.settings packet))
