@@ -9,4 +9,5 @@ pub mod Memory
 pub mod Datagrams
 pub mod MemoryLink
 pub mod Sieve
+pub mod Spawner
 pub mod Buffered

@@ -35,6 +35,7 @@ mod sieve;
 mod sieve_rule;
 mod sink;
 mod source;
+mod spawner;
 mod writing;
 
 pub use buffered::BufferedSink;
@@ -47,4 +48,5 @@ pub use reading::{ReadAll, read_all};
 pub use sieve::Sieve;
 pub use sink::{Put, Sink};
 pub use source::{Got, Source};
+pub use spawner::{Finished, MAX_OUTPUT, Spawner, Started};
 pub use writing::{Wrote, write_all};
