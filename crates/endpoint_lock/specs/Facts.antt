@@ -1,0 +1,118 @@
+-- What stays true of a station from its opening on: each turn keeps it, so it holds whenever the lock is free.
+use Rattle.std.specs.Prelude.{◌≡◌, ◌≢◌, ℕ, ◌+◌, ◌-◌, ◌^◌, ◌<◌, ◌≤◌, ◌⊎◌, min, true, false}
+use Rattle.std.specs.Prelude.{List, ◌++◌, length, All, take, sum_by, Option, Some, None}
+use Rattle.std.specs.Option.{ForSome}
+use Rattle.gas_outside.specs.Faults.{Rose}
+use Rattle.gas_outside.specs.Told.{and_all, IsEmptyWhereTold}
+use Rattle.gas_outside.specs.declared.link.Link.{Ghosts as LinkGhosts}
+use Rattle.gas_outside.specs.declared.clock.Clock.{Ghosts as ClockGhosts}
+use Rattle.machine.specs.declared.entry.Entry.{Entry}
+use Rattle.machine.specs.declared.turns.Machine.{Ghosts as MachineGhosts}
+use Rattle.machine.specs.Replay.{steps_of, replayed, got_in, sent_in, quiet_tail}
+use Rattle.endpoint_lock.specs.declared.ends.End.{End}
+use Rattle.endpoint_lock.specs.declared.ends.End.TheVariants.{Over, Stuck, LinkFault, JournalFull, NoMemory}
+use Rattle.endpoint_lock.specs.Stations.{StationState, Opening}
+
+-- the last value of a count of 64 bits
+abbrev pub last_count : ℕ
+last_count = 2 ^ 64 - 1
+
+-- the bytes of the receive buffer: a datagram has at most one less
+abbrev pub receive_limit : ℕ
+receive_limit = 8297
+
+-- the most entries of a journal
+abbrev pub entry_limit : ℕ
+entry_limit = 65536
+
+-- the most bytes of kept datagrams with which a turn is begun
+abbrev pub byte_limit : ℕ
+byte_limit = 16768919
+
+-- the bytes of all datagrams that were got
+abbrev pub bytes_in : List Entry → ℕ
+bytes_in journal = sum_by length (got_in journal)
+
+-- no turn is begun on such a journal
+abbrev pub IsFull : List Entry → Type 0
+IsFull journal = (entry_limit ≤ length journal) ⊎ (byte_limit < bytes_in journal)
+
+-- an entry of a machine with so many threads
+abbrev pub IsEntry : (threads : ℕ) → Entry → Type 0
+IsEntry threads entry = (entry.thread < threads) × ForSome entry.got (λ bytes. length bytes ≤ receive_limit)
+
+-- where a list is told, it has gone on by these
+abbrev pub WentOn : {A : Type 0} → Option (List A) → (more : List A) → Option (List A) → Type 0
+WentOn before more now = now ≡ and_all before more
+
+-- where they are told, the datagrams sent are those that the turns gave, without the one that failed and those after it
+-- in the last entry
+abbrev pub SentShort : {M L : Type 0} → (m : MachineGhosts M) → LinkGhosts L → m.State → L → List Entry → L → Type 0
+SentShort m l state first journal link =
+    (front last : List Entry) × (count : ℕ)
+    × (journal ≡ front ++ last) × (length last ≤ 1)
+    × (length (sent_in (steps_of m) state front) ≤ count)
+    × WentOn (l.sent first) (take count (sent_in (steps_of m) state journal)) (l.sent link)
+
+-- the last entry is quiet; or a turn of some thread, at what the clock said last and with nothing got, is empty
+abbrev pub LastWasQuiet : {M C : Type 0} → (m : MachineGhosts M) → ClockGhosts C → m.State → List Entry → M → C → Type 0
+LastWasQuiet m c state journal machine clock =
+    (0 < quiet_tail (steps_of m) state 0 journal)
+    ⊎ ((thread : ℕ) × (thread < m.thread_count machine)
+    × ((m.turned (replayed (steps_of m) state journal) thread (c.said clock) None).changed ≡ false))
+
+-- every thread polls
+abbrev pub AllPoll : {M : Type 0} → MachineGhosts M → M → Type 0
+AllPoll m machine = (thread : ℕ) → thread < m.thread_count machine → m.polls_at machine thread ≡ true
+
+-- what a kept end says
+abbrev pub EndIs : {M L C : Type 0} → MachineGhosts M → LinkGhosts L → Opening M L C → StationState M L C → Option End
+    → Type 0
+EndIs m l opening station None = Unit {0}
+EndIs m l opening station (Some Over) = (station.quiet ≡ station.patience) × (m.is_over station.machine ≡ true)
+EndIs m l opening station (Some Stuck) = (station.quiet ≡ station.patience) × (m.is_over station.machine ≡ false)
+EndIs m l opening station (Some LinkFault) = Rose (l.faults opening.link) (l.faults station.link)
+EndIs m l opening station (Some JournalFull) = IsFull station.journal
+EndIs m l opening station (Some NoMemory) = Unit {0}
+
+-- machine and datagrams of a station, by the replay of its journal from a state for which the machine stood at the opening
+pub record Replays {M L C : Type 0} (m : MachineGhosts M) (l : LinkGhosts L) (c : ClockGhosts C)
+    (opening : Opening M L C) (state : m.State) (station : StationState M L C) : Type 0 where
+  -- the machine stands for the replay
+  pub machine : m.stands station.machine (replayed (steps_of m) state station.journal)
+  -- where the link tells them, the datagrams sent are those that the turns of the journal gave
+  pub sent : station.kept ≢ Some LinkFault
+      → WentOn (l.sent opening.link) (sent_in (steps_of m) state station.journal) (l.sent station.link)
+  pub sent_short : station.kept ≡ Some LinkFault → SentShort m l state opening.link station.journal station.link
+  -- the quiet turns are at most the quiet entries at the journal's end and the empty turns
+  pub quiet : station.kept ≢ Some LinkFault
+      → station.quiet ≤ quiet_tail (steps_of m) state 0 station.journal + station.idle
+  -- where a turn was quiet, the last entry is, or a turn would be empty
+  pub last : station.kept ≢ Some LinkFault → 0 < station.quiet
+      → LastWasQuiet m c state station.journal station.machine station.clock
+
+-- what holds of a station that was opened so
+pub record Facts {M L C : Type 0} (m : MachineGhosts M) (l : LinkGhosts L) (c : ClockGhosts C) (opening : Opening M L C)
+    (station : StationState M L C) : Type 0 where
+  -- the machine has as many threads, and patience stays
+  pub threads : m.thread_count station.machine ≡ m.thread_count opening.machine
+  pub patience : station.patience ≡ opening.patience
+  -- the bounds of the journal and of its entries
+  pub within : length station.journal ≤ entry_limit
+  pub entries : All (IsEntry (m.thread_count opening.machine)) station.journal
+  -- for each state for which the machine stood, machine and journal are its replay
+  pub replay : (state : m.State) → m.stands opening.machine state → Replays m l c opening state station
+  -- where the link tells them, the datagrams received are the journal's; its place stays, its faults never fall
+  pub received : WentOn (l.received opening.link) (got_in station.journal) (l.received station.link)
+  pub bound : l.bound station.link ≡ l.bound opening.link
+  pub faults : l.faults opening.link ≤ l.faults station.link
+  -- where the clock always says one value, each entry has that time
+  pub fixed : c.fixed station.clock ≡ c.fixed opening.clock
+  pub times : ForSome (c.fixed opening.clock) (λ value. All (λ entry. entry.now ≡ value) station.journal)
+  -- the clock was asked at least once for each entry and each empty turn, or its counter stands at its last value
+  pub asked : min (c.asked opening.clock + (length station.journal + station.idle)) last_count ≤ c.asked station.clock
+  -- where the last turn was quiet and every thread polls, nothing waits, where the link tells what waits
+  pub waiting : station.kept ≢ Some LinkFault → 0 < station.quiet → AllPoll m station.machine
+      → IsEmptyWhereTold (l.waiting station.link)
+  -- the cause of the kept end
+  pub end : EndIs m l opening station station.kept

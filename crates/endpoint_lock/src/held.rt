@@ -1,0 +1,117 @@
+//! What lies under a node's lock: its station, with the book of the ledger in which each entry is counted.
+
+ghost use Rattle.std.specs.Prelude.{◌≡◌, ◌+◌, ◌<◌, ◌↔◌, ℕ, length, IsSomeAnd, IsTrue};
+ghost use Rattle.std.specs.Option.{ForSome};
+ghost use Rattle.endpoint_lock.specs.Stations.{opened};
+ghost use Rattle.endpoint_lock.specs.Facts.{Facts};
+ghost use Rattle.endpoint_lock.specs.Turns.{AppendsAtMostOne, TakesTurn};
+
+use crate::ends::TurnEnd;
+use crate::station::Station;
+use gas_outside::{Clock, Link};
+use machine::Machine;
+use std::marker::{Brand, Model};
+use std::sync::ledger::{Blank, Book, Ledger, Share};
+
+/// The ledger of a node's threads.
+pub trait Crew: Ledger {
+    /// How many threads the node has.
+    ghost threads: { ℕ };
+}
+
+impl Crew for Brand {
+    ghost threads = { 0 };
+}
+
+/// The name that a station under its lock, its book and its shares carry.
+pub trait StationName<M, L, C>: Crew {
+    ghost use Rattle.std.specs.Prelude.{Option};
+    ghost use Rattle.endpoint_lock.specs.Stations.{Opening};
+
+    /// What the station was opened with.
+    ghost opening: { Option (Opening M L C) };
+}
+
+impl<M, L, C> StationName<M, L, C> for Brand {
+    ghost use Rattle.std.specs.Prelude.{None};
+
+    ghost opening = { None };
+}
+
+/// A station with the book of its node's ledger. Contracts see it as the station.
+///
+/// Whenever the lock is free the facts hold of it, for what its name says that it was opened with, and its journal is as long as the
+/// book's total says.
+pub struct Held<N: StationName<M, L, C>, M: Machine, L: Link, C: Clock> {
+    station: Station<M, L, C>,
+    book: Book<N>,
+}
+
+impl<N: StationName<M, L, C>, M: Machine, L: Link, C: Clock> Model for Held<N, M, L, C> {
+    ghost use Rattle.std.specs.Prelude.{◌≡◌, length};
+    ghost use Rattle.std.specs.Option.{ForSome};
+    ghost use Rattle.endpoint_lock.specs.Stations.{StationState};
+    ghost use Rattle.endpoint_lock.specs.Facts.{Facts};
+
+    ghost Value = { StationState M L C };
+
+    ghost view = { λ h. h.station };
+
+    ghost invariant = { λ h. (length h.station.journal ≡ h.book.total)
+        × (M.thread_count h.station.machine ≡ N.threads)
+        × ForSome N.opening (λ opening. Facts M.Machine L.Link C.Clock opening h.station) };
+}
+
+impl<N: StationName<M, L, C>, M: Machine, L: Link, C: Clock> Held<N, M, L, C> {
+    /// Puts a new station under its name, with a new ledger. The share has all parts of it, and nothing is booked.
+    pub fn open(station: Station<M, L, C>, blank: Blank) -> (Held<N, M, L, C>, Share<N>)
+        requires opened { IsSomeAnd N.opening (λ opening. station ≡ opened opening) }
+        requires threads { M.thread_count station.machine ≡ N.threads }
+        requires name { blank.name ≡ N.name }
+        requires parts { blank.parts ≡ N.parts }
+        ensures held { result.0 ≡ station }
+        ensures parts { result.1.parts ≡ N.parts }
+        ensures amount { result.1.amount ≡ 0 }
+    {
+        let (book, all) = blank.open::<N>();
+        (Held { station, book }, all)
+    }
+
+    /// One turn of a thread under the lock, as `Station::turn` says. Where it keeps an entry, the share that it is handed has one more.
+    pub fn turn(&mut self, thread: u16, mine: &mut Share<N>) -> TurnEnd
+        requires thread { thread < N.threads }
+        requires part { 0 < mine.old.parts }
+        ensures turn { TakesTurn M.Machine L.Link C.Clock thread self.old result self.new }
+        ensures journal { AppendsAtMostOne thread self.old.journal self.new.journal }
+        ensures booked { mine.new.amount + length self.old.journal
+            ≡ mine.old.amount + length self.new.journal }
+        ensures parts { mine.new.parts ≡ mine.old.parts }
+    {
+        let before = self.station.len();
+        let end = self.station.turn(thread);
+        if self.station.len() > before {
+            self.book.add(mine, 1);
+        }
+        end
+    }
+
+    /// Whether the last turn was quiet.
+    pub fn was_quiet(&self) -> bool
+        ensures { IsTrue result ↔ (0 < self.now.quiet) }
+    {
+        self.station.quiet() > 0
+    }
+
+    /// Takes the station out, once the share has all parts again. The facts hold of it, and its journal is as long as the share says.
+    pub fn close(self, all: &mut Share<N>) -> Station<M, L, C>
+        requires { all.old.parts ≡ N.parts }
+        ensures facts { ForSome N.opening (λ opening.
+            Facts M.Machine L.Link C.Clock opening result) }
+        ensures booked { length result.journal ≡ all.old.amount }
+    {
+        let Held { station, book } = self;
+        let mut book = book;
+        book.audit(all);
+        station
+    }
+}
