@@ -1,0 +1,194 @@
+ghost use Rattle.std.specs.Prelude.{◌≡◌, ◌≤◌, IfOk};
+ghost use Rattle.endpoint_lock.specs.Stations.{opened, opening_of};
+
+use crate::TwoThreads;
+use endpoint_lock::{End, Station, TurnEnd, run_threads};
+use gas_outside::{FixedClock, Gate, Link, LinkAnswer, MemoryLink, Received};
+use std::alloc::Global;
+use std::sync::atomic::{AtomicU64, Ordering};
+use std::test::Fail;
+use std::thread;
+
+// A station of the two threads over a link, at time 0.
+fn station_over<L: Link + Drop>(
+    alloc: Global,
+    link: L,
+    patience: u32,
+) -> Result<Station<TwoThreads, L, FixedClock>, Fail>
+    requires { 1 ≤ patience }
+    ensures { IfOk result (λ station. (station ≡ opened (opening_of station))
+        × (1 ≤ station.patience)) }
+{
+    let clock = FixedClock::new(0);
+    match Station::new(alloc, TwoThreads::Waiting, link, clock, patience) {
+        Ok(station) => Ok(station),
+        Err(_) => Err(Fail::from("memory")),
+    }
+}
+
+// A link in memory on which nothing waits, and whose calls with these numbers fail.
+fn empty_link(alloc: Global, fail: Vec<u64>) -> Result<MemoryLink, Fail> {
+    Ok(MemoryLink::new(alloc, Vec::new(alloc), fail)?)
+}
+
+#[test]
+fn goes_and_is_over(rt: HostRuntime) -> Result<(), Fail> {
+    let alloc = rt.alloc();
+    let mut station = station_over(alloc, empty_link(alloc, Vec::new(alloc))?, 2)?;
+    for (thread, want) in [
+        (0, TurnEnd::Idle),
+        (1, TurnEnd::Went),
+        (0, TurnEnd::Went),
+        (0, TurnEnd::Went),
+        (0, TurnEnd::Idle),
+        (1, TurnEnd::Idle),
+        (1, TurnEnd::Ended(End::Over)),
+        (0, TurnEnd::Ended(End::Over)),
+    ] {
+        assert_eq!(rt; station.turn(thread % 2), want);
+    }
+    assert_eq!(rt; station.kept(), Some(End::Over));
+    let ended = station.into_ended();
+    assert_eq!(rt; ended.journal.as_slice().len(), 3);
+    let sent = ended.link.sent();
+    assert_eq!(rt; sent.len(), 2);
+    assert_eq!(rt; (sent[0].0, sent[0].1.as_slice()), (1, [7].as_slice()));
+    assert_eq!(rt; (sent[1].0, sent[1].1.as_slice()), (2, [8, 9].as_slice()));
+    Ok(())
+}
+
+#[test]
+fn is_stuck(rt: HostRuntime) -> Result<(), Fail> {
+    let alloc = rt.alloc();
+    let mut station = station_over(alloc, empty_link(alloc, Vec::new(alloc))?, 2)?;
+    for want in [
+        TurnEnd::Idle,
+        TurnEnd::Idle,
+        TurnEnd::Ended(End::Stuck),
+        TurnEnd::Ended(End::Stuck),
+    ] {
+        assert_eq!(rt; station.turn(0), want);
+    }
+    Ok(())
+}
+
+// Calls 1, 2 and 3 of the link are the receives of three turns; then the third turn sends twice.
+#[test]
+fn meets_a_fault_of_the_link(rt: HostRuntime) -> Result<(), Fail> {
+    let alloc = rt.alloc();
+    for (fails_at, entries, sent) in [(1, 0, 0), (3, 2, 0), (4, 3, 0), (5, 3, 1)] {
+        let link = empty_link(alloc, vec![in alloc; fails_at]?)?;
+        let mut station = station_over(alloc, link, 2)?;
+        let mut last = TurnEnd::Went;
+        for thread in [1, 0, 0, 0] {
+            last = station.turn(thread);
+        }
+        assert_eq!(rt; last, TurnEnd::Ended(End::LinkFault), "call {fails_at}");
+        let ended = station.into_ended();
+        assert_eq!(rt; ended.journal.as_slice().len(), entries, "call {fails_at}");
+        assert_eq!(rt; ended.link.sent().len(), sent, "call {fails_at}");
+    }
+    Ok(())
+}
+
+// A link that always has a datagram of one size, and tells nothing.
+#[derive(Drop)]
+struct Plenty {
+    size: usize,
+}
+
+impl Link for Plenty {
+    ghost use Rattle.std.specs.Prelude.{None};
+
+    ghost bound = { λ _. None };
+
+    ghost sent = { λ _. None };
+
+    ghost received = { λ _. None };
+
+    ghost waiting = { λ _. None };
+
+    ghost faults = { λ _. 18446744073709551615 };
+
+    fn bind(&mut self, _rank: u16, _nodes: u16, _port: u16) -> LinkAnswer {
+        LinkAnswer::Failed
+    }
+
+    fn send(&mut self, _to: u16, _bytes: &[u8]) -> LinkAnswer {
+        LinkAnswer::Done
+    }
+
+    fn receive(&mut self, buf: &mut [u8]) -> Received {
+        Received::Got(self.size.min(buf.len()))
+    }
+}
+
+#[test]
+fn fills_its_journal(rt: HostRuntime) -> Result<(), Fail> {
+    for (size, entries) in [(0, 65_536), (8_297, 2_022)] {
+        let mut station = station_over(rt.alloc(), Plenty { size }, 2)?;
+        for _ in 0..entries {
+            assert_eq!(rt; station.turn(0), TurnEnd::Went, "of {size} bytes");
+        }
+        for _ in 0..2 {
+            assert_eq!(rt;
+                station.turn(0),
+                TurnEnd::Ended(End::JournalFull),
+                "of {size} bytes"
+            );
+        }
+        assert_eq!(rt; station.len(), entries, "of {size} bytes");
+    }
+    Ok(())
+}
+
+// Holds the first eight calls of each thread until the other thread has come as often.
+#[derive(Drop)]
+struct InStep {
+    came: [AtomicU64; 2],
+    failures: AtomicU64,
+}
+
+impl Gate for InStep {
+    fn before_turn(&self, thread: u16, _quiet: bool) {
+        let me = usize::from(thread % 2);
+        let mine = self.came[me]
+            .fetch_add(1, Ordering::SeqCst)
+            .saturating_add(1);
+        if mine > 8 {
+            return;
+        }
+        for _ in 0..1_000_000u64 {
+            if self.came[1 - me].load(Ordering::SeqCst) >= mine {
+                return;
+            }
+            thread::yield_now();
+        }
+        self.failures.fetch_add(1, Ordering::SeqCst);
+    }
+}
+
+#[test]
+fn runs_two_threads_in_step(rt: HostRuntime) -> Result<(), Fail> {
+    let alloc = rt.alloc();
+    let station = station_over(alloc, empty_link(alloc, Vec::new(alloc))?, 100_000)?;
+    let gate = InStep {
+        came: [AtomicU64::new(0), AtomicU64::new(0)],
+        failures: AtomicU64::new(0),
+    };
+    let ended = run_threads(&rt, alloc, station, 2, &gate);
+    assert_eq!(rt; ended.end, End::Over);
+    let entries = ended.journal.as_slice();
+    assert_eq!(rt; entries.len(), 3);
+    for (entry, thread) in entries.iter().zip([1, 0, 0]) {
+        assert_eq!(rt;
+            (entry.thread, entry.now, entry.got.is_none()),
+            (thread, 0, true)
+        );
+    }
+    assert_eq!(rt; gate.failures.load(Ordering::SeqCst), 0);
+    for came in &gate.came {
+        assert!(rt; came.load(Ordering::SeqCst) >= 8);
+    }
+    Ok(())
+}
