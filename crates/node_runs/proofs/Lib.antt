@@ -1,0 +1,14 @@
+pub mod Lasting
+pub mod Stages
+pub mod Turns
+pub mod Runs
+pub mod Acting
+pub mod Emptying
+pub mod Fronting
+pub mod Carrying
+pub mod Mosts
+pub mod Bytes
+pub mod Saying
+pub mod Fitting
+pub mod Speaking
+pub mod WorldRuns

@@ -10,6 +10,7 @@ use Rattle.raw_segment.specs.Image.{Write}
 use Rattle.handler_rules.specs.declared.table.Entry.{Entry as TableEntry}
 use Rattle.handler_rules.specs.Runs.{Frame, Start, Outcome, Meaning, IsLawfulMeaning}
 use Rattle.node_record.specs.Behaviour.{PayloadFrom, Lent, Own}
+use Rattle.am_core.specs.Kept.{Local}
 use Rattle.endpoint_rules.specs.Called.{Requests, Performs}
 use Rattle.endpoint_rules.specs.CoreCalls.{SetCell, OnSegment}
 use Rattle.endpoint_rules.specs.EndpointLocal.{EndpointLocal}
@@ -28,11 +29,19 @@ AreBytes bytes = (place : ℕ) → slice_index bytes place < 2 ^ 8
 abbrev pub WriteBytes : List Write → Type 0
 WriteBytes writes = AllByRecursion (λ (write : Write). AreBytes write.bytes) writes
 
--- what an endpoint's node keeps fits its places in messages: its cells are numbers of 32 bits, and the segment has
--- bytes
-pub record KeptFits (local : EndpointLocal) : Type 0 where
-  pub cells : AreNumbers local.core.cells
-  pub writes : WriteBytes local.core.writes
+-- what a core keeps fits its places in messages: its cells are numbers of 32 bits, and the segment has bytes
+pub record CoreFits (local : Local) : Type 0 where
+  pub cells : AreNumbers local.cells
+  pub writes : WriteBytes local.writes
+
+-- so does what an endpoint's node keeps
+abbrev pub KeptFits : EndpointLocal → Type 0
+KeptFits local = CoreFits local.core
+
+-- so does what a message says
+pub record ContentFits (content : Content) : Type 0 where
+  pub args : AreNumbers content.args
+  pub payload : AreBytes content.payload
 
 -- ---- handlers
 
@@ -47,7 +56,7 @@ pub record FindsFitting (frame : Frame) (start : Start) : Type 0 where
 -- so does a reply, where there is one
 abbrev pub ReplyFits : Option Content → Type 0
 ReplyFits None = Unit {0}
-ReplyFits (Some content) = AreNumbers content.args × AreBytes content.payload
+ReplyFits (Some content) = ContentFits content
 
 -- so does what a handler leaves and says
 pub record LeavesFitting (outcome : Outcome) : Type 0 where

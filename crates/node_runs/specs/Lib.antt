@@ -8,3 +8,4 @@ pub mod Fitting
 pub mod WorldRun
 pub mod Empty
 pub mod Outgoing
+pub mod Laws

@@ -1,8 +1,26 @@
 //! Nodes that run scripts, and the order of the entries of their traces as a run of the world.
 //!
-//! A machine is the record of a node with what is left of its scripts. A turn of one of its threads is a list of events
-//! of the node: what was got is delivered, the node ticks, and the thread's next step is tried, which makes at most one
-//! call (`specs/Turn.antt`). What a try calls, and when it ends its step, is a parameter (`Scripts`); steps have five
-//! forms (`specs/Actions.antt`). `specs/Order.antt` says which orders of the entries of several traces can go, and
-//! `specs/WorldRun.antt` what it means that such an order is a run of the world. It has no code.
+//! A machine is the record of a node with what is left of its scripts. A turn of one of its threads is a list of
+//! events of the node: what was got is delivered, the node ticks, and the thread's next step is tried, which makes at
+//! most one call (`specs/Turn.antt`). What a try calls, and when it ends its step, is a parameter (`Scripts`); steps
+//! have five forms (`specs/Actions.antt`). `specs/Order.antt` says which orders of the entries of several traces can
+//! go, and `specs/WorldRun.antt` what it means that such an order is a run of the world. It has no code.
+//!
+//! What is proved is named by the clauses of these laws, for any reading of actions as forms:
+//!
+//! - `run_law` [`run`]: entries in an order in which each can go are a run of the world from its opening
+//!   (`IsWorldRun`). Each turn is events of the world at its time, all among the nodes; a datagram that was got is the
+//!   delivery of the message that it spells, which was sent. The run leaves each node the record that its machine's
+//!   replay has, its answers and the datagrams sent in it are the machines', and the most that a node held is what its
+//!   own entries tell. So the headline, the laws of transfers and the law of the barrier hold of it. Asked are settings
+//!   within their limits, lawful handlers, and that numbers fit their places in messages (`IsFittingJob`, `ActionsMay`,
+//!   `specs/Fitting.antt`).
+//! - `merge_law` [`run`]: so it is of the order by which a list of nodes reaches the front that has all entries
+//!   (`Reaches`), and the entries of each node in it are the node's trace.
+//! - `carrying_law`: what can go of machines that others become can go of them.
+//! - `empty_law`: an empty turn leaves the machine, where a try that waits leaves the record (`IsCalm`).
 #![tactic(auto)]
+
+mod laws;
+
+pub use laws::{carrying_law, empty_law, merge_law, run_law};

@@ -1,0 +1,128 @@
+-- An empty turn leaves the machine as it was.
+use Rattle.std.proofs.Common.{◌≡◌, ℕ, zero, suc, Bool, true, false, true≢false, cond, ◌||◌, List, [], ◌∷◌, ◌++◌, map}
+use Rattle.std.proofs.Common.{Option, None, Some, refl, sym, ap, ap₂, ◌∙◌, subst}
+use Rattle.std.specs.Prelude.{is_some}
+use Rattle.std.specs.Option.{option_map, option_to_list}
+use Rattle.lists.specs.Numbered.{numbered, change}
+use Rattle.lists.proofs.Update.{update-None}
+use Rattle.lists.specs.Put.{put}
+use Rattle.lists.proofs.Put.{put_own}
+use Rattle.node_record.specs.Record.{Request, Node}
+use Rattle.node_record.specs.Requests.{sent_at}
+use Rattle.node_record.specs.Step.{Site, TickChoice, Resends, Sends, Rests, tick_choice, after_tick}
+use Rattle.node_record.specs.NodeStep.{NodeEvent, Ticks, site_of, node_after, node_answer}
+use Rattle.plain_world.specs.Sent.{Packet, asking, ticked_sends, sends}
+use Rattle.endpoint_rules.specs.Called.{node_event}
+use Rattle.endpoint_rules.specs.EndpointRules.{OtherCall, told}
+use Rattle.endpoint_rules.specs.declared.answer.Answer.{Answer}
+use Rattle.node_runs.specs.Scripts.{NodeJob, ThreadCall}
+use Rattle.node_runs.specs.Turn.{MachineState, turn, node_run, node_sends, is_some_there, as_tried, try_of}
+use Rattle.node_runs.specs.Turn.{datagram}
+use Rattle.node_runs.specs.Empty.{IsCalm, EmptyTurnsLeave}
+
+-- ---- a tick that sends nothing
+
+change_past : {X : Type 0} (f : X → X) (xs : List X) (number : ℕ) → numbered xs number ≡ None → change f xs number ≡ xs
+change_past f xs zero e = refl
+change_past f xs (suc place) e = update-None xs place f e
+
+cons_nil : {X : Type 0} {x : X} {xs : List X} → ◌≡◌ {A = List X} (x ∷ xs) [] → ⊥
+cons_nil h = cc
+
+tick_calm : {Kept : Type 0} (site : Site Kept) (me now : ℕ) (node : Node Kept) (choice : TickChoice)
+    → ticked_sends me node choice ≡ [] → after_tick site node now choice ≡ node
+tick_calm {Kept} site me now node (Resends due) e =
+    by_asked (numbered (node.asked due.peer) due.number) refl e
+  where
+    by_asked : (o : Option Request) → numbered (node.asked due.peer) due.number ≡ o
+        → asking me due.peer due.number o ≡ [] → after_tick site node now (Resends due) ≡ node
+    by_asked None at h = ap (λ (f : ℕ → List Request). record node { asked = f })
+        (ap (put node.asked due.peer) (change_past (sent_at now) (node.asked due.peer) due.number at)
+        ∙ put_own node.asked due.peer)
+    by_asked (Some x) at h = absurd (cons_nil h)
+tick_calm site me now node (Sends sending) e = absurd (cons_nil e)
+tick_calm site me now node Rests e = refl
+
+-- ---- the parts of a turn that didn't change
+
+no_packets : (packets : List Packet) → is_some_there packets ≡ false → packets ≡ []
+no_packets [] e = refl
+no_packets (p ∷ packets) e = absurd (true≢false e)
+
+or_parts : (a b : Bool) → (a || b) ≡ false → (a ≡ false) × (b ≡ false)
+or_parts true b e = absurd (true≢false e)
+or_parts false b e = (refl, e)
+
+none_of : (o : Option Answer) → is_some o ≡ false → o ≡ None
+none_of None e = refl
+none_of (Some a) e = absurd (true≢false e)
+
+nil_parts : (first second : List Packet) → first ++ second ≡ [] → (first ≡ []) × (second ≡ [])
+nil_parts [] second e = (refl, e)
+nil_parts (p ∷ first) second e = absurd (cons_nil e)
+
+no_end : (packets : List Packet) → packets ++ [] ≡ packets
+no_end [] = refl
+no_end (p ∷ packets) = ap (λ (more : List Packet). p ∷ more) (no_end packets)
+
+-- the machine, from its parts
+machine_is : {Kept Own : Type 0} (state : MachineState Kept Own) (changed : Bool) (node : Node Kept) (own : Own)
+    (datagrams : List (ℕ × List ℕ)) (answer : Option Answer)
+    → changed ≡ false → node ≡ state.node → own ≡ state.own
+    → ◌≡◌ {A = MachineState Kept Own} (record {
+      node = node;
+      own = own;
+      outgoing = cond changed datagrams state.outgoing;
+      answer = cond changed answer state.answer;
+    }) state
+machine_is {Kept} {Own} state changed node own datagrams answer e f h =
+    subst (λ (b : Bool). ◌≡◌ {A = MachineState Kept Own} (record {
+      node = node;
+      own = own;
+      outgoing = cond b datagrams state.outgoing;
+      answer = cond b answer state.answer;
+    }) state) (sym e)
+    (ap₂ (λ (n : Node Kept) (o : Own). record state { node = n; own = o }) f h)
+
+-- the try, at this record
+try_calm : {Kept Own : Type 0} (job : NodeJob Kept Own) (me thread now : ℕ) (own : Own) (node : Node Kept)
+    (call : Option ThreadCall) → IsCalm job → job.scripts.call thread own node ≡ call
+    → let events = option_to_list (option_map (node_event thread) call) in
+    let tried = job.scripts.tried thread own node (node_run job.job me now events node)
+    (option_map (λ made. told (node_answer job.job me node now (node_event thread made))) call) in
+    tried.ended ≡ None → tried.began ≡ false → node_sends job.job me now events node ≡ []
+    → node_run job.job me now events node ≡ node
+try_calm job me thread now own node None C is e b s = refl
+try_calm job me thread now own node (Some call) C is e b s =
+    C.node me thread now own node call is e b (sym (no_end _) ∙ s)
+
+-- of a turn of a thread that polls or doesn't
+turn_calm : {Kept Own : Type 0} (job : NodeJob Kept Own) (me thread now : ℕ) (state : MachineState Kept Own)
+    (polls : Bool) → IsCalm job
+    → let first : List (NodeEvent OtherCall) = cond polls (Ticks ∷ []) [] in
+    let mid = node_run job.job me now first state.node in
+    let call = job.scripts.call thread state.own mid in
+    let events = first ++ option_to_list (option_map (node_event thread) call) in
+    let tried = job.scripts.tried thread state.own mid (node_run job.job me now events state.node)
+    (option_map (λ made. told (node_answer job.job me mid now (node_event thread made))) call) in
+    tried.ended ≡ None → tried.began ≡ false → node_sends job.job me now events state.node ≡ []
+    → node_run job.job me now events state.node ≡ state.node
+turn_calm job me thread now state false C e b s =
+    try_calm job me thread now state.own state.node (job.scripts.call thread state.own state.node) C refl e b s
+turn_calm {Kept} {Own} job me thread now state true C e b s =
+    let mid = node_after job.job me state.node now Ticks in
+    let parts = nil_parts (sends job.job me state.node now Ticks) _ s in
+    let ticked : mid ≡ state.node =
+    tick_calm (site_of job.job me) me now state.node (tick_choice (site_of job.job me) state.node now) parts.0 in
+    try_calm job me thread now state.own mid (job.scripts.call thread state.own mid) C refl e b parts.1 ∙ ticked
+
+pub empty_turns : {Kept Own : Type 0} (job : NodeJob Kept Own) → IsCalm job → EmptyTurnsLeave job
+empty_turns {Kept} {Own} job C me thread now state changed =
+    let it = turn job me state thread now None in
+    let tried = try_of job me state thread now None in
+    let a = or_parts (is_some_there it.packets || is_some tried.ended) tried.began changed in
+    let b = or_parts (is_some_there it.packets) (is_some tried.ended) a.0 in
+    let ended = none_of tried.ended b.1 in
+    machine_is state it.changed it.after.node it.after.own (map (datagram job.job.settings) it.packets) tried.ended changed
+    (turn_calm job me thread now state (job.polls thread state.node.local) C ended a.1 (no_packets it.packets b.0))
+    (C.left thread state.own (as_tried job me state thread now None) it.after.node _ ended a.1)

@@ -1,0 +1,61 @@
+-- What holds of orders of entries in which each can go.
+-- Origin: this project's profile.
+use Rattle.std.specs.Prelude.{ℕ, ◌≡◌, ◌≤◌, List, [], Option, Some, length, slice_get}
+use Rattle.datagram_grammar.specs.Parameters.{Parameters}
+use Rattle.handler_rules.specs.declared.table.Entry.{Entry as TableEntry}
+use Rattle.handler_rules.specs.Runs.{Meaning}
+use Rattle.plain_world.specs.World.{Timed}
+use Rattle.endpoint_rules.specs.EndpointLocal.{EndpointLocal}
+use Rattle.endpoint_rules.specs.EndpointRules.{OtherCall}
+use Rattle.machine.specs.declared.entry.Entry.{Entry}
+use Rattle.machine.specs.Fronts.{Node, start, full, Reaches}
+use Rattle.node_runs.specs.Actions.{Reading, OwnScripts, scripts_of, ActionsMay}
+use Rattle.node_runs.specs.Order.{Ranked, job_steps, NodeEntry, own_entries, GoInOrder}
+use Rattle.node_runs.specs.Merged.{nodes_from, order_of}
+use Rattle.node_runs.specs.Fitting.{KeptFits, CallFits, IsFittingJob}
+use Rattle.node_runs.specs.WorldRun.{IsWorldRun, endpoint_job, opening_machines}
+
+-- of a job of endpoints whose scripts' actions are read so, and the scripts of each of its nodes: numbers fit their
+-- places, and each call of an action is one that may be made
+pub record MayRun
+    {Action : Type 0} (settings : Parameters) (table : List (Option TableEntry)) (meaning : Meaning)
+    (form : Reading EndpointLocal Action) (own : ℕ → OwnScripts Action) : Type 0 where
+  pub job : IsFittingJob settings table meaning
+  pub actions : (node : ℕ) → ActionsMay KeptFits CallFits form (own node)
+
+-- entries in an order in which each can go are a run of the world
+abbrev pub IsOrderARun : {Action : Type 0} → Reading EndpointLocal Action → Type 0
+IsOrderARun {Action} form =
+    (settings : Parameters) (table : List (Option TableEntry)) (meaning : Meaning) (own : ℕ → OwnScripts Action)
+    (items : List NodeEntry)
+    → MayRun settings table meaning form own
+    → GoInOrder (endpoint_job settings table meaning (scripts_of form)) (opening_machines settings own) [] items
+    → (turns : List (List (Timed OtherCall)))
+    × IsWorldRun settings table meaning (scripts_of form) own items turns
+
+-- the nodes of a job of endpoints with these traces
+abbrev pub nodes_with : {Action : Type 0}
+    → Parameters → (ℕ → OwnScripts Action) → (traces : List (List Entry))
+    → List (Node (Ranked EndpointLocal (OwnScripts Action)))
+nodes_with settings own traces = nodes_from (opening_machines settings own) 0 traces
+
+-- the order of their entries that this list of nodes gives
+abbrev pub merged : {Action : Type 0}
+    → Parameters → (ℕ → OwnScripts Action) → (traces : List (List Entry)) → (list : List ℕ) → List NodeEntry
+merged settings own traces list =
+    order_of (nodes_with settings own traces) (start (nodes_with settings own traces)) list
+
+-- where a list of nodes reaches the front that has all entries, they are a run of the world in its order, and the
+-- entries of each node in it are the node's trace
+abbrev pub IsMergeARun : {Action : Type 0} → Reading EndpointLocal Action → Type 0
+IsMergeARun {Action} form =
+    (settings : Parameters) (table : List (Option TableEntry)) (meaning : Meaning) (own : ℕ → OwnScripts Action)
+    (traces : List (List Entry)) (list : List ℕ)
+    → MayRun settings table meaning form own
+    → length traces ≤ settings.nodes
+    → Reaches (job_steps (endpoint_job settings table meaning (scripts_of form))) (nodes_with settings own traces) list
+    (full (nodes_with settings own traces))
+    → (turns : List (List (Timed OtherCall)))
+    × IsWorldRun settings table meaning (scripts_of form) own (merged settings own traces list) turns
+    × ((node : ℕ) (trace : List Entry) → slice_get traces node ≡ Some trace
+    → own_entries node (merged settings own traces list) ≡ trace)

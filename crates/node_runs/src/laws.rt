@@ -1,0 +1,36 @@
+//! What holds of every order of entries in which each can go.
+
+ghost use Rattle.std.specs.Prelude.{◌≡◌, ℕ, List, map};
+ghost use Rattle.endpoint_rules.specs.EndpointLocal.{EndpointLocal};
+ghost use Rattle.machine.specs.Fronts.{Node as FrontNode, GoesOn};
+ghost use Rattle.machine.specs.Replay.{Steps};
+ghost use Rattle.node_runs.specs.Actions.{Reading};
+ghost use Rattle.node_runs.specs.Empty.{IsCalm, EmptyTurnsLeave};
+ghost use Rattle.node_runs.specs.Laws.{IsOrderARun, IsMergeARun};
+ghost use Rattle.node_runs.specs.Merged.{Carries, carried};
+ghost use Rattle.node_runs.specs.Scripts.{NodeJob};
+
+/// Entries of the nodes' traces, in an order in which each can go, are a run of the world. `A` is
+/// the type of the actions of scripts, each of which is read as a form.
+pub fn run_law<A>()
+    ensures run { (form : Reading EndpointLocal A) → IsOrderARun form }
+{}
+
+/// Where a list of nodes reaches the front that has all entries, the entries in its order are a run
+/// of the world, and those of each node in it are the node's trace.
+pub fn merge_law<A>()
+    ensures run { (form : Reading EndpointLocal A) → IsMergeARun form }
+{}
+
+/// An order of the entries of machines is one of the machines that they become.
+pub fn carrying_law<M, N>()
+    ensures { (become : M → N) (first : Steps M) (second : Steps N) → Carries become first second
+        → (nodes : List (FrontNode M)) (list front to : List ℕ)
+        → GoesOn second (map (carried become) nodes) front list to
+        → GoesOn first nodes front list to }
+{}
+
+/// An empty turn leaves the machine as it was, where a try that waits leaves the record.
+pub fn empty_law<O>()
+    ensures { (job : NodeJob EndpointLocal O) → IsCalm job → EmptyTurnsLeave job }
+{}
