@@ -10,4 +10,5 @@ pub mod Datagrams
 pub mod MemoryLink
 pub mod Sieve
 pub mod Spawner
+pub mod MemorySpawner
 pub mod Buffered

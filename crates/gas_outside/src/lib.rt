@@ -1,8 +1,9 @@
-//! The outside of the program as traits: sources and sinks of bytes, links of datagrams, clocks and gates of turns.
+//! The outside of the program as traits: sources and sinks of bytes, links of datagrams, clocks, gates of turns, and spawners
+//! of children.
 //!
 //! A source may tell the bytes that are left, and a sink the bytes that it took; what a function read or wrote is then a
 //! fact of its contract. Each has a count of faults that never falls, and fails only where that count rose. `MemorySource`,
-//! `MemorySink` and `MemoryLink` tell all, and fail at the calls that a list numbers. `BufferedSink` gathers small pieces before
+//! `MemorySink`, `MemoryLink` and `MemorySpawner` tell all, and fail at the calls that a list numbers. `BufferedSink` gathers small pieces before
 //! any sink, and `Sieve` drops, repeats and swaps datagrams before any link.
 //!
 //! What is proved, by the names of clauses (in `src/`) and definitions (in `specs/`):
@@ -16,7 +17,9 @@
 //!   (`Told`): a link may tell the datagrams sent, received and waiting, and a fault comes only where the count of faults rose.
 //! - `Clock` [`asked`, `said`, `fixed`, `one`]: it counts how often it is asked, and `FixedClock` always says one value. A `Gate`,
 //!   as `OpenGate`, promises nothing.
-//! - `MemorySource`, `MemorySink` and `MemoryLink` [`exact`] number their calls, and fail at the listed ones.
+//! - `Spawner` [`told`, `output`, `pending`, `later`, `cause`]: a start is told, and so is the first finish of a child that was
+//!   started, with what the child gave and the answer; what was told before stays. A child ends once, after its start.
+//! - `MemorySource`, `MemorySink`, `MemoryLink` and `MemorySpawner` [`exact`] number their calls, and fail at the listed ones.
 //! - `Sieve` loses, repeats and swaps datagrams by their numbers: `hand` [`follows`, `keeps`] sends the link behind what the first
 //!   rule that applies says (`next_plan`), or a front of it where that link failed. It tells what that link tells, but what was
 //!   sent only where its numbers are 0.
@@ -30,11 +33,13 @@ mod gate;
 mod link;
 mod memory;
 mod memory_link;
+mod memory_spawner;
 mod reading;
 mod sieve;
 mod sieve_rule;
 mod sink;
 mod source;
+mod spawn_call;
 mod spawner;
 mod writing;
 
@@ -44,9 +49,11 @@ pub use gate::{Gate, OpenGate};
 pub use link::{Link, LinkAnswer, Received};
 pub use memory::{MemorySink, MemorySource};
 pub use memory_link::MemoryLink;
+pub use memory_spawner::MemorySpawner;
 pub use reading::{ReadAll, read_all};
 pub use sieve::Sieve;
 pub use sink::{Put, Sink};
 pub use source::{Got, Source};
+pub use spawn_call::SpawnCall;
 pub use spawner::{Finished, MAX_OUTPUT, Spawner, Started};
 pub use writing::{Wrote, write_all};
