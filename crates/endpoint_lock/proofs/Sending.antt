@@ -1,5 +1,6 @@
 -- Lists that are told go on; one datagram more is sent.
-use Rattle.std.proofs.Common.{◌≡◌, ℕ, ◌+◌, ◌≤◌, List, [], ◌∷◌, ◌++◌, Option, Some, None, take, refl, sym, ap, ◌∙◌, arith, append_assoc}
+use Rattle.std.proofs.Common.{◌≡◌, ℕ, ◌+◌, ◌≤◌, List, [], ◌∷◌, ◌++◌, Option, Some, None, take, refl, sym, ap}
+use Rattle.std.proofs.Common.{◌∙◌, arith, append_assoc}
 use Rattle.std.specs.Prelude.{slice_get}
 use Rattle.std.proofs.lemmas.List.{take_more, append-nil}
 use Rattle.std.proofs.lemmas.Option.{slice_get_within, get_or_from_slice_get}
@@ -24,9 +25,11 @@ WentOn-none (Some z) last p = p ∙ ap Some (sym (append-nil z))
 pub Rose-after : (first middle last : ℕ) → first ≤ middle → Rose middle last → Rose first last
 Rose-after first middle last h r = omega (arith, h, r)
 
-pub take_one_more : {A : Type 0} (xs : List A) (i : ℕ) (x : A) → Some x ≡ slice_get xs i → take i xs ++ x ∷ [] ≡ take (i + 1) xs
+pub take_one_more : {A : Type 0} (xs : List A) (i : ℕ) (x : A) → Some x ≡ slice_get xs i
+    → take i xs ++ x ∷ [] ≡ take (i + 1) xs
 take_one_more xs i x at =
-    sym (take_more xs i x (slice_get_within xs i x (sym at)) ∙ ap (λ y. take i xs ++ y ∷ []) (get_or_from_slice_get xs i x x (sym at)))
+    sym (take_more xs i x (slice_get_within xs i x (sym at))
+    ∙ ap (λ y. take i xs ++ y ∷ []) (get_or_from_slice_get xs i x x (sym at)))
 
 -- nothing was sent yet
 pub sends_none : {M L : Type 0} (m : MachineGhosts M) (l : LinkGhosts L) (machine : M) (link : L)
@@ -44,9 +47,11 @@ sends_none m l machine link = (
 )
 
 -- one datagram more was sent
-pub sends_more : {L : Type 0} (l : LinkGhosts L) (given : List (ℕ × List ℕ)) (old middle new : L) (datagram : ℕ × List ℕ)
+pub sends_more : {L : Type 0} (l : LinkGhosts L) (given : List (ℕ × List ℕ)) (old middle new : L)
+    (datagram : ℕ × List ℕ)
     → Sends l given old middle
-    → WentOn (l.sent middle) (datagram ∷ []) (l.sent new) → l.received new ≡ l.received middle → l.waiting new ≡ l.waiting middle
+    → WentOn (l.sent middle) (datagram ∷ []) (l.sent new) → l.received new ≡ l.received middle
+    → l.waiting new ≡ l.waiting middle
     → l.bound new ≡ l.bound middle → l.faults middle ≤ l.faults new
     → Sends l (given ++ datagram ∷ []) old new
 sends_more l given old middle new datagram h sent received waiting bound faults = record {
@@ -72,8 +77,10 @@ sends_same l given old middle new h sent received waiting bound faults = record 
 }
 
 -- the datagrams with one more
-pub outgoing_more : {M : Type 0} (m : MachineGhosts M) (machine : M) (i : ℕ) (given : List (ℕ × List ℕ)) (datagram : ℕ × List ℕ)
-    → AreOutgoing m machine i given → ((state : m.State) → m.stands machine state → Some datagram ≡ slice_get (m.sent state) i)
+pub outgoing_more : {M : Type 0} (m : MachineGhosts M) (machine : M) (i : ℕ) (given : List (ℕ × List ℕ))
+    (datagram : ℕ × List ℕ)
+    → AreOutgoing m machine i given → ((state : m.State) → m.stands machine state
+    → Some datagram ≡ slice_get (m.sent state) i)
     → AreOutgoing m machine (i + 1) (given ++ datagram ∷ [])
 outgoing_more m machine i given datagram h at state stood =
     ap (λ w. w ++ datagram ∷ []) (h state stood) ∙ take_one_more (m.sent state) i datagram (at state stood)

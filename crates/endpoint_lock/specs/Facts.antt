@@ -75,7 +75,7 @@ EndIs m l opening station (Some LinkFault) = Rose (l.faults opening.link) (l.fau
 EndIs m l opening station (Some JournalFull) = IsFull station.journal
 EndIs m l opening station (Some NoMemory) = Unit {0}
 
--- machine and datagrams of a station, by the replay of its journal from a state for which the machine stood at the opening
+-- machine and datagrams of a station, by the replay of its journal from a state for which the machine stood at first
 pub record Replays {M L C : Type 0} (m : MachineGhosts M) (l : LinkGhosts L) (c : ClockGhosts C)
     (opening : Opening M L C) (state : m.State) (station : StationState M L C) : Type 0 where
   -- the machine stands for the replay

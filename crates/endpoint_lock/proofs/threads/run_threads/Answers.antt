@@ -9,4 +9,5 @@ pub returns : goal.returns
 returns g c =
     let opening = opening_of c.args.station in
     subst (Leaves g.M.Machine g.L.Link g.C.Clock opening) (sym c.into_ended.ensures)
-    (leaves g.M.Machine g.L.Link g.C.Clock opening c.run_named.result (c.run_named.ensures.facts opening refl) c.requires.new.1)
+    (leaves g.M.Machine g.L.Link g.C.Clock opening c.run_named.result
+    (c.run_named.ensures.facts opening refl) c.requires.new.1)

@@ -8,13 +8,35 @@ returns-else-not-turned g c =
     let i = c.self.inside in
     let e = c.turn-turned.ensures in
     let n = c.now-now.ensures in
-    let polls : c.args.polls ≡ g.M.Machine.polls_at i.machine c.args.thread = c.requires.polls ∙ ap (λ b. g.M.Machine.polls_at b.machine c.args.thread) (sym c.self.view_is) in
+    let polls : c.args.polls ≡ g.M.Machine.polls_at i.machine c.args.thread = c.requires.polls
+    ∙ ap (λ b. g.M.Machine.polls_at b.machine c.args.thread) (sym c.self.view_is) in
     let changed : c.turn-turned.result.changed ≡ true = search rules in
     rw (← c.self.view_is)
     (goes g.M.Machine g.L.Link g.C.Clock c.args.thread
-    (record { machine = i.machine; link = i.link; clock = i.clock; journal = i.journal.items; quiet = i.quiet; idle = i.idle; patience = i.patience; kept = i.kept })
+    (record {
+      machine = i.machine;
+      link = i.link;
+      clock = i.clock;
+      journal = i.journal.items;
+      quiet = i.quiet;
+      idle
+          = i.idle;
+      patience = i.patience;
+      kept = i.kept;
+    })
     c.now-now.result None c.turn-turned.result
-    (record { machine = c.turn-turned.new.self; link = c.ask.new.link; clock = c.now-now.new.self; journal = c.push_reserved.new.self.items; quiet = c.quiet_after-self-inside.result; idle = i.idle; patience = i.patience; kept = i.kept })
+    (record {
+      machine = c.turn-turned.new.self;
+      link = c.ask.new.link;
+      clock = c.now-now.new.self;
+      journal =
+          c.push_reserved.new.self.items;
+      quiet = c.quiet_after-self-inside.result;
+      idle = i.idle;
+      patience =
+          i.patience;
+      kept = i.kept;
+    })
     (record {
       asks = record { asked = n.asked; fixed = n.fixed; time = λ v h. n.said ∙ n.one v h };
       said = n.said;
@@ -33,12 +55,33 @@ returns-in-Datagram g c =
     let e = c.turn-turned-in-Datagram.ensures in
     let n = c.now-now.ensures in
     let got = c.in-Datagram.bytes.items in
-    let polls : c.args.polls ≡ g.M.Machine.polls_at i.machine c.args.thread = c.requires.polls ∙ ap (λ b. g.M.Machine.polls_at b.machine c.args.thread) (sym c.self.view_is) in
+    let polls : c.args.polls ≡ g.M.Machine.polls_at i.machine c.args.thread = c.requires.polls
+    ∙ ap (λ b. g.M.Machine.polls_at b.machine c.args.thread) (sym c.self.view_is) in
     rw (← c.self.view_is)
     (goes g.M.Machine g.L.Link g.C.Clock c.args.thread
-    (record { machine = i.machine; link = i.link; clock = i.clock; journal = i.journal.items; quiet = i.quiet; idle = i.idle; patience = i.patience; kept = i.kept })
+    (record {
+      machine = i.machine;
+      link = i.link;
+      clock = i.clock;
+      journal = i.journal.items;
+      quiet = i.quiet;
+      idle
+          = i.idle;
+      patience = i.patience;
+      kept = i.kept;
+    })
     c.now-now.result (Some got) c.turn-turned-in-Datagram.result
-    (record { machine = c.turn-turned-in-Datagram.new.self; link = c.ask.new.link; clock = c.now-now.new.self; journal = c.push_reserved-in-Datagram.new.self.items; quiet = 0; idle = i.idle; patience = i.patience; kept = i.kept })
+    (record {
+      machine = c.turn-turned-in-Datagram.new.self;
+      link = c.ask.new.link;
+      clock = c.now-now.new.self;
+      journal = c.push_reserved-in-Datagram.new.self.items;
+      quiet = 0;
+      idle = i.idle;
+      patience = i.patience;
+      kept
+          = i.kept;
+    })
     (record {
       asks = record { asked = n.asked; fixed = n.fixed; time = λ v h. n.said ∙ n.one v h };
       said = n.said;

@@ -7,20 +7,24 @@ use Rattle.endpoint_lock.proofs.station.Station.turn.Goals as goal
 pub returns-clause-facts : goal.returns-clause-facts
 returns-clause-facts g c s h =
     let begun : c.args.self.now.kept ≡ None = search rules in
-    goes_keeps g.M.Machine g.L.Link g.C.Clock s c.args.self.now h c.args.thread begun c.requires c.go.new.self c.go.result (c.is_full.ensures.room c.if-is_full.false) c.go.ensures
+    goes_keeps g.M.Machine g.L.Link g.C.Clock s c.args.self.now h c.args.thread begun c.requires c.go.new.self
+    c.go.result (c.is_full.ensures.room c.if-is_full.false) c.go.ensures
 
 pub returns-then-is_full-clause-facts : goal.returns-then-is_full-clause-facts
 returns-then-is_full-clause-facts g c s h =
     let begun : c.args.self.now.kept ≡ None = search rules in
     subst (Facts g.M.Machine g.L.Link g.C.Clock s) (sym c.keep-then-is_full.ensures.kept)
-    (ended_keeps g.M.Machine g.L.Link g.C.Clock s c.args.self.now h JournalFull begun (c.is_full.ensures.full c.if-is_full.true) (λ f. absurd (cc f)))
+    (ended_keeps g.M.Machine g.L.Link g.C.Clock s c.args.self.now h JournalFull begun
+    (c.is_full.ensures.full c.if-is_full.true) (λ f. absurd (cc f)))
 
 pub returns-then-over-clause-facts : goal.returns-then-over-clause-facts
 returns-then-over-clause-facts g c s h =
     let v = c.self.view_is in
     let begun : c.args.self.now.kept ≡ None = search rules in
-    let spent : c.args.self.now.quiet ≡ c.args.self.now.patience = omega (arith, ap (λ b. b.quiet) v, ap (λ b. b.patience) v, c.self.invariant.1, c.if-self.true) in
-    let over : g.M.Machine.is_over c.args.self.now.machine ≡ true = ap (λ b. g.M.Machine.is_over b.machine) (sym v) ∙ sym c.over.ensures ∙ c.if-over.true in
+    let spent : c.args.self.now.quiet ≡ c.args.self.now.patience = omega
+    (arith, ap (λ b. b.quiet) v, ap (λ b. b.patience) v, c.self.invariant.1, c.if-self.true) in
+    let over : g.M.Machine.is_over c.args.self.now.machine ≡ true = ap (λ b. g.M.Machine.is_over b.machine) (sym v)
+    ∙ sym c.over.ensures ∙ c.if-over.true in
     subst (Facts g.M.Machine g.L.Link g.C.Clock s) (sym c.keep.ensures.kept)
     (ended_keeps g.M.Machine g.L.Link g.C.Clock s c.args.self.now h Over begun (spent, over) (λ f. absurd (cc f)))
 
@@ -28,8 +32,10 @@ pub returns-then-self-clause-facts : goal.returns-then-self-clause-facts
 returns-then-self-clause-facts g c s h =
     let v = c.self.view_is in
     let begun : c.args.self.now.kept ≡ None = search rules in
-    let spent : c.args.self.now.quiet ≡ c.args.self.now.patience = omega (arith, ap (λ b. b.quiet) v, ap (λ b. b.patience) v, c.self.invariant.1, c.if-self.true) in
-    let over : g.M.Machine.is_over c.args.self.now.machine ≡ false = ap (λ b. g.M.Machine.is_over b.machine) (sym v) ∙ sym c.over.ensures ∙ c.if-over.false in
+    let spent : c.args.self.now.quiet ≡ c.args.self.now.patience = omega
+    (arith, ap (λ b. b.quiet) v, ap (λ b. b.patience) v, c.self.invariant.1, c.if-self.true) in
+    let over : g.M.Machine.is_over c.args.self.now.machine ≡ false = ap (λ b. g.M.Machine.is_over b.machine) (sym v)
+    ∙ sym c.over.ensures ∙ c.if-over.false in
     subst (Facts g.M.Machine g.L.Link g.C.Clock s) (sym c.keep-then-self.ensures.kept)
     (ended_keeps g.M.Machine g.L.Link g.C.Clock s c.args.self.now h Stuck begun (spent, over) (λ f. absurd (cc f)))
 
