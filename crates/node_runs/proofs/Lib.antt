@@ -12,3 +12,4 @@ pub mod Saying
 pub mod Fitting
 pub mod Speaking
 pub mod WorldRuns
+pub mod Outgoings

@@ -1,18 +1,24 @@
--- What holds of orders of entries in which each can go.
+-- What holds of turns, and of orders of entries in which each can go.
 -- Origin: this project's profile.
-use Rattle.std.specs.Prelude.{ℕ, ◌≡◌, ◌≤◌, List, [], Option, Some, length, slice_get}
-use Rattle.datagram_grammar.specs.Parameters.{Parameters}
+use Rattle.std.specs.Prelude.{ℕ, ◌≡◌, ◌≤◌, true, false, List, [], Option, None, Some, length, slice_get}
+use Rattle.datagram_grammar.specs.Parameters.{Parameters, AreInRange}
+use Rattle.datagram_grammar.specs.Content.{is_version}
 use Rattle.handler_rules.specs.declared.table.Entry.{Entry as TableEntry}
-use Rattle.handler_rules.specs.Runs.{Meaning}
+use Rattle.handler_rules.specs.Runs.{Meaning, IsLawfulMeaning}
+use Rattle.node_record.specs.Record.{Node as Record}
 use Rattle.plain_world.specs.World.{Timed}
-use Rattle.endpoint_rules.specs.EndpointLocal.{EndpointLocal}
-use Rattle.endpoint_rules.specs.EndpointRules.{OtherCall}
+use Rattle.endpoint_rules.specs.EndpointLocal.{EndpointLocal, IsEndpointKept}
+use Rattle.endpoint_rules.specs.EndpointRules.{OtherCall, RecordEvent, job_of}
+use Rattle.endpoint_rules.specs.declared.answer.Answer.{Answer}
 use Rattle.machine.specs.declared.entry.Entry.{Entry}
 use Rattle.machine.specs.Fronts.{Node, start, full, Reaches}
+use Rattle.node_runs.specs.Scripts.{NodeJob}
+use Rattle.node_runs.specs.Turn.{MachineState, turn_events}
+use Rattle.node_runs.specs.Outgoing.{StaysWell, ComesFirst, SentStands}
 use Rattle.node_runs.specs.Actions.{Reading, OwnScripts, scripts_of, ActionsMay}
 use Rattle.node_runs.specs.Order.{Ranked, job_steps, NodeEntry, own_entries, GoInOrder}
 use Rattle.node_runs.specs.Merged.{nodes_from, order_of}
-use Rattle.node_runs.specs.Fitting.{KeptFits, CallFits, IsFittingJob}
+use Rattle.node_runs.specs.Fitting.{AreBytes, KeptFits, CallFits, IsFittingJob}
 use Rattle.node_runs.specs.WorldRun.{IsWorldRun, endpoint_job, opening_machines}
 
 -- of a job of endpoints whose scripts' actions are read so, and the scripts of each of its nodes: numbers fit their
@@ -59,3 +65,35 @@ IsMergeARun {Action} form =
     × IsWorldRun settings table meaning (scripts_of form) own (merged settings own traces list) turns
     × ((node : ℕ) (trace : List Entry) → slice_get traces node ≡ Some trace
     → own_entries node (merged settings own traces list) ≡ trace)
+
+-- ---- turns
+
+-- what was got are bytes
+abbrev pub GotBytes : Option (List ℕ) → Type 0
+GotBytes None = Unit {0}
+GotBytes (Some bytes) = AreBytes bytes
+
+-- at most the first event of a turn is a delivery, and then that of a message
+abbrev pub TurnsComeFirst : (Own : Type 0) → Type 0
+TurnsComeFirst Own =
+    (job : NodeJob EndpointLocal Own) (me thread now : ℕ) (state : MachineState EndpointLocal Own)
+    (got : Option (List ℕ))
+    → is_version job.job.settings.version ≡ true → GotBytes got
+    → ComesFirst (turn_events job me state thread now got)
+
+-- what such events send stands in its slots after them
+abbrev pub TheySentStands : Type 0
+TheySentStands =
+    (settings : Parameters) (table : List (Option TableEntry)) (meaning : Meaning) (me now : ℕ)
+    (events : List RecordEvent) (node : Record EndpointLocal)
+    → AreInRange settings → IsLawfulMeaning meaning → ComesFirst events
+    → StaysWell (job_of settings table meaning) (IsEndpointKept settings) me now events node
+    → SentStands (job_of settings table meaning) me now events node
+
+-- a try that ends and begins nothing leaves the scripts
+abbrev pub WaitingLeaves : {Action : Type 0} → Reading EndpointLocal Action → Type 0
+WaitingLeaves {Action} form =
+    (thread : ℕ) (own : OwnScripts Action) (before after : Record EndpointLocal) (answer : Option Answer)
+    → ((scripts_of form).tried thread own before after answer).ended ≡ None
+    → ((scripts_of form).tried thread own before after answer).began ≡ false
+    → ((scripts_of form).tried thread own before after answer).left ≡ own

@@ -5,7 +5,7 @@ use Rattle.node_record.specs.Held.{held}
 use Rattle.endpoint_rules.specs.declared.answer.Answer.{Answer}
 use Rattle.machine.specs.declared.entry.Entry.{Entry}
 use Rattle.node_runs.specs.Scripts.{NodeJob}
-use Rattle.node_runs.specs.Turn.{MachineState, turn}
+use Rattle.node_runs.specs.Turn.{MachineState, try_of, turn}
 
 -- the greatest number of message buffers that the node held after one of these entries, or before them
 abbrev pub most_in : {Kept Own : Type 0}
@@ -29,5 +29,5 @@ abbrev pub ended_in : {Kept Own : Type 0}
     → NodeJob Kept Own → (me : ℕ) → MachineState Kept Own → List Entry → List StepAnswer
 ended_in job me state [] = []
 ended_in job me state (entry ∷ entries) =
-    let after = (turn job me state entry.thread entry.now entry.got).after in
-    step_answer entry.thread after.answer ++ ended_in job me after entries
+    step_answer entry.thread (try_of job me state entry.thread entry.now entry.got).ended
+    ++ ended_in job me (turn job me state entry.thread entry.now entry.got).after entries

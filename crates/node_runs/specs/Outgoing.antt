@@ -1,7 +1,6 @@
 -- Where the datagrams of a turn stand: each in the slot of its message.
 -- Origin: slots are this project's profile.
-use Rattle.std.specs.Prelude.{ℕ, ◌≡◌, List, [], ◌∷◌, map, Some}
-use Rattle.std.specs.Option.{option_to_list}
+use Rattle.std.specs.Prelude.{ℕ, ◌≡◌, List, [], ◌∷◌, Some}
 use Rattle.std.specs.List.{Contains}
 use Rattle.datagram_grammar.specs.Content.{spelling}
 use Rattle.datagram_grammar.specs.Message.{IsMessage}
@@ -10,23 +9,14 @@ use Rattle.node_record.specs.Record.{Node}
 use Rattle.node_record.specs.Step.{request_slot, reply_slot}
 use Rattle.node_record.specs.Invariant.{NodeInvariant}
 use Rattle.node_record.specs.SlotMessages.{message_at}
-use Rattle.node_record.specs.NodeStep.{Job, NodeEvent, Asks, Does, Comes, Ticks, node_answer, node_after}
-use Rattle.plain_world.specs.Sent.{Packet, Asking, Replying, sends}
-use Rattle.endpoint_rules.specs.EndpointRules.{OtherCall, told}
-use Rattle.endpoint_rules.specs.Sends.{sends as told_slot}
-use Rattle.endpoint_rules.specs.declared.answer.Answer.{Answer}
+use Rattle.node_record.specs.NodeStep.{Job, NodeEvent, Asks, Does, Comes, Ticks, node_after}
+use Rattle.plain_world.specs.Sent.{Packet, Asking, Replying}
 use Rattle.node_runs.specs.Turn.{message_of, node_run, node_sends}
 
 -- the slot of the node that sends it
 abbrev pub slot_of : Packet → SlotRef
 slot_of (Asking place content) = request_slot place.to place.slot
 slot_of (Replying place content) = reply_slot place.from place.slot
-
--- the answer tells the slots of what the event sends
-abbrev pub TellsSlots : {Kept : Type 0}
-    → Job Kept OtherCall Answer → (me now : ℕ) → NodeEvent OtherCall → Node Kept → Type 0
-TellsSlots job me now event node =
-    option_to_list (told_slot (told (node_answer job me node now event))) ≡ map slot_of (sends job me node now event)
 
 -- the invariant holds of the node's record before and after each of these events
 abbrev pub StaysWell : {Local Call Told : Type 0}

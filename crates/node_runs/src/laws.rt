@@ -1,4 +1,4 @@
-//! What holds of every order of entries in which each can go.
+//! What holds of every turn, and of every order of entries in which each can go.
 
 ghost use Rattle.std.specs.Prelude.{◌≡◌, ℕ, List, map};
 ghost use Rattle.endpoint_rules.specs.EndpointLocal.{EndpointLocal};
@@ -7,6 +7,7 @@ ghost use Rattle.machine.specs.Replay.{Steps};
 ghost use Rattle.node_runs.specs.Actions.{Reading};
 ghost use Rattle.node_runs.specs.Empty.{IsCalm, EmptyTurnsLeave};
 ghost use Rattle.node_runs.specs.Laws.{IsOrderARun, IsMergeARun};
+ghost use Rattle.node_runs.specs.Laws.{WaitingLeaves, TurnsComeFirst, TheySentStands};
 ghost use Rattle.node_runs.specs.Merged.{Carries, carried};
 ghost use Rattle.node_runs.specs.Scripts.{NodeJob};
 
@@ -33,4 +34,16 @@ pub fn carrying_law<M, N>()
 /// An empty turn leaves the machine as it was, where a try that waits leaves the record.
 pub fn empty_law<O>()
     ensures { (job : NodeJob EndpointLocal O) → IsCalm job → EmptyTurnsLeave job }
+{}
+
+/// A try that neither ends nor begins its step leaves the scripts as they were.
+pub fn waiting_law<A>()
+    ensures { (form : Reading EndpointLocal A) → WaitingLeaves form }
+{}
+
+/// What the events of a turn send stands in its slots at the end of the turn: at most the first of
+/// them is a delivery, and no other event takes a message from its slot.
+pub fn outgoing_law<O>()
+    ensures first { TurnsComeFirst O }
+    ensures stands { TheySentStands }
 {}

@@ -18,9 +18,11 @@
 //! - `merge_law` [`run`]: so it is of the order by which a list of nodes reaches the front that has all entries
 //!   (`Reaches`), and the entries of each node in it are the node's trace.
 //! - `carrying_law`: what can go of machines that others become can go of them.
-//! - `empty_law`: an empty turn leaves the machine, where a try that waits leaves the record (`IsCalm`).
+//! - `empty_law`: an empty turn leaves the machine, where a try that waits leaves the record (`IsCalm`); `waiting_law`: a
+//!   try that neither ends nor begins its step leaves the scripts.
+//! - `outgoing_law` [`first`, `stands`]: each message that a turn sent stands in its slot at the end of the turn.
 #![tactic(auto)]
 
 mod laws;
 
-pub use laws::{carrying_law, empty_law, merge_law, run_law};
+pub use laws::{carrying_law, empty_law, merge_law, outgoing_law, run_law, waiting_law};
