@@ -105,6 +105,7 @@ impl<N: StationName<M, L, C>, M: Machine, L: Link, C: Clock> Held<N, M, L, C> {
     /// Takes the station out, once the share has all parts again. The facts hold of it, and its journal is as long as the share says.
     pub fn close(self, all: &mut Share<N>) -> Station<M, L, C>
         requires { all.old.parts ≡ N.parts }
+        ensures held { result ≡ self }
         ensures facts { ForSome N.opening (λ opening.
             Facts M.Machine L.Link C.Clock opening result) }
         ensures booked { length result.journal ≡ all.old.amount }
