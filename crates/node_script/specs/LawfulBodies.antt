@@ -8,6 +8,7 @@ use Rattle.handler_rules.specs.Runs.{Frame, Start, Outcome, IsLawfulRun, IsReply
 use Rattle.handler_rules.proofs.Lawful.{lawful-attempted, lawful-cells, lawful-gave_lock, lawful-replying}
 use Rattle.handler_rules.proofs.Lawful.{lawful-took_lock, lawful-untouched, lawful-writing, long_reply-content}
 use Rattle.handler_rules.proofs.Lawful.{medium_reply-content, short_reply-content}
+use Rattle.raw_segment.specs.Image.{Write}
 use Rattle.job_text.specs.declared.job.Action.{Action}
 use Rattle.job_text.specs.declared.job.Action.TheVariants as action
 use Rattle.job_text.specs.declared.job.ReplyAction.{ReplyAction}
@@ -18,23 +19,19 @@ use Rattle.node_script.specs.Bodies.{script_meaning, writing_if}
 use Rattle.node_script.specs.Registration.{body_for}
 
 -- a payload that is kept fits
-lawful-keep_by : (frame : Frame) (start : Start) (outcome : Outcome) (offset : ℕ) (bytes : List ℕ) (none far : Bool)
-    → nat_lt (length start.segment) (offset + length bytes) ≡ far → IsLawfulRun frame start outcome
-    → IsLawfulRun frame start
-    (writing_if (if none || far then None else Some (record { offset = offset; bytes = bytes })) outcome)
-lawful-keep_by frame start outcome offset bytes true far test lawful = lawful
-lawful-keep_by frame start outcome offset bytes false true test lawful = lawful
-lawful-keep_by frame start outcome offset bytes false false test lawful =
-    lawful-writing frame start outcome (record { offset = offset; bytes = bytes })
-    (ltb-false (length start.segment) (offset + length bytes) test) lawful
+lawful-keep_by : {frame : Frame} {start : Start} {outcome : Outcome} (write : Write) (none far : Bool)
+    → nat_lt (length start.segment) (write.offset + length write.bytes) ≡ far → IsLawfulRun frame start outcome
+    → IsLawfulRun frame start (writing_if (if none || far then None else Some write) outcome)
+lawful-keep_by write true far test lawful = lawful
+lawful-keep_by write false true test lawful = lawful
+lawful-keep_by write false false test lawful = lawful-writing _ _ _ write (ltb-false _ _ test) lawful
 
 -- a reply with a payload that is asked for, where the payload's range is inside the segment
-lawful-loaded : (frame : Frame) (start : Start) (outcome : Outcome) (make : List ℕ → Content)
+lawful-loaded : {frame : Frame} {start : Start} {outcome : Outcome} (make : List ℕ → Content)
     (load : Option (List ℕ)) → ((bytes : List ℕ) → IsReplyContent (make bytes)) → IsLawfulRun frame start outcome
     → IsLawfulRun frame start (replying_if frame (option_map make load) outcome)
-lawful-loaded frame start outcome make None is_reply lawful = lawful
-lawful-loaded frame start outcome make (Some bytes) is_reply lawful =
-    lawful-replying frame start (make bytes) outcome (is_reply bytes) lawful
+lawful-loaded make None is_reply lawful = lawful
+lawful-loaded make (Some bytes) is_reply lawful = lawful-replying _ _ (make bytes) _ (is_reply bytes) lawful
 
 -- a reply keeps a run lawful
 lawful-replied : (frame : Frame) (start : Start) (outcome : Outcome) (asked : ReplyAction)
@@ -43,12 +40,12 @@ lawful-replied frame start outcome (reply.Short handler operands) lawful =
     lawful-replying frame start _ outcome
     (short_reply-content handler (map (operand_at frame outcome) operands)) lawful
 lawful-replied frame start outcome (reply.Medium handler load operands) lawful =
-    lawful-loaded frame start outcome
+    lawful-loaded
     (λ bytes. medium_reply handler (map (operand_at frame outcome) operands) bytes)
     (payload_bytes frame.arrival (segment_at start outcome) load)
     (λ bytes. medium_reply-content handler (map (operand_at frame outcome) operands) bytes) lawful
 lawful-replied frame start outcome (reply.Long handler load offset operands) lawful =
-    lawful-loaded frame start outcome
+    lawful-loaded
     (λ bytes. long_reply handler (map (operand_at frame outcome) operands) offset bytes)
     (payload_bytes frame.arrival (segment_at start outcome) load)
     (λ bytes. long_reply-content handler (map (operand_at frame outcome) operands) offset bytes) lawful
@@ -61,7 +58,7 @@ lawful-act frame start outcome (action.SetCell cell operand) lawful = lawful-cel
 lawful-act frame start outcome (action.Source cell) lawful = lawful-cells frame start outcome _ lawful
 lawful-act frame start outcome (action.Sum cell) lawful = lawful-cells frame start outcome _ lawful
 lawful-act frame start outcome (action.Keep offset) lawful =
-    lawful-keep_by frame start outcome offset frame.arrival.payload (length frame.arrival.payload == 0)
+    lawful-keep_by (record { offset = offset; bytes = frame.arrival.payload }) (length frame.arrival.payload == 0)
     (nat_lt (length start.segment) (offset + length frame.arrival.payload)) refl lawful
 lawful-act frame start outcome (action.Lock lock) lawful = lawful-took_lock frame start outcome lock lawful
 lawful-act frame start outcome (action.Unlock lock) lawful = lawful-gave_lock frame start outcome lock lawful
