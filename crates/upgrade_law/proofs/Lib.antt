@@ -1,0 +1,10 @@
+pub mod Agreeing
+pub mod Asking
+pub mod Bodies
+pub mod Coming
+pub mod Ends
+pub mod Lines
+pub mod Lists
+pub mod Settling
+pub mod Ticking
+pub mod Worlds

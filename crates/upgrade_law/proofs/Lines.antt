@@ -1,0 +1,209 @@
+-- The lines of a run, by two versions.
+use Rattle.std.proofs.Common.{◌≡◌, ℕ, zero, suc, ◌+◌, ◌≤◌, true, List, [], ◌∷◌, ◌++◌, map, max}
+use Rattle.std.proofs.Common.{refl, ap, ◌∙◌}
+use Rattle.std.specs.Prelude.{decimal}
+use Rattle.std.proofs.Math.Path.{fun_ext}
+use Rattle.datagram_grammar.specs.Content.{is_version}
+use Rattle.datagram_grammar.specs.Notes.{most_nodes}
+use Rattle.plain_world.specs.World.{Timed, run, world_answer, world_after, RequestComes, ReplyComes, Ticks}
+use Rattle.plain_world.specs.MostHeld.{most_then, most_after}
+use Rattle.endpoint_rules.specs.EndpointLocal.{IsEndpointKept, nothing_begun}
+use Rattle.endpoint_rules.specs.EndpointRules.{OtherCall, Records, at_the_opening, all_rules, timed}
+use Rattle.endpoint_rules.proofs.Kept.{opening_kept}
+use Rattle.endpoint_rules.proofs.Sound.{rules_sound}
+use Rattle.gas_world.specs.Told.{world_told}
+use Rattle.gas_world.proofs.Among.{AreAmong, both_among}
+use Rattle.job_text.specs.JobReading.{lines_of}
+use Rattle.job_text.specs.JobText.{IsJob}
+use Rattle.job_text.specs.declared.job.Job.{Job as JobState}
+use Rattle.job_text.specs.declared.job.ScheduledEvent.{ScheduledEvent}
+use Rattle.job_text.specs.declared.job.ScheduledEvent.TheVariants as scheduled
+use Rattle.job_text.specs.declared.job.TimedEvent.{TimedEvent}
+use Rattle.node_script.specs.AnswerWords.{Sight, sight_of}
+use Rattle.node_script.specs.Bodies.{script_meaning}
+use Rattle.node_script.specs.LawfulBodies.{lawful-script}
+use Rattle.node_script.specs.Lines.{Line}
+use Rattle.node_script.specs.Registration.{registered}
+use Rattle.node_script.specs.ScheduledCalls.{meant_by}
+use Rattle.node_script.specs.Schedules.{call_event, scheduled_event, line_events, schedule_events}
+use Rattle.node_script.specs.ScriptInvariant.{IsWithin, AreWithin}
+use Rattle.node_script.proofs.CallsAmong.{call_among}
+use Rattle.node_script.proofs.ScheduleNodes.{job_within}
+use Rattle.plain_world.proofs.Worlds.{opening_holds}
+use Rattle.lists.proofs.Numbered.{numbered_nil}
+use Rattle.world_run.specs.RunText.{world_words, event_words, words_by, line_words, answer_lines, node_of, node_lines}
+use Rattle.world_run.specs.RunText.{lines_of_node, node_line, violations, last_violations, violation_line, end_lines}
+use Rattle.world_run.specs.RunText.{run_records, run_most, run_lines}
+use Rattle.upgrade_law.specs.Respelled.{Versions, one_job, other_job, respell_world, respelled}
+use Rattle.upgrade_law.proofs.Agreeing.{rules_agree}
+use Rattle.upgrade_law.proofs.Bodies.{script_ignores}
+use Rattle.upgrade_law.proofs.Ends.{held_alike, sight_alike}
+use Rattle.upgrade_law.proofs.Settling.{AreSound, EventsAlike, Stood, after_events, settle_alike}
+use Rattle.upgrade_law.proofs.Worlds.{event_alike}
+
+-- ---- answers
+
+-- the words of the answer to an event
+event_words_alike : (v : Versions) (world : Records) (timed : Timed OtherCall) → Stood v world
+    → event_words (other_job v) (respell_world v.spell world) timed ≡ event_words (one_job v) world timed
+event_words_alike v world timed stood =
+    let alike = event_alike v world timed.now timed.event stood.holds stood.notes in
+    let node = node_of timed.event in
+    let after = world_after (one_job v) world timed node in
+    ap (λ (w : Records). world_words (sight_of (other_job v).settings node (w node))
+    (world_told (world_answer (other_job v) (respell_world v.spell world) timed))) alike.after
+    ∙ (ap (λ (sight : Sight). world_words sight
+    (world_told (world_answer (other_job v) (respell_world v.spell world) timed))) (sight_alike v node after)
+    ∙ ap (λ answer. world_words (sight_of v.settings node after) (world_told answer)) alike.answer)
+
+-- the one event of a line
+words_alike : (v : Versions) (world : Records) (entry : TimedEvent) → Stood v world
+    → line_words (other_job v) (respell_world v.spell world) entry ≡ line_words (one_job v) world entry
+words_alike v world entry stood = by_event entry.event
+  where
+    by_event : (event : ScheduledEvent)
+        → words_by (other_job v) (respell_world v.spell world) entry.time (scheduled_event (respell_world v.spell world) event)
+        ≡ words_by (one_job v) world entry.time (scheduled_event world event)
+    by_event (scheduled.Call node thread call) =
+        event_words_alike v world (timed entry.time (call_event world node thread call)) stood
+    by_event (scheduled.Request from to number) =
+        event_words_alike v world (timed entry.time (RequestComes from to number)) stood
+    by_event (scheduled.Reply from to number) =
+        event_words_alike v world (timed entry.time (ReplyComes from to number)) stood
+    by_event (scheduled.Tick node) = event_words_alike v world (timed entry.time (Ticks node)) stood
+    by_event (scheduled.Settle rounds) = refl
+
+-- the events of a line
+line_alike : (v : Versions) (sound : AreSound v) (time : ℕ) (event : ScheduledEvent) → IsWithin v.settings event
+    → EventsAlike v (λ w. line_events (one_job v) w time event) (λ w. line_events (other_job v) w time event)
+line_alike v sound time (scheduled.Call node thread call) within = record {
+  same = λ w stood. refl;
+  among = λ w. (call_among v.settings node thread (meant_by (w node).local.core.cells call) within.0, tt);
+}
+line_alike v sound time (scheduled.Request from to number) within =
+    record { same = λ w stood. refl; among = λ w. (within, tt) }
+line_alike v sound time (scheduled.Reply from to number) within =
+    record { same = λ w stood. refl; among = λ w. (within, tt) }
+line_alike v sound time (scheduled.Tick node) within = record { same = λ w stood. refl; among = λ w. (within, tt) }
+line_alike v sound time (scheduled.Settle rounds) within = settle_alike v sound time rounds
+
+-- ---- schedules
+
+-- what the lines of a schedule say and do
+pub record LinesAlike (v : Versions) (entries : List TimedEvent) (world : Records) (number : ℕ) : Type 0 where
+  pub lines : answer_lines (other_job v) number entries (respell_world v.spell world)
+      ≡ answer_lines (one_job v) number entries world
+  pub events : schedule_events (other_job v) entries (respell_world v.spell world)
+      ≡ schedule_events (one_job v) entries world
+  pub among : AreAmong v.settings (schedule_events (one_job v) entries world)
+
+lines_alike : (v : Versions) (sound : AreSound v) (entries : List TimedEvent) (world : Records) (number : ℕ)
+    → Stood v world → AreWithin v.settings entries → LinesAlike v entries world number
+lines_alike v sound [] world number stood within = record { lines = refl; events = refl; among = tt }
+lines_alike v sound (entry ∷ entries) world number stood within =
+    let line = line_alike v sound entry.time entry.event (within 0 entry refl) in
+    let events = line_events (one_job v) world entry.time entry.event in
+    let after = after_events v sound events world stood (line.among world) in
+    let rest = lines_alike v sound entries (run (one_job v) events world) (number + 1) after.1
+    (λ i x at. within (suc i) x at) in
+    let there : run (other_job v) (line_events (other_job v) (respell_world v.spell world) entry.time entry.event)
+    (respell_world v.spell world) ≡ respell_world v.spell (run (one_job v) events world) =
+    ap (λ (es : List (Timed OtherCall)). run (other_job v) es (respell_world v.spell world)) (line.same world stood)
+    ∙ after.0
+    in
+    record {
+      lines = ap (λ (words : Line). (decimal number ∷ words) ∷ answer_lines (other_job v) (number + 1) entries
+          (run (other_job v) (line_events (other_job v) (respell_world v.spell world) entry.time entry.event)
+          (respell_world v.spell world))) (words_alike v world entry stood)
+          ∙ (ap (λ (w : Records). (decimal number ∷ line_words (one_job v) world entry)
+          ∷ answer_lines (other_job v) (number + 1) entries w) there
+          ∙ ap (λ (ls : List Line). (decimal number ∷ line_words (one_job v) world entry) ∷ ls) rest.lines);
+      events = ap (λ (es : List (Timed OtherCall)). es ++ schedule_events (other_job v) entries
+          (run (other_job v) es (respell_world v.spell world))) (line.same world stood)
+          ∙ (ap (λ (w : Records). events ++ schedule_events (other_job v) entries w) after.0
+          ∙ ap (λ (es : List (Timed OtherCall)). events ++ es) rest.events);
+      among = both_among v.settings events _ (line.among world) rest.among;
+    }
+
+-- ---- the most that nodes held
+
+then_alike : (v : Versions) (world : Records) (most : ℕ → ℕ)
+    → most_then (other_job v).settings (respell_world v.spell world) most ≡ most_then v.settings world most
+then_alike v world most = fun_ext (λ node. ap (max (most node)) (held_alike v node (world node)))
+
+most_alike : (v : Versions) (sound : AreSound v) (events : List (Timed OtherCall)) (world : Records) (most : ℕ → ℕ)
+    → Stood v world → AreAmong v.settings events
+    → most_after (other_job v) events (respell_world v.spell world) most ≡ most_after (one_job v) events world most
+most_alike v sound [] world most stood among = refl
+most_alike v sound (timed ∷ rest) world most stood among =
+    let first = after_events v sound (timed ∷ []) world stood (among.0, tt) in
+    let after = world_after (one_job v) world timed in
+    ap (λ (w : Records). most_after (other_job v) rest w (most_then (other_job v).settings w most)) first.0
+    ∙ (ap (most_after (other_job v) rest (respell_world v.spell after)) (then_alike v after most)
+    ∙ most_alike v sound rest after (most_then v.settings after most) first.1 among.1)
+
+-- ---- the lines at the end
+
+nodes_alike : (v : Versions) (world : Records) (most : ℕ → ℕ) (node count : ℕ)
+    → node_lines (other_job v).settings (respell_world v.spell world) most node count
+    ≡ node_lines v.settings world most node count
+nodes_alike v world most node zero = refl
+nodes_alike v world most node (suc count) =
+    ap (λ (now : ℕ). (node_line node now (most node) (violations (world node))
+    ∷ map (violation_line node) (last_violations (world node)))
+    ++ node_lines (other_job v).settings (respell_world v.spell world) most (node + 1) count)
+    (held_alike v node (world node))
+    ∙ ap (λ (ls : List Line). lines_of_node v.settings node (most node) (world node) ++ ls)
+    (nodes_alike v world most (node + 1) count)
+
+-- ---- a job
+
+-- the two versions of a job
+versions_of : (job : JobState) (version : ℕ) → IsJob job → is_version version ≡ true
+    → job.settings.nodes ≤ most_nodes version → Versions
+versions_of job version is known few = record {
+  spell = respelled job.settings.version version;
+  settings = job.settings;
+  version = version;
+  one = all_rules job.settings (registered job.handlers).table (script_meaning job.handlers);
+  other = all_rules (record job.settings { version = version }) (registered job.handlers).table
+      (script_meaning job.handlers);
+  agree = rules_agree version job.settings (registered job.handlers).table (script_meaning job.handlers)
+      (script_ignores version job.handlers) is.settings known few;
+}
+
+-- the lines of the run of a job are those of the run of the job with another version
+pub lines_are : (job : JobState) (version : ℕ) → IsJob job → is_version version ≡ true
+    → job.settings.nodes ≤ most_nodes version
+    → run_lines (record job { settings = record job.settings { version = version } }) ≡ run_lines job
+unfolding versions_of
+lines_are job version is known few =
+    let v = versions_of job version is known few in
+    let settings = job.settings in
+    let table = (registered job.handlers).table in
+    let meaning = script_meaning job.handlers in
+    let entries = lines_of job.schedule in
+    let start = at_the_opening settings in
+    let sound : AreSound v = rules_sound settings table meaning is.settings (lawful-script job.handlers) in
+    let stood : Stood v start = record {
+      holds = opening_holds (one_job v) (IsEndpointKept settings) (λ node. nothing_begun settings) (opening_kept settings);
+      notes = λ node to number request is. absurd (numbered_nil number request is);
+    } in
+    let alike = lines_alike v sound entries start 1 stood (job_within job is) in
+    let events = schedule_events (one_job v) entries start in
+    let after = after_events v sound events start stood alike.among in
+    let records = run (one_job v) events start in
+    let most = most_after (one_job v) events start (λ node. 0) in
+    let other = record job { settings = record settings { version = version } } in
+    let most_is : run_most other ≡ most =
+    ap (λ (es : List (Timed OtherCall)). most_after (other_job v) es start (λ node. 0)) alike.events
+    ∙ most_alike v sound events start (λ node. 0) stood alike.among
+    in
+    let records_are : run_records other ≡ respell_world v.spell records =
+    ap (λ (es : List (Timed OtherCall)). run (other_job v) es start) alike.events ∙ after.0
+    in
+    ap (λ (ls : List Line). ls ++ end_lines other.settings (run_records other) (run_most other)) alike.lines
+    ∙ ap (λ (ls : List Line). answer_lines (one_job v) 1 entries start ++ ls)
+    (ap (λ (w : Records). end_lines other.settings w (run_most other)) records_are
+    ∙ (ap (λ (m : ℕ → ℕ). end_lines other.settings (respell_world v.spell records) m) most_is
+    ∙ nodes_alike v records most 0 settings.nodes))
