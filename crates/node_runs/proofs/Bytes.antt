@@ -60,7 +60,7 @@ bytes_overwritten bytes write h k =
     bytes_append (take write.offset bytes) _ (bytes_take write.offset bytes h)
     (bytes_append write.bytes _ k (bytes_drop (write.offset + length write.bytes) bytes h))
 
-bytes_written : (bytes : List ℕ) (writes : List Write) → AreBytes bytes → WriteBytes writes
+pub bytes_written : (bytes : List ℕ) (writes : List Write) → AreBytes bytes → WriteBytes writes
     → AreBytes (written_by bytes writes)
 bytes_written bytes [] h all = h
 bytes_written bytes (write ∷ writes) h all =

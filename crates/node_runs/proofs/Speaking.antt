@@ -260,7 +260,7 @@ tick_fits settings table meaning me now node _ fits = fits
 -- ---- other calls
 
 -- a number in the place of another
-numbers_set : (cells : List ℤ) (place : ℕ) (value : ℤ) → AreNumbers cells → FitsSigned w32 value
+pub numbers_set : (cells : List ℤ) (place : ℕ) (value : ℤ) → AreNumbers cells → FitsSigned w32 value
     → AreNumbers (slice_set cells place value)
 numbers_set [] place value all fits = tt
 numbers_set (cell ∷ cells) zero value all fits = (fits, all.1)

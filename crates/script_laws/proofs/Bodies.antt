@@ -1,0 +1,270 @@
+-- What a body of a handler leaves and says fits, where what it finds does.
+use Rattle.std.proofs.Common.{◌≡◌, inl, inr, ℕ, zero, suc, ◌+◌, ◌<◌, ◌^◌, ◌||◌, Bool, List, []}
+use Rattle.std.proofs.Common.{◌∷◌, map, length, Option, None, Some, Result, Ok, Err, refl, ◌∙◌, arith}
+use Rattle.std.proofs.Common.{rules, ℤ, nat_lt}
+use Rattle.std.specs.Prelude.{◌==◌, pos, slice_index_or}
+use Rattle.std.specs.List.{AllByRecursion, fold, filter}
+use Rattle.std.specs.Int.{w32, int_wrap}
+use Rattle.std.specs.Int.RustNames.{FitsSigned}
+use Rattle.std.specs.Option.{option_map}
+use Rattle.std.proofs.lemmas.Bool.{cases_Bool}
+use Rattle.std.proofs.lemmas.List.{length-set}
+use Rattle.lists.proofs.Members.{all_append}
+use Rattle.datagram_grammar.specs.Content.{Content}
+use Rattle.datagram_grammar.specs.Parameters.{Parameters, AreInRange}
+use Rattle.raw_segment.specs.Image.{Write}
+use Rattle.handler_rules.specs.declared.message.Replied.{Replied}
+use Rattle.handler_rules.specs.declared.message.Replied.TheVariants as replies_as
+use Rattle.handler_rules.specs.declared.table.EntryFault.{EntryFault}
+use Rattle.handler_rules.specs.Registered.{index_for}
+use Rattle.handler_rules.specs.Runs.{Arrival, Frame, Start, Outcome, answer, after_answer, untouched}
+use Rattle.job_text.specs.Bodies.{IsAction, IsReply}
+use Rattle.job_text.specs.JobText.{IsHandler}
+use Rattle.job_text.specs.Payloads.{IsBodyPayload}
+use Rattle.job_text.specs.Words.{IsBodyOperand}
+use Rattle.job_text.specs.declared.job.Action.{Action}
+use Rattle.job_text.specs.declared.job.Action.TheVariants as action
+use Rattle.job_text.specs.declared.job.HandlerText.{HandlerText}
+use Rattle.job_text.specs.declared.job.Operand.{Operand}
+use Rattle.job_text.specs.declared.job.Operand.TheVariants as operand
+use Rattle.job_text.specs.declared.job.Payload.{Payload}
+use Rattle.job_text.specs.declared.job.Payload.TheVariants as payload
+use Rattle.job_text.specs.declared.job.ReplyAction.{ReplyAction}
+use Rattle.job_text.specs.declared.job.ReplyAction.TheVariants as reply
+use Rattle.node_script.specs.Bodies.{operand_value, operand_at, with_cell, segment_at, placed_bytes}
+use Rattle.node_script.specs.Bodies.{range_bytes, payload_bytes, kept_write, writing_if, reply_content, replying_if, act}
+use Rattle.node_script.specs.Bodies.{acts, script_meaning}
+use Rattle.node_script.specs.LawfulBodies.{lawful-script}
+use Rattle.node_script.specs.Registration.{Registry, no_handlers, with_index, register, in_turn, registered}
+use Rattle.node_script.specs.Registration.{body_among, body_for}
+use Rattle.node_runs.specs.Fitting.{AreNumbers, AreBytes, ContentFits, ReplyFits, FindsFitting, LeavesFitting}
+use Rattle.node_runs.specs.Fitting.{IsFittingMeaning, IsFittingJob}
+use Rattle.node_runs.proofs.Bytes.{bytes_none, bytes_part, bytes_written}
+use Rattle.node_runs.proofs.Speaking.{numbers_set}
+
+-- ---- numbers
+
+wraps : (number : ℤ) → FitsSigned w32 (int_wrap w32 number)
+unfolding int_wrap
+wraps number = search rules
+
+source_fits : (source : ℕ) → source < 2 ^ 16 → FitsSigned w32 (pos source)
+source_fits source low = search rules
+
+zero_fits : FitsSigned w32 (pos 0)
+zero_fits = search rules
+
+number_at : (numbers : List ℤ) (place : ℕ) → AreNumbers numbers → FitsSigned w32 (slice_index_or numbers place (pos 0))
+number_at [] place all = zero_fits
+number_at (number ∷ numbers) zero all = all.0
+number_at (number ∷ numbers) (suc place) all = number_at numbers place all.1
+
+operand_fits : (cells args : List ℤ) (one : Operand) → IsBodyOperand one → AreNumbers cells → AreNumbers args
+    → FitsSigned w32 (operand_value cells args one)
+operand_fits cells args (operand.Number number) is all given = is
+operand_fits cells args (operand.Cell cell) is all given = number_at cells cell all
+operand_fits cells args (operand.Argument place) is all given = number_at args place given
+
+operands_fit : (cells args : List ℤ) (operands : List Operand) → AllByRecursion IsBodyOperand operands
+    → AreNumbers cells → AreNumbers args → AreNumbers (map (operand_value cells args) operands)
+operands_fit cells args [] is all given = tt
+operands_fit cells args (one ∷ operands) is all given =
+    (operand_fits cells args one is.0 all given, operands_fit cells args operands is.1 all given)
+
+-- ---- bytes
+
+said_bytes : (bytes : List ℕ) → AllByRecursion (λ (byte : ℕ). byte < 256) bytes → AreBytes bytes
+said_bytes [] all place = bytes_none place
+said_bytes (byte ∷ bytes) all zero = all.0
+said_bytes (byte ∷ bytes) all (suc place) = said_bytes bytes all.1 place
+
+-- the segment as an action finds it
+found_bytes : (frame : Frame) (start : Start) (outcome : Outcome) → FindsFitting frame start → LeavesFitting outcome
+    → AreBytes (segment_at start outcome)
+found_bytes frame start outcome finds leaves = bytes_written start.segment outcome.writes finds.segment leaves.writes
+
+placed_fit : (bytes segment : List ℕ) (place : Option (ℕ × ℕ)) → AreBytes bytes → AreBytes segment
+    → AreBytes (placed_bytes bytes segment place)
+placed_fit bytes segment None given all = given
+placed_fit bytes segment (Some place) given all = bytes_part segment place.0 place.1 all
+
+-- a payload, where there is one
+abbrev HasBytes : Option (List ℕ) → Type 0
+HasBytes None = Unit {0}
+HasBytes (Some bytes) = AreBytes bytes
+
+range_fit : (segment : List ℕ) (offset len : ℕ) → AreBytes segment → HasBytes (range_bytes segment offset len)
+range_fit segment offset len all = elim (cases_Bool (nat_lt (length segment) (offset + len))) [
+  | inl past ↦ rw past tt
+  | inr inside ↦ rw inside (bytes_part segment offset len all)
+]
+
+payload_fit : (arrival : Arrival) (segment : List ℕ) (load : Payload) → IsBodyPayload load → AreBytes arrival.payload
+    → AreBytes segment → HasBytes (payload_bytes arrival segment load)
+payload_fit arrival segment (payload.Bytes bytes) is given all = said_bytes bytes is.1
+payload_fit arrival segment (payload.Range offset len) is given all = range_fit segment offset len all
+payload_fit arrival segment payload.Message is given all =
+    placed_fit arrival.payload segment arrival.place given all
+
+-- ---- replies
+
+loaded_fit : (make : List ℕ → Content) (load : Option (List ℕ)) → HasBytes load
+    → ((bytes : List ℕ) → AreBytes bytes → ContentFits (make bytes)) → ReplyFits (option_map make load)
+loaded_fit make None has fits = tt
+loaded_fit make (Some bytes) has fits = fits bytes has
+
+replied_fits : (frame : Frame) (content : Content) (outcome : Outcome) (answered : Replied) → ContentFits content
+    → LeavesFitting outcome → LeavesFitting (after_answer answered content outcome)
+replied_fits frame content outcome replies_as.Sent fits leaves =
+    record { cells = leaves.cells; writes = leaves.writes; reply = fits }
+replied_fits frame content outcome (replies_as.Forbidden forbidden) fits leaves =
+    record { cells = leaves.cells; writes = leaves.writes; reply = leaves.reply }
+replied_fits frame content outcome (replies_as.BadArg part) fits leaves = leaves
+
+replying_fits : (frame : Frame) (content : Option Content) (outcome : Outcome) → ReplyFits content
+    → LeavesFitting outcome → LeavesFitting (replying_if frame content outcome)
+replying_fits frame None outcome fits leaves = leaves
+replying_fits frame (Some content) outcome fits leaves =
+    replied_fits frame content outcome (answer frame content outcome) fits leaves
+
+reply_fits : (frame : Frame) (start : Start) (outcome : Outcome) (asked : ReplyAction) → IsReply asked
+    → FindsFitting frame start → LeavesFitting outcome
+    → ReplyFits (reply_content frame.arrival (segment_at start outcome) (map (operand_at frame outcome)) asked)
+reply_fits frame start outcome (reply.Short handler operands) is finds leaves = record {
+  args = operands_fit outcome.cells frame.arrival.args operands is.0.1.2 leaves.cells finds.args;
+  payload = bytes_none;
+}
+reply_fits frame start outcome (reply.Medium handler load operands) is finds leaves =
+    loaded_fit _ (payload_bytes frame.arrival (segment_at start outcome) load)
+    (payload_fit frame.arrival (segment_at start outcome) load is.0.1.0 finds.payload
+    (found_bytes frame start outcome finds leaves))
+    (λ bytes fit. record {
+      args = operands_fit outcome.cells frame.arrival.args operands is.0.1.1.2 leaves.cells finds.args;
+      payload = fit;
+    })
+reply_fits frame start outcome (reply.Long handler load offset operands) is finds leaves =
+    loaded_fit _ (payload_bytes frame.arrival (segment_at start outcome) load)
+    (payload_fit frame.arrival (segment_at start outcome) load is.0.1.0 finds.payload
+    (found_bytes frame start outcome finds leaves))
+    (λ bytes fit. record {
+      args = operands_fit outcome.cells frame.arrival.args operands is.0.1.1.1.2 leaves.cells finds.args;
+      payload = fit;
+    })
+
+-- ---- actions
+
+cell_fits : (outcome : Outcome) (cell : ℕ) (number : ℤ) → FitsSigned w32 number → LeavesFitting outcome
+    → LeavesFitting (with_cell outcome cell number)
+cell_fits outcome cell number fits leaves = record {
+  cells = numbers_set outcome.cells cell number leaves.cells fits;
+  writes = leaves.writes;
+  reply = leaves.reply;
+}
+
+keep_fits : (len offset : ℕ) (bytes : List ℕ) (outcome : Outcome) → AreBytes bytes → LeavesFitting outcome
+    → LeavesFitting (writing_if (kept_write len offset bytes) outcome)
+keep_fits len offset bytes outcome fit leaves =
+    elim (cases_Bool ((length bytes == 0) || nat_lt len (offset + length bytes))) [
+      | inl none ↦ rw none leaves
+      | inr some ↦ rw some (record {
+        cells = leaves.cells;
+        writes = all_append (λ (write : Write). AreBytes write.bytes) outcome.writes
+            (record { offset = offset; bytes = bytes } ∷ []) leaves.writes (fit, tt);
+        reply = leaves.reply;
+      })
+    ]
+
+act_fits : (frame : Frame) (start : Start) (outcome : Outcome) (one : Action) → IsAction one
+    → FindsFitting frame start → LeavesFitting outcome → LeavesFitting (act frame start outcome one)
+act_fits frame start outcome (action.Add cell number) is finds leaves = cell_fits outcome cell _ (wraps _) leaves
+act_fits frame start outcome (action.SetCell cell number) is finds leaves =
+    cell_fits outcome cell (operand_at frame outcome number)
+    (operand_fits outcome.cells frame.arrival.args number is.0.1.0 leaves.cells finds.args) leaves
+act_fits frame start outcome (action.Source cell) is finds leaves =
+    cell_fits outcome cell (pos frame.arrival.source) (source_fits frame.arrival.source finds.source) leaves
+act_fits frame start outcome (action.Sum cell) is finds leaves = cell_fits outcome cell _ (wraps _) leaves
+act_fits frame start outcome (action.Keep offset) is finds leaves =
+    keep_fits (length start.segment) offset frame.arrival.payload outcome finds.payload leaves
+act_fits frame start outcome (action.Lock lock) is finds leaves =
+    record { cells = leaves.cells; writes = leaves.writes; reply = leaves.reply }
+act_fits frame start outcome (action.Unlock lock) is finds leaves =
+    record { cells = leaves.cells; writes = leaves.writes; reply = leaves.reply }
+act_fits frame start outcome (action.Attempt kind) is finds leaves =
+    record { cells = leaves.cells; writes = leaves.writes; reply = leaves.reply }
+act_fits frame start outcome (action.Reply asked) is finds leaves =
+    replying_fits frame
+    (reply_content frame.arrival (segment_at start outcome) (map (operand_at frame outcome)) asked) outcome
+    (reply_fits frame start outcome asked is.0 finds leaves) leaves
+
+acts_fit : (frame : Frame) (start : Start) (outcome : Outcome) (body : List Action) → AllByRecursion IsAction body
+    → FindsFitting frame start → LeavesFitting outcome → LeavesFitting (acts frame start outcome body)
+acts_fit frame start outcome [] is finds leaves = leaves
+acts_fit frame start outcome (one ∷ body) is finds leaves =
+    acts_fit frame start (act frame start outcome one) body is.1 finds
+    (act_fits frame start outcome one is.0 finds leaves)
+
+-- ---- the bodies of a job
+
+-- each body is of such actions, and the table has 128 places
+record IsRegistry (registry : Registry) : Type 0 where
+  bodies : AllByRecursion (λ (body : ℕ × List Action). AllByRecursion IsAction body.1) registry.bodies
+  places : length registry.table ≡ 128
+
+index_is : (registry : Registry) (text : HandlerText) (given : Result ℕ EntryFault) → IsHandler text
+    → IsRegistry registry → IsRegistry (with_index registry text given)
+index_is registry text (Ok index) is holds = record {
+  bodies = all_append (λ (body : ℕ × List Action). AllByRecursion IsAction body.1) registry.bodies
+      ((index, text.body) ∷ []) holds.bodies (is.actions, tt);
+  places = length-set registry.table _ _ ∙ holds.places;
+}
+index_is registry text (Err fault) is holds = holds
+
+all_are : (registry : Registry) (texts : List HandlerText) → AllByRecursion IsHandler texts → IsRegistry registry
+    → IsRegistry (fold register registry texts)
+all_are registry [] is holds = holds
+all_are registry (text ∷ texts) is holds =
+    all_are (register registry text) texts is.1
+    (index_is registry text (index_for registry.table text.index) is.0 holds)
+
+all_filtered : {X : Type 0} (P : X → Type 0) (test : X → Bool) (xs : List X) → AllByRecursion P xs
+    → AllByRecursion P (filter test xs)
+all_filtered P test [] all = tt
+all_filtered P test (x ∷ xs) all = elim (cases_Bool (test x)) [
+  | inl passes ↦ rw passes (all.0, all_filtered P test xs all.1)
+  | inr fails ↦ rw fails (all_filtered P test xs all.1)
+]
+
+registered_is : (texts : List HandlerText) → AllByRecursion IsHandler texts → IsRegistry (registered texts)
+registered_is texts is =
+    all_are no_handlers (in_turn texts)
+    (all_append IsHandler (filter _ texts) (filter _ texts) (all_filtered IsHandler _ texts is)
+    (all_filtered IsHandler _ texts is))
+    (record { bodies = tt; places = refl })
+
+body_is : (bodies : List (ℕ × List Action)) (index : ℕ)
+    → AllByRecursion (λ (body : ℕ × List Action). AllByRecursion IsAction body.1) bodies
+    → AllByRecursion IsAction (body_among bodies index)
+body_is [] index all = tt
+body_is (body ∷ bodies) index all = elim (cases_Bool (body.0 == index)) [
+  | inl here ↦ rw here all.0
+  | inr later ↦ rw later (body_is bodies index all.1)
+]
+
+pub handlers_fit : (handlers : List HandlerText) → AllByRecursion IsHandler handlers
+    → IsFittingMeaning (script_meaning handlers)
+handlers_fit handlers is index frame start finds =
+    acts_fit frame start (untouched start) (body_for handlers index)
+    (body_is (registered handlers).bodies index (registered_is handlers is).bodies) finds
+    (record { cells = finds.cells; writes = tt; reply = tt })
+
+pub job_fits : (settings : Parameters) (handlers : List HandlerText)
+    → AreInRange settings → settings.job < 2 ^ 64 → settings.last < 2 ^ 64 → AllByRecursion IsHandler handlers
+    → IsFittingJob settings (registered handlers).table (script_meaning handlers)
+job_fits settings handlers range job last is = record {
+  range = range;
+  job = job;
+  last = last;
+  indexes = let places = (registered_is handlers is).places in omega (arith, places);
+  lawful = lawful-script handlers;
+  fitting = handlers_fit handlers is;
+}

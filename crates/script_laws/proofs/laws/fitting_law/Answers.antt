@@ -1,0 +1,6 @@
+-- The handlers of a text.
+use Rattle.script_laws.proofs.Bodies.{handlers_fit, job_fits}
+use Rattle.script_laws.proofs.laws.fitting_law.Goals as goal
+
+pub returns : goal.returns
+returns c = record { handlers = handlers_fit; jobs = job_fits }
