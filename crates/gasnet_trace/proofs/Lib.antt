@@ -7,3 +7,10 @@ pub mod PlaceLemmas
 pub mod MarkLemmas
 pub mod StartLemmas
 pub mod Ending
+pub mod Numbers
+pub mod Cutting
+pub mod EntryRuns
+pub mod LineLaws
+pub mod WordLaws
+pub mod TraceLaws
+pub mod Writing

@@ -1,5 +1,6 @@
 -- Which of the datagrams that traces got were sent.
-use Rattle.std.specs.Prelude.{◌≡◌, ℕ, ◌<◌, Bool, true, false, List, length, Option, Some, Vec, IsSome, All, IsSomeAnd, slice_get, Contains, option_and_then, slice_index_or, ◌⊎◌, replicate}
+use Rattle.std.specs.Prelude.{◌≡◌, ℕ, ◌<◌, Bool, true, false, List, length, Option, Some, Vec, IsSome, All, IsSomeAnd}
+use Rattle.std.specs.Prelude.{slice_get, Contains, option_and_then, slice_index_or, ◌⊎◌, replicate}
 use Rattle.gasnet_trace.specs.declared.trace.Trace.{Trace}
 use Rattle.std.specs.Option.{ForSome, option_map_or}
 use Rattle.std.specs.Borrow.{Bor}
@@ -63,8 +64,12 @@ datagram to bytes = (to, bytes)
 
 -- for each trace its places
 abbrev pub HavePlaces : PlaceMaps → List Trace → Type 0
-HavePlaces ps ts = (n : ℕ) (p : PlaceMap) → slice_get ps n ≡ Some p → IsSomeAnd (slice_get ts n) (λ t. AreFound p t.entries × ArePlaces p t.entries)
+HavePlaces ps ts =
+    (n : ℕ) (p : PlaceMap) → slice_get ps n ≡ Some p
+    → IsSomeAnd (slice_get ts n) (λ t. AreFound p t.entries × ArePlaces p t.entries)
 
 -- for each trace as many marks as entries, none of them set
 abbrev pub AreUnmarked : MarkLists → List Trace → Type 0
-AreUnmarked ms ts = (n : ℕ) (v : Vec Bool Global) → slice_get ms n ≡ Some v → IsSomeAnd (slice_get ts n) (λ t. v.items ≡ replicate (length t.entries) false)
+AreUnmarked ms ts =
+    (n : ℕ) (v : Vec Bool Global) → slice_get ms n ≡ Some v
+    → IsSomeAnd (slice_get ts n) (λ t. v.items ≡ replicate (length t.entries) false)

@@ -1,7 +1,11 @@
-//! Traces of nodes, and the orders in which their entries can go.
+//! Traces of nodes: their text, and the orders in which their entries can go.
 //!
 //! What is proved, by the names of clauses (in `src/`) and definitions (in `specs/`, and in `machine`'s `Fronts`):
 //!
+//! - `print_trace` [`bytes`, `later`, `fault`] writes the one text of a trace (`trace_text`).
+//! - `read_trace` [`found`, `only`, `exact`] reads a trace exactly where the bytes begin with its text (`BeginsWith`), as that trace;
+//!   else the fault names the first bad line and the first reason that applies to it, as the reading function on lines says
+//!   (`trace_at`); or memory ran out. So what was printed is read again. What a merge asks of traces is told too [`threads`, `few`].
 //! - `merge` [`front`, `run`, `no_run`] answers an order of all entries in which each can go in its turn exactly where some order
 //!   is a run, and else the smallest node with an entry left at the one stuck front (`Answers`). Afterwards each machine stands
 //!   for the replay of its entries that have gone (`AreReplays`). All is said of whatever states the machines stood for.
@@ -10,14 +14,21 @@
 //!
 //! The search goes in rounds over the nodes; in each, a node's entries go while they may. Whether a datagram was sent is one
 //! look-up: for each node a map from each datagram that its trace got to a place, and a mark at each place. So memory is linear in
-//! the entries, and no bytes are copied.
+//! the entries, and no bytes are copied. There are as many rounds as entries at worst: where each round lets one go.
 #![tactic(auto)]
 
+mod fault;
 mod laws;
 mod merging;
+mod printing;
+mod reading;
 mod trace;
 mod wanted;
+mod words;
 
+pub use fault::{TraceFault, TraceWhy};
 pub use laws::front_law;
 pub use merging::{MergeFault, merge};
+pub use printing::print_trace;
+pub use reading::read_trace;
 pub use trace::{Placed, Trace};

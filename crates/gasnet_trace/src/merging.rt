@@ -1,11 +1,12 @@
 //! An order of the entries of several traces in which each can go in its turn.
 
-ghost use Rattle.std.specs.Prelude.{◌≡◌, ℕ, ◌+◌, ◌<◌, ◌≤◌, ◌^◌, List, length, All, IsTrue, IsSomeAnd};
-ghost use Rattle.std.specs.Prelude.{IfSome, IfNone, OnOk, IsErrOf, slice_get, slice_index, ◌↔◌};
+ghost use Rattle.std.specs.Prelude.{◌≡◌, ℕ, ◌+◌, ◌<◌, ◌≤◌, ◌^◌, List, length, All, IsTrue};
+ghost use Rattle.std.specs.Prelude.{IsSomeAnd, IfSome, IfNone, OnOk, IsErrOf, slice_get, ◌↔◌};
 ghost use Rattle.std.specs.Option.{option_to_list};
 ghost use Rattle.machine.specs.Replay.{steps_of};
 ghost use Rattle.machine.specs.Fronts.{IsRun};
-ghost use Rattle.gasnet_trace.specs.Going.{CanTake, CanTakeNext, IsLeftAt, Judges, MayGo, Took, TookNext};
+ghost use Rattle.gasnet_trace.specs.Going.{CanTake, CanTakeNext, IsLeftAt, Judges, MayGo};
+ghost use Rattle.gasnet_trace.specs.Going.{Took, TookNext};
 ghost use Rattle.gasnet_trace.specs.Noted.{Fit, IsNoted, Marks};
 ghost use Rattle.gasnet_trace.specs.Merged.{HaveThreads, Merges, StandFor, nodes_of};
 ghost use Rattle.gasnet_trace.specs.declared.merging.MergeFault.TheVariants.{NotARun};
@@ -104,7 +105,8 @@ fn let_go<M: Machine>(machine: &mut M, next: &Entry, places: &[Places<'_>], mark
     requires thread { next.now.thread < M.thread_count machine.old }
     requires takes { CanTake M.Machine machine.old next.now }
     requires fit { Fit places.now marks.old }
-    ensures took { Took M.Machine machine.old next.entry.now machine.new places.now marks.old marks.new }
+    ensures took { Took M.Machine machine.old next.entry.now machine.new
+        places.now marks.old marks.new }
     ensures fit { Fit places.now marks.new }
 {
     let got = match &next.got {
@@ -176,7 +178,7 @@ pub fn merge<M: Machine>(
     requires many { length machines.old ≤ 256 }
     requires entries { All (λ t. length t.entries < 2 ^ 32) traces.now }
     requires threads { HaveThreads M.Machine machines.old traces.now }
-    // For whatever states the machines stood for, the answer and the machines are those of one front.
+    // For whatever states the machines stood for, answer and machines are those of one front.
     ensures front { (f : List ℕ) × ((rs : List M.State) → StandFor M.Machine machines.old rs
         → Merges M.Machine (nodes_of rs traces.now) f result machines.new) }
     // An order comes only where some order is a run,

@@ -1,9 +1,10 @@
 //! Which of the datagrams that traces got were sent: the places of those that they got, and a mark at each place.
 
-ghost use Rattle.std.specs.Prelude.{◌≡◌, ℕ, ◌≤◌, ◌<◌, ◌↔◌, true, IsTrue, [], ◌∷◌, slice_set, List, length, Some, slice_get, IfOk, All, IsSome, OnOk, if◌then◌else◌};
+ghost use Rattle.std.specs.Prelude.{◌≡◌, ℕ, ◌<◌, ◌↔◌, true, IsTrue, [], ◌∷◌, slice_set, List};
+ghost use Rattle.std.specs.Prelude.{length, Some, IfOk, OnOk, if◌then◌else◌};
 ghost use Rattle.std.specs.Str.{bytes_eq};
-ghost use Rattle.std.specs.Option.{ForSome};
-ghost use Rattle.gasnet_trace.specs.Noted.{place_in, AreFound, ArePlaces, Fit, IsNoted, Marks, datagram, spot, HavePlaces, AreUnmarked};
+ghost use Rattle.gasnet_trace.specs.Noted.{place_in, AreFound, ArePlaces, Fit, IsNoted, Marks};
+ghost use Rattle.gasnet_trace.specs.Noted.{datagram, spot, HavePlaces, AreUnmarked};
 
 use crate::trace::Trace;
 use machine::Entry;
@@ -15,7 +16,8 @@ pub type Places<'a> = HashMap<&'a [u8], usize>;
 
 /// Gives a datagram this place.
 fn add_place<'a>(places: &mut Places<'a>, bytes: &'a [u8], i: usize) -> Result<(), AllocError>
-    ensures { OnOk result ((b : List ℕ) → place_in places.new b ≡ (if bytes_eq bytes.entry.now b then Some i else place_in places.old b)) }
+    ensures { OnOk result ((b : List ℕ) → place_in places.new b
+        ≡ (if bytes_eq bytes.entry.now b then Some i else place_in places.old b)) }
 {
     places.insert(bytes, i)?;
     Ok(())

@@ -1,0 +1,169 @@
+-- Reading a trace line by line: the first bad line, and the first reason that applies to it.
+use Rattle.std.specs.Prelude.{ℕ, zero, suc, ◌+◌, ◌-◌, ◌^◌, List, [], ◌∷◌, ◌++◌, length, drop, slice_index, Option}
+use Rattle.std.specs.Prelude.{Some, None, Result, Ok, Err, Bool, true, false, ◌&&◌, not, nat_lt, nat_le, ◌==◌}
+use Rattle.std.specs.Prelude.{if◌then◌else◌, codes, decimal, is_none, option_to_list}
+use Rattle.std.specs.List.{slice_split, position_or_len, before_first, after_first, list_all}
+use Rattle.std.specs.Str.{bytes_eq}
+use Rattle.std.specs.Str.Parse.{digits_value}
+use Rattle.hex.specs.Hex.{encode_lower, decode_of}
+use Rattle.hex.specs.declared.error.FromHexError.{FromHexError}
+use Rattle.machine.specs.declared.entry.Entry.{Entry}
+use Rattle.gasnet_trace.specs.declared.fault.TraceWhy.{TraceWhy}
+use Rattle.gasnet_trace.specs.declared.fault.TraceWhy.TheVariants.{Text, Form, Value, Early}
+use Rattle.gasnet_trace.specs.declared.trace.Trace.{Trace}
+use Rattle.gasnet_trace.specs.Lines.{Word, Line}
+
+-- what was read, read on; a reason against it stays
+infixl 10 ◌>>=◌
+abbrev pub ◌>>=◌ : {A B E : Type 0} → Result A E → (A → Result B E) → Result B E
+(Ok x) >>= f = f x
+(Err e) >>= f = Err e
+
+-- a bad line, counted from 1, and the first reason that applies to it
+pub record BadLine : Type 0 where
+  pub line : ℕ
+  pub why : TraceWhy
+
+-- a reason, told of a line
+abbrev pub at_line : {A : Type 0} → (line : ℕ) → Result A TraceWhy → Result A BadLine
+at_line line (Ok x) = Ok x
+at_line line (Err why) = Err (record { line = line; why = why })
+
+-- ---- lines
+
+-- a byte that stands in a word: printable ASCII, and no space
+abbrev pub is_plain : ℕ → Bool
+is_plain byte = nat_lt 32 byte && nat_lt byte 127
+
+-- plain bytes, at least one
+abbrev pub is_word : Word → Bool
+is_word word = not (length word == 0) && list_all is_plain word
+
+-- the parts between spaces
+abbrev pub words_of : List ℕ → Line
+words_of line = slice_split (λ b. b == 32) line
+
+-- the first line, and the bytes after it; a line has words alone, and its ending byte
+unfoldable pub line_at : List ℕ → Result (List ℕ × List ℕ) TraceWhy
+line_at bytes =
+    if length bytes == 0 then Err Early else
+    (if nat_lt (position_or_len (λ b. b == 10) bytes) (length bytes)
+    && list_all is_word (words_of (before_first (λ b. b == 10) bytes))
+    then Ok (before_first (λ b. b == 10) bytes, after_first (λ b. b == 10) bytes) else Err Text)
+
+-- the line of this number, read by f as its words say
+abbrev pub read_line : {A : Type 0} → (line : ℕ) → (Line → Result A TraceWhy) → List ℕ → Result (A × List ℕ) BadLine
+read_line line f bytes = at_line line (line_at bytes >>= λ x. f (words_of x.0) >>= λ a. Ok (a, x.1))
+
+-- ---- words
+
+-- the number below 2 ^ 64 whose decimal text, without leading zero, the word is
+unfoldable pub number_of : Word → Option ℕ
+number_of word =
+    if bytes_eq word (decimal (digits_value 10 word)) && nat_lt (digits_value 10 word) (2 ^ 64)
+    then Some (digits_value 10 word) else None
+
+-- a number of a range
+abbrev pub within : (low high : ℕ) → Option ℕ → Result ℕ TraceWhy
+within low high None = Err Value
+within low high (Some n) = if nat_le low n && nat_le n high then Ok n else Err Value
+
+-- a word that is a number of the range
+unfoldable pub number_in : (low high : ℕ) → Word → Result ℕ TraceWhy
+number_in low high word = within low high (number_of word)
+
+-- a word that is the number of one of so many threads
+unfoldable pub thread_of : (threads : ℕ) → Word → Result ℕ TraceWhy
+thread_of threads word = number_in 0 65535 word >>= λ n. if nat_lt n threads then Ok n else Err Value
+
+-- at most 8,297 bytes, of which the word is the one text
+abbrev pub spelled_by : Word → Result (List ℕ) FromHexError → Result (List ℕ) TraceWhy
+spelled_by word (Err e) = Err Value
+spelled_by word (Ok bytes) =
+    if bytes_eq word (encode_lower bytes) && nat_le (length bytes) 8297 then Ok bytes else Err Value
+
+-- the bytes whose lowercase digits the word is
+unfoldable pub bytes_of : Word → Result (List ℕ) TraceWhy
+bytes_of word = spelled_by word (decode_of word)
+
+-- what a turn got: nothing, or bytes
+unfoldable pub got_of : Word → Result (Option (List ℕ)) TraceWhy
+got_of word =
+    if bytes_eq word (codes "-") then Ok None else
+    (if slice_index word 0 == 120 then (bytes_of (drop 1 word) >>= λ bytes. Ok (Some bytes)) else Err Value)
+
+-- ---- forms
+
+-- whether a line is one word
+abbrev pub is_one : Line → Bool
+is_one [] = false
+is_one (word ∷ []) = true
+is_one (word ∷ more ∷ others) = false
+
+-- the second word of a line of a name and another word
+unfoldable pub second_of : (name : Word) → Line → Result Word TraceWhy
+second_of name [] = Err Form
+second_of name (word ∷ []) = Err Form
+second_of name (word ∷ value ∷ []) = if bytes_eq word name then Ok value else Err Form
+second_of name (word ∷ value ∷ more ∷ others) = Err Form
+
+-- a line of a name and a number of the range
+unfoldable pub setting_of : (name : Word) → (low high : ℕ) → Line → Result ℕ TraceWhy
+setting_of name low high words = second_of name words >>= number_in low high
+
+-- whether a line is `end`
+unfoldable pub is_end : Line → Bool
+is_end [] = false
+is_end (word ∷ []) = bytes_eq word (codes "end")
+is_end (word ∷ more ∷ others) = false
+
+-- the three words behind `turn`
+pub record TurnWords : Type 0 where
+  pub thread : Word
+  pub time : Word
+  pub got : Word
+
+-- the words of a line `turn`
+unfoldable pub turn_of : Line → Result TurnWords TraceWhy
+turn_of [] = Err Form
+turn_of (word ∷ []) = Err Form
+turn_of (word ∷ thread ∷ []) = Err Form
+turn_of (word ∷ thread ∷ now ∷ []) = Err Form
+turn_of (word ∷ thread ∷ now ∷ got ∷ []) =
+    if bytes_eq word (codes "turn") then Ok (record { thread = thread; time = now; got = got }) else Err Form
+turn_of (word ∷ thread ∷ now ∷ got ∷ more ∷ others) = Err Form
+
+-- the entry that they say
+unfoldable pub entry_of : (threads : ℕ) → TurnWords → Result Entry TraceWhy
+entry_of threads words = do
+  thread ← thread_of threads words.thread
+  now ← number_in 0 (2 ^ 64 - 1) words.time
+  got ← got_of words.got
+  Ok (record { thread = thread; now = now; got = got })
+
+-- an entry, or none at the line `end`
+unfoldable pub next_of : (threads : ℕ) → Line → Result (Option Entry) TraceWhy
+next_of threads words =
+    if is_end words then Ok None else (turn_of words >>= λ turn. entry_of threads turn >>= λ e. Ok (Some e))
+
+-- ---- traces
+
+-- what was read before, and what is read on
+abbrev pub with_front : {A B E : Type 0} → List A → Result (List A × B) E → Result (List A × B) E
+with_front front read = read >>= λ x. Ok (front ++ x.0, x.1)
+
+-- the entries from this line on up to the line `end`, and the bytes after it. The room is more than the number of lines
+unfoldable pub entries_at : (room threads line : ℕ) → List ℕ → Result (List Entry × List ℕ) BadLine
+entries_at zero threads line bytes = Err (record { line = line; why = Early })
+entries_at (suc room) threads line bytes =
+    read_line line (next_of threads) bytes >>= λ x.
+    if is_none x.0 then Ok ([], x.1) else with_front (option_to_list x.0) (entries_at room threads (line + 1) x.1)
+
+-- a trace in this version of the text, and the bytes after it
+unfoldable pub trace_at : (version threads : ℕ) → List ℕ → Result (Trace × List ℕ) BadLine
+trace_at version threads bytes =
+    read_line 1 (setting_of (codes "trace") version version) bytes >>= λ first.
+    read_line 2 (setting_of (codes "job") 0 (2 ^ 64 - 1)) first.1 >>= λ job.
+    read_line 3 (setting_of (codes "rank") 0 65535) job.1 >>= λ rank.
+    entries_at (length rank.1 + 1) threads 4 rank.1 >>= λ entries.
+    Ok (record { job = job.0; rank = rank.0; entries = entries.0 }, entries.1)

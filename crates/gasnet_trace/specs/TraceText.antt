@@ -1,0 +1,62 @@
+-- The one text of a trace.
+use Rattle.std.specs.Prelude.{◌≡◌, ℕ, ◌<◌, ◌≤◌, ◌^◌, List, [], ◌∷◌, ◌++◌, length, map, Option, Some, None}
+use Rattle.std.specs.Prelude.{codes, decimal}
+use Rattle.std.specs.List.{AllByRecursion}
+use Rattle.std.specs.Option.{ForSome}
+use Rattle.hex.specs.Hex.{encode_lower, IsBytes}
+use Rattle.machine.specs.declared.entry.Entry.{Entry}
+use Rattle.gasnet_trace.specs.declared.trace.Trace.{Trace}
+use Rattle.gasnet_trace.specs.Lines.{Word, Line, spell}
+
+-- the word of what a turn got: `-`, or `x` and two digits for each byte
+abbrev pub got_word : Option (List ℕ) → Word
+got_word None = codes "-"
+got_word (Some bytes) = 120 ∷ encode_lower bytes
+
+-- the line of an entry
+abbrev pub entry_line : Entry → Line
+entry_line e = codes "turn" ∷ decimal e.thread ∷ decimal e.now ∷ got_word e.got ∷ []
+
+-- the line `end`
+abbrev pub end_line : Line
+end_line = codes "end" ∷ []
+
+-- the line of a name and a number
+abbrev pub number_line : Word → ℕ → Line
+number_line name number = name ∷ decimal number ∷ []
+
+-- the lines of entries, and the line `end`
+abbrev pub entry_lines : List Entry → List Line
+entry_lines entries = map entry_line entries ++ end_line ∷ []
+
+-- the lines of a trace in a version of the text
+abbrev pub trace_lines : (version : ℕ) → Trace → List Line
+trace_lines version t =
+    number_line (codes "trace") version
+    ∷ number_line (codes "job") t.job
+    ∷ number_line (codes "rank") t.rank
+    ∷ entry_lines t.entries
+
+-- the text of a trace
+abbrev pub trace_text : (version : ℕ) → Trace → List ℕ
+trace_text version t = spell (trace_lines version t)
+
+-- an entry of a machine with so many threads, which got at most 8,297 bytes
+pub record IsEntry (threads : ℕ) (e : Entry) : Type 0 where
+  pub thread : e.thread < threads
+  pub narrow : e.thread < 2 ^ 16
+  pub now : e.now < 2 ^ 64
+  pub got : ForSome e.got (λ bytes. (length bytes ≤ 8297) × IsBytes bytes)
+
+-- a trace of such entries
+pub record IsTrace (threads : ℕ) (t : Trace) : Type 0 where
+  pub job : t.job < 2 ^ 64
+  pub rank : t.rank < 2 ^ 16
+  pub entries : AllByRecursion (IsEntry threads) t.entries
+
+-- the bytes begin with the text of the trace, which has this length
+pub record BeginsWith (version threads : ℕ) (bytes : List ℕ) (t : Trace) (len : ℕ) : Type 0 where
+  pub is_trace : IsTrace threads t
+  pub rest : List ℕ
+  pub text : bytes ≡ trace_text version t ++ rest
+  pub size : len ≡ length (trace_text version t)

@@ -1,0 +1,158 @@
+//! Lines, and the words of a line.
+
+ghost use Rattle.std.specs.Prelude.{◌≡◌, ◌≤◌, ◌<◌, ◌∷◌, ◌==◌, [], length, position};
+ghost use Rattle.std.specs.Prelude.{IfOk, IfSome, IfNone};
+ghost use Rattle.std.specs.List.{list_all};
+ghost use Rattle.gasnet_trace.specs.TraceReading.{bytes_of, got_of, is_plain, is_word, line_at};
+ghost use Rattle.gasnet_trace.specs.TraceReading.{number_in, number_of, thread_of, words_of};
+ghost use Rattle.gasnet_trace.specs.TraceRead.{Gives, Tells};
+
+use crate::fault::{Miss, TraceWhy};
+use hex::FromHexError;
+use itoa::Buffer;
+use machine::Bytes;
+use std::alloc::Global;
+use std::str::from_utf8;
+
+/// The most bytes of a datagram.
+const MOST: usize = 8_297;
+
+/// Whether a byte is printable, and no space.
+fn is_plain(byte: u8) -> bool
+    ensures { result ≡ is_plain byte }
+{
+    32 < byte && byte < 127
+}
+
+/// Whether a word has plain bytes, and at least one.
+fn is_word(word: &[u8]) -> bool
+    ensures { result ≡ is_word word.now }
+{
+    !word.is_empty() && word.iter().all(|byte| is_plain(*byte))
+}
+
+/// Whether a line has words only.
+fn is_text(line: &[u8]) -> bool
+    ensures { result ≡ list_all is_word (words_of line.now) }
+{
+    line.split(|byte| *byte == b' ').all(|word| is_word(word))
+}
+
+/// Where a byte first stands.
+fn place_of(bytes: &[u8], byte: u8) -> Option<usize>
+    ensures value { result ≡ position (λ b. b == byte) bytes.now }
+    ensures within { IfSome result (λ n. n < length bytes.now) }
+{
+    bytes.iter().position(|b| *b == byte)
+}
+
+/// The first line, and the bytes after it.
+#[tactic(auto, unfolding(crate::specs::TraceReading::line_at))]
+pub fn line_of(bytes: &[u8]) -> Result<(&[u8], &[u8]), TraceWhy>
+    ensures value { Tells (λ x. (x.0.now, x.1.now)) result (line_at bytes.now) }
+    ensures shorter { IfOk result (λ x. length x.1.now < length bytes.now) }
+{
+    if bytes.is_empty() {
+        return Err(TraceWhy::Early);
+    }
+    let Some(end) = place_of(bytes, b'\n') else {
+        return Err(TraceWhy::Text);
+    };
+    let (line, _) = bytes.split_at(end);
+    let (_, rest) = bytes.split_at(end + 1);
+    if !is_text(line) {
+        return Err(TraceWhy::Text);
+    }
+    Ok((line, rest))
+}
+
+/// The first word of a line, and the words after it, where there are some.
+pub fn cut_word(line: &[u8]) -> Option<(&[u8], &[u8])>
+    ensures some { IfSome result (λ x. words_of line.now ≡ x.0.now ∷ words_of x.1.now) }
+    ensures none { IfNone result (words_of line.now ≡ line.now ∷ []) }
+{
+    let end = place_of(line, b' ')?;
+    let (word, _) = line.split_at(end);
+    let (_, rest) = line.split_at(end + 1);
+    Some((word, rest))
+}
+
+/// The number that a word is the decimal text of.
+pub fn number_of(word: &[u8]) -> Option<u64>
+    ensures { result ≡ number_of word.now }
+{
+    let Ok(text) = from_utf8(word) else {
+        return None;
+    };
+    let Ok(number) = text.parse::<u64>() else {
+        return None;
+    };
+    let mut buffer = Buffer::new();
+    if buffer.format(number).as_bytes() == word {
+        Some(number)
+    } else {
+        None
+    }
+}
+
+/// The number of a range that a word is.
+#[tactic(auto, unfolding(crate::specs::TraceReading::number_in))]
+pub fn number_in(word: &[u8], low: u64, high: u64) -> Result<u64, TraceWhy>
+    ensures value { Tells (λ n. n) result (number_in low high word.now) }
+    ensures range { IfOk result (λ n. (low ≤ n) × (n ≤ high)) }
+{
+    match number_of(word) {
+        Some(number) if low <= number && number <= high => Ok(number),
+        _ => Err(TraceWhy::Value),
+    }
+}
+
+/// The thread that a word names, one of so many.
+#[tactic(auto, unfolding(crate::specs::TraceReading::thread_of))]
+pub fn thread_of(word: &[u8], threads: u16) -> Result<u16, TraceWhy>
+    ensures { Tells (λ n. n) result (thread_of threads word.now) }
+{
+    let number = number_in(word, 0, 65_535)?;
+    let thread = number as u16;
+    if thread < threads {
+        Ok(thread)
+    } else {
+        Err(TraceWhy::Value)
+    }
+}
+
+/// The bytes whose lowercase digits a word is.
+#[tactic(auto, unfolding(crate::specs::TraceReading::bytes_of))]
+fn bytes_of(alloc: Global, word: &[u8]) -> Result<Bytes, Miss>
+    ensures { Gives (λ b. b) result (bytes_of word.now) }
+{
+    let bytes = match hex::decode(alloc, word) {
+        Ok(bytes) => bytes,
+        Err(FromHexError::OutOfMemory) => return Err(Miss::NoMemory),
+        Err(_) => return Err(Miss::Unlike(TraceWhy::Value)),
+    };
+    let text = hex::encode(alloc, bytes.as_slice())?;
+    if text.as_bytes() != word {
+        return Err(Miss::Unlike(TraceWhy::Value));
+    }
+    if bytes.len() > MOST {
+        return Err(Miss::Unlike(TraceWhy::Value));
+    }
+    Ok(Bytes::of(bytes))
+}
+
+/// What a turn got, as a word says it.
+#[tactic(auto, unfolding(crate::specs::TraceReading::got_of))]
+pub fn got_of(alloc: Global, word: &[u8]) -> Result<Option<Bytes>, Miss>
+    ensures { Gives (λ b. b) result (got_of word.now) }
+{
+    if word == b"-".as_slice() {
+        return Ok(None);
+    }
+    if word.is_empty() || word[0] != b'x' {
+        return Err(Miss::Unlike(TraceWhy::Value));
+    }
+    let (_, digits) = word.split_at(1);
+    let bytes = bytes_of(alloc, digits)?;
+    Ok(Some(bytes))
+}
