@@ -1,4 +1,4 @@
-/* Makes the copies that the payloads of `longs` need: each from its place of one segment into a slot, and from there to the same place of
+/* Makes the copies that the payloads of `longs` or the chunks of `puts` need: each from its place of one segment into a slot, and from there to the same place of
  * another segment. Its one argument is the number of payloads; it prints the CPU time of the copies in milliseconds, the least of some runs. */
 #include <stdio.h>
 #include <stdlib.h>

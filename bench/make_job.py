@@ -18,6 +18,13 @@ resend-many the same with 45 nodes.
 longs       node 0 sends Longs of 8,192 bytes from a place of its segment to the same place of that of node 1; each is delivered, and its reply.
             LINES is a multiple of 3.
 shorts      the same with Shorts, which have no payload.
+puts        node 0 puts 1 MiB of its segment to the same place of that of node 1, in 128 chunks by 8 credits: 128 rounds of `settle` bring them there
+            and their replies back, and then the put is synchronised; at most 32 puts, since a schedule has at most 4,096 rounds. LINES is a multiple of 3.
+segments    the nodes of `puts`, and no schedule: LINES is 0.
+barriers    64 nodes notify a phase of the barrier, 6 rounds of `settle` bring its notes to their nodes, and each node ends it; again and again.
+            LINES is a multiple of 129.
+notes       as many Shorts from each node to each other one as `barriers` has notes: 64 of them and a round of `settle`, six times for each phase.
+            LINES is a multiple of 390.
 """
 import sys
 from dataclasses import dataclass
@@ -30,6 +37,12 @@ REQUESTS_OF_A_ROUND = 16
 RESEND = 10
 PAYLOAD = 8192
 PLACES = 8192  # of a payload in a segment of `longs`, so that each has its own
+PUT = 1 << 20
+CHUNKS = PUT // PAYLOAD
+CHUNK_CREDITS = 8
+PUTS = 4096 // CHUNKS  # a schedule has at most 4,096 rounds
+BARRIER_NODES = 64
+ROUNDS = 6  # 2^6 nodes
 
 
 @dataclass
@@ -154,6 +167,65 @@ def answered(lines, action):
     return Job(1, events, [0, 1], [1, 1], requests, PLACES * PAYLOAD)
 
 
+def puts(lines):
+    """Puts of node 0 to node 1, one after the other, each from a place of its own to the same place of the other segment."""
+    count, rest = divmod(lines, 3)
+    if rest or not 1 <= count <= PUTS:
+        sys.exit(f"{lines} is no multiple of 3 from 3 to {3 * PUTS}")
+    events = []
+    for number in range(1, count + 1):
+        offset = (number - 1) * PUT
+        events += [
+            (f"{number} call 0 0 put-nb-bulk 0 1 {offset} {offset} {PUT}", f"handle {number}"),
+            (f"{number} settle {CHUNKS}", "settled"),
+            (f"{number} call 0 0 try 0", "ok"),
+        ]
+    # A chunk is back before the next one is sent, so one slot is used.
+    return Job(CHUNK_CREDITS, events, [0, 1], [1, 1], count * CHUNKS, PUTS * PUT)
+
+
+def segments(lines):
+    """The nodes of `puts` without a schedule."""
+    if lines:
+        sys.exit(f"segments have no line of a schedule, and not {lines}")
+    return Job(CHUNK_CREDITS, [], [0, 0], [0, 0], 0, PUTS * PUT)
+
+
+def barriers(lines):
+    """Phases of the barrier: in round r each node tells the node 2^r further."""
+    phases, rest = divmod(lines, 2 * BARRIER_NODES + 1)
+    if rest or not phases:
+        sys.exit(f"{lines} is no multiple of {2 * BARRIER_NODES + 1}")
+    events = []
+    for phase in range(1, phases + 1):
+        events += [(f"{phase} call {node} 0 notify {phase} 0", "ok") for node in range(BARRIER_NODES)]
+        events.append((f"{phase} settle {ROUNDS}", "settled"))
+        events += [(f"{phase} call {node} 0 try-barrier {phase} 0", "ok") for node in range(BARRIER_NODES)]
+    return among_all(events, phases)
+
+
+def notes(lines):
+    """As many Shorts between the same nodes."""
+    phases, rest = divmod(lines, ROUNDS * (BARRIER_NODES + 1))
+    if rest or not phases:
+        sys.exit(f"{lines} is no multiple of {ROUNDS * (BARRIER_NODES + 1)}")
+    events = []
+    for phase in range(1, phases + 1):
+        for turn in range(ROUNDS):
+            for node in range(BARRIER_NODES):
+                to = (node + (1 << turn)) % BARRIER_NODES
+                events.append((f"{phase} call {node} 0 short {to} 128", f"accepted {to} 0 {phase}"))
+            events.append((f"{phase} settle 1", "settled"))
+    return among_all(events, phases)
+
+
+def among_all(events, phases):
+    """The job of 64 nodes with these events: in each phase each node asks six others, one after the other, and keeps a reply for each of the six that ask it."""
+    if phases < 2:
+        sys.exit("the first phase alone doesn't fill the buffers")
+    return Job(1, events, [ROUNDS] * BARRIER_NODES, [ROUNDS + 1] * BARRIER_NODES, phases * BARRIER_NODES * ROUNDS)
+
+
 def long_request(number):
     """A Long out of the own segment, to the same place of the target's."""
     offset = number % PLACES * PAYLOAD
@@ -171,6 +243,10 @@ KINDS = {
     "resend-many": lambda lines: resend(45, 32, lines),
     "longs": lambda lines: answered(lines, long_request),
     "shorts": lambda lines: answered(lines, lambda number: "short 1 128"),
+    "puts": puts,
+    "segments": segments,
+    "barriers": barriers,
+    "notes": notes,
 }
 
 if __name__ == "__main__":
