@@ -64,7 +64,7 @@ try_does core extended barrier thread id flags worn says worns answer stands = r
       let kept = node.local.barrier in
       let nodes = core.settings.nodes in
       let tried = λ (worn : Option ℕ). try_answer nodes core.me kept
-          (record { id = identifier id; flags = flags; worn = worn }) in
+      (record { id = identifier id; flags = flags; worn = worn }) in
       let same : tried worn ≡ tried (worn_out_for (caller_in core node thread) kept) = ap tried (worns node S) in (
         ap (λ (s : BarrierAnswer). answers.Barrier s) (answer nodes core.me kept S.barrier ∙ same),
         record {
