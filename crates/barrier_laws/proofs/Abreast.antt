@@ -77,9 +77,9 @@ happens_high : (nodes : ℕ) (barriers : Barriers) (event : BarrierEvent) → Ar
     → AreHigh nodes (happens nodes barriers event)
 happens_high nodes barriers (Notifying node id flags) high =
     put_high nodes barriers node _ high (notify_high (barriers node) id flags (high node))
-happens_high nodes barriers (Trying node id flags worn) high =
+happens_high nodes barriers (Trying node try) high =
     put_high nodes barriers node _ high
-    (try_high (barriers node) (try_answer nodes node (barriers node) id flags worn) (high node))
+    (try_high (barriers node) (try_answer nodes node (barriers node) try) (high node))
 happens_high nodes barriers (Sending node to) high =
     put_high nodes barriers node _ high
     (send_high (barriers node) to (note_to nodes node (barriers node) to) (high node))

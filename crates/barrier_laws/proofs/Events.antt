@@ -43,7 +43,7 @@ use Rattle.named_barrier.specs.declared.answer.Notified.{Notified}
 use Rattle.named_barrier.specs.declared.answer.Notified.TheVariants as told
 use Rattle.named_barrier.specs.declared.answer.BarrierAnswer.{BarrierAnswer}
 use Rattle.named_barrier.specs.declared.answer.BarrierAnswer.TheVariants as tried
-use Rattle.named_barrier.specs.Record.{notify_answer, notify_after, try_answer, try_after, BarrierRecord, SentNote}
+use Rattle.named_barrier.specs.Record.{Try, notify_answer, notify_after, try_answer, try_after, BarrierRecord, SentNote}
 use Rattle.named_barrier.specs.Record.{hear, note_to, send}
 use Rattle.named_barrier.proofs.Within.{notes_fit}
 use Rattle.am_core.specs.Kept.{segment_of}
@@ -237,14 +237,15 @@ does_steps settings table meaning records node thread (OnBarrier (Notify id flag
 does_steps settings table meaning records node thread (OnBarrier (TryBarrier id flags)) there holds =
     let barrier = barriers_of records node in
     let worn = worn_out_for (caller_at settings records node thread) barrier in
-    let says = try_answer settings.nodes node barrier (identifier id) flags worn in
+    let try : Try = record { id = identifier id; flags = flags; worn = worn } in
+    let says = try_answer settings.nodes node barrier try in
     by_judgement
     (λ answer. Steps settings.nodes (barriers_of records) node (call_adds (OnBarrier (TryBarrier id flags)) answer))
     settings table meaning thread _ (records node).local _
     (λ forbidden. step_same settings.nodes (barriers_of records) node _ holds.within refl)
     (subst (λ added. Steps settings.nodes (barriers_of records) node added (try_after barrier says))
     (try_is_told id flags says)
-    (step_try settings.nodes (barriers_of records) node (identifier id) flags worn there holds.within))
+    (step_try settings.nodes (barriers_of records) node try there holds.within))
 
 pub does_step : (settings : Parameters) (table : List (Option Entry)) (meaning : Meaning) (records : Records)
     (node thread : ℕ) (call : OtherCall) → node < settings.nodes → NodeHolds settings (records node)

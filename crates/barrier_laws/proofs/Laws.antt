@@ -241,11 +241,12 @@ allowed settings table meaning thread (Err forbidden) local says left answer e =
 -- what a try tells of barriers whose run is one by themselves
 outcome_told : (settings : Parameters) (records : Records) (try : BarrierTry) (answer : BarrierAnswer) (worn : Option ℕ)
     → Holds settings records → try.node < settings.nodes → EndsPhase answer
-    → try_answer settings.nodes try.node (barriers_of records try.node) (identifier try.id) try.flags worn ≡ answer
+    → try_answer settings.nodes try.node (barriers_of records try.node)
+    (record { id = identifier try.id; flags = try.flags; worn = worn }) ≡ answer
     → TellsOutcome settings records try answer
 outcome_told settings records try answer worn holds there ends is =
-    let law = alone_law TryTells settings.nodes (barriers_of records) try_tells holds.alone try.node (identifier try.id)
-    try.flags worn there (subst EndsPhase (sym is) ends) in
+    let law = alone_law TryTells settings.nodes (barriers_of records) try_tells holds.alone try.node
+    (record { id = identifier try.id; flags = try.flags; worn = worn }) there (subst EndsPhase (sym is) ends) in
     record { all = law.0; mismatch = subst (λ (says : BarrierAnswer). IsTold says) is law.1 }
   where
     IsTold : BarrierAnswer → Type 0

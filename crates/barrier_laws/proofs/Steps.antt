@@ -12,7 +12,7 @@ use Rattle.named_barrier.specs.declared.answer.Notified.{Notified}
 use Rattle.named_barrier.specs.declared.answer.Notified.TheVariants as told
 use Rattle.named_barrier.specs.declared.answer.BarrierAnswer.{BarrierAnswer}
 use Rattle.named_barrier.specs.declared.answer.BarrierAnswer.TheVariants as tried
-use Rattle.named_barrier.specs.Record.{BarrierRecord, SentNote, notify_answer, notify_after, try_answer, try_after}
+use Rattle.named_barrier.specs.Record.{BarrierRecord, SentNote, Try, notify_answer, notify_after, try_answer, try_after}
 use Rattle.named_barrier.specs.Record.{hear, note_to, send}
 use Rattle.named_barrier.specs.Within.{IsWithin}
 use Rattle.named_barrier.specs.World.{Barriers, Notifying, Trying, Sending, Hearing, put, hear_sent}
@@ -121,16 +121,16 @@ try_ends kept tried.NoNotify = omega arith
 try_ends kept tried.BadFlags = omega arith
 try_ends kept (tried.WornOut node) = omega arith
 
-pub step_try : (nodes : ℕ) (barriers : Barriers) (node : ℕ) (id : ℤ) (flags : ℕ) (worn : Option ℕ) → node < nodes
+pub step_try : (nodes : ℕ) (barriers : Barriers) (node : ℕ) (try : Try) → node < nodes
     → IsWithin nodes (barriers node)
-    → Steps nodes barriers node (try_adds (try_answer nodes node (barriers node) id flags worn))
-    (try_after (barriers node) (try_answer nodes node (barriers node) id flags worn))
-step_try nodes barriers node id flags worn there within =
-    let answer = try_answer nodes node (barriers node) id flags worn in
+    → Steps nodes barriers node (try_adds (try_answer nodes node (barriers node) try))
+    (try_after (barriers node) (try_answer nodes node (barriers node) try))
+step_try nodes barriers node try there within =
+    let answer = try_answer nodes node (barriers node) try in
     record {
-      within = (stays_within.1 nodes (barriers node) within).tried node id flags worn;
+      within = (stays_within.1 nodes (barriers node) within).tried node try;
       grows = try_sent (barriers node) answer;
-      changes = inr (Trying node id flags worn, there, refl);
+      changes = inr (Trying node try, there, refl);
       notifies = try_notifies (barriers node) answer;
       ended = try_ends (barriers node) answer;
     }

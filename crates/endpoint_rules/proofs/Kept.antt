@@ -288,8 +288,8 @@ barrier_kept : (caller : Caller) (call : BarrierCall) (barrier : BarrierRecord)
 barrier_kept caller (Notify id flags) barrier good =
     (stays_within.1 caller.settings.nodes barrier good).notify (identifier id) flags (identifier_fits id)
 barrier_kept caller (TryBarrier id flags) barrier good =
-    (stays_within.1 caller.settings.nodes barrier good).tried caller.me (identifier id) flags
-    (worn_out_for caller barrier)
+    (stays_within.1 caller.settings.nodes barrier good).tried caller.me
+    (record { id = identifier id; flags = flags; worn = worn_out_for caller barrier })
 
 -- ---- every call
 

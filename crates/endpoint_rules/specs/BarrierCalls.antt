@@ -5,7 +5,7 @@ use Rattle.std.specs.List.{list_all}
 use Rattle.std.specs.Ordering.{int_eq}
 use Rattle.std.specs.Int.{w32, cast_signed, cast_unsigned}
 use Rattle.datagram_grammar.specs.declared.note.BarrierNote.{BarrierNote}
-use Rattle.named_barrier.specs.Record.{BarrierRecord, notify_answer, notify_after, try_answer, try_after, owes}
+use Rattle.named_barrier.specs.Record.{BarrierRecord, Try, notify_answer, notify_after, try_answer, try_after, owes}
 use Rattle.endpoint_rules.specs.TransferCalls.{Caller}
 use Rattle.endpoint_rules.specs.declared.answer.Answer.{Answer}
 use Rattle.endpoint_rules.specs.declared.answer.Answer.TheVariants as answers
@@ -40,5 +40,6 @@ barrier_does caller (Notify id flags) barrier =
     let says = notify_answer barrier (identifier id) flags in
     (answers.Notified says, notify_after barrier (identifier id) flags says)
 barrier_does caller (TryBarrier id flags) barrier =
-    let says = try_answer caller.settings.nodes caller.me barrier (identifier id) flags (worn_out_for caller barrier) in
+    let try : Try = record { id = identifier id; flags = flags; worn = worn_out_for caller barrier } in
+    let says = try_answer caller.settings.nodes caller.me barrier try in
     (answers.Barrier says, try_after barrier says)

@@ -50,9 +50,10 @@ pub try_does : (core : CoreState) (extended : Extended) (barrier : BarrierState)
     → ForItsRecord (endpoint_of core extended) (λ node.
     worn ≡ worn_out_for (caller_in core node thread) node.local.barrier)
     → ((nodes me : ℕ) (kept : BarrierRecord) → BarrierStands nodes me extended.barrier kept
-    → says ≡ try_answer nodes me kept (identifier id) flags worn)
+    → says ≡ try_answer nodes me kept (record { id = identifier id; flags = flags; worn = worn }))
     → ((nodes me : ℕ) (kept : BarrierRecord) → BarrierStands nodes me extended.barrier kept
-    → BarrierStands nodes me barrier (try_after kept (try_answer nodes me kept (identifier id) flags worn)))
+    → BarrierStands nodes me barrier
+    (try_after kept (try_answer nodes me kept (record { id = identifier id; flags = flags; worn = worn }))))
     → PartDoes (record { core = core; extended = extended }) thread
     (λ caller kept. with_barrier kept (barrier_does caller (TryBarrier id flags) kept.barrier)) (answers.Barrier says)
     (record { core = core; extended = record extended { barrier = barrier } })
@@ -62,9 +63,9 @@ try_does core extended barrier thread id flags worn says worns answer stands = r
   steps = λ node S.
       let kept = node.local.barrier in
       let nodes = core.settings.nodes in
-      let same : try_answer nodes core.me kept (identifier id) flags worn
-      ≡ try_answer nodes core.me kept (identifier id) flags (worn_out_for (caller_in core node thread) kept) =
-      ap (λ w. try_answer nodes core.me kept (identifier id) flags w) (worns node S) in (
+      let tried = λ (worn : Option ℕ). try_answer nodes core.me kept
+      (record { id = identifier id; flags = flags; worn = worn }) in
+      let same : tried worn ≡ tried (worn_out_for (caller_in core node thread) kept) = ap tried (worns node S) in (
         ap (λ (s : BarrierAnswer). answers.Barrier s) (answer nodes core.me kept S.barrier ∙ same),
         record {
           core = S.core;
@@ -132,6 +133,7 @@ pub try_again : (old new : Parts) (thread : ℕ) (id : ℤ) (flags : ℕ) (answe
 try_again old new thread id flags answer D =
     subst (λ i. PartDoes old thread
     (λ caller kept. with_barrier kept
-    (let says = try_answer caller.settings.nodes caller.me kept.barrier i flags (worn_out_for caller kept.barrier) in
+    (let says = try_answer caller.settings.nodes caller.me kept.barrier
+    (record { id = i; flags = flags; worn = worn_out_for caller kept.barrier }) in
     (answers.Barrier says, try_after kept.barrier says))) answer new)
     (to_z-of_z w32 (identifier id) (identifier_fits id)) D

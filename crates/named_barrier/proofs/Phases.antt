@@ -106,11 +106,11 @@ happens_ended nodes barriers (Notifying node id flags) there covered whole =
     (same_ended nodes barriers (barriers node)
     (notify_after (barriers node) id flags (notify_answer (barriers node) id flags))
     (notify_ended (barriers node) id flags (notify_answer (barriers node) id flags))) there
-happens_ended nodes barriers (Trying node id flags worn) there covered whole =
-    let answer = try_answer nodes node (barriers node) id flags worn in
+happens_ended nodes barriers (Trying node try) there covered whole =
+    let answer = try_answer nodes node (barriers node) try in
     put_ended nodes barriers node _ whole (keeps_try nodes barriers (barriers node) answer).own
     (try_ended nodes barriers (barriers node) answer
-    (λ note. (inv_tells nodes barriers covered node id flags worn there note).0)) there
+    (λ note. (inv_tells nodes barriers covered node try there note).0)) there
 happens_ended nodes barriers (Sending node to) there covered whole = put_ended nodes barriers node _ whole
     (keeps_send nodes barriers (barriers node) to (note_to nodes node (barriers node) to)
     (λ note e. let found = note_to_routed nodes node (barriers node) to note e in

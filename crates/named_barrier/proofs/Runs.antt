@@ -16,7 +16,7 @@ use Rattle.named_barrier.specs.declared.answer.BarrierAnswer.TheVariants as trie
 use Rattle.named_barrier.specs.Masks.{has_all}
 use Rattle.named_barrier.specs.Combinations.{all_of}
 use Rattle.named_barrier.specs.Record.{BarrierRecord, SentNote, Part, own, own_part, part_of, heard_part, known}
-use Rattle.named_barrier.specs.Record.{note_of, routed}
+use Rattle.named_barrier.specs.Record.{Stage, Try, stage, note_of, routed}
 use Rattle.named_barrier.specs.Record.{notify_answer, notify_after, try_answer, try_after, own_try, unready}
 use Rattle.named_barrier.specs.Record.{is_other, hear, due, due_before}
 use Rattle.named_barrier.specs.Record.{or_else, note_to, was_sent, send}
@@ -164,24 +164,22 @@ if_some true item other e = same_Some _ _ (sym e)
 if_some false item other e = absurd (cc)
 
 -- what is sent is what is known
-pub routed_note : (nodes me : ℕ) (notified : Bool) (part : Part) (phase to : ℕ) (note : BarrierNote)
-    → routed nodes me notified part phase to ≡ Some note → note ≡ note_of phase part
-routed_note nodes me notified part phase to note e =
-    if_some (goes_to nodes me notified part.mask to) (note_of phase part) note e
+pub routed_note : (nodes me : ℕ) (now : Stage) (to : ℕ) (note : BarrierNote)
+    → routed nodes me now to ≡ Some note → note ≡ note_of now.phase now.part
+routed_note nodes me now to note e =
+    if_some (goes_to nodes me now.notified now.part.mask to) (note_of now.phase now.part) note e
 
 pub routed_covered : (nodes : ℕ) (barriers : Barriers) (node phase to : ℕ) (note : BarrierNote)
     → AreCovered nodes barriers → node < nodes
-    → routed nodes node (is_some (own (barriers node) phase))
-    (known node (barriers node) phase) phase to ≡ Some note → IsCovered nodes barriers note
+    → routed nodes node (stage node (barriers node) phase) to ≡ Some note → IsCovered nodes barriers note
 routed_covered nodes barriers node phase to note covered there e =
-    subst (IsCovered nodes barriers) (sym (routed_note nodes node (is_some (own (barriers node) phase))
-    (known node (barriers node) phase) phase to note e))
+    subst (IsCovered nodes barriers) (sym (routed_note nodes node (stage node (barriers node) phase) to note e))
     (covers_note nodes phase (notified barriers phase) (known node (barriers node) phase)
     (known_covered nodes barriers node phase covered there))
 
 due_routed : (nodes me : ℕ) (kept : BarrierRecord) (phase to : ℕ) (note : BarrierNote)
     → due nodes me kept phase to ≡ Some note
-    → routed nodes me (is_some (own kept phase)) (known me kept phase) phase to ≡ Some note
+    → routed nodes me (stage me kept phase) to ≡ Some note
 due_routed nodes me kept phase to note e = elim (cases_Bool (was_sent kept phase to)) [
   | inl sent_note ↦ (let none : None ≡ Some note = sym (rw sent_note refl) ∙ e in absurd cc)
   | inr f ↦ sym (rw f refl) ∙ e
@@ -194,13 +192,13 @@ or_else_is (Some other) second item e = inl e
 
 before_routed : (nodes me : ℕ) (kept : BarrierRecord) (phase to : ℕ) (note : BarrierNote)
     → due_before nodes me kept phase to ≡ Some note
-    → (number : ℕ) × (routed nodes me (is_some (own kept number)) (known me kept number) number to ≡ Some note)
+    → (number : ℕ) × (routed nodes me (stage me kept number) to ≡ Some note)
 before_routed nodes me kept zero to note e = absurd (cc)
 before_routed nodes me kept (suc phase) to note e = (phase, due_routed nodes me kept phase to note e)
 
 pub note_to_routed : (nodes me : ℕ) (kept : BarrierRecord) (to : ℕ) (note : BarrierNote)
     → note_to nodes me kept to ≡ Some note
-    → (number : ℕ) × (routed nodes me (is_some (own kept number)) (known me kept number) number to ≡ Some note)
+    → (number : ℕ) × (routed nodes me (stage me kept number) to ≡ Some note)
 note_to_routed nodes me kept to note e = elim (or_else_is _ _ note e) [
   | inl before ↦ before_routed nodes me kept kept.ended to note before
   | inr now ↦ (kept.ended, due_routed nodes me kept kept.ended to note now)
@@ -233,9 +231,9 @@ pub happens_keeps : (nodes : ℕ) (barriers : Barriers) (event : BarrierEvent) �
 happens_keeps nodes barriers (Notifying node id flags) there covered =
     keeps_inv nodes barriers node _ covered
     (keeps_notify nodes barriers (barriers node) id flags (notify_answer (barriers node) id flags))
-happens_keeps nodes barriers (Trying node id flags worn) there covered =
+happens_keeps nodes barriers (Trying node try) there covered =
     keeps_inv nodes barriers node _ covered
-    (keeps_try nodes barriers (barriers node) (try_answer nodes node (barriers node) id flags worn))
+    (keeps_try nodes barriers (barriers node) (try_answer nodes node (barriers node) try))
 happens_keeps nodes barriers (Sending node to) there covered =
     keeps_inv nodes barriers node _ covered
     (keeps_send nodes barriers (barriers node) to (note_to nodes node (barriers node) to)
@@ -267,22 +265,22 @@ not_unready (Some node) (inl e) = cc
 not_unready (Some node) (inr e) = cc
 
 -- what an answer Ok or Mismatch says of a node that has notified
-abbrev pub Passes : ℕ → Part → ℤ → ℕ → Option Notify → BarrierAnswer → Type 0
-Passes nodes part id flags own answer = (notify : Notify) × (own ≡ Some notify) × (has_all part.mask nodes ≡ true)
-    × ((answer ≡ tried.Mismatch) ↔ ((part.combined.mismatch ≡ true) ⊎ (is_other notify id flags ≡ true)))
+abbrev pub Passes : ℕ → Part → Try → Option Notify → BarrierAnswer → Type 0
+Passes nodes part try own answer = (notify : Notify) × (own ≡ Some notify) × (has_all part.mask nodes ≡ true)
+    × ((answer ≡ tried.Mismatch) ↔ ((part.combined.mismatch ≡ true) ⊎ (is_other notify try.id try.flags ≡ true)))
 
-own_passes : (nodes : ℕ) (part : Part) (id : ℤ) (flags : ℕ) (worn : Option ℕ) (maybe : Option Notify)
-    → (own_try nodes part id flags worn maybe ≡ tried.Ok) ⊎ (own_try nodes part id flags worn maybe ≡ tried.Mismatch)
-    → Passes nodes part id flags maybe (own_try nodes part id flags worn maybe)
-own_passes nodes part id flags worn None note = absurd (elim note [ inl e ↦ cc | inr e ↦ cc ])
-own_passes nodes part id flags worn (Some notify) note = elim (cases_Bool (has_all part.mask nodes)) [
+own_passes : (nodes : ℕ) (part : Part) (try : Try) (maybe : Option Notify)
+    → (own_try nodes part try maybe ≡ tried.Ok) ⊎ (own_try nodes part try maybe ≡ tried.Mismatch)
+    → Passes nodes part try maybe (own_try nodes part try maybe)
+own_passes nodes part try None note = absurd (elim note [ inl e ↦ cc | inr e ↦ cc ])
+own_passes nodes part try (Some notify) note = elim (cases_Bool (has_all part.mask nodes)) [
   | inl sent_note ↦ (
     notify,
     refl,
     sent_note,
     rw sent_note (elim (cases_Bool part.combined.mismatch) [
       | inl mismatch ↦ rw mismatch (λ e. inl refl, λ e. refl)
-      | inr mismatch ↦ rw mismatch (elim (cases_Bool (is_other notify id flags)) [
+      | inr mismatch ↦ rw mismatch (elim (cases_Bool (is_other notify try.id try.flags)) [
         | inl d ↦ rw d (λ e. inr refl, λ e. refl)
         | inr d ↦ rw d (
           λ e. absurd cc,
@@ -295,20 +293,20 @@ own_passes nodes part id flags worn (Some notify) note = elim (cases_Bool (has_a
       ])
     ]),
   )
-  | inr f ↦ absurd (not_unready worn (rw f at note))
+  | inr f ↦ absurd (not_unready try.worn (rw f at note))
 ]
 
-pub passes : (nodes me : ℕ) (kept : BarrierRecord) (id : ℤ) (flags : ℕ) (worn : Option ℕ)
-    → (try_answer nodes me kept id flags worn ≡ tried.Ok) ⊎ (try_answer nodes me kept id flags worn ≡ tried.Mismatch)
-    → Passes nodes (known me kept kept.ended) id flags (own kept kept.ended) (try_answer nodes me kept id flags worn)
-passes nodes me kept id flags worn note = elim (cases_Bool (nat_lt 3 flags)) [
+pub passes : (nodes me : ℕ) (kept : BarrierRecord) (try : Try)
+    → (try_answer nodes me kept try ≡ tried.Ok) ⊎ (try_answer nodes me kept try ≡ tried.Mismatch)
+    → Passes nodes (known me kept kept.ended) try (own kept kept.ended) (try_answer nodes me kept try)
+passes nodes me kept try note = elim (cases_Bool (nat_lt 3 try.flags)) [
   | inl sent_note ↦ absurd (let found = rw sent_note at note in elim found [ inl e ↦ cc | inr e ↦ cc ])
-  | inr f ↦ rw f (own_passes nodes (known me kept kept.ended) id flags worn (own kept kept.ended) (rw f at note))
+  | inr f ↦ rw f (own_passes nodes (known me kept kept.ended) try (own kept kept.ended) (rw f at note))
 ]
 
 pub inv_tells : (nodes : ℕ) (barriers : Barriers) → AreCovered nodes barriers → TryTells nodes barriers
-inv_tells nodes barriers covered node id flags worn there note =
-    let passed = passes nodes node (barriers node) id flags worn note in
+inv_tells nodes barriers covered node try there note =
+    let passed = passes nodes node (barriers node) try note in
     let whole = known_covered nodes barriers node (barriers node).ended covered there in
     let all : (known node (barriers node) (barriers node).ended).combined ≡ all_of
     (notified barriers (barriers node).ended) nodes =
@@ -326,7 +324,7 @@ inv_tells nodes barriers covered node id flags worn there note =
         ],
         λ e. elim e [
           | inl mismatch ↦ passed.3.1 (inl (same ∙ mismatch))
-          | inr unlike ↦ passed.3.1 (inr (subst (λ given. is_other given id flags ≡ true)
+          | inr unlike ↦ passed.3.1 (inr (subst (λ given. is_other given try.id try.flags ≡ true)
               (same_Some _ _ (sym unlike.1 ∙ passed.1)) unlike.2))
         ],
       ),

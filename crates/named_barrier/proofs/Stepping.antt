@@ -13,7 +13,7 @@ use Rattle.named_barrier.specs.Masks.{has, has_all}
 use Rattle.named_barrier.specs.Record.{BarrierRecord, SentNote, Part, is_other, own, no_part, join, part_of}
 use Rattle.named_barrier.specs.Record.{own_part, heard_part, known, hear}
 use Rattle.named_barrier.specs.Record.{was_sent, due, due_before, or_else, note_to, send, notify_answer}
-use Rattle.named_barrier.specs.Record.{notify_after, own_try, try_answer}
+use Rattle.named_barrier.specs.Record.{Stage, Try, stage, notify_after, own_try, try_answer}
 use Rattle.named_barrier.specs.Record.{try_after, routed}
 use Rattle.named_barrier.specs.State.{State, last_due, now_due, note_at}
 use Rattle.named_barrier.specs.Stands.{sent_mask, before, given, Stands}
@@ -206,14 +206,14 @@ stands_over nodes me state kept notify stood some = record {
         (λ place other same. omega (arith, stood.sent place other same))) refl
 
 -- a try on a complete phase ends it
-pub stands_try : (nodes me : ℕ) (state : State) (kept : BarrierRecord) (notify : Notify) (id : ℤ) (flags : ℕ)
-    (worn : Option ℕ) → Stands nodes me state kept → flags ≤ 3 → state.own ≡ Some notify
+pub stands_try : (nodes me : ℕ) (state : State) (kept : BarrierRecord) (notify : Notify) (try : Try)
+    → Stands nodes me state kept → try.flags ≤ 3 → state.own ≡ Some notify
     → has_all state.present.mask state.nodes ≡ true
-    → Stands nodes me (over state) (try_after kept (try_answer nodes me kept id flags worn))
-stands_try nodes me state kept notify id flags worn stood few some all =
+    → Stands nodes me (over state) (try_after kept (try_answer nodes me kept try))
+stands_try nodes me state kept notify try stood few some all =
     rw ends (stands_over nodes me state kept notify stood some)
   where
-    few' : nat_lt 3 flags ≡ false
+    few' : nat_lt 3 try.flags ≡ false
     few' = grind (arith, nat_tests)
 
     here : own kept kept.ended ≡ Some notify
@@ -227,10 +227,10 @@ stands_try nodes me state kept notify id flags worn stood few some all =
     after false = refl
 
     goes : (part : Part) (mine : Option Notify) → mine ≡ Some notify → has_all part.mask nodes ≡ true
-        → try_after kept (own_try nodes part id flags worn mine) ≡ ended kept
-    goes part mine has whole = rw (has, whole) (after (part.combined.mismatch || is_other notify id flags))
+        → try_after kept (own_try nodes part try mine) ≡ ended kept
+    goes part mine has whole = rw (has, whole) (after (part.combined.mismatch || is_other notify try.id try.flags))
 
-    ends : try_after kept (try_answer nodes me kept id flags worn) ≡ ended kept
+    ends : try_after kept (try_answer nodes me kept try) ≡ ended kept
     ends = rw few' (goes (known me kept kept.ended) (own kept kept.ended) here complete)
 
 -- ---- a note comes
@@ -319,8 +319,8 @@ stands_next nodes me state kept note stood same =
 
 last_is : (nodes me : ℕ) (kept : BarrierRecord) (to ended : ℕ) → ended ≤ length kept.notifies
     → (if (ended == 0) || has
-    (before 0 (λ phase. sent_mask phase kept.sent) ended) to then None else routed nodes me true
-    (before no_part (known me kept) ended) (ended - 1) to) ≡ due_before nodes me kept ended to
+    (before 0 (λ phase. sent_mask phase kept.sent) ended) to then None else routed nodes me
+    (record { phase = ended - 1; notified = true; part = before no_part (known me kept) ended }) to) ≡ due_before nodes me kept ended to
 last_is nodes me kept to zero low = refl
 last_is nodes me kept to (suc phase) low =
     let one_less : suc phase - 1 ≡ phase = omega arith in
@@ -346,16 +346,16 @@ note_is nodes me state kept to stood = rw (
 ) refl
 
 -- the note of a is of its phase
-routed_phase : (nodes me : ℕ) (notified : Bool) (part : Part) (phase to : ℕ) (note : BarrierNote)
-    → routed nodes me notified part phase to ≡ Some note → note.phase ≡ phase
-routed_phase nodes me notified part phase to note same =
-    ap (λ (any : BarrierNote). any.phase) (routed_note nodes me notified part phase to note same)
+routed_phase : (nodes me : ℕ) (now : Stage) (to : ℕ) (note : BarrierNote)
+    → routed nodes me now to ≡ Some note → note.phase ≡ now.phase
+routed_phase nodes me now to note same =
+    ap (λ (any : BarrierNote). any.phase) (routed_note nodes me now to note same)
 
 due_phase : (nodes me : ℕ) (kept : BarrierRecord) (phase to : ℕ) (note : BarrierNote)
     → due nodes me kept phase to ≡ Some note → note.phase ≡ phase
 due_phase nodes me kept phase to note same = elim (cases_Bool (was_sent kept phase to)) [
   | inl other ↦ (let none : None ≡ Some note = rw other at same in absurd cc)
-  | inr f ↦ routed_phase nodes me (is_some (own kept phase)) (known me kept phase) phase to note (rw f at same)
+  | inr f ↦ routed_phase nodes me (stage me kept phase) to note (rw f at same)
 ]
 
 before_phase : (nodes me : ℕ) (kept : BarrierRecord) (phase to : ℕ) (note : BarrierNote)

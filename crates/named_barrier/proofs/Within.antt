@@ -23,7 +23,7 @@ use Rattle.named_barrier.specs.Masks.{mask_words, low_word, higher}
 use Rattle.named_barrier.specs.Combinations.{one_notify, is_anonymous, least, combined_id, combined_flags}
 use Rattle.named_barrier.specs.Record.{BarrierRecord, Part, own, no_part, join, part_of, own_part, heard_part}
 use Rattle.named_barrier.specs.Record.{known, note_of}
-use Rattle.named_barrier.specs.Record.{routed, was_sent, due, due_before, notify_answer, notify_after, try_answer}
+use Rattle.named_barrier.specs.Record.{stage, routed, was_sent, due, due_before, notify_answer, notify_after, try_answer}
 use Rattle.named_barrier.specs.Record.{try_after, hear, send}
 use Rattle.named_barrier.specs.Route.{goes_to, any_round}
 use Rattle.named_barrier.specs.Within.{IsWithin, NotesFit, StepsWithin, StaysWithin}
@@ -144,10 +144,10 @@ slice_get_in (first ∷ items) zero is = omega arith
 slice_get_in (first ∷ items) (suc place) is = omega (arith, slice_get_in items place is)
 
 routed_fits : (nodes me : ℕ) (kept : BarrierRecord) (phase to : ℕ) (note : BarrierNote) → nodes ≤ 256 → me < nodes
-    → IsWithin nodes kept → routed nodes me (is_some (own kept phase)) (known me kept phase) phase to ≡ Some note
+    → IsWithin nodes kept → routed nodes me (stage me kept phase) to ≡ Some note
     → IsNote nodes note
 routed_fits nodes me kept phase to note few there within is =
-    subst (IsNote nodes) (sym (routed_note nodes me (is_some (own kept phase)) (known me kept phase) phase to note is))
+    subst (IsNote nodes) (sym (routed_note nodes me (stage me kept phase) to note is))
     (part_note nodes phase (known me kept phase) few (omega (arith, within.count, notified))
     (known_fits nodes me kept phase there within))
   where
@@ -260,8 +260,8 @@ within_send nodes kept to (Some note) within =
 steps_within : (nodes : ℕ) (kept : BarrierRecord) → IsWithin nodes kept → StepsWithin nodes kept
 steps_within nodes kept within = record {
   notify = λ id flags fits. within_notify nodes kept id flags within fits;
-  tried = λ me id flags worn. within_try nodes kept (try_answer nodes me kept id flags worn)
-      (λ ends. let passed = passes nodes me kept id flags worn ends in ap is_some passed.1) within;
+  tried = λ me try. within_try nodes kept (try_answer nodes me kept try)
+      (λ ends. let passed = passes nodes me kept try ends in ap is_some passed.1) within;
   hear = λ note is. within_hear nodes kept note within is;
   send = λ to note. within_send nodes kept to note within;
 }

@@ -86,6 +86,11 @@ notify_after kept id flags _ = kept
 
 -- ---- try
 
+pub record Try : Type 0 where
+  pub id : ℤ
+  pub flags : ℕ
+  pub worn : Option ℕ  -- a node that a note of the phase must go to still, for which the numbers are worn out
+
 -- the try's flags, or its identifier where it is named, aren't those of the notify
 abbrev pub is_other : Notify → (id : ℤ) → (flags : ℕ) → Bool
 is_other notify id flags =
@@ -97,18 +102,17 @@ unready None = tried.NotReady
 unready (Some node) = tried.WornOut node
 
 -- of a phase that the node has notified, or hasn't
-abbrev pub own_try : (nodes : ℕ) → Part → (id : ℤ) → (flags : ℕ) → (worn : Option ℕ) → Option Notify
-    → BarrierAnswer
-own_try nodes part id flags worn None = tried.NoNotify
-own_try nodes part id flags worn (Some notify) =
+abbrev pub own_try : (nodes : ℕ) → Part → Try → Option Notify → BarrierAnswer
+own_try nodes part try None = tried.NoNotify
+own_try nodes part try (Some notify) =
     if has_all part.mask nodes
-    then (if part.combined.mismatch || is_other notify id flags then tried.Mismatch else tried.Ok)
-    else unready worn
+    then (if part.combined.mismatch || is_other notify try.id try.flags then tried.Mismatch else tried.Ok)
+    else unready try.worn
 
-abbrev pub try_answer : (nodes me : ℕ) → BarrierRecord → (id : ℤ) → (flags : ℕ) → (worn : Option ℕ) → BarrierAnswer
-try_answer nodes me kept id flags worn =
-    if nat_lt 3 flags then tried.BadFlags
-    else own_try nodes (known me kept kept.ended) id flags worn (own kept kept.ended)
+abbrev pub try_answer : (nodes me : ℕ) → BarrierRecord → Try → BarrierAnswer
+try_answer nodes me kept try =
+    if nat_lt 3 try.flags then tried.BadFlags
+    else own_try nodes (known me kept kept.ended) try (own kept kept.ended)
 
 -- a phase ends by the try that tells its outcome
 abbrev pub try_after : BarrierRecord → BarrierAnswer → BarrierRecord
@@ -136,10 +140,20 @@ note_of phase part =
       flags = combined_flags part.combined;
     }
 
+-- how far a node is with a phase
+pub record Stage : Type 0 where
+  pub phase : ℕ
+  pub notified : Bool  -- by the node itself
+  pub part : Part  -- what it knows of the phase
+
+abbrev pub stage : (me : ℕ) → BarrierRecord → (phase : ℕ) → Stage
+stage me kept phase =
+    record { phase = phase; notified = is_some (own kept phase); part = known me kept phase }
+
 -- the note of the phase that the route sends to a node
-abbrev pub routed : (nodes me : ℕ) → (notified : Bool) → Part → (phase to : ℕ) → Option BarrierNote
-routed nodes me notified part phase to =
-    if goes_to nodes me notified part.mask to then Some (note_of phase part) else None
+abbrev pub routed : (nodes me : ℕ) → Stage → (to : ℕ) → Option BarrierNote
+routed nodes me now to =
+    if goes_to nodes me now.notified now.part.mask to then Some (note_of now.phase now.part) else None
 
 -- the note of the phase was sent to the node
 abbrev pub was_sent : BarrierRecord → (phase to : ℕ) → Bool
@@ -149,7 +163,7 @@ was_sent kept phase to = list_any (λ sent. (sent.to == to) && (sent.note.phase 
 abbrev pub due : (nodes me : ℕ) → BarrierRecord → (phase to : ℕ) → Option BarrierNote
 due nodes me kept phase to =
     if was_sent kept phase to then None
-    else routed nodes me (is_some (own kept phase)) (known me kept phase) phase to
+    else routed nodes me (stage me kept phase) to
 
 -- of the phase before this one
 abbrev pub due_before : (nodes me : ℕ) → BarrierRecord → (phase to : ℕ) → Option BarrierNote

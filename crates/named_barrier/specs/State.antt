@@ -20,13 +20,15 @@ pub record State : Type 0 where
 abbrev pub last_due : State → (to : ℕ) → Option BarrierNote
 last_due state to =
     if (state.phase == 0) || has state.sent_last to then None
-    else routed state.nodes state.me true state.last (state.phase - 1) to
+    else routed state.nodes state.me
+    (record { phase = state.phase - 1; notified = true; part = state.last }) to
 
 -- of the present one
 abbrev pub now_due : State → (to : ℕ) → Option BarrierNote
 now_due state to =
     if has state.sent_now to then None
-    else routed state.nodes state.me (is_some state.own) state.present state.phase to
+    else routed state.nodes state.me
+    (record { phase = state.phase; notified = is_some state.own; part = state.present }) to
 
 -- the note that must go to a node
 abbrev pub note_at : State → (to : ℕ) → Option BarrierNote

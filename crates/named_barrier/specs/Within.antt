@@ -5,8 +5,8 @@ use Rattle.std.specs.Int.RustNames.{FitsSigned}
 use Rattle.datagram_grammar.specs.declared.note.BarrierNote.{BarrierNote}
 use Rattle.datagram_grammar.specs.Notes.{IsNote}
 use Rattle.named_barrier.specs.declared.known.Notify.{Notify}
-use Rattle.named_barrier.specs.Record.{BarrierRecord, opened, own, notify_answer, notify_after, try_answer, try_after}
-use Rattle.named_barrier.specs.Record.{hear, note_to, send}
+use Rattle.named_barrier.specs.Record.{BarrierRecord, Try, opened, own, notify_answer, notify_after, try_answer}
+use Rattle.named_barrier.specs.Record.{try_after, hear, note_to, send}
 
 -- what was notified and heard is in the ranges of a note among so many nodes
 pub record IsWithin (nodes : ℕ) (kept : BarrierRecord) : Type 0 where
@@ -25,8 +25,7 @@ NotesFit =
 pub record StepsWithin (nodes : ℕ) (kept : BarrierRecord) : Type 0 where
   pub notify : (id : ℤ) (flags : ℕ) → FitsSigned w32 id
       → IsWithin nodes (notify_after kept id flags (notify_answer kept id flags))
-  pub tried : (me : ℕ) (id : ℤ) (flags : ℕ) (worn : Option ℕ)
-      → IsWithin nodes (try_after kept (try_answer nodes me kept id flags worn))
+  pub tried : (me : ℕ) (try : Try) → IsWithin nodes (try_after kept (try_answer nodes me kept try))
   pub hear : (note : BarrierNote) → IsNote nodes note → IsWithin nodes (hear kept note)
   pub send : (to : ℕ) (note : Option BarrierNote) → IsWithin nodes (send kept to note)
 

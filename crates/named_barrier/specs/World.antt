@@ -8,7 +8,7 @@ use Rattle.named_barrier.specs.declared.answer.BarrierAnswer.TheVariants as trie
 use Rattle.named_barrier.specs.Masks.{has}
 use Rattle.named_barrier.specs.Combinations.{Notifies, all_of, among}
 use Rattle.named_barrier.specs.Record.{BarrierRecord, SentNote, Part, opened, own, part_of, is_other, hear, send}
-use Rattle.named_barrier.specs.Record.{notify_answer, notify_after, try_answer, try_after, note_to}
+use Rattle.named_barrier.specs.Record.{Try, notify_answer, notify_after, try_answer, try_after, note_to}
 
 -- the record of each node's barrier
 abbrev pub Barriers : Type 0
@@ -38,12 +38,12 @@ IsOtherTry kept id flags =
 -- where it differs from the node's own notify
 abbrev pub TryTells : (nodes : ℕ) → Barriers → Type 0
 TryTells nodes barriers =
-    (node : ℕ) (id : ℤ) (flags : ℕ) (worn : Option ℕ) → node < nodes →
-    (try_answer nodes node (barriers node) id flags worn ≡ tried.Ok)
-    ⊎ (try_answer nodes node (barriers node) id flags worn ≡ tried.Mismatch) →
+    (node : ℕ) (try : Try) → node < nodes →
+    (try_answer nodes node (barriers node) try ≡ tried.Ok)
+    ⊎ (try_answer nodes node (barriers node) try ≡ tried.Mismatch) →
     AllNotified nodes barriers (barriers node).ended
-    × ((try_answer nodes node (barriers node) id flags worn ≡ tried.Mismatch)
-    ↔ ((is_mismatch nodes barriers (barriers node).ended ≡ true) ⊎ IsOtherTry (barriers node) id flags))
+    × ((try_answer nodes node (barriers node) try ≡ tried.Mismatch)
+    ↔ ((is_mismatch nodes barriers (barriers node).ended ≡ true) ⊎ IsOtherTry (barriers node) try.id try.flags))
 
 -- each phase that a node has ended was notified by all
 abbrev pub EndedByAll : (nodes : ℕ) → Barriers → Type 0
@@ -86,7 +86,7 @@ put barriers node kept other = if other == node then kept else barriers other
 -- what may happen next: any note that was ever sent may come, to any node, at any time and again
 pub data BarrierEvent : Type 0 where
   Notifying : (node : ℕ) → (id : ℤ) → (flags : ℕ) → BarrierEvent
-  Trying : (node : ℕ) → (id : ℤ) → (flags : ℕ) → (worn : Option ℕ) → BarrierEvent
+  Trying : (node : ℕ) → Try → BarrierEvent
   Sending : (node to : ℕ) → BarrierEvent
   Hearing : (node other place : ℕ) → BarrierEvent  -- the note that the other node sent at this place
 
@@ -97,8 +97,8 @@ hear_sent kept (Some sent) = hear kept sent.note
 abbrev pub happens : (nodes : ℕ) → Barriers → BarrierEvent → Barriers
 happens nodes barriers (Notifying node id flags) =
     put barriers node (notify_after (barriers node) id flags (notify_answer (barriers node) id flags))
-happens nodes barriers (Trying node id flags worn) =
-    put barriers node (try_after (barriers node) (try_answer nodes node (barriers node) id flags worn))
+happens nodes barriers (Trying node try) =
+    put barriers node (try_after (barriers node) (try_answer nodes node (barriers node) try))
 happens nodes barriers (Sending node to) =
     put barriers node (send (barriers node) to (note_to nodes node (barriers node) to))
 happens nodes barriers (Hearing node other place) =
@@ -114,7 +114,7 @@ all_opened node = opened
 -- the event is of a node that is there
 abbrev pub IsAmong : (nodes : ℕ) → BarrierEvent → Type 0
 IsAmong nodes (Notifying node id flags) = node < nodes
-IsAmong nodes (Trying node id flags worn) = node < nodes
+IsAmong nodes (Trying node try) = node < nodes
 IsAmong nodes (Sending node to) = node < nodes
 IsAmong nodes (Hearing node other place) = node < nodes
 

@@ -101,9 +101,13 @@ impl Barrier {
     /// flags, or the identifier where it is named, differ from the own notify.
     pub fn try_wait(&mut self, id: i32, flags: u8, worn: Option<u16>) -> BarrierAnswer
         ensures answer { (nodes me : ℕ) (kept : BarrierRecord) → Stands nodes me self.old kept
-            → result ≡ try_answer nodes me kept id flags worn }
+            → result ≡ try_answer nodes me kept (record { id = id; flags = flags; worn = worn }) }
         ensures stands { (nodes me : ℕ) (kept : BarrierRecord) → Stands nodes me self.old kept
-            → Stands nodes me self.new (try_after kept (try_answer nodes me kept id flags worn)) }
+            → Stands nodes me self.new (try_after kept (try_answer nodes me kept (record {
+              id = id;
+              flags = flags;
+              worn = worn;
+            }))) }
         ensures nodes { self.new.nodes ≡ self.old.nodes }
     {
         if flags > 3 {

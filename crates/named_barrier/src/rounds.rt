@@ -53,7 +53,11 @@ fn any_round(at: Place, mask: &[u64; 4], to: u16) -> bool
 pub(crate) fn routed(at: Place, known: &Known, phase: u64, to: u16) -> Option<BarrierNote>
     requires few { at.nodes ≤ 256 }
     requires in_range { at.me < at.nodes }
-    ensures { result ≡ routed at.nodes at.me true (part known.now) phase to }
+    ensures { result ≡ routed at.nodes at.me (record {
+      phase = phase;
+      notified = true;
+      part = part known.now;
+    }) to }
 {
     if any_round(at, &known.mask, to) {
         Some(note_of(phase, known))

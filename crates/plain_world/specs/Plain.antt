@@ -22,10 +22,14 @@ pub record Replied : Type 0 where
   pub number : ℕ
   pub reply : Content
 
+-- one item for each pair of nodes
+abbrev pub ByPair : Type 0 → Type 0
+ByPair Item = (from to : ℕ) → Item
+
 pub record Plain (Local : Type 0) : Type 0 where
-  pub requests : ℕ → ℕ → List Labelled  -- the accepted requests of each pair, the earliest first
-  pub runs : ℕ → ℕ → List Replied  -- what was run of each pair, the earliest first
-  pub back : ℕ → ℕ → ℕ → Bool  -- whether the credit of this request of the pair came back
+  pub requests : ByPair (List Labelled)  -- the accepted requests of each pair, the earliest first
+  pub runs : ByPair (List Replied)  -- what was run of each pair, the earliest first
+  pub back : ByPair (ℕ → Bool)  -- whether the credit of this request of the pair came back
   pub local : ℕ → Local  -- what else each node keeps
 
 -- before all events
@@ -116,9 +120,9 @@ plain_held settings plain node = sum_below (plain_held_with settings plain node)
 
 -- ---- what a step leaves
 
--- f, but x at that pair
-abbrev pub put_pair : {X : Type 0} → (ℕ → ℕ → X) → (from to : ℕ) → X → ℕ → ℕ → X
-put_pair f from to x = put f from (put (f from) to x)
+-- the items, but this one at that pair
+abbrev pub put_pair : {Item : Type 0} → ByPair Item → (from to : ℕ) → Item → ByPair Item
+put_pair items from to item = put items from (put (items from) to item)
 
 -- the node keeps this
 abbrev pub with_plain : {Local : Type 0} → Plain Local → (node : ℕ) → Local → Plain Local

@@ -9,5 +9,6 @@ returns-clause-stands c = λ nodes me kept stood.
     let inside = c.self.inside in
     let before = subst (λ state. Stands nodes me state kept) (sym c.self.view_is) stood in
     rw c.no_part-self-inside.ensures
-    (stands_try nodes me (fields_view inside) kept c.in-Some.own c.args.id c.args.flags c.args.worn before (omega arith)
+    (stands_try nodes me (fields_view inside) kept c.in-Some.own
+    (record { id = c.args.id; flags = c.args.flags; worn = c.args.worn }) before (omega arith)
     c.in-Some.is (grind (arith, c.has_all.ensures, c.if-not-has_all.false)))
