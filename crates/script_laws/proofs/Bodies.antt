@@ -54,7 +54,7 @@ source_fits source low = search rules
 zero_fits : FitsSigned w32 (pos 0)
 zero_fits = search rules
 
-number_at : (numbers : List ℤ) (place : ℕ) → AreNumbers numbers → FitsSigned w32 (slice_index_or numbers place (pos 0))
+pub number_at : (numbers : List ℤ) (place : ℕ) → AreNumbers numbers → FitsSigned w32 (slice_index_or numbers place (pos 0))
 number_at [] place all = zero_fits
 number_at (number ∷ numbers) zero all = all.0
 number_at (number ∷ numbers) (suc place) all = number_at numbers place all.1
@@ -73,7 +73,7 @@ operands_fit cells args (one ∷ operands) is all given =
 
 -- ---- bytes
 
-said_bytes : (bytes : List ℕ) → AllByRecursion (λ (byte : ℕ). byte < 256) bytes → AreBytes bytes
+pub said_bytes : (bytes : List ℕ) → AllByRecursion (λ (byte : ℕ). byte < 256) bytes → AreBytes bytes
 said_bytes [] all place = bytes_none place
 said_bytes (byte ∷ bytes) all zero = all.0
 said_bytes (byte ∷ bytes) all (suc place) = said_bytes bytes all.1 place

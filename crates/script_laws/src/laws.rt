@@ -1,15 +1,18 @@
-//! What holds of the handlers of a job's text.
+//! What holds of the handlers and calls of a job's text.
 
-ghost use Rattle.script_laws.specs.Fitting.{HandlersFit, JobsFit};
+ghost use Rattle.script_laws.specs.Fitting.{HandlersFit, JobsFit, CallsFit};
 
-/// Carries what this crate proves of the handlers of a job's text, for the check alone: it has no
+/// Carries what this crate proves of the handlers and calls of a job's text, for the check alone: it has no
 /// code.
 ///
 /// `handlers`: handlers whose words can be said in a text leave and say what fits. `jobs`: with
-/// settings that can be said they make a fitting job.
+/// settings that can be said they make a fitting job. `calls`: what a call that can be said says
+/// and writes fits, where the cells of its node are numbers of 32 bits.
 pub fn fitting_law()
     // What a body leaves and says fits, where what it finds does.
     ensures handlers { HandlersFit }
     // The job of such settings and handlers is fitting.
     ensures jobs { JobsFit }
+    // What a call says and writes fits, where the cells of its node do.
+    ensures calls { CallsFit }
 {}

@@ -1,6 +1,7 @@
--- The handlers of a text.
+-- The handlers and calls of a text.
 use Rattle.script_laws.proofs.Bodies.{handlers_fit, job_fits}
+use Rattle.script_laws.proofs.Calls.{calls_fit}
 use Rattle.script_laws.proofs.laws.fitting_law.Goals as goal
 
 pub returns : goal.returns
-returns c = record { handlers = handlers_fit; jobs = job_fits }
+returns c = record { handlers = handlers_fit; jobs = job_fits; calls = calls_fit }

@@ -1,0 +1,69 @@
+-- What a call of a schedule says and writes fits, where the cells of its node do.
+use Rattle.std.proofs.Common.{List, [], ◌∷◌, map, arith, ℤ}
+use Rattle.std.specs.List.{AllByRecursion}
+use Rattle.std.specs.Int.{w32}
+use Rattle.std.specs.Int.RustNames.{FitsSigned}
+use Rattle.job_text.specs.Calls.{IsCall}
+use Rattle.job_text.specs.Payloads.{IsPayload}
+use Rattle.job_text.specs.Words.{IsScheduleOperand}
+use Rattle.job_text.specs.declared.job.Operand.{Operand}
+use Rattle.job_text.specs.declared.job.Operand.TheVariants as operand
+use Rattle.job_text.specs.declared.job.Payload.{Payload}
+use Rattle.job_text.specs.declared.job.Payload.TheVariants as payload
+use Rattle.job_text.specs.declared.job.ScheduledCall.{ScheduledCall}
+use Rattle.job_text.specs.declared.job.ScheduledCall.TheVariants as call
+use Rattle.node_script.specs.Bodies.{operand_value}
+use Rattle.node_script.specs.ScheduledCalls.{meant_by, given_from}
+use Rattle.node_runs.specs.Fitting.{AreNumbers, CallFits, PayloadFits}
+use Rattle.node_runs.proofs.Bytes.{bytes_none}
+use Rattle.script_laws.proofs.Bodies.{number_at, said_bytes}
+
+-- a number of a schedule
+operand_fits : (cells : List ℤ) (one : Operand) → AreNumbers cells → IsScheduleOperand one
+    → FitsSigned w32 (operand_value cells [] one)
+operand_fits cells (operand.Number number) all is = is
+operand_fits cells (operand.Cell cell) all is = number_at cells cell all
+operand_fits cells (operand.Argument place) all is = absurd is
+
+operands_fit : (cells : List ℤ) (operands : List Operand) → AreNumbers cells
+    → AllByRecursion IsScheduleOperand operands → AreNumbers (map (operand_value cells []) operands)
+operands_fit cells [] all is = tt
+operands_fit cells (one ∷ operands) all is =
+    (operand_fits cells one all is.0, operands_fit cells operands all is.1)
+
+-- a payload of a schedule
+payload_fits : (load : Payload) → IsPayload load → PayloadFits (given_from load)
+payload_fits (payload.Bytes bytes) is = said_bytes bytes is.1
+payload_fits (payload.Range offset len) is = tt
+payload_fits payload.Message is = absurd is
+
+pub calls_fit : (cells : List ℤ) (one : ScheduledCall) → AreNumbers cells → IsCall one → CallFits (meant_by cells one)
+calls_fit cells (call.Short to handler operands) all is = (operands_fit cells operands all is.0.1.1.2, bytes_none)
+calls_fit cells (call.Medium text) all is =
+    (operands_fit cells text.operands all is.0.1.1.1.2, payload_fits text.payload is.0.1.1.0)
+calls_fit cells (call.Long text) all is =
+    (operands_fit cells text.operands all is.0.1.1.1.1.2, payload_fits text.payload is.0.1.1.0)
+calls_fit cells (call.LongAsync text) all is =
+    (operands_fit cells text.operands all is.0.1.1.1.1.2, payload_fits text.payload is.0.1.1.0)
+calls_fit cells (call.SetCell cell number) all is = operand_fits cells number all is.0.1.0
+calls_fit cells (call.Set offset bytes) all is = said_bytes bytes is.0.1.0.1
+calls_fit cells (call.Fill offset len byte) all is = let low = is.0.1.1.0.1 in omega (arith, low)
+calls_fit cells (call.Lock lock) all is = tt
+calls_fit cells (call.Unlock lock) all is = tt
+calls_fit cells call.Poll all is = tt
+calls_fit cells (call.Attempt kind) all is = tt
+calls_fit cells (call.Cell cell) all is = tt
+calls_fit cells (call.Show offset len) all is = tt
+calls_fit cells (call.Word offset) all is = tt
+calls_fit cells (call.SetWord offset number) all is = tt
+calls_fit cells (call.Begin register transfer) all is = tt
+calls_fit cells (call.BeginImplicit transfer) all is = tt
+calls_fit cells (call.IsIssued register) all is = tt
+calls_fit cells (call.Sync register) all is = tt
+calls_fit cells (call.SyncAll registers) all is = tt
+calls_fit cells (call.SyncSome registers) all is = tt
+calls_fit cells (call.SyncImplicit which) all is = tt
+calls_fit cells call.RegionBegin all is = tt
+calls_fit cells (call.RegionEnd register) all is = tt
+calls_fit cells (call.Notify id flags) all is = tt
+calls_fit cells (call.TryBarrier id flags) all is = tt
