@@ -1,13 +1,14 @@
 -- Fronts of machines are those of the machines that they become.
-use Rattle.std.proofs.Common.{◌≡◌, ℕ, zero, suc, List, [], ◌∷◌, ◌++◌, map, take, Option, None, Some, refl, sym, ap, ap₂}
+use Rattle.std.proofs.Common.{◌≡◌, ℕ, zero, suc, List, [], ◌∷◌, ◌++◌, map, length, take, Option, None, Some, refl, sym, ap, ap₂}
 use Rattle.std.proofs.Common.{◌∙◌, subst, slice_get, slice_index, IsSomeAnd}
 use Rattle.std.specs.List.{Contains}
-use Rattle.std.specs.Option.{option_map}
+use Rattle.std.specs.Option.{option_map, option_to_list}
 use Rattle.machine.specs.declared.entry.Entry.{Entry}
 use Rattle.machine.specs.declared.turns.Turned.{Turned}
 use Rattle.machine.specs.Replay.{Steps, replayed, sent_in, given_by}
-use Rattle.machine.specs.Fronts.{Node, replay, sent_of, advance, WasSent, CanGet, CanGo, GoesOn}
-use Rattle.node_runs.specs.Merged.{Carries, carried}
+use Rattle.machine.specs.Fronts.{Node, replay, sent_of, start, full, advance, WasSent, CanGet, CanGo, GoesOn}
+use Rattle.node_runs.specs.Order.{NodeEntry}
+use Rattle.node_runs.specs.Merged.{next_of, order_of, Carries, carried}
 
 slice_get-map : {A B : Type 0} (f : A → B) (xs : List A) (i : ℕ)
     → slice_get (map f xs) i ≡ option_map f (slice_get xs i)
@@ -83,3 +84,28 @@ pub goes_back : {M N : Type 0} (f : M → N) (g : Steps M) (h : Steps N) → Car
 goes_back f g h C nodes [] front to go = go
 goes_back f g h C nodes (n ∷ list) front to go =
     (can_go_back f g h C nodes front n go.0, goes_back f g h C nodes list (advance front n) to go.1)
+
+-- ---- fronts and orders don't read the states
+
+pub start_same : {M N : Type 0} (f : M → N) (nodes : List (Node M)) → start (map (carried f) nodes) ≡ start nodes
+start_same f [] = refl
+start_same f (node ∷ nodes) = ap (λ (front : List ℕ). 0 ∷ front) (start_same f nodes)
+
+pub full_same : {M N : Type 0} (f : M → N) (nodes : List (Node M)) → full (map (carried f) nodes) ≡ full nodes
+full_same f [] = refl
+full_same f (node ∷ nodes) = ap (λ (front : List ℕ). length node.entries ∷ front) (full_same f nodes)
+
+next_same : {M N : Type 0} (f : M → N) (count : ℕ) (o : Option (Node M))
+    → next_of count (option_map (carried f) o) ≡ next_of count o
+next_same f count None = refl
+next_same f count (Some node) = refl
+
+pub order_same : {M N : Type 0} (f : M → N) (nodes : List (Node M)) (front list : List ℕ)
+    → order_of (map (carried f) nodes) front list ≡ order_of nodes front list
+order_same f nodes front [] = refl
+order_same f nodes front (n ∷ list) =
+    ap₂ (λ (next : Option Entry) (later : List NodeEntry).
+    option_to_list (option_map (λ (entry : Entry). record { node = n; entry = entry }) next) ++ later)
+    (ap (next_of (slice_index front n)) (slice_get-map (carried f) nodes n)
+    ∙ next_same f (slice_index front n) (slice_get nodes n))
+    (order_same f nodes (advance front n) list)

@@ -1,5 +1,5 @@
 -- Entries of endpoints' nodes that can go in an order are a run of the world, with all that holds of every run.
-use Rattle.std.proofs.Common.{◌≡◌, ℕ, ◌≤◌, List, [], Option, Some, refl, ap, ◌∙◌, subst, arith, length}
+use Rattle.std.proofs.Common.{sym, ◌≡◌, ℕ, ◌≤◌, List, [], Option, Some, refl, ap, ◌∙◌, subst, arith, length, map, subst₂}
 use Rattle.std.specs.List.{slice_get}
 use Rattle.datagram_grammar.specs.Parameters.{Parameters}
 use Rattle.handler_rules.specs.declared.table.Entry.{Entry as TableEntry}
@@ -17,16 +17,18 @@ use Rattle.transfer_laws.proofs.Laws.{transfers_hold}
 use Rattle.barrier_laws.proofs.Laws.{barrier_holds}
 use Rattle.machine.specs.declared.entry.Entry.{Entry}
 use Rattle.machine.specs.Fronts.{start, full, GoesOn}
+use Rattle.machine.specs.Replay.{Steps}
 use Rattle.node_runs.specs.Scripts.{Scripts}
 use Rattle.node_runs.specs.Actions.{Reading, OwnScripts, scripts_of, ActionsMay}
 use Rattle.node_runs.specs.Turn.{MachineState}
-use Rattle.node_runs.specs.Order.{NodeEntry, own_entries, job_steps, GoInOrder}
-use Rattle.node_runs.specs.Merged.{nodes_from, order_of}
+use Rattle.node_runs.specs.Order.{Ranked, NodeEntry, own_entries, job_steps, GoInOrder}
+use Rattle.node_runs.specs.Merged.{nodes_from, order_of, Carries, carried}
 use Rattle.node_runs.specs.Fitting.{KeptFits, CallFits, IsFittingJob}
 use Rattle.node_runs.specs.WorldRun.{IsWorldRun, endpoint_job, opening_machines, joined}
 use Rattle.node_runs.proofs.Turns.{AreWritten}
 use Rattle.node_runs.proofs.Runs.{run_from_opening}
 use Rattle.node_runs.proofs.Acting.{are_written}
+use Rattle.node_runs.proofs.Carrying.{goes_back, start_same, full_same, order_same}
 use Rattle.node_runs.proofs.Fronting.{after_own, merged_order, merged_own}
 use Rattle.node_runs.proofs.Mosts.{run_most}
 use Rattle.node_runs.proofs.Speaking.{EventFits, are_spoken, call_event_fits, opening_fits}
@@ -104,3 +106,34 @@ merged_run settings table meaning form own traces list fitting acts few go =
     let it = scripts_run settings table meaning form own (order_of nodes (start nodes) list) fitting acts
     (merged_order job machines traces list few go) in
     (it.0, it.1, λ node trace there. merged_own job machines traces list node trace there go)
+
+-- of states with more in them
+pub states_run : {Action State : Type 0} (settings : Parameters) (table : List (Option TableEntry)) (meaning : Meaning)
+    (form : Reading EndpointLocal Action) (become : Ranked EndpointLocal (OwnScripts Action) → State)
+    (steps : Steps State) (own : ℕ → OwnScripts Action) (traces : List (List Entry)) (list : List ℕ)
+    → IsFittingJob settings table meaning
+    → ((node : ℕ) → ActionsMay KeptFits CallFits form (own node))
+    → length traces ≤ settings.nodes
+    → Carries become (job_steps (endpoint_job settings table meaning (scripts_of form))) steps
+    → let nodes = map (carried become) (nodes_from (opening_machines settings own) 0 traces) in
+    GoesOn steps nodes (start nodes) list (full nodes)
+    → (turns : List (List (Timed OtherCall)))
+    × IsWorldRun settings table meaning (scripts_of form) own (order_of nodes (start nodes) list) turns
+    × ((node : ℕ) (trace : List Entry) → slice_get traces node ≡ Some trace
+    → own_entries node (order_of nodes (start nodes) list) ≡ trace)
+states_run settings table meaning form become steps own traces list fitting acts few carries go =
+    let nodes = nodes_from (opening_machines settings own) 0 traces in
+    let same : order_of (map (carried become) nodes) (start (map (carried become) nodes)) list
+    ≡ order_of nodes (start nodes) list =
+    order_same become nodes (start (map (carried become) nodes)) list
+    ∙ ap (λ (front : List ℕ). order_of nodes front list) (start_same become nodes) in
+    let gone = subst₂ (λ (front to : List ℕ). GoesOn steps (map (carried become) nodes) front list to)
+    (start_same become nodes) (full_same become nodes) go in
+    let it = merged_run settings table meaning form own traces list fitting acts few
+    (goes_back become (job_steps (endpoint_job settings table meaning (scripts_of form))) steps carries nodes list
+    (start nodes) (full nodes) gone) in (
+      it.0,
+      subst (λ (items : List NodeEntry). IsWorldRun settings table meaning (scripts_of form) own items it.0) (sym same)
+          it.1,
+      λ node trace there. ap (own_entries node) same ∙ it.2 node trace there,
+    )

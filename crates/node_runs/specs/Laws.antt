@@ -1,6 +1,7 @@
 -- What holds of turns, and of orders of entries in which each can go.
 -- Origin: this project's profile.
-use Rattle.std.specs.Prelude.{ℕ, ◌≡◌, ◌≤◌, true, false, List, [], Option, None, Some, length, slice_get}
+use Rattle.std.specs.Prelude.{ℕ, ◌≡◌, ◌≤◌, true, false, List, [], Option, None, Some, length, map}
+use Rattle.std.specs.Prelude.{slice_get}
 use Rattle.datagram_grammar.specs.Parameters.{Parameters, AreInRange}
 use Rattle.datagram_grammar.specs.Content.{is_version}
 use Rattle.handler_rules.specs.declared.table.Entry.{Entry as TableEntry}
@@ -12,12 +13,13 @@ use Rattle.endpoint_rules.specs.EndpointRules.{OtherCall, RecordEvent, job_of}
 use Rattle.endpoint_rules.specs.declared.answer.Answer.{Answer}
 use Rattle.machine.specs.declared.entry.Entry.{Entry}
 use Rattle.machine.specs.Fronts.{Node, start, full, Reaches}
+use Rattle.machine.specs.Replay.{Steps}
 use Rattle.node_runs.specs.Scripts.{NodeJob}
 use Rattle.node_runs.specs.Turn.{MachineState, turn_events}
 use Rattle.node_runs.specs.Outgoing.{StaysWell, ComesFirst, SentStands}
 use Rattle.node_runs.specs.Actions.{Reading, OwnScripts, scripts_of, ActionsMay}
 use Rattle.node_runs.specs.Order.{Ranked, job_steps, NodeEntry, own_entries, GoInOrder}
-use Rattle.node_runs.specs.Merged.{nodes_from, order_of}
+use Rattle.node_runs.specs.Merged.{nodes_from, order_of, Carries, carried}
 use Rattle.node_runs.specs.Fitting.{AreBytes, KeptFits, CallFits, IsFittingJob}
 use Rattle.node_runs.specs.WorldRun.{IsWorldRun, endpoint_job, opening_machines}
 
@@ -65,6 +67,22 @@ IsMergeARun {Action} form =
     × IsWorldRun settings table meaning (scripts_of form) own (merged settings own traces list) turns
     × ((node : ℕ) (trace : List Entry) → slice_get traces node ≡ Some trace
     → own_entries node (merged settings own traces list) ≡ trace)
+
+-- the same where the machines are states with more in them, of which is known what is known of the machines
+abbrev pub AreStatesARun : {Action State : Type 0}
+    → Reading EndpointLocal Action → (become : Ranked EndpointLocal (OwnScripts Action) → State) → Steps State → Type 0
+AreStatesARun {Action} {State} form become steps =
+    (settings : Parameters) (table : List (Option TableEntry)) (meaning : Meaning) (own : ℕ → OwnScripts Action)
+    (traces : List (List Entry)) (list : List ℕ)
+    → MayRun settings table meaning form own
+    → length traces ≤ settings.nodes
+    → Carries become (job_steps (endpoint_job settings table meaning (scripts_of form))) steps
+    → let nodes = map (carried become) (nodes_with settings own traces) in
+    Reaches steps nodes list (full nodes)
+    → (turns : List (List (Timed OtherCall)))
+    × IsWorldRun settings table meaning (scripts_of form) own (order_of nodes (start nodes) list) turns
+    × ((node : ℕ) (trace : List Entry) → slice_get traces node ≡ Some trace
+    → own_entries node (order_of nodes (start nodes) list) ≡ trace)
 
 -- ---- turns
 

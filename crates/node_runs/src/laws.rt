@@ -4,9 +4,10 @@ ghost use Rattle.std.specs.Prelude.{◌≡◌, ℕ, List, map};
 ghost use Rattle.endpoint_rules.specs.EndpointLocal.{EndpointLocal};
 ghost use Rattle.machine.specs.Fronts.{Node as FrontNode, GoesOn};
 ghost use Rattle.machine.specs.Replay.{Steps};
-ghost use Rattle.node_runs.specs.Actions.{Reading};
+ghost use Rattle.node_runs.specs.Actions.{Reading, OwnScripts};
+ghost use Rattle.node_runs.specs.Order.{Ranked};
 ghost use Rattle.node_runs.specs.Empty.{IsCalm, EmptyTurnsLeave};
-ghost use Rattle.node_runs.specs.Laws.{IsOrderARun, IsMergeARun};
+ghost use Rattle.node_runs.specs.Laws.{IsOrderARun, IsMergeARun, AreStatesARun};
 ghost use Rattle.node_runs.specs.Laws.{WaitingLeaves, TurnsComeFirst, TheySentStands};
 ghost use Rattle.node_runs.specs.Merged.{Carries, carried};
 ghost use Rattle.node_runs.specs.Scripts.{NodeJob};
@@ -21,6 +22,14 @@ pub fn run_law<A>()
 /// of the world, and those of each node in it are the node's trace.
 pub fn merge_law<A>()
     ensures run { (form : Reading EndpointLocal A) → IsMergeARun form }
+{}
+
+/// The same where the machines are states with more in them, of type `S`, of which is known what is
+/// known of the machines.
+pub fn states_law<A, S>()
+    ensures run { (form : Reading EndpointLocal A)
+        (become : Ranked EndpointLocal (OwnScripts A) → S) (steps : Steps S)
+        → AreStatesARun form become steps }
 {}
 
 /// An order of the entries of machines is one of the machines that they become.

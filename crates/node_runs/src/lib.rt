@@ -17,6 +17,7 @@
 //!   `specs/Fitting.antt`).
 //! - `merge_law` [`run`]: so it is of the order by which a list of nodes reaches the front that has all entries
 //!   (`Reaches`), and the entries of each node in it are the node's trace.
+//! - `states_law` [`run`]: the same at states with more in them, as those for which a machine stands.
 //! - `carrying_law`: what can go of machines that others become can go of them.
 //! - `empty_law`: an empty turn leaves the machine, where a try that waits leaves the record (`IsCalm`); `waiting_law`: a
 //!   try that neither ends nor begins its step leaves the scripts.
@@ -25,4 +26,6 @@
 
 mod laws;
 
-pub use laws::{carrying_law, empty_law, merge_law, outgoing_law, run_law, waiting_law};
+pub use laws::{
+    carrying_law, empty_law, merge_law, outgoing_law, run_law, states_law, waiting_law,
+};
