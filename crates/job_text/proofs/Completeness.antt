@@ -26,6 +26,7 @@ use Rattle.job_text.specs.JobText.{IsScheduleOrNone, with_first_pairs, IsJob}
 use Rattle.job_text.specs.declared.job.Action.{Action}
 use Rattle.job_text.specs.declared.job.HandlerText.{HandlerText}
 use Rattle.job_text.specs.declared.job.Job.{Job}
+use Rattle.job_text.specs.declared.job.NodeScript.{NodeScript}
 use Rattle.job_text.specs.declared.job.TimedEvent.{TimedEvent}
 use Rattle.job_text.specs.declared.sections.Section.TheVariants as section
 use Rattle.job_text.proofs.Freshness.{AreFresh, AreNew, apart_fresh, fresh_to}
@@ -169,6 +170,7 @@ of_head job pairs = record {
   patience = job.patience;
   sieve = job.sieve;
   handlers = [];
+  scripts = [];
   schedule = None;
 }
 
@@ -590,7 +592,7 @@ pub whole_reach : (job : Job) → IsJob job → Reaches start (job_lines job) (r
 whole_reach job is =
     let first = of_head job job.settings.pairs in
     let last = schedule_lines job.settings job.schedule ++ done_line ∷ [] in
-    let over : State = record { place = Over; job = job } in
+    let over : State = record { place = Over; job = record job { scripts = [] } } in
     let handlers = handlers_reach first [] job.handlers is.handlers (apart_fresh [] job.handlers is.apart
     (fresh_all job.handlers)) is.few_handlers in
     let tail = tail_reach (with_handlers first job.handlers) job.schedule refl is.schedule in
@@ -602,10 +604,12 @@ whole_reach job is =
     let head = reach_join start (record { place = AtPairs; job = of_head job [] })
     (record { place = AtPairs; job = first }) (head_lines job) (map pair_line job.settings.pairs)
     (head_reach job is) (pairs_reach job is [] job.settings.pairs refl) in
-    subst (λ (ls : List Line). Reaches start ls over) (sym (append_assoc (lines_with_pairs job)
+    subst (λ (ss : List NodeScript). Reaches start (job_lines job)
+    (record { place = Over; job = record job { scripts = ss } })) (sym is.no_scripts)
+    (subst (λ (ls : List Line). Reaches start ls over) (sym (append_assoc (lines_with_pairs job)
     (flat_map handler_lines job.handlers) last))
     (reach_join start (record { place = AtPairs; job = first }) over (lines_with_pairs job)
-    (flat_map handler_lines job.handlers ++ last) head behind)
+    (flat_map handler_lines job.handlers ++ last) head behind))
 
 -- the text of a job is read as that job
 pub job_read : (job : Job) → IsJob job → read start 1 (job_text job) ≡ Ok job

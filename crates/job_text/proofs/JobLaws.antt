@@ -93,6 +93,7 @@ pub record IsHead (job : Job) : Type 0 where
   pub sieve : IsSieve job.sieve
   pub pairs : job.settings.pairs ≡ []
   pub handlers : job.handlers ≡ []
+  pub no_scripts : job.scripts ≡ []
   pub schedule : job.schedule ≡ None
 
 -- no pair, none of the first ones
@@ -125,6 +126,7 @@ pub record IsSound (job : Job) : Type 0 where
   pub few_handlers : length job.handlers ≤ 128
   pub handlers : AllByRecursion IsHandler job.handlers
   pub fresh : AreFresh [] job.handlers
+  pub no_scripts : job.scripts ≡ []
   pub schedule : IsScheduleOrNone job.settings job.schedule
 
 -- it is a job
@@ -140,6 +142,7 @@ sound_job job is = record {
   few_handlers = is.few_handlers;
   handlers = is.handlers;
   apart = fresh_apart [] job.handlers is.fresh;
+  no_scripts = is.no_scripts;
   schedule = is.schedule;
 }
 
@@ -161,6 +164,7 @@ head_sound job is =
       few_handlers = none.0;
       handlers = none.1;
       fresh = none.2;
+      no_scripts = is.no_scripts;
       schedule = none_is job.settings job.schedule is.schedule;
     }
 
@@ -210,6 +214,7 @@ pair_sound job pair is fits low high new few none =
       few_handlers = is.few_handlers;
       handlers = is.handlers;
       fresh = is.fresh;
+      no_scripts = is.no_scripts;
       schedule = none_is (with_pair s pair) job.schedule none;
     }
 
@@ -234,6 +239,7 @@ handler_sound job handler is one new few = record {
   few_handlers = simp length-append (omega arith);
   handlers = all_more IsHandler job.handlers handler is.handlers one;
   fresh = fresh_more [] job.handlers handler is.fresh (fresh_from job.handlers handler.index new);
+  no_scripts = is.no_scripts;
   schedule = is.schedule;
 }
 
@@ -252,6 +258,7 @@ empty_sound job is = record {
   few_handlers = is.few_handlers;
   handlers = is.handlers;
   fresh = is.fresh;
+  no_scripts = is.no_scripts;
   schedule = record { count = omega arith; rounds = omega arith; rounds_of_nodes = omega arith; events_are = tt };
 }
 
@@ -292,6 +299,7 @@ line_sound job t is some one free = record {
   few_handlers = is.few_handlers;
   handlers = is.handlers;
   fresh = is.fresh;
+  no_scripts = is.no_scripts;
   schedule = schedule_more job.settings (lines_of job.schedule) t
       (some_is job.settings job.schedule some is.schedule) one (full_by
       (is_full job.settings.nodes (length (lines_of job.schedule)) (total_rounds

@@ -82,6 +82,7 @@ start_is = (
     sieve = record { lose = omega arith; repeat = omega arith; swap = omega arith };
     pairs = refl;
     handlers = refl;
+    no_scripts = refl;
     schedule = refl;
   },
   (refl, refl, refl),
@@ -97,6 +98,7 @@ head_more Version number job is all = record {
   sieve = is.sieve;
   pairs = is.pairs;
   handlers = is.handlers;
+  no_scripts = is.no_scripts;
   schedule = is.schedule;
 }
 head_more Patience number job is all = record {
@@ -104,6 +106,7 @@ head_more Patience number job is all = record {
   sieve = is.sieve;
   pairs = is.pairs;
   handlers = is.handlers;
+  no_scripts = is.no_scripts;
   schedule = is.schedule;
 }
 head_more setting number job is all = record {
@@ -111,6 +114,7 @@ head_more setting number job is all = record {
   sieve = is.sieve;
   pairs = is.pairs;
   handlers = is.handlers;
+  no_scripts = is.no_scripts;
   schedule = is.schedule;
 }
 
@@ -137,6 +141,7 @@ sieve_head job rule is one = record {
   sieve = one;
   pairs = is.pairs;
   handlers = is.handlers;
+  no_scripts = is.no_scripts;
   schedule = is.schedule;
 }
 

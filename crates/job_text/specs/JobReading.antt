@@ -47,6 +47,7 @@ least_job = record {
   patience = 1;
   sieve = record { lose = 0; repeat = 0; swap = 0 };
   handlers = [];
+  scripts = [];
   schedule = None;
 }
 
@@ -57,6 +58,7 @@ job_of_head head = record {
   patience = head.patience;
   sieve = head.sieve;
   handlers = [];
+  scripts = [];
   schedule = None;
 }
 

@@ -131,6 +131,7 @@ pub record IsJob (job : Job) : Type 0 where
   pub few_handlers : length job.handlers ≤ 128
   pub handlers : AllByRecursion IsHandler job.handlers
   pub apart : AreApart job.handlers
+  pub no_scripts : job.scripts ≡ []
   pub schedule : IsScheduleOrNone job.settings job.schedule
 
 -- the text of a job

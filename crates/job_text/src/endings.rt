@@ -7,21 +7,23 @@ ghost use Rattle.job_text.specs.Reading.{Finds, GivesAt, Continues};
 ghost use Rattle.job_text.specs.declared.job.Job.{Job as JobState};
 
 use crate::fault::{JobFault, JobWhy, Other};
-use crate::job::{HandlerText, HandlerTexts, Head, Job};
+use crate::job::{HandlerText, HandlerTexts, Head, Job, NodeScripts};
 use crate::reasons::reason_of;
 use crate::schedules::schedule_at;
 use crate::words::{ended, is_name, name_of};
 use std::alloc::Global;
 
 /// The job of a head and these handlers, without a schedule.
-pub fn job_with(head: Head, texts: Vec<HandlerText>) -> Job
+pub fn job_with(alloc: Global, head: Head, texts: Vec<HandlerText>) -> Job
     ensures { result ≡ record (job_of_head head) { handlers = texts.items } }
 {
+    let scripts = Vec::new(alloc);
     Job {
         settings: head.settings,
         patience: head.patience,
         sieve: head.sieve,
         handlers: HandlerTexts { texts },
+        scripts: NodeScripts { scripts },
         schedule: None,
     }
 }

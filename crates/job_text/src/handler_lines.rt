@@ -154,10 +154,10 @@ pub fn handlers_at(alloc: Global, head: Head, first: u32, bytes: &[u8]) -> Resul
                 line = later;
             }
             Section::Schedule => {
-                return tail_at(alloc, job_with(head, texts), true, line + 1, after);
+                return tail_at(alloc, job_with(alloc, head, texts), true, line + 1, after);
             }
             Section::Done => {
-                return tail_at(alloc, job_with(head, texts), false, line + 1, after);
+                return tail_at(alloc, job_with(alloc, head, texts), false, line + 1, after);
             }
         }
     }

@@ -35,7 +35,8 @@ mod words;
 pub use fault::{JobFault, JobWhy};
 pub use job::{
     Action, Body, BoxedLong, BoxedMedium, BoxedTransfer, Bytes, HandlerText, HandlerTexts,
-    ImplicitKind, Job, ListedLocks, LongText, MediumText, Operand, Operands, Payload, Registers,
-    ReplyAction, Schedule, ScheduledCall, ScheduledEvent, SieveRule, TimedEvent, TransferText,
+    ImplicitKind, Job, ListedLocks, LongText, MediumText, NodeScript, NodeScripts, Operand,
+    Operands, Payload, PutText, Registers, ReplyAction, Schedule, ScheduledCall, ScheduledEvent,
+    ScriptStep, ScriptSteps, SieveRule, TimedEvent, TransferText, WaitingStep,
 };
 pub use reading::read_job;
