@@ -28,8 +28,10 @@ mod payloads;
 mod reading;
 mod reasons;
 mod schedules;
+mod script_lines;
 mod sections;
 mod transfer_calls;
+mod waiting_steps;
 mod words;
 
 pub use fault::{JobFault, JobWhy};
