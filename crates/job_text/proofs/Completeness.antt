@@ -13,19 +13,25 @@ use Rattle.datagram_grammar.proofs.Credits.{even_sum, last_pair}
 use Rattle.job_text.specs.Forms.{IsSaid, U8}
 use Rattle.job_text.specs.Bodies.{action_text, IsAction}
 use Rattle.job_text.specs.Events.{IsTimed}
+use Rattle.job_text.specs.Scripts.{step_text, IsStep}
 use Rattle.job_text.specs.Places.{Setting, Version, Nodes, Credits, Threads, Segment, Last, Resend, Patience}
 use Rattle.job_text.specs.Places as places
-use Rattle.job_text.specs.Places.{Place, AtSetting, AtSieve, AtPairs, AtHandlers, AtBody, AtSchedule, AtDone, Over}
-use Rattle.job_text.specs.Places.{Item, item_text, IsItem, OfPair, OfSection, least, greatest, setting_fits, in_place}
+use Rattle.job_text.specs.Places.{Place, AtSetting, AtSieve, AtPairs, AtHandlers, AtBody, AtScripts, AtSteps}
+use Rattle.job_text.specs.Places.{AtSchedule, AtDone, Over}
+use Rattle.job_text.specs.Places.{Named, Other, Item, item_text, IsItem, least, greatest, setting_fits, in_place}
 use Rattle.job_text.specs.Places.{pair_fits}
 use Rattle.job_text.specs.JobReading.{State, least_job, start, with_number, behind_setting, with_body, with_handler}
-use Rattle.job_text.specs.JobReading.{total_rounds, next, has_index, has_pair, rounds_of, is_full, read}
+use Rattle.job_text.specs.JobReading.{with_steps, with_script, total_rounds, next, has_index, has_pair, has_thread}
+use Rattle.job_text.specs.JobReading.{rounds_of, is_full, read}
 use Rattle.job_text.specs.JobText.{Line, spell, setting_line, sieve_line, pair_line, handler_lines, timed_lines}
-use Rattle.job_text.specs.JobText.{schedule_lines, head_lines, lines_with_pairs, job_lines, job_text, IsHandler}
-use Rattle.job_text.specs.JobText.{IsScheduleOrNone, with_first_pairs, IsJob}
+use Rattle.job_text.specs.JobText.{script_lines, schedule_lines, head_lines, lines_with_pairs, lines_with_handlers}
+use Rattle.job_text.specs.JobText.{job_lines, job_text, IsHandler, IsNodeScript, AreThreads, IsScheduleOrNone}
+use Rattle.job_text.specs.JobText.{with_first_pairs, IsJob}
 use Rattle.job_text.specs.declared.job.Action.{Action}
 use Rattle.job_text.specs.declared.job.HandlerText.{HandlerText}
 use Rattle.job_text.specs.declared.job.Job.{Job}
+use Rattle.job_text.specs.declared.job.NodeScript.{NodeScript}
+use Rattle.job_text.specs.declared.job.ScriptStep.{ScriptStep}
 use Rattle.job_text.specs.declared.job.TimedEvent.{TimedEvent}
 use Rattle.job_text.specs.declared.sections.Section.TheVariants as section
 use Rattle.job_text.proofs.Freshness.{AreFresh, AreNew, apart_fresh, fresh_to}
@@ -33,6 +39,7 @@ use Rattle.job_text.proofs.LockLaws.{AreLocks, listed_locks}
 use Rattle.job_text.proofs.LineRuns.{line_again, read_on, over_good}
 use Rattle.job_text.proofs.Ranges.{AreNumbers, sum_beside}
 use Rattle.job_text.proofs.StateLaws.{done_line, end_line}
+use Rattle.job_text.proofs.Threads.{threads_new}
 
 -- ---- lines that lead from one state to another
 
@@ -169,6 +176,7 @@ of_head job pairs = record {
   patience = job.patience;
   sieve = job.sieve;
   handlers = [];
+  scripts = [];
   schedule = None;
 }
 
@@ -295,7 +303,7 @@ pub record IsNext (settings : Parameters) (front : List PairCredits) (pair : Pai
   pub few : length front < 64
 
 pair_item : (settings : Parameters) (front : List PairCredits) (pair : PairCredits) → IsNext settings front pair
-    → IsItem AtPairs (with_pairs settings front) (OfPair pair)
+    → IsItem AtPairs (with_pairs settings front) (Named pair)
 pair_item settings front pair n =
     let i = n.is in
     let sum : credits_in_all (in_place (with_pairs settings front) pair) ≤ 65536 = rw (← sum_beside
@@ -349,7 +357,7 @@ pairs_reach job is front [] e = ap (λ (ps : List PairCredits). record { place =
 pairs_reach job is front (pair ∷ rest) e =
     let n = next_pair job is front pair rest e in
     record {
-      item = OfPair pair;
+      item = Named pair;
       to = record { place = AtPairs; job = of_head job (front ++ pair ∷ []) };
       text = refl;
       is = pair_item job.settings front pair n;
@@ -419,7 +427,7 @@ handler_reach : (h : HandlerText) (job : Job) → IsHandler h → has_index job.
 handler_reach h job is new few =
     let high = index_high h.index is.index in
     record {
-      item = section.Handler h.index h.role h.locks;
+      item = Named (record { index = h.index; role = h.role; locks = h.locks });
       to = record { place = AtBody (with_body [] h); job = job };
       text = refl;
       is = (
@@ -465,7 +473,105 @@ behind_pairs : (job : Job) (line : Line) (lines : List Line) (end : State) → R
     (record { place = AtHandlers; job = job }) (line ∷ lines) end → Reaches (record { place = AtPairs; job = job })
     (line ∷ lines) end
 behind_pairs job line lines end h = record {
-  item = OfSection h.item;
+  item = Other h.item;
+  to = h.to;
+  text = h.text;
+  is = h.is;
+  goes = h.goes;
+  behind = h.behind;
+}
+
+-- ---- scripts
+
+steps_reach : (script : NodeScript) (front rest : List ScriptStep) (job : Job) → AllByRecursion IsStep rest → length
+    (front ++ rest) ≤ 4096
+    → Reaches (record { place = AtSteps (with_steps front script); job = job }) (map step_text rest ++ end_line ∷ [])
+    (record { place = AtScripts; job = with_script (with_steps (front ++ rest) script) job })
+steps_reach script front [] job all few = record {
+  item = None;
+  to = record { place = AtScripts; job = with_script (with_steps front script) job };
+  text = refl;
+  is = tt;
+  goes = refl;
+  behind = ap (λ (steps : List ScriptStep). record {
+    place = AtScripts;
+    job = with_script (with_steps steps script) job;
+  }) (sym (append-nil front));
+}
+steps_reach script front (s ∷ rest) job all few =
+    let many : length (front ++ s ∷ rest) ≡ length front + suc (length rest) = simp length-append in
+    record {
+      item = Some s;
+      to = record { place = AtSteps (with_steps (front ++ s ∷ []) script); job = job };
+      text = refl;
+      is = all.0;
+      goes = rw (lt-leb 4096 (length front) (omega (arith, many))) refl;
+      behind = subst (λ (steps : List ScriptStep). Reaches (record {
+        place = AtSteps (with_steps (front ++ s ∷ []) script);
+        job = job;
+      }) (map step_text rest ++ end_line ∷ []) (record {
+        place = AtScripts;
+        job = with_script (with_steps steps script) job;
+      })) (append_assoc front (s ∷ []) rest)
+          (steps_reach script (front ++ s ∷ []) rest job all.1 (subst (λ
+          (steps : List ScriptStep). length steps ≤ 4096) (sym (append_assoc front (s ∷ []) rest)) few));
+    }
+
+script_reach : (s : NodeScript) (job : Job) → IsNodeScript job.settings.nodes job.settings.threads s
+    → job.settings.nodes ≤ 256 → job.settings.threads ≤ 16 → has_thread job.scripts s.node s.thread ≡ false
+    → Reaches (record { place = AtScripts; job = job }) (script_lines s)
+    (record { place = AtScripts; job = with_script s job })
+script_reach s job is nodes threads new =
+    let node = is.node in
+    let thread = is.thread in
+    record {
+      item = section.Script s.node s.thread;
+      to = record { place = AtSteps (with_steps [] s); job = job };
+      text = refl;
+      is = (
+        (
+          (omega arith, omega (arith, node, nodes), omega (arith, node, nodes)),
+          ((omega arith, omega (arith, thread, threads), omega (arith, thread, threads)), tt),
+        ),
+        and_from _ _ (lt-ltb s.node job.settings.nodes node) (lt-ltb s.thread job.settings.threads thread),
+      );
+      goes = rw new refl;
+      behind = steps_reach s [] s.steps job is.steps is.count;
+    }
+
+abbrev pub with_scripts : Job → List NodeScript → Job
+with_scripts job scripts = record job { scripts = scripts }
+
+scripts_reach : (job : Job) (front rest : List NodeScript) → AllByRecursion
+    (IsNodeScript job.settings.nodes job.settings.threads) rest → job.settings.nodes ≤ 256
+    → job.settings.threads ≤ 16 → AreThreads (front ++ rest)
+    → Reaches (record { place = AtScripts; job = with_scripts job front }) (flat_map script_lines rest)
+    (record { place = AtScripts; job = with_scripts job (front ++ rest) })
+scripts_reach job front [] all nodes threads are = ap (λ (ss : List NodeScript). record {
+  place = AtScripts;
+  job = with_scripts job ss;
+}) (sym (append-nil front))
+scripts_reach job front (s ∷ rest) all nodes threads are =
+    let one = script_reach s (with_scripts job front) all.0 nodes threads (threads_new front rest s are) in
+    let others = scripts_reach job (front ++ s ∷ []) rest all.1 nodes threads (subst AreThreads (sym
+    (append_assoc front (s ∷ []) rest)) are) in
+    reach_join (record { place = AtScripts; job = with_scripts job front })
+    (record { place = AtScripts; job = with_scripts job (front ++ s ∷ []) })
+    (record { place = AtScripts; job = with_scripts job (front ++ s ∷ rest) }) (script_lines s)
+    (flat_map script_lines rest) one
+    (subst (λ (ss : List NodeScript). Reaches (record {
+      place = AtScripts;
+      job = with_scripts job (front
+          ++ s ∷ []);
+    }) (flat_map script_lines rest) (record { place = AtScripts; job = with_scripts job ss }))
+    (append_assoc front (s ∷ []) rest) others)
+
+-- what may come behind scripts may come behind handlers
+behind_handlers : (job : Job) (line : Line) (lines : List Line) (end : State) → Reaches
+    (record { place = AtScripts; job = job }) (line ∷ lines) end → Reaches (record { place = AtHandlers; job = job })
+    (line ∷ lines) end
+behind_handlers job line lines end h = record {
+  item = Other h.item;
   to = h.to;
   text = h.text;
   is = h.is;
@@ -548,7 +654,7 @@ done_reach job = record {
 
 tail_reach : (job : Job) (schedule : Option (List TimedEvent)) → job.schedule ≡ None
     → IsScheduleOrNone job.settings schedule
-    → Reaches (record { place = AtHandlers; job = job }) (schedule_lines job.settings schedule ++ done_line ∷ [])
+    → Reaches (record { place = AtScripts; job = job }) (schedule_lines job.settings schedule ++ done_line ∷ [])
     (record { place = Over; job = record job { schedule = schedule } })
 tail_reach job None e is = record {
   item = section.Done;
@@ -578,6 +684,16 @@ some_lines [] [] last h = cc
 some_lines [] (x ∷ b) last h = cc
 some_lines (x ∷ a) b last h = cc
 
+-- nor where some come last
+some_behind : (a lines : List Line) → (lines ≡ [] → ⊥) → a ++ lines ≡ [] → ⊥
+some_behind [] lines some h = some h
+some_behind (x ∷ a) lines some h = absurd (cc)
+
+handlers_then : (job : Job) (lines : List Line) (end : State) → (lines ≡ [] → ⊥) → Reaches
+    (record { place = AtScripts; job = job }) lines end → Reaches (record { place = AtHandlers; job = job }) lines end
+handlers_then job [] end some h = absurd (some refl)
+handlers_then job (line ∷ lines) end some h = behind_handlers job line lines end h
+
 pairs_then : (job : Job) (lines : List Line) (end : State) → (lines ≡ [] → ⊥) → Reaches
     (record { place = AtHandlers; job = job }) lines end → Reaches (record { place = AtPairs; job = job }) lines end
 pairs_then job [] end some h = absurd (some refl)
@@ -593,19 +709,26 @@ whole_reach job is =
     let over : State = record { place = Over; job = job } in
     let handlers = handlers_reach first [] job.handlers is.handlers (apart_fresh [] job.handlers is.apart
     (fresh_all job.handlers)) is.few_handlers in
-    let tail = tail_reach (with_handlers first job.handlers) job.schedule refl is.schedule in
+    let second = with_handlers first job.handlers in
+    let handler_part = flat_map handler_lines job.handlers in
+    let script_part = flat_map script_lines job.scripts in
+    let scripts = scripts_reach second [] job.scripts is.scripts is.settings.nodes is.settings.threads is.threads in
+    let tail = tail_reach (with_scripts second job.scripts) job.schedule refl is.schedule in
+    let some = some_lines script_part (schedule_lines job.settings job.schedule) done_line in
+    let scripted = handlers_then second (script_part ++ last) over some
+    (reach_join (record { place = AtScripts; job = second })
+    (record { place = AtScripts; job = with_scripts second job.scripts }) over script_part last scripts tail) in
     let later = reach_join (record { place = AtHandlers; job = first })
-    (record { place = AtHandlers; job = with_handlers first job.handlers }) over
-    (flat_map handler_lines job.handlers) last handlers tail in
-    let behind = pairs_then first (flat_map handler_lines job.handlers ++ last) over (some_lines
-    (flat_map handler_lines job.handlers) (schedule_lines job.settings job.schedule) done_line) later in
+    (record { place = AtHandlers; job = second }) over handler_part (script_part ++ last) handlers scripted in
+    let behind = pairs_then first (handler_part ++ (script_part ++ last)) over
+    (some_behind handler_part (script_part ++ last) some) later in
     let head = reach_join start (record { place = AtPairs; job = of_head job [] })
     (record { place = AtPairs; job = first }) (head_lines job) (map pair_line job.settings.pairs)
     (head_reach job is) (pairs_reach job is [] job.settings.pairs refl) in
-    subst (λ (ls : List Line). Reaches start ls over) (sym (append_assoc (lines_with_pairs job)
-    (flat_map handler_lines job.handlers) last))
+    subst (λ (ls : List Line). Reaches start ls over) (sym (append_assoc (lines_with_handlers job) script_part last
+    ∙ append_assoc (lines_with_pairs job) handler_part (script_part ++ last)))
     (reach_join start (record { place = AtPairs; job = first }) over (lines_with_pairs job)
-    (flat_map handler_lines job.handlers ++ last) head behind)
+    (handler_part ++ (script_part ++ last)) head behind)
 
 -- the text of a job is read as that job
 pub job_read : (job : Job) → IsJob job → read start 1 (job_text job) ≡ Ok job

@@ -1,22 +1,26 @@
 -- The lines of handlers and of the schedule, as loops read them.
 use Rattle.std.proofs.Common.{◌≡◌, ℕ, ◌+◌, ◌*◌, ◌<◌, ◌≤◌, ◌||◌, List, [], ◌∷◌, ◌++◌, length, leb, ltb, subst, Option}
 use Rattle.std.proofs.Common.{Some, None, Result, Err, Bool, true, false, cond, refl, ap, sym, ◌∙◌, arith}
-use Rattle.std.proofs.lemmas.Bool.{le-leb, lt-leb, leb-false, ltb-false, or_parts}
-use Rattle.handler_rules.specs.declared.rules.Role.{Role}
+use Rattle.std.proofs.lemmas.Bool.{le-leb, lt-leb, leb-false, ltb-false, ltb-true, and_parts, or_parts}
 use Rattle.job_text.specs.Bodies.{action_at}
 use Rattle.job_text.specs.Events.{timed_at}
 use Rattle.job_text.specs.Reasons.{reason, why_of}
-use Rattle.job_text.specs.Places.{AtHandlers, AtBody, AtSchedule, AtDone, section_at, end_or}
-use Rattle.job_text.specs.JobReading.{BadLine, lined, has_index, handler_why, with_handler, with_action, with_line}
-use Rattle.job_text.specs.JobReading.{lines_of, behind_handlers, is_full, admitted, total_rounds, rounds_of, read}
+use Rattle.job_text.specs.Scripts.{step_at}
+use Rattle.job_text.specs.Places.{AtHandlers, AtBody, AtScripts, AtSteps, AtSchedule, AtDone, section_at, end_or}
+use Rattle.job_text.specs.JobReading.{has_thread}
+use Rattle.job_text.specs.JobReading.{BadLine, lined, has_index, handler_why, script_why, with_handler, with_action}
+use Rattle.job_text.specs.JobReading.{with_script, with_step, begun_script, with_line, lines_of, behind_scripts}
+use Rattle.job_text.specs.JobReading.{is_full, admitted, total_rounds, rounds_of, read}
 use Rattle.job_text.specs.declared.fault.JobWhy.{JobWhy}
 use Rattle.job_text.specs.declared.fault.JobWhy.TheVariants.{Count, Entry}
 use Rattle.job_text.specs.declared.job.Action.{Action}
 use Rattle.job_text.specs.declared.job.HandlerText.{HandlerText}
 use Rattle.job_text.specs.declared.job.Job.{Job}
+use Rattle.job_text.specs.declared.job.NodeScript.{NodeScript}
+use Rattle.job_text.specs.declared.job.ScriptStep.{ScriptStep}
 use Rattle.job_text.specs.declared.job.TimedEvent.{TimedEvent}
 use Rattle.job_text.specs.declared.sections.Section.TheVariants as section
-use Rattle.job_text.proofs.LineRuns.{read_on, read_full}
+use Rattle.job_text.proofs.LineRuns.{line_takes, read_on, read_full}
 
 -- a reason that was found is the reason
 pub told_by : {A : Type 0} (total : Result A BadLine) (line : ℕ) (why found : JobWhy) → total ≡ Err
@@ -59,39 +63,87 @@ body_full handler job line bytes rest item a h e le =
     read_full (AtBody handler) job line bytes rest (Some a) Count (rw (← e) h) (rw
     (le-leb 64 (length handler.body) le) refl)
 
+-- ---- scripts
+
+-- the end of a script
+pub script_end : (script : NodeScript) (job : Job) (line : ℕ) (bytes rest : List ℕ) (item : Option ScriptStep)
+    → lined (end_or step_at) bytes ≡ Some (item, rest) → item ≡ None
+    → read (record { place = AtSteps script; job = job }) line bytes ≡ read
+    (record { place = AtScripts; job = with_script script job }) (line + 1) rest
+script_end script job line bytes rest None h e = read_on (AtSteps script) job line bytes rest None
+    (record { place = AtScripts; job = with_script script job }) h refl
+script_end script job line bytes rest (Some s) h e = absurd (cc)
+
+-- another step
+pub step_more : (script : NodeScript) (job : Job) (line : ℕ) (bytes rest : List ℕ) (item : Option ScriptStep)
+    (s : ScriptStep) → lined (end_or step_at) bytes ≡ Some (item, rest) → item ≡ Some s → length script.steps < 4096
+    → read (record { place = AtSteps script; job = job }) line bytes ≡ read
+    (record { place = AtSteps (with_step s script); job = job }) (line + 1) rest
+step_more script job line bytes rest item s h e lt =
+    read_on (AtSteps script) job line bytes rest (Some s) (record {
+      place = AtSteps (with_step s script);
+      job = job;
+    }) (rw (← e) h)
+    (rw (lt-leb 4096 (length script.steps) lt) refl)
+
+-- one too many
+pub steps_full : (script : NodeScript) (job : Job) (line : ℕ) (bytes rest : List ℕ) (item : Option ScriptStep)
+    (s : ScriptStep) → lined (end_or step_at) bytes ≡ Some (item, rest) → item ≡ Some s → 4096 ≤ length script.steps
+    → read (record { place = AtSteps script; job = job }) line bytes ≡ Err (record { line = line; why = Count })
+steps_full script job line bytes rest item s h e le =
+    read_full (AtSteps script) job line bytes rest (Some s) Count (rw (← e) h) (rw
+    (le-leb 4096 (length script.steps) le) refl)
+
 -- ---- sections
 
-pub section_schedule : (job : Job) (line : ℕ) (bytes rest : List ℕ) → lined section_at bytes ≡ Some (
+pub section_schedule : (job : Job) (line : ℕ) (bytes rest : List ℕ) → lined (section_at job.settings.nodes job.settings.threads) bytes ≡ Some (
   section.Schedule,
   rest,
-) → read (record { place = AtHandlers; job = job }) line bytes ≡ read (behind_handlers true job)
+) → read (record { place = AtScripts; job = job }) line bytes ≡ read (behind_scripts true job)
     (line + 1) rest
-section_schedule job line bytes rest h = read_on AtHandlers job line bytes rest section.Schedule
-    (behind_handlers true job) h refl
+section_schedule job line bytes rest h = read_on AtScripts job line bytes rest section.Schedule
+    (behind_scripts true job) h refl
 
-pub section_done : (job : Job) (line : ℕ) (bytes rest : List ℕ) → lined section_at bytes ≡ Some (section.Done, rest)
-    → read (record { place = AtHandlers; job = job }) line bytes ≡ read (behind_handlers false job) (line + 1) rest
-section_done job line bytes rest h = read_on AtHandlers job line bytes rest section.Done
-    (behind_handlers false job) h refl
+pub section_done : (job : Job) (line : ℕ) (bytes rest : List ℕ) → lined (section_at job.settings.nodes job.settings.threads) bytes ≡ Some (
+  section.Done,
+  rest,
+) → read (record { place = AtScripts; job = job }) line bytes ≡ read (behind_scripts false job) (line + 1) rest
+section_done job line bytes rest h = read_on AtScripts job line bytes rest section.Done
+    (behind_scripts false job) h refl
 
--- the handler whose lines come next
-abbrev pub begun : (index : ℕ) → Role → (locks : List ℕ) → HandlerText
-begun index role locks = record { index = index; role = role; locks = locks; body = [] }
+pub section_script : (job : Job) (line : ℕ) (bytes rest : List ℕ) (node thread : ℕ)
+    → lined (section_at job.settings.nodes job.settings.threads) bytes ≡ Some (section.Script node thread, rest)
+    → script_why job.scripts node thread ≡ None
+    → read (record { place = AtScripts; job = job }) line bytes ≡ read
+    (record { place = AtSteps (begun_script node thread); job = job }) (line + 1) rest
+section_script job line bytes rest node thread found free =
+    read_on AtScripts job line bytes rest (section.Script node thread)
+    (record { place = AtSteps (begun_script node thread); job = job }) found (rw free refl)
 
-pub section_handler : (job : Job) (line : ℕ) (bytes rest : List ℕ) (index : ℕ) (role : Role) (locks : List ℕ)
-    → lined section_at bytes ≡ Some (section.Handler index role locks, rest) → handler_why job.handlers index ≡ None
-    → read (record { place = AtHandlers; job = job }) line bytes ≡ read
-    (record { place = AtBody (begun index role locks); job = job }) (line + 1) rest
-section_handler job line bytes rest index role locks found free =
-    read_on AtHandlers job line bytes rest (section.Handler index role locks)
-    (record { place = AtBody (begun index role locks); job = job }) found (rw free refl)
+pub section_taken : (job : Job) (line : ℕ) (bytes rest : List ℕ) (node thread : ℕ) (why : JobWhy)
+    → lined (section_at job.settings.nodes job.settings.threads) bytes ≡ Some (section.Script node thread, rest)
+    → script_why job.scripts node thread ≡ Some why
+    → read (record { place = AtScripts; job = job }) line bytes ≡ Err (record { line = line; why = why })
+section_taken job line bytes rest node thread why found taken = read_full AtScripts job line bytes rest
+    (section.Script node thread) why found (rw taken refl)
 
-pub section_full : (job : Job) (line : ℕ) (bytes rest : List ℕ) (index : ℕ) (role : Role) (locks : List ℕ)
-    (why : JobWhy) → lined section_at bytes ≡ Some (section.Handler index role locks, rest)
-    → handler_why job.handlers index ≡ Some why
-    → read (record { place = AtHandlers; job = job }) line bytes ≡ Err (record { line = line; why = why })
-section_full job line bytes rest index role locks why found taken = read_full AtHandlers job line bytes rest
-    (section.Handler index role locks) why found (rw taken refl)
+-- the thread of a script that was read is there
+pub script_there : (job : Job) (bytes rest : List ℕ) (node thread : ℕ)
+    → lined (section_at job.settings.nodes job.settings.threads) bytes ≡ Some (section.Script node thread, rest)
+    → (node < job.settings.nodes) × (thread < job.settings.threads)
+script_there job bytes rest node thread h =
+    let said = (line_takes AtScripts job.settings bytes).so (section.Script node thread, rest) h in
+    let parts = and_parts (ltb node job.settings.nodes) (ltb thread job.settings.threads) said.1.1 in
+    (ltb-true node job.settings.nodes parts.0, ltb-true thread job.settings.threads parts.1)
+
+-- a script of its thread isn't there yet
+pub script_new : (scripts : List NodeScript) (node thread : ℕ) → script_why scripts node thread ≡ None
+    → has_thread scripts node thread ≡ false
+script_new scripts node thread h = new_by (has_thread scripts node thread) h
+  where
+    new_by : (t : Bool) → cond t (Some Entry) None ≡ None → t ≡ false
+    new_by true k = absurd (cc)
+    new_by false k = refl
 
 -- there is room for one more handler
 room_by : (t u : Bool) (a b : JobWhy) → cond t (Some a) (cond u (Some b) None) ≡ None → u ≡ false

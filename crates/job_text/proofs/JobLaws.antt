@@ -11,17 +11,19 @@ use Rattle.datagram_grammar.proofs.Credits.{even_sum}
 use Rattle.job_text.specs.Events.{IsTimed}
 use Rattle.job_text.specs.Places.{Setting, Version, Nodes, Credits, Threads, Segment, Last, Resend, Patience}
 use Rattle.job_text.specs.Places as places
-use Rattle.job_text.specs.Places.{Place, AtSetting, AtSieve, AtPairs, AtHandlers, AtBody, AtSchedule, AtDone, Over}
-use Rattle.job_text.specs.Places.{Item, IsItem, OfPair, OfSection, PairOrSection, setting_fits, pair_fits}
-use Rattle.job_text.specs.JobReading.{with_number, with_own, with_handler, with_line, lines_of, total_rounds}
-use Rattle.job_text.specs.JobReading.{has_index, has_pair, line_why, is_full}
-use Rattle.job_text.specs.JobText.{IsHandler, IsSchedule, IsScheduleOrNone, IsSieve, with_first_pairs, IsJob}
+use Rattle.job_text.specs.Places.{setting_fits, pair_fits}
+use Rattle.job_text.specs.JobReading.{with_number, with_own, with_handler, with_script, with_line, lines_of}
+use Rattle.job_text.specs.JobReading.{total_rounds, has_index, has_pair, has_thread, line_why, is_full}
+use Rattle.job_text.specs.JobText.{IsHandler, IsNodeScript, AreThreads, IsSchedule, IsScheduleOrNone, IsSieve}
+use Rattle.job_text.specs.JobText.{with_first_pairs, IsJob}
 use Rattle.job_text.specs.declared.fault.JobWhy.{JobWhy}
 use Rattle.job_text.specs.declared.job.HandlerText.{HandlerText}
 use Rattle.job_text.specs.declared.job.Job.{Job}
+use Rattle.job_text.specs.declared.job.NodeScript.{NodeScript}
 use Rattle.job_text.specs.declared.job.TimedEvent.{TimedEvent}
 use Rattle.job_text.proofs.Freshness.{AreFresh, fresh_apart, fresh_more, fresh_from}
 use Rattle.job_text.proofs.HandlerRuns.{few_full, rounds_more}
+use Rattle.job_text.proofs.Threads.{threads_more}
 use Rattle.job_text.proofs.Ranges.{IsNumber, AreNumbers, settings_range, fitting, is_pair, pair_range}
 
 -- ---- the head
@@ -93,6 +95,7 @@ pub record IsHead (job : Job) : Type 0 where
   pub sieve : IsSieve job.sieve
   pub pairs : job.settings.pairs ≡ []
   pub handlers : job.handlers ≡ []
+  pub scripts : job.scripts ≡ []
   pub schedule : job.schedule ≡ None
 
 -- no pair, none of the first ones
@@ -107,6 +110,12 @@ no_first count pairs e = ap (take count) e ∙ take_nil count
 no_handler : (hs : List HandlerText) → hs ≡ [] → (length hs ≤ 128) × AllByRecursion IsHandler hs × AreFresh [] hs
 no_handler [] e = (omega arith, tt, tt)
 no_handler (h ∷ hs) e = absurd (cc)
+
+-- no script
+no_script : (nodes threads : ℕ) (ss : List NodeScript) → ss ≡ [] → AllByRecursion (IsNodeScript nodes threads) ss
+    × AreThreads ss
+no_script nodes threads [] e = (tt, tt)
+no_script nodes threads (s ∷ ss) e = absurd (cc)
 
 none_is : (settings : Parameters) (schedule : Option (List TimedEvent)) → schedule ≡ None
     → IsScheduleOrNone settings schedule
@@ -125,6 +134,8 @@ pub record IsSound (job : Job) : Type 0 where
   pub few_handlers : length job.handlers ≤ 128
   pub handlers : AllByRecursion IsHandler job.handlers
   pub fresh : AreFresh [] job.handlers
+  pub scripts : AllByRecursion (IsNodeScript job.settings.nodes job.settings.threads) job.scripts
+  pub threads : AreThreads job.scripts
   pub schedule : IsScheduleOrNone job.settings job.schedule
 
 -- it is a job
@@ -140,6 +151,8 @@ sound_job job is = record {
   few_handlers = is.few_handlers;
   handlers = is.handlers;
   apart = fresh_apart [] job.handlers is.fresh;
+  scripts = is.scripts;
+  threads = is.threads;
   schedule = is.schedule;
 }
 
@@ -148,6 +161,7 @@ pub head_sound : (job : Job) → IsHead job → IsSound job
 head_sound job is =
     let all = is.numbers in
     let none = no_handler job.handlers is.handlers in
+    let scripts = no_script job.settings.nodes job.settings.threads job.scripts is.scripts in
     record {
       settings = settings_range job is.pairs all;
       job_fits = (let high = (all places.Job).high in omega arith);
@@ -161,6 +175,8 @@ head_sound job is =
       few_handlers = none.0;
       handlers = none.1;
       fresh = none.2;
+      scripts = scripts.0;
+      threads = scripts.1;
       schedule = none_is job.settings job.schedule is.schedule;
     }
 
@@ -210,6 +226,8 @@ pair_sound job pair is fits low high new few none =
       few_handlers = is.few_handlers;
       handlers = is.handlers;
       fresh = is.fresh;
+      scripts = is.scripts;
+      threads = is.threads;
       schedule = none_is (with_pair s pair) job.schedule none;
     }
 
@@ -234,6 +252,29 @@ handler_sound job handler is one new few = record {
   few_handlers = simp length-append (omega arith);
   handlers = all_more IsHandler job.handlers handler is.handlers one;
   fresh = fresh_more [] job.handlers handler is.fresh (fresh_from job.handlers handler.index new);
+  scripts = is.scripts;
+  threads = is.threads;
+  schedule = is.schedule;
+}
+
+-- ---- scripts
+
+pub script_sound : (job : Job) (script : NodeScript) → IsSound job
+    → IsNodeScript job.settings.nodes job.settings.threads script
+    → has_thread job.scripts script.node script.thread ≡ false → IsSound (with_script script job)
+script_sound job script is one new = record {
+  settings = is.settings;
+  job_fits = is.job_fits;
+  last_fits = is.last_fits;
+  sums = is.sums;
+  some_patience = is.some_patience;
+  patience = is.patience;
+  sieve = is.sieve;
+  few_handlers = is.few_handlers;
+  handlers = is.handlers;
+  fresh = is.fresh;
+  scripts = all_more (IsNodeScript job.settings.nodes job.settings.threads) job.scripts script is.scripts one;
+  threads = threads_more job.scripts script is.threads new;
   schedule = is.schedule;
 }
 
@@ -252,6 +293,8 @@ empty_sound job is = record {
   few_handlers = is.few_handlers;
   handlers = is.handlers;
   fresh = is.fresh;
+  scripts = is.scripts;
+  threads = is.threads;
   schedule = record { count = omega arith; rounds = omega arith; rounds_of_nodes = omega arith; events_are = tt };
 }
 
@@ -292,6 +335,8 @@ line_sound job t is some one free = record {
   few_handlers = is.few_handlers;
   handlers = is.handlers;
   fresh = is.fresh;
+  scripts = is.scripts;
+  threads = is.threads;
   schedule = schedule_more job.settings (lines_of job.schedule) t
       (some_is job.settings job.schedule some is.schedule) one (full_by
       (is_full job.settings.nodes (length (lines_of job.schedule)) (total_rounds

@@ -13,6 +13,7 @@ pub mod Names
 pub mod CallLaws
 pub mod EventLaws
 pub mod BodyLaws
+pub mod ScriptLaws
 pub mod FirstBytes
 pub mod Runs
 pub mod PlaceLaws
@@ -25,6 +26,7 @@ pub mod HandlerRuns
 pub mod HeadRuns
 pub mod JobRuns
 pub mod Freshness
+pub mod Threads
 pub mod StateLaws
 pub mod JobLaws
 pub mod States

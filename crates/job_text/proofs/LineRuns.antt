@@ -3,14 +3,15 @@ use Rattle.std.proofs.Common.{◌≡◌, ℕ, ◌+◌, List, [], ◌∷◌, ◌+
 use Rattle.std.proofs.Common.{refl, ap, sym, ◌∙◌}
 use Rattle.datagram_grammar.specs.Parameters.{Parameters}
 use Rattle.job_text.specs.Reasons.{reason}
-use Rattle.job_text.specs.Places.{Setting, Place, AtSetting, AtSieve, AtPairs, AtHandlers, AtBody, AtSchedule, AtDone}
-use Rattle.job_text.specs.Places.{Over, Item, item_form, item_text, IsItem}
+use Rattle.job_text.specs.Places.{Setting, Place, AtSetting, AtSieve, AtPairs, AtHandlers, AtBody, AtScripts, AtSteps}
+use Rattle.job_text.specs.Places.{AtSchedule, AtDone, Over, Item, item_form, item_text, IsItem}
 use Rattle.job_text.specs.JobReading.{State, BadLine, line_at, why_at, next, step, from_later_lines, from_lines}
 use Rattle.job_text.specs.JobReading.{over_or, run, read}
 use Rattle.job_text.specs.declared.fault.JobWhy.{JobWhy}
 use Rattle.job_text.specs.declared.fault.JobWhy.TheVariants.{Early, After}
 use Rattle.job_text.specs.declared.job.HandlerText.{HandlerText}
 use Rattle.job_text.specs.declared.job.Job.{Job}
+use Rattle.job_text.specs.declared.job.NodeScript.{NodeScript}
 use Rattle.job_text.proofs.Fronts.{cond_no}
 use Rattle.job_text.proofs.Takes.{Takes, takes_some, takes_then}
 use Rattle.job_text.proofs.FormLaws.{IsFlat, ended_takes}
@@ -121,6 +122,15 @@ pub body_bad : (handler : HandlerText) → Refuses (AtBody handler)
 body_bad handler job line bytes h = bad_at (AtBody handler) job line bytes (reason
     (item_form (AtBody handler) job.settings) bytes) h refl (bad_by job line (item_form
     (AtBody handler) job.settings) bytes)
+
+pub scripts_bad : Refuses AtScripts
+scripts_bad job line bytes h = bad_at AtScripts job line bytes (reason
+    (item_form AtScripts job.settings) bytes) h refl (bad_by job line (item_form AtScripts job.settings) bytes)
+
+pub steps_bad : (script : NodeScript) → Refuses (AtSteps script)
+steps_bad script job line bytes h = bad_at (AtSteps script) job line bytes (reason
+    (item_form (AtSteps script) job.settings) bytes) h refl (bad_by job line (item_form
+    (AtSteps script) job.settings) bytes)
 
 pub schedule_bad : Refuses AtSchedule
 schedule_bad job line bytes h = bad_at AtSchedule job line bytes (reason

@@ -5,16 +5,17 @@ use Rattle.std.proofs.Common.{subst, ◌∙◌, arith, append_assoc}
 use Rattle.std.proofs.lemmas.Bool.{eqb-true, eqb-false, leb-true, ltb-true, le-ltb, ne_eqb, and_parts}
 use Rattle.std.specs.Prelude.{IfOk, IfErr}
 use Rattle.job_text.specs.Reasons.{is_text, is_plain, goes_on_as_text, reason}
-use Rattle.job_text.specs.Places.{Place, AtSetting, AtSieve, AtPairs, AtHandlers, AtBody, AtSchedule, AtDone, Over}
-use Rattle.job_text.specs.Places.{Item, item_text, item_form, OfPair, OfSection}
+use Rattle.job_text.specs.Places.{Place, AtSetting, AtSieve, AtPairs, AtHandlers, AtBody, AtScripts, AtSteps}
+use Rattle.job_text.specs.Places.{AtSchedule, AtDone, Over}
+use Rattle.job_text.specs.Places.{NamedOr, Named, Other, Item, item_text, item_form}
 use Rattle.job_text.specs.JobReading.{State, BadLine, start, limit, line_at, why_at, next, onward, stepped, step}
-use Rattle.job_text.specs.JobReading.{over_or, unless, opened, has_index, has_pair, handler_why, pair_why, action_why}
-use Rattle.job_text.specs.JobReading.{line_why, is_full, total_rounds, lines_of, read, job_of}
+use Rattle.job_text.specs.JobReading.{over_or, unless, opened, headed, has_index, has_pair, has_thread, handler_why}
+use Rattle.job_text.specs.JobReading.{script_why, pair_why, action_why, step_why, line_why, is_full, total_rounds, lines_of, read, job_of}
 use Rattle.job_text.specs.JobText.{spell, job_text, IsJob, JobText}
 use Rattle.job_text.specs.Reading.{GivesAt}
 use Rattle.job_text.specs.Refusals.{first_lines, after_lines, IsNoFront, EndsEarly, HasNoText, IsWrong, Means}
 use Rattle.job_text.specs.Refusals.{Says, IsTaken, IsFull, IsAtFault}
-use Rattle.job_text.specs.Places.{PairOrSection}
+use Rattle.datagram_grammar.specs.declared.pairs.PairCredits.{PairCredits}
 use Rattle.job_text.specs.JobReading.{paired}
 use Rattle.job_text.specs.Refusals.{IsMeant, IsNoMemory}
 use Rattle.job_text.specs.declared.fault.JobFault.{JobFault}
@@ -23,6 +24,7 @@ use Rattle.job_text.specs.declared.fault.JobWhy.{JobWhy}
 use Rattle.job_text.specs.declared.fault.JobWhy.TheVariants.{Size, Early, Text, Form, Value as BadValue, Entry, Count}
 use Rattle.job_text.specs.declared.fault.JobWhy.TheVariants.{After}
 use Rattle.job_text.specs.declared.job.Job.{Job}
+use Rattle.job_text.specs.declared.sections.HandlerHeader.{HandlerHeader}
 use Rattle.job_text.specs.declared.sections.Section.{Section}
 use Rattle.job_text.specs.declared.sections.Section.TheVariants as section
 use Rattle.job_text.proofs.Fronts.{cond_yes, cond_no}
@@ -124,6 +126,8 @@ why_kind AtSieve job rest why some none h = reason_kind AtSieve job rest why som
 why_kind AtPairs job rest why some none h = reason_kind AtPairs job rest why some none h
 why_kind AtHandlers job rest why some none h = reason_kind AtHandlers job rest why some none h
 why_kind (AtBody handler) job rest why some none h = reason_kind (AtBody handler) job rest why some none h
+why_kind AtScripts job rest why some none h = reason_kind AtScripts job rest why some none h
+why_kind (AtSteps script) job rest why some none h = reason_kind (AtSteps script) job rest why some none h
 why_kind AtSchedule job rest why some none h = reason_kind AtSchedule job rest why some none h
 why_kind AtDone job rest why some none h = reason_kind AtDone job rest why some none h
 why_kind Over job rest why some none h = IsAfter refl (sym h)
@@ -151,34 +155,53 @@ either : {A B C D : Type 0} → A ⊎ B → (A → C) → (B → D) → C ⊎ D
 either (inl a) f g = inl (f a)
 either (inr b) f g = inr (g b)
 
-opened_kind : (job : Job) (s : Section) (why : JobWhy) → opened job s ≡ Err why → IsCounted AtHandlers job s why
-opened_kind job (section.Handler index role locks) why h =
-    either (two_by (has_index job.handlers index) (leb 128 (length job.handlers)) why
-    (unless_err (handler_why job.handlers index) _ why h)) (λ t. t) (λ u. (u.0, leb-true 128 (length job.handlers) u.1))
+entry_by : (t : Bool) (why : JobWhy) → cond t (Some Entry) None ≡ Some why → (why ≡ Entry) × (t ≡ true)
+entry_by true why h = (cc, refl)
+entry_by false why h = absurd (cc)
+
+opened_kind : (job : Job) (s : Section) (why : JobWhy) → opened job s ≡ Err why → IsCounted AtScripts job s why
+opened_kind job (section.Script node thread) why h =
+    inl (entry_by (has_thread job.scripts node thread) why (unless_err (script_why job.scripts node thread) _ why h))
 opened_kind job section.Schedule why h = absurd (cc)
 opened_kind job section.Done why h = absurd (cc)
 
-paired_kind : (job : Job) (item : PairOrSection) (why : JobWhy) → paired job item ≡ Err why
-    → IsCounted AtPairs job item why
-paired_kind job (OfPair pair) why h =
+-- a script is never too much for its place
+from_scripts : (job : Job) (s : Section) (why : JobWhy) → IsCounted AtScripts job s why
+    → IsCounted AtHandlers job (Other s) why
+from_scripts job s why (inl taken) = inl taken
+from_scripts job s why (inr full) = absurd full.1
+
+headed_kind : (job : Job) (item : NamedOr HandlerHeader Section) (why : JobWhy) → headed job item ≡ Err why
+    → IsCounted AtHandlers job item why
+headed_kind job (Named header) why h =
+    either (two_by (has_index job.handlers header.index) (leb 128 (length job.handlers)) why
+    (unless_err (handler_why job.handlers header.index) _ why h)) (λ t. t) (λ u.
+    (u.0, leb-true 128 (length job.handlers) u.1))
+headed_kind job (Other s) why h = from_scripts job s why (opened_kind job s why h)
+
+paired_kind : (job : Job) (item : NamedOr PairCredits (NamedOr HandlerHeader Section)) (why : JobWhy)
+    → paired job item ≡ Err why → IsCounted AtPairs job item why
+paired_kind job (Named pair) why h =
     either (two_by (has_pair job.settings.pairs pair) (leb 64 (length job.settings.pairs)) why
     (unless_err (pair_why job.settings.pairs pair) _ why h)) (λ t. t) (λ u.
     (u.0, leb-true 64 (length job.settings.pairs) u.1))
-paired_kind job (OfSection (section.Handler index role locks)) why h =
-    opened_kind job (section.Handler index role locks) why h
-paired_kind job (OfSection section.Schedule) why h = absurd (cc)
-paired_kind job (OfSection section.Done) why h = absurd (cc)
+paired_kind job (Other item) why h = headed_kind job item why h
 
 next_kind : (place : Place) (job : Job) (item : Item place) (why : JobWhy) → next place job item ≡ Err why
     → IsCounted place job item why
 next_kind (AtSetting setting) job item why h = absurd (cc)
 next_kind AtSieve job item why h = absurd (cc)
 next_kind AtPairs job item why h = paired_kind job item why h
-next_kind AtHandlers job s why h = opened_kind job s why h
+next_kind AtHandlers job item why h = headed_kind job item why h
 next_kind (AtBody handler) job None why h = absurd (cc)
 next_kind (AtBody handler) job (Some a) why h =
     let o = one_by (leb 64 (length handler.body)) why (unless_err (action_why handler.body) _ why h) in
     inr (o.0, leb-true 64 (length handler.body) o.1)
+next_kind AtScripts job s why h = opened_kind job s why h
+next_kind (AtSteps script) job None why h = absurd (cc)
+next_kind (AtSteps script) job (Some s) why h =
+    let o = one_by (leb 4096 (length script.steps)) why (unless_err (step_why script.steps) _ why h) in
+    inr (o.0, leb-true 4096 (length script.steps) o.1)
 next_kind AtSchedule job None why h = absurd (cc)
 next_kind AtSchedule job (Some t) why h =
     inr (one_by (is_full job.settings.nodes (length (lines_of job.schedule)) (total_rounds
@@ -386,6 +409,8 @@ over_err AtSieve job bad found h = (refl, cc)
 over_err AtPairs job bad found h = (refl, cc)
 over_err AtHandlers job bad found h = (refl, cc)
 over_err (AtBody handler) job bad found h = (refl, cc)
+over_err AtScripts job bad found h = (refl, cc)
+over_err (AtSteps script) job bad found h = (refl, cc)
 over_err AtSchedule job bad found h = (refl, cc)
 over_err AtDone job bad found h = (refl, cc)
 over_err Over job bad found h = absurd (cc)

@@ -1,17 +1,20 @@
--- The lines of pairs, as a loop reads them.
-use Rattle.std.proofs.Common.{◌≡◌, ℕ, ◌+◌, List, Option, Some, None, Result, Ok, Err, true, false, refl, sym, ◌∙◌}
-use Rattle.std.proofs.Common.{codes}
+-- The lines of pairs and of handlers, as loops read them.
+use Rattle.std.proofs.Common.{◌≡◌, ℕ, ◌+◌, List, Option, Some, None, Result, Ok, Err, Bool, true, false}
+use Rattle.std.proofs.Common.{refl, sym, ap, ◌∙◌, codes}
 use Rattle.std.specs.Str.{bytes_eq}
 use Rattle.datagram_grammar.specs.Parameters.{Parameters}
 use Rattle.datagram_grammar.specs.declared.pairs.PairCredits.{PairCredits}
 use Rattle.job_text.specs.Lines.{◌>>=◌, front, ended}
-use Rattle.job_text.specs.Reasons.{reason}
-use Rattle.job_text.specs.Places.{AtPairs, AtHandlers, OfPair, OfSection, section_at, pair_at, pair_or_section_form}
-use Rattle.job_text.specs.JobReading.{State, lined, line_at, opened, pair_why, with_own, read}
+use Rattle.job_text.specs.Reasons.{reason, why_of}
+use Rattle.job_text.specs.Places.{NamedOr, Named, Other}
+use Rattle.job_text.specs.Places.{Place, AtPairs, AtHandlers, AtBody, AtScripts, Item, item_form, named_or, header_at}
+use Rattle.job_text.specs.Places.{section_at, pair_at, header_or_section_at, header_or_section_form, pairs_form}
+use Rattle.job_text.specs.JobReading.{State, lined, line_at, next, begun, handler_why, pair_why, with_own, read}
 use Rattle.job_text.specs.declared.fault.JobWhy.{JobWhy}
 use Rattle.job_text.specs.declared.job.Job.{Job}
+use Rattle.job_text.specs.declared.sections.HandlerHeader.{HandlerHeader}
 use Rattle.job_text.specs.declared.sections.Section.{Section}
-use Rattle.job_text.proofs.LineRuns.{read_on, read_full, pairs_bad, handlers_bad}
+use Rattle.job_text.proofs.LineRuns.{Refuses, read_on, read_full, pairs_bad, handlers_bad, scripts_bad}
 
 -- what was read, in other words
 mapped_end : {A B : Type 0} (o : Option (List ℕ)) (f : A → B) (x : A) → ◌≡◌ {A = Option (B × List ℕ)}
@@ -27,15 +30,26 @@ pub mapped : {A B : Type 0} (o : Option (A × List ℕ)) (f : A → B) → ◌>>
 mapped None f = refl
 mapped (Some x) f = mapped_end (ended x.1) f x.0
 
--- a line that begins with `pair`
-pair_line : (settings : Parameters) (bytes : List ℕ) → bytes_eq (front bytes) (codes "pair") ≡ true
-    → line_at AtPairs settings bytes ≡ (lined (pair_at settings) bytes >>= λ x. Some (OfPair x.0, x.1))
-pair_line settings bytes b = rw b (mapped (pair_at settings bytes) OfPair)
+-- a line that begins with the name, and one that doesn't
+named_line : {A B : Type 0} (name : List ℕ) (at : List ℕ → Option (A × List ℕ)) (other : List ℕ → Option
+    (B × List ℕ)) (bytes : List ℕ) → bytes_eq (front bytes) name ≡ true → lined (named_or name at other) bytes
+    ≡ ◌>>=◌ {B = NamedOr A B × List ℕ} (lined at bytes) (λ x. Some (Named x.0, x.1))
+named_line {A} {B} name at other bytes b = rw b (mapped {A = A} {B = NamedOr A B} (at bytes) (λ x. Named x))
 
--- one that doesn't
-other_line : (settings : Parameters) (bytes : List ℕ) → bytes_eq (front bytes) (codes "pair") ≡ false
-    → line_at AtPairs settings bytes ≡ (lined section_at bytes >>= λ x. Some (OfSection x.0, x.1))
-other_line settings bytes b = rw b (mapped (section_at bytes) OfSection)
+other_line : {A B : Type 0} (name : List ℕ) (at : List ℕ → Option (A × List ℕ)) (other : List ℕ → Option
+    (B × List ℕ)) (bytes : List ℕ) → bytes_eq (front bytes) name ≡ false → lined (named_or name at other) bytes
+    ≡ ◌>>=◌ {B = NamedOr A B × List ℕ} (lined other bytes) (λ x. Some (Other x.0, x.1))
+other_line {A} {B} name at other bytes b = rw b (mapped {A = B} {B = NamedOr A B} (other bytes) (λ x. Other x))
+
+pair_line : (settings : Parameters) (bytes : List ℕ) → bytes_eq (front bytes) (codes "pair") ≡ true
+    → line_at AtPairs settings bytes ≡ (lined (pair_at settings) bytes >>= λ x. Some (Named x.0, x.1))
+pair_line settings bytes b = named_line (codes "pair") (pair_at settings) (header_or_section_at settings) bytes b
+
+header_line : (settings : Parameters) (bytes : List ℕ) → bytes_eq (front bytes) (codes "handler") ≡ true
+    → line_at AtHandlers settings bytes ≡ (lined header_at bytes >>= λ x. Some (Named x.0, x.1))
+header_line settings bytes b = named_line (codes "handler") header_at (section_at settings.nodes settings.threads) bytes b
+
+-- ---- pairs
 
 -- a pair is read, and there is room for it
 pub pair_read : (job : Job) (line : ℕ) (bytes rest : List ℕ) (pair : PairCredits) → bytes_eq (front bytes)
@@ -44,7 +58,7 @@ pub pair_read : (job : Job) (line : ℕ) (bytes rest : List ℕ) (pair : PairCre
     → read (record { place = AtPairs; job = job }) line bytes ≡ read
     (record { place = AtPairs; job = with_own pair job }) (line + 1) rest
 pair_read job line bytes rest pair b h w =
-    read_on AtPairs job line bytes rest (OfPair pair) (record { place = AtPairs; job = with_own pair job })
+    read_on AtPairs job line bytes rest (Named pair) (record { place = AtPairs; job = with_own pair job })
     (pair_line job.settings bytes b ∙ rw h refl) (rw w refl)
 
 -- a pair is read, and may not stand there
@@ -53,36 +67,95 @@ pub pair_full : (job : Job) (line : ℕ) (bytes rest : List ℕ) (pair : PairCre
     → pair_why job.settings.pairs pair ≡ Some why
     → read (record { place = AtPairs; job = job }) line bytes ≡ Err (record { line = line; why = why })
 pair_full job line bytes rest pair why b h w =
-    read_full AtPairs job line bytes rest (OfPair pair) why (pair_line job.settings bytes b ∙ rw h refl) (rw w refl)
+    read_full AtPairs job line bytes rest (Named pair) why (pair_line job.settings bytes b ∙ rw h refl) (rw w refl)
 
 -- a pair isn't read
 pub pair_bad : (job : Job) (line : ℕ) (bytes : List ℕ) → bytes_eq (front bytes) (codes "pair") ≡ true → lined
     (pair_at job.settings) bytes ≡ None
     → read (record { place = AtPairs; job = job }) line bytes ≡ Err
-    (record { line = line; why = reason pair_or_section_form bytes })
+    (record { line = line; why = reason pairs_form bytes })
 pair_bad job line bytes b h = pairs_bad job line bytes (pair_line job.settings bytes b ∙ rw h refl)
 
--- what is read behind the pairs is read among them
-over_ok : (job : Job) (line : ℕ) (bytes rest : List ℕ) (s : Section) (r : Result State JobWhy) → bytes_eq
-    (front bytes) (codes "pair") ≡ false → lined section_at bytes ≡ Some (s, rest) → opened job s ≡ r
-    → read (record { place = AtPairs; job = job }) line bytes ≡ read
-    (record { place = AtHandlers; job = job }) line bytes
-over_ok job line bytes rest s (Ok state) b h o =
-    read_on AtPairs job line bytes rest (OfSection s) state (other_line job.settings bytes b ∙ rw h refl) o
-    ∙ sym (read_on AtHandlers job line bytes rest s state h o)
-over_ok job line bytes rest s (Err why) b h o =
-    read_full AtPairs job line bytes rest (OfSection s) why (other_line job.settings bytes b ∙ rw h refl) o
-    ∙ sym (read_full AtHandlers job line bytes rest s why h o)
+-- ---- handlers
 
-over_by : (job : Job) (line : ℕ) (bytes : List ℕ) (o : Option (Section × List ℕ)) → bytes_eq (front bytes)
-    (codes "pair") ≡ false → lined section_at bytes ≡ o
-    → read (record { place = AtPairs; job = job }) line bytes ≡ read
-    (record { place = AtHandlers; job = job }) line bytes
-over_by job line bytes None b h =
-    pairs_bad job line bytes (other_line job.settings bytes b ∙ rw h refl)
-    ∙ rw b (sym (handlers_bad job line bytes h))
-over_by job line bytes (Some x) b h = over_ok job line bytes x.1 x.0 (opened job x.0) b h refl
+-- the first line of a handler is read, and there is room for it
+pub handler_read : (job : Job) (line : ℕ) (bytes rest : List ℕ) (header : HandlerHeader) → bytes_eq (front bytes)
+    (codes "handler") ≡ true → lined header_at bytes ≡ Some (header, rest) → handler_why job.handlers header.index
+    ≡ None
+    → read (record { place = AtHandlers; job = job }) line bytes ≡ read
+    (record { place = AtBody (begun header); job = job }) (line + 1) rest
+handler_read job line bytes rest header b h w =
+    read_on AtHandlers job line bytes rest (Named header) (record { place = AtBody (begun header); job = job })
+    (header_line job.settings bytes b ∙ rw h refl) (rw w refl)
+
+-- it is read, and may not stand there
+pub handler_full : (job : Job) (line : ℕ) (bytes rest : List ℕ) (header : HandlerHeader) (why : JobWhy) → bytes_eq
+    (front bytes) (codes "handler") ≡ true → lined header_at bytes ≡ Some (header, rest)
+    → handler_why job.handlers header.index ≡ Some why
+    → read (record { place = AtHandlers; job = job }) line bytes ≡ Err (record { line = line; why = why })
+handler_full job line bytes rest header why b h w =
+    read_full AtHandlers job line bytes rest (Named header) why (header_line job.settings bytes b ∙ rw h refl) (rw w refl)
+
+-- it isn't read
+pub handler_bad : (job : Job) (line : ℕ) (bytes : List ℕ) → bytes_eq (front bytes) (codes "handler") ≡ true
+    → lined header_at bytes ≡ None
+    → read (record { place = AtHandlers; job = job }) line bytes ≡ Err
+    (record { line = line; why = reason header_or_section_form bytes })
+handler_bad job line bytes b h = handlers_bad job line bytes (header_line job.settings bytes b ∙ rw h refl)
+
+-- ---- what is read behind them is read among them
+
+-- at one place a line says what it says at another
+pub record IsSameLine (here there : Place) (job : Job) (bytes : List ℕ) : Type 0 where
+  pub here_as : Item there → Item here
+  pub next_is : (item : Item there) → next here job (here_as item) ≡ next there job item
+  pub line_is : line_at here job.settings bytes
+      ≡ ◌>>=◌ {B = Item here × List ℕ} (line_at there job.settings bytes) (λ x. Some (here_as x.0, x.1))
+  pub form_is : item_form here job.settings bytes ≡ item_form there job.settings bytes
+  pub bad_here : Refuses here
+  pub bad_there : Refuses there
+
+same_ok : (here there : Place) (job : Job) (line : ℕ) (bytes rest : List ℕ) (item : Item there)
+    (r : Result State JobWhy) → IsSameLine here there job bytes → line_at there job.settings bytes ≡ Some (item, rest)
+    → next there job item ≡ r
+    → read (record { place = here; job = job }) line bytes ≡ read (record { place = there; job = job }) line bytes
+same_ok here there job line bytes rest item (Ok state) is h n =
+    read_on here job line bytes rest (is.here_as item) state (is.line_is ∙ rw h refl) (is.next_is item ∙ n)
+    ∙ sym (read_on there job line bytes rest item state h n)
+same_ok here there job line bytes rest item (Err why) is h n =
+    read_full here job line bytes rest (is.here_as item) why (is.line_is ∙ rw h refl) (is.next_is item ∙ n)
+    ∙ sym (read_full there job line bytes rest item why h n)
+
+same_by : (here there : Place) (job : Job) (line : ℕ) (bytes : List ℕ) (o : Option (Item there × List ℕ))
+    → IsSameLine here there job bytes → line_at there job.settings bytes ≡ o
+    → read (record { place = here; job = job }) line bytes ≡ read (record { place = there; job = job }) line bytes
+same_by here there job line bytes None is h =
+    is.bad_here job line bytes (is.line_is ∙ rw h refl)
+    ∙ ap (λ (form : Bool). Err (record { line = line; why = why_of form bytes })) is.form_is
+    ∙ sym (is.bad_there job line bytes h)
+same_by here there job line bytes (Some x) is h =
+    same_ok here there job line bytes x.1 x.0 (next there job x.0) is h refl
 
 pub pairs_over : (job : Job) (line : ℕ) (bytes : List ℕ) → bytes_eq (front bytes) (codes "pair") ≡ false → read
     (record { place = AtPairs; job = job }) line bytes ≡ read (record { place = AtHandlers; job = job }) line bytes
-pairs_over job line bytes b = over_by job line bytes (lined section_at bytes) b refl
+pairs_over job line bytes b = same_by AtPairs AtHandlers job line bytes (line_at AtHandlers job.settings bytes)
+    (record {
+      here_as = λ item. Other item;
+      next_is = λ item. refl;
+      line_is = other_line (codes "pair") (pair_at job.settings) (header_or_section_at job.settings) bytes b;
+      form_is = rw b refl;
+      bad_here = pairs_bad;
+      bad_there = handlers_bad;
+    }) refl
+
+pub handlers_over : (job : Job) (line : ℕ) (bytes : List ℕ) → bytes_eq (front bytes) (codes "handler") ≡ false → read
+    (record { place = AtHandlers; job = job }) line bytes ≡ read (record { place = AtScripts; job = job }) line bytes
+handlers_over job line bytes b = same_by AtHandlers AtScripts job line bytes (line_at AtScripts job.settings bytes)
+    (record {
+      here_as = λ item. Other item;
+      next_is = λ item. refl;
+      line_is = other_line (codes "handler") header_at (section_at job.settings.nodes job.settings.threads) bytes b;
+      form_is = rw b refl;
+      bad_here = handlers_bad;
+      bad_there = scripts_bad;
+    }) refl

@@ -12,27 +12,36 @@ use Rattle.job_text.specs.Lines.{◌>>=◌, is_stop, front, back}
 use Rattle.job_text.specs.Forms.{none_at, none_text, none_fits, entry_text, IsOf}
 use Rattle.job_text.specs.Bodies.{action_at, action_text, IsAction}
 use Rattle.job_text.specs.Events.{timed_at, timed_text, IsTimed, event_text}
+use Rattle.job_text.specs.Scripts.{step_at, step_text, IsStep}
 use Rattle.job_text.specs.Places.{Setting, Version, Nodes, Credits, Threads, Segment, Last, Resend, Patience}
 use Rattle.job_text.specs.Places as places
-use Rattle.job_text.specs.Places.{Place, AtSetting, AtSieve, AtPairs, AtHandlers, AtBody, AtSchedule, AtDone, Over}
+use Rattle.job_text.specs.Places.{Place, AtSetting, AtSieve, AtPairs, AtHandlers, AtBody, AtScripts, AtSteps}
+use Rattle.job_text.specs.Places.{AtSchedule, AtDone, Over}
 use Rattle.job_text.specs.Places.{setting_row, setting_entry, setting_fits, sieve_row, sieve_entry, pair_row}
 use Rattle.job_text.specs.Places.{pair_entry, pair_fits}
+use Rattle.job_text.specs.Places.{NamedOr, Named, Other, header_row, header_entry, header_fits, header_at}
 use Rattle.job_text.specs.Places.{sections, section_entry, section_fits, section_at, end_or, end_or_text, end_or_fits}
-use Rattle.job_text.specs.Places.{pair_at}
-use Rattle.job_text.specs.Places.{PairOrSection, OfPair, OfSection, pair_or_section_at, pair_or_section_text}
-use Rattle.job_text.specs.Places.{IsPairOrSection}
+use Rattle.job_text.specs.Places.{pair_at, named_or, named_or_text, named_or_fits, pair_text, header_text}
+use Rattle.job_text.specs.Places.{section_text, IsPairLine, IsHeader, IsSection, header_or_section_at}
+use Rattle.job_text.specs.Places.{header_or_section_text, IsHeaderOrSection}
 use Rattle.job_text.specs.Places.{done_at, Item, item_at, item_text, IsItem}
 use Rattle.job_text.specs.declared.job.Action.TheVariants as action
+use Rattle.job_text.specs.declared.job.ScheduledCall.TheVariants as call
+use Rattle.job_text.specs.declared.job.ScriptStep.TheVariants as step
 use Rattle.job_text.specs.declared.job.SieveRule.{SieveRule}
+use Rattle.job_text.specs.declared.job.TransferText.TheVariants as transfer
+use Rattle.job_text.specs.declared.job.WaitingStep.TheVariants as waiting
+use Rattle.job_text.specs.declared.sections.HandlerHeader.{HandlerHeader}
 use Rattle.job_text.specs.declared.sections.Section.{Section}
 use Rattle.job_text.specs.declared.sections.Section.TheVariants as section
 use Rattle.job_text.proofs.Decimals.{own}
-use Rattle.job_text.proofs.Fronts.{cond_no}
+use Rattle.job_text.proofs.Fronts.{cond_yes, cond_no}
 use Rattle.job_text.proofs.Takes.{Takes, takes_some, takes_none, takes_then, takes_if}
 use Rattle.job_text.proofs.WordLaws.{same_word}
 use Rattle.job_text.proofs.FormLaws.{IsExact, IsTable, IsEntryOf, entry_of, table_exact, none_exact, whole, IsFlat}
 use Rattle.job_text.proofs.BodyLaws.{actions_exact}
 use Rattle.job_text.proofs.EventLaws.{timed_exact}
+use Rattle.job_text.proofs.ScriptLaws.{steps_exact}
 
 -- ---- settings
 
@@ -62,69 +71,102 @@ pair_again pair = record { makes = refl; first = refl; runs = refl }
 pair_table : (settings : Parameters) → IsTable (pair_row ∷ []) pair_entry (pair_fits settings)
 pair_table settings = record { makes = (λ v. refl, tt); again = λ pair h. pair_again pair }
 
+header_again : (header : HandlerHeader) → IsEntryOf (header_row ∷ []) header_entry header
+header_again header = record { makes = refl; first = refl; runs = refl }
+
+header_table : IsTable (header_row ∷ []) header_entry header_fits
+header_table = record { makes = (λ v. refl, tt); again = λ header h. header_again header }
+
 section_again : (s : Section) → IsEntryOf sections section_entry s
-section_again (section.Handler index role locks) = entry_of refl refl refl
+section_again (section.Script node thread) = entry_of refl refl refl
 section_again section.Schedule = entry_of refl refl refl
 section_again section.Done = entry_of refl refl refl
 
-sections_table : IsTable sections section_entry section_fits
-sections_table = record { makes = (λ v. refl, (λ v. refl, (λ v. refl, tt))); again = λ s h. section_again s }
+sections_table : (nodes threads : ℕ) → IsTable sections section_entry (section_fits nodes threads)
+sections_table nodes threads = record {
+  makes = (λ v. refl, (λ v. refl, (λ v. refl, tt)));
+  again = λ s h. section_again s;
+}
 
-pairs_exact : (settings : Parameters) → IsExact (pair_at settings) (λ pair. entry_text none_text (pair_entry pair))
-    (IsOf none_fits pair_entry (pair_fits settings))
+pairs_exact : (settings : Parameters) → IsExact (pair_at settings) pair_text (IsPairLine settings)
 unfolding pair_at
 pairs_exact settings = table_exact none_at none_text none_fits (pair_row ∷ []) pair_entry
     (pair_fits settings) none_exact (pair_table settings)
 
-sections_exact : IsExact section_at (λ s. entry_text none_text (section_entry s))
-    (IsOf none_fits section_entry section_fits)
+headers_exact : IsExact header_at header_text IsHeader
+unfolding header_at
+headers_exact = table_exact none_at none_text none_fits (header_row ∷ []) header_entry header_fits none_exact header_table
+
+sections_exact : (nodes threads : ℕ) → IsExact (section_at nodes threads) section_text (IsSection nodes threads)
 unfolding section_at
-sections_exact = table_exact none_at none_text none_fits sections section_entry section_fits none_exact sections_table
+sections_exact nodes threads = table_exact none_at none_text none_fits sections section_entry
+    (section_fits nodes threads) none_exact (sections_table nodes threads)
 
 -- ---- two kinds of line, told apart by their first word
 
--- a line that begins with no `pair`
-section_other : (s : Section) (rest : List ℕ) → bytes_eq (front (entry_text none_text (section_entry s) ++ rest))
-    (codes "pair") ≡ false
-section_other (section.Handler index role locks) rest = refl
-section_other section.Schedule [] = refl
-section_other section.Schedule (b ∷ rest) = refl
-section_other section.Done [] = refl
-section_other section.Done (b ∷ rest) = refl
+-- a line that begins with the name, and one that doesn't
+abbrev pub Begins : {A : Type 0} → (A → List ℕ) → List ℕ → Bool → Type 0
+Begins {A} text name b = (item : A) (rest : List ℕ) → bytes_eq (front (text item ++ 10 ∷ rest)) name ≡ b
 
-pair_or_section_takes : (settings : Parameters) (bytes : List ℕ) → Takes
-    (λ x. (bytes ≡ pair_or_section_text x.0 ++ x.1) × IsPairOrSection settings x.0)
-    (pair_or_section_at settings bytes)
-pair_or_section_takes settings bytes = takes_if {P = λ (x : PairOrSection × List ℕ). (bytes
-    ≡ pair_or_section_text x.0 ++ x.1) × IsPairOrSection settings x.0}
-    {b = bytes_eq (front bytes) (codes "pair")} {r = ◌>>=◌ {B = PairOrSection × List ℕ} (pair_at settings bytes)
-    (λ x. Some (OfPair x.0, x.1))}
-    {s = ◌>>=◌ {B = PairOrSection × List ℕ} (section_at bytes) (λ x. Some (OfSection x.0, x.1))}
-    (λ b. takes_then (λ (x : PairCredits × List ℕ). (bytes ≡ entry_text none_text (pair_entry x.0) ++ x.1)
-    × IsOf none_fits pair_entry (pair_fits settings) x.0)
-    ((pairs_exact settings).takes bytes) (λ x h. takes_some {x = (OfPair x.0, x.1)} h))
-    (λ b. takes_then (λ (x : Section × List ℕ). (bytes ≡ entry_text none_text (section_entry x.0) ++ x.1)
-    × IsOf none_fits section_entry section_fits x.0)
-    (sections_exact.takes bytes) (λ x h. takes_some {x = (OfSection x.0, x.1)} h))
+named_or_takes : {A B : Type 0} (name : List ℕ) (at : List ℕ → Option (A × List ℕ)) (text : A → List ℕ)
+    (fits : A → Type 0) (other_at : List ℕ → Option (B × List ℕ)) (other : B → List ℕ) (other_fits : B → Type 0)
+    → IsExact at text fits → IsExact other_at other other_fits → (bytes : List ℕ) → Takes
+    (λ x. (bytes ≡ named_or_text text other x.0 ++ x.1) × named_or_fits fits other_fits x.0)
+    (named_or name at other_at bytes)
+named_or_takes {A} {B} name at text fits other_at other other_fits one two bytes = takes_if {P = λ
+    (x : NamedOr A B × List ℕ). (bytes ≡ named_or_text text other x.0 ++ x.1) × named_or_fits fits other_fits x.0}
+    {b = bytes_eq (front bytes) name} {r = ◌>>=◌ {B = NamedOr A B × List ℕ} (at bytes) (λ x. Some (Named x.0, x.1))}
+    {s = ◌>>=◌ {B = NamedOr A B × List ℕ} (other_at bytes) (λ x. Some (Other x.0, x.1))}
+    (λ b. takes_then (λ (x : A × List ℕ). (bytes ≡ text x.0 ++ x.1) × fits x.0)
+    (one.takes bytes) (λ x h. takes_some {x = (Named x.0, x.1)} h))
+    (λ b. takes_then (λ (x : B × List ℕ). (bytes ≡ other x.0 ++ x.1) × other_fits x.0)
+    (two.takes bytes) (λ x h. takes_some {x = (Other x.0, x.1)} h))
 
-pair_or_section_again : (settings : Parameters) (x : PairOrSection) (rest : List ℕ) → IsPairOrSection settings x
-    → pair_or_section_at settings (pair_or_section_text x ++ 10 ∷ rest) ≡ Some (x, 10 ∷ rest)
-pair_or_section_again settings (OfPair pair) rest h = rw ((pairs_exact settings).again pair rest h) refl
-pair_or_section_again settings (OfSection s) rest h =
-    cond_no _ _ _ (section_other s (10 ∷ rest)) ∙ rw (sections_exact.again s rest h) refl
+named_or_again : {A B : Type 0} (name : List ℕ) (at : List ℕ → Option (A × List ℕ)) (text : A → List ℕ)
+    (fits : A → Type 0) (other_at : List ℕ → Option (B × List ℕ)) (other : B → List ℕ) (other_fits : B → Type 0)
+    → IsExact at text fits → IsExact other_at other other_fits → Begins text name true → Begins other name false
+    → (x : NamedOr A B) (rest : List ℕ) → named_or_fits fits other_fits x → named_or name at other_at
+    (named_or_text text other x ++ 10 ∷ rest) ≡ Some (x, 10 ∷ rest)
+named_or_again name at text fits other_at other other_fits one two begins other_begins (Named a) rest h =
+    cond_yes _ _ _ (begins a rest) ∙ rw (one.again a rest h) refl
+named_or_again name at text fits other_at other other_fits one two begins other_begins (Other b) rest h =
+    cond_no _ _ _ (other_begins b rest) ∙ rw (two.again b rest h) refl
 
-pair_or_section_flat : (settings : Parameters) (x : PairOrSection) → IsPairOrSection settings x → IsFlat
-    (pair_or_section_text x)
-pair_or_section_flat settings (OfPair pair) h = (pairs_exact settings).flat pair h
-pair_or_section_flat settings (OfSection s) h = sections_exact.flat s h
+named_or_flat : {A B : Type 0} (at : List ℕ → Option (A × List ℕ)) (text : A → List ℕ)
+    (fits : A → Type 0) (other_at : List ℕ → Option (B × List ℕ)) (other : B → List ℕ) (other_fits : B → Type 0)
+    → IsExact at text fits → IsExact other_at other other_fits → (x : NamedOr A B) → named_or_fits fits other_fits x
+    → IsFlat (named_or_text text other x)
+named_or_flat at text fits other_at other other_fits one two (Named a) h = one.flat a h
+named_or_flat at text fits other_at other other_fits one two (Other b) h = two.flat b h
 
-pair_or_section_exact : (settings : Parameters) → IsExact (pair_or_section_at settings) pair_or_section_text
-    (IsPairOrSection settings)
-pair_or_section_exact settings = record {
-  takes = pair_or_section_takes settings;
-  again = pair_or_section_again settings;
-  flat = pair_or_section_flat settings;
+named_or_exact : {A B : Type 0} (name : List ℕ) (at : List ℕ → Option (A × List ℕ)) (text : A → List ℕ)
+    (fits : A → Type 0) (other_at : List ℕ → Option (B × List ℕ)) (other : B → List ℕ) (other_fits : B → Type 0)
+    → IsExact at text fits → IsExact other_at other other_fits → Begins text name true → Begins other name false
+    → IsExact (named_or name at other_at) (named_or_text text other) (named_or_fits fits other_fits)
+named_or_exact name at text fits other_at other other_fits one two begins other_begins = record {
+  takes = named_or_takes name at text fits other_at other other_fits one two;
+  again = named_or_again name at text fits other_at other other_fits one two begins other_begins;
+  flat = named_or_flat at text fits other_at other other_fits one two;
 }
+
+-- a line that begins with no `handler`, and with no `pair`
+section_unnamed : Begins section_text (codes "handler") false
+section_unnamed (section.Script node thread) rest = refl
+section_unnamed section.Schedule rest = refl
+section_unnamed section.Done rest = refl
+
+other_unnamed : Begins header_or_section_text (codes "pair") false
+other_unnamed (Named header) rest = refl
+other_unnamed (Other (section.Script node thread)) rest = refl
+other_unnamed (Other section.Schedule) rest = refl
+other_unnamed (Other section.Done) rest = refl
+
+headers_or_sections_exact : (settings : Parameters) → IsExact (header_or_section_at settings) header_or_section_text
+    (IsHeaderOrSection settings)
+headers_or_sections_exact settings =
+    named_or_exact (codes "handler") header_at header_text IsHeader (section_at settings.nodes settings.threads)
+    section_text (IsSection settings.nodes settings.threads) headers_exact
+    (sections_exact settings.nodes settings.threads) (λ header rest. refl) section_unnamed
 
 -- the bytes of a word that was found, and those after it
 found_word : (bytes name : List ℕ) → bytes_eq (front bytes) name ≡ true → bytes ≡ name ++ back bytes
@@ -175,6 +217,50 @@ action_other (action.Unlock lock) rest h = refl
 action_other (action.Attempt kind) rest h = refl
 action_other (action.Reply reply) rest h = refl
 
+-- a step isn't the line `end`
+step_other : IsOther step_text IsStep
+step_other (step.Call (call.Short to handler operands)) rest h = refl
+step_other (step.Call (call.Medium text)) rest h = refl
+step_other (step.Call (call.Long text)) rest h = refl
+step_other (step.Call (call.LongAsync text)) rest h = refl
+step_other (step.Call (call.Lock lock)) rest h = refl
+step_other (step.Call (call.Unlock lock)) rest h = refl
+step_other (step.Call call.Poll) rest h = refl
+step_other (step.Call (call.Attempt kind)) rest h = refl
+step_other (step.Call (call.Cell cell)) rest h = refl
+step_other (step.Call (call.SetCell cell operand)) rest h = refl
+step_other (step.Call (call.Show offset len)) rest h = refl
+step_other (step.Call (call.Set offset bytes)) rest h = refl
+step_other (step.Call (call.Fill offset len byte)) rest h = refl
+step_other (step.Call (call.Word offset)) rest h = refl
+step_other (step.Call (call.SetWord offset number)) rest h = refl
+step_other (step.Call (call.Begin register (transfer.Put to remote local len))) rest h = refl
+step_other (step.Call (call.Begin register (transfer.Get to remote local len))) rest h = refl
+step_other (step.Call (call.Begin register (transfer.Memset to remote len byte))) rest h = refl
+step_other (step.Call (call.BeginImplicit (transfer.Put to remote local len))) rest h = refl
+step_other (step.Call (call.BeginImplicit (transfer.Get to remote local len))) rest h = refl
+step_other (step.Call (call.BeginImplicit (transfer.Memset to remote len byte))) rest h = refl
+step_other (step.Call (call.IsIssued register)) rest h = refl
+step_other (step.Call (call.Sync register)) rest h = refl
+step_other (step.Call (call.SyncAll registers)) rest h = refl
+step_other (step.Call (call.SyncSome registers)) rest h = refl
+step_other (step.Call (call.SyncImplicit which)) rest h = refl
+step_other (step.Call call.RegionBegin) rest h = refl
+step_other (step.Call (call.RegionEnd register)) rest h = refl
+step_other (step.Call (call.Notify id flags)) rest h = refl
+step_other (step.Call (call.TryBarrier id flags)) rest h = refl
+step_other (step.Waiting (waiting.Until cell operand)) rest h = refl
+step_other (step.Waiting (waiting.Transfer (transfer.Put to remote local len))) rest h = refl
+step_other (step.Waiting (waiting.Transfer (transfer.Get to remote local len))) rest h = refl
+step_other (step.Waiting (waiting.Transfer (transfer.Memset to remote len byte))) rest h = refl
+step_other (step.Waiting (waiting.PutBegin register put)) rest h = refl
+step_other (step.Waiting (waiting.PutImplicit put)) rest h = refl
+step_other (step.Waiting (waiting.Wait register)) rest h = refl
+step_other (step.Waiting (waiting.WaitAll registers)) rest h = refl
+step_other (step.Waiting (waiting.WaitSome registers)) rest h = refl
+step_other (step.Waiting (waiting.WaitImplicit which)) rest h = refl
+step_other (step.Waiting (waiting.BarrierWait id flags)) rest h = refl
+
 -- by whether a word ends at the first byte
 front_by : (t : Bool) (b : ℕ) (w : List ℕ) → eqb b 101 ≡ false → bytes_eq (cond t [] (b ∷ w)) (codes "end") ≡ false
 front_by true b w e = refl
@@ -216,8 +302,13 @@ place_exact (AtSetting setting) settings = table_exact none_at none_text none_fi
     (setting_fits setting settings))
 place_exact AtSieve settings = table_exact none_at none_text none_fits (sieve_row ∷ []) sieve_entry
     (λ rule. true) none_exact sieve_table
-place_exact AtPairs settings = pair_or_section_exact settings
-place_exact AtHandlers settings = sections_exact
+place_exact AtPairs settings =
+    named_or_exact (codes "pair") (pair_at settings) pair_text (IsPairLine settings) (header_or_section_at settings)
+    header_or_section_text (IsHeaderOrSection settings) (pairs_exact settings) (headers_or_sections_exact settings)
+    (λ pair rest. refl) other_unnamed
+place_exact AtHandlers settings = headers_or_sections_exact settings
+place_exact AtScripts settings = sections_exact settings.nodes settings.threads
+place_exact (AtSteps script) settings = end_or_exact step_at step_text IsStep steps_exact step_other
 place_exact (AtBody handler) settings = end_or_exact action_at action_text IsAction actions_exact action_other
 place_exact AtSchedule settings = end_or_exact (timed_at settings.nodes settings.threads)
     (timed_text settings.nodes settings.threads) (IsTimed settings.nodes settings.threads)

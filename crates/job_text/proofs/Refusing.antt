@@ -6,11 +6,13 @@ use Rattle.std.proofs.lemmas.List.Concat.{flat_map-append}
 use Rattle.std.proofs.lemmas.Bool.{ltb-false}
 use Rattle.job_text.specs.Places.{Setting, Nodes, Credits, Threads, Segment, Last, Resend, Patience}
 use Rattle.job_text.specs.Places as places
-use Rattle.job_text.specs.Places.{Place, AtSetting, AtSieve, AtPairs, AtHandlers, AtBody, AtSchedule, AtDone, Over}
+use Rattle.job_text.specs.Places.{Place, AtSetting, AtSieve, AtPairs, AtHandlers, AtBody, AtScripts, AtSteps}
+use Rattle.job_text.specs.Places.{AtSchedule, AtDone, Over}
 use Rattle.job_text.specs.Places.{Version}
 use Rattle.job_text.specs.JobReading.{State, BadLine, start, limit, over_or, read, job_of}
 use Rattle.job_text.specs.JobText.{Line, spell, setting_line, sieve_line, pair_line, handler_lines, schedule_lines}
-use Rattle.job_text.specs.JobText.{lines_with_pairs, lines_with_handlers, job_lines, job_text, IsJob, JobText}
+use Rattle.job_text.specs.JobText.{script_lines, lines_with_pairs, lines_with_handlers, lines_with_scripts, job_lines}
+use Rattle.job_text.specs.JobText.{job_text, IsJob, JobText}
 use Rattle.job_text.specs.Refusals.{first_lines, after_lines, IsFront}
 use Rattle.job_text.specs.Reading.{GivesAt}
 use Rattle.std.specs.Prelude.{IfOk}
@@ -20,7 +22,7 @@ use Rattle.job_text.specs.declared.job.Job.{Job}
 use Rattle.job_text.proofs.Fronts.{cond_yes, cond_no}
 use Rattle.job_text.proofs.FormLaws.{IsFlat}
 use Rattle.job_text.specs.Refusals.{completed}
-use Rattle.job_text.proofs.StateLaws.{so_far, from_on, IsUnread, done_line, end_line, handler_more}
+use Rattle.job_text.proofs.StateLaws.{so_far, from_on, IsUnread, done_line, end_line, handler_more, script_more}
 use Rattle.job_text.proofs.StateLaws.{end_schedule}
 use Rattle.job_text.proofs.JobLaws.{sound_job}
 use Rattle.job_text.proofs.States.{unread, start_is, sound_completed}
@@ -71,12 +73,20 @@ after_spelled (line ∷ lines) rest h =
 
 -- ---- what is left
 
--- the lines behind the pairs, and behind the handlers
+-- the lines behind the scripts, behind the handlers, behind the pairs, and behind the sieve
 abbrev pub last_lines : Job → List Line
 last_lines job = schedule_lines job.settings job.schedule ++ done_line ∷ []
 
+abbrev pub behind_handlers : Job → List Line
+behind_handlers job = flat_map script_lines job.scripts ++ last_lines job
+
+abbrev pub behind_pairs : Job → List Line
+behind_pairs job = flat_map handler_lines job.handlers ++ behind_handlers job
+
 abbrev pub later_lines : Job → List Line
-later_lines job = (map pair_line job.settings.pairs ++ flat_map handler_lines job.handlers) ++ last_lines job
+later_lines job =
+    ((map pair_line job.settings.pairs ++ flat_map handler_lines job.handlers) ++ flat_map script_lines job.scripts)
+    ++ last_lines job
 
 -- the lines that were read and others are all
 pub record IsPart (place : Place) (job : Job) : Type 0 where
@@ -93,6 +103,10 @@ some_last : (front lines : List Line) → spell (front ++ (lines ++ done_line �
 some_last [] [] h = some_line done_line [] h
 some_last [] (line ∷ lines) h = some_line line (lines ++ done_line ∷ []) h
 some_last (line ∷ front) lines h = some_line line (front ++ (lines ++ done_line ∷ [])) h
+
+some_front : (front lines : List Line) → (spell lines ≡ [] → ⊥) → spell (front ++ lines) ≡ [] → ⊥
+some_front [] lines some h = some h
+some_front (line ∷ front) lines some h = some_line line (front ++ lines) h
 
 setting_part : (setting : Setting) (job : Job) → job_lines job ≡ so_far (AtSetting setting) job ++
     (map (setting_line job) (from_on setting) ++ (sieve_line job.sieve ∷ later_lines job))
@@ -125,33 +139,47 @@ part_of AtSieve job u = record {
       (sieve_line job.sieve) (later_lines job);
 }
 part_of AtPairs job u = record {
-  others = flat_map handler_lines job.handlers ++ last_lines job;
-  all = append_assoc (lines_with_pairs job) (flat_map handler_lines job.handlers) (last_lines job);
-  some = λ o. some_last (flat_map handler_lines job.handlers) (schedule_lines job.settings job.schedule);
+  others = behind_pairs job;
+  all = append_assoc (lines_with_handlers job) (flat_map script_lines job.scripts) (last_lines job)
+      ∙ append_assoc (lines_with_pairs job) (flat_map handler_lines job.handlers) (behind_handlers job);
+  some = λ o. some_front (flat_map handler_lines job.handlers) (behind_handlers job)
+      (some_last (flat_map script_lines job.scripts) (schedule_lines job.settings job.schedule));
 }
 part_of AtHandlers job u = record {
-  others = last_lines job;
-  all = refl;
-  some = λ o. some_last []
-      (schedule_lines job.settings job.schedule);
+  others = behind_handlers job;
+  all = append_assoc (lines_with_handlers job) (flat_map script_lines job.scripts) (last_lines job);
+  some = λ o. some_last (flat_map script_lines job.scripts) (schedule_lines job.settings job.schedule);
 }
 part_of (AtBody handler) job u = record {
+  others = end_line ∷ behind_handlers job;
+  all = append_assoc (lines_with_handlers (completed (AtBody handler) job)) (flat_map script_lines job.scripts)
+      (last_lines job)
+      ∙ ap (λ (ls : List Line). ls ++ behind_handlers job) (handler_more job.handlers handler (lines_with_pairs job))
+      ∙ append_assoc (so_far (AtBody handler) job) (end_line ∷ []) (behind_handlers job);
+  some = λ o. some_line end_line (behind_handlers job);
+}
+part_of AtScripts job u = record {
+  others = last_lines job;
+  all = refl;
+  some = λ o. some_last [] (schedule_lines job.settings job.schedule);
+}
+part_of (AtSteps script) job u = record {
   others = end_line ∷ last_lines job;
-  all = ap (λ (ls : List Line). ls ++ last_lines job) (handler_more job.handlers handler (lines_with_pairs job))
-      ∙ append_assoc (so_far (AtBody handler) job) (end_line ∷ []) (last_lines job);
+  all = ap (λ (ls : List Line). ls ++ last_lines job) (script_more job.scripts script (lines_with_handlers job))
+      ∙ append_assoc (so_far (AtSteps script) job) (end_line ∷ []) (last_lines job);
   some = λ o. some_line end_line (last_lines job);
 }
 part_of AtSchedule job u = record {
   others = end_line ∷ done_line ∷ [];
-  all = sym (append_assoc (lines_with_handlers job) (schedule_lines job.settings job.schedule) (done_line ∷ []))
+  all = sym (append_assoc (lines_with_scripts job) (schedule_lines job.settings job.schedule) (done_line ∷ []))
       ∙ ap (λ (ls : List Line). ls ++ done_line ∷ []) (end_schedule job.settings job.schedule
-      (lines_with_handlers job) u)
+      (lines_with_scripts job) u)
       ∙ append_assoc (so_far AtSchedule job) (end_line ∷ []) (done_line ∷ []);
   some = λ o. some_line end_line (done_line ∷ []);
 }
 part_of AtDone job u = record {
   others = done_line ∷ [];
-  all = sym (append_assoc (lines_with_handlers job) (schedule_lines job.settings job.schedule) (done_line ∷ []));
+  all = sym (append_assoc (lines_with_scripts job) (schedule_lines job.settings job.schedule) (done_line ∷ []));
   some = λ o. some_line done_line [];
 }
 part_of Over job u = record { others = []; all = sym (append-nil (job_lines job)); some = λ o. absurd (cc) }
@@ -201,6 +229,8 @@ over_is AtSieve job found bad h = absurd (cc)
 over_is AtPairs job found bad h = absurd (cc)
 over_is AtHandlers job found bad h = absurd (cc)
 over_is (AtBody handler) job found bad h = absurd (cc)
+over_is AtScripts job found bad h = absurd (cc)
+over_is (AtSteps script) job found bad h = absurd (cc)
 over_is AtSchedule job found bad h = absurd (cc)
 over_is AtDone job found bad h = absurd (cc)
 over_is Over job found bad h = (refl, cc)
@@ -213,6 +243,8 @@ over_text count bytes AtSieve job rest w o e = absurd (cc)
 over_text count bytes AtPairs job rest w o e = absurd (cc)
 over_text count bytes AtHandlers job rest w o e = absurd (cc)
 over_text count bytes (AtBody handler) job rest w o e = absurd (cc)
+over_text count bytes AtScripts job rest w o e = absurd (cc)
+over_text count bytes (AtSteps script) job rest w o e = absurd (cc)
 over_text count bytes AtSchedule job rest w o e = absurd (cc)
 over_text count bytes AtDone job rest w o e = absurd (cc)
 over_text count bytes Over job rest w o e = (

@@ -5,22 +5,29 @@ use Rattle.std.specs.List.{flat_map}
 use Rattle.std.proofs.lemmas.List.Concat.{flat_map-append}
 use Rattle.std.proofs.lemmas.List.{map-append}
 use Rattle.datagram_grammar.specs.Parameters.{Parameters}
+use Rattle.datagram_grammar.specs.declared.pairs.PairCredits.{PairCredits}
 use Rattle.job_text.specs.Bodies.{action_text}
 use Rattle.job_text.specs.Events.{timed_text}
+use Rattle.job_text.specs.Scripts.{step_text}
 use Rattle.job_text.specs.Places.{Setting, Version, Nodes, Credits, Threads, Segment, Last, Resend, Patience}
 use Rattle.job_text.specs.Places as places
-use Rattle.job_text.specs.Places.{Place, AtSetting, AtSieve, AtPairs, AtHandlers, AtBody, AtSchedule, AtDone, Over}
-use Rattle.job_text.specs.Places.{Item, item_text, IsItem, OfPair, OfSection, PairOrSection}
+use Rattle.job_text.specs.Places.{Place, AtSetting, AtSieve, AtPairs, AtHandlers, AtBody, AtScripts, AtSteps}
+use Rattle.job_text.specs.Places.{AtSchedule, AtDone, Over}
+use Rattle.job_text.specs.Places.{NamedOr, Named, Other, Item, item_text, IsItem}
 use Rattle.job_text.specs.JobReading.{State, with_number, behind_setting, lines_of, unless, next}
-use Rattle.job_text.specs.JobReading.{opened, paired, acted, scheduled, pair_why, handler_why, action_why, line_why}
+use Rattle.job_text.specs.JobReading.{opened, headed, paired, acted, scripted, scheduled, pair_why, handler_why}
+use Rattle.job_text.specs.JobReading.{script_why, action_why, step_why, line_why}
 use Rattle.job_text.specs.JobText.{Line, setting_line, all_settings, sieve_line, pair_line, header_line}
 use Rattle.job_text.specs.JobText.{handler_lines, timed_lines, schedule_lines, head_lines, lines_with_pairs}
-use Rattle.job_text.specs.JobText.{lines_with_handlers, job_lines}
+use Rattle.job_text.specs.JobText.{script_line, script_lines, lines_with_handlers, lines_with_scripts, job_lines}
 use Rattle.job_text.specs.declared.fault.JobWhy.{JobWhy}
 use Rattle.job_text.specs.declared.job.Action.{Action}
 use Rattle.job_text.specs.declared.job.HandlerText.{HandlerText}
 use Rattle.job_text.specs.declared.job.Job.{Job}
+use Rattle.job_text.specs.declared.job.NodeScript.{NodeScript}
+use Rattle.job_text.specs.declared.job.ScriptStep.{ScriptStep}
 use Rattle.job_text.specs.declared.job.TimedEvent.{TimedEvent}
+use Rattle.job_text.specs.declared.sections.HandlerHeader.{HandlerHeader}
 use Rattle.job_text.specs.declared.sections.Section.{Section}
 use Rattle.job_text.specs.declared.sections.Section.TheVariants as section
 
@@ -63,8 +70,10 @@ so_far AtSieve job = map (setting_line job) all_settings
 so_far AtPairs job = lines_with_pairs job
 so_far AtHandlers job = lines_with_handlers job
 so_far (AtBody handler) job = lines_with_handlers job ++ (header_line handler ∷ map action_text handler.body)
-so_far AtSchedule job = lines_with_handlers job ++ (codes "schedule" ∷ timed_lines job.settings (lines_of job.schedule))
-so_far AtDone job = lines_with_handlers job ++ schedule_lines job.settings job.schedule
+so_far AtScripts job = lines_with_scripts job
+so_far (AtSteps script) job = lines_with_scripts job ++ (script_line script ∷ map step_text script.steps)
+so_far AtSchedule job = lines_with_scripts job ++ (codes "schedule" ∷ timed_lines job.settings (lines_of job.schedule))
+so_far AtDone job = lines_with_scripts job ++ schedule_lines job.settings job.schedule
 so_far Over job = job_lines job
 
 -- what is left of its lines
@@ -72,17 +81,22 @@ abbrev pub left : Place → Job → List Line
 left (AtSetting setting) job = map (setting_line job) (from_on setting) ++ (sieve_line job.sieve ∷ done_line ∷ [])
 left AtSieve job = sieve_line job.sieve ∷ done_line ∷ []
 left (AtBody handler) job = end_line ∷ done_line ∷ []
+left (AtSteps script) job = end_line ∷ done_line ∷ []
 left AtSchedule job = end_line ∷ done_line ∷ []
 left Over job = []
 left place job = done_line ∷ []
 
 -- what isn't read yet stands as it began
 abbrev pub IsUnread : Place → Job → Type 0
-IsUnread (AtSetting setting) job = (job.settings.pairs ≡ []) × (job.handlers ≡ []) × (job.schedule ≡ None)
-IsUnread AtSieve job = (job.settings.pairs ≡ []) × (job.handlers ≡ []) × (job.schedule ≡ None)
-IsUnread AtPairs job = (job.handlers ≡ []) × (job.schedule ≡ None)
-IsUnread AtHandlers job = job.schedule ≡ None
-IsUnread (AtBody handler) job = job.schedule ≡ None
+IsUnread (AtSetting setting) job =
+    (job.settings.pairs ≡ []) × (job.handlers ≡ []) × (job.scripts ≡ []) × (job.schedule ≡ None)
+IsUnread AtSieve job =
+    (job.settings.pairs ≡ []) × (job.handlers ≡ []) × (job.scripts ≡ []) × (job.schedule ≡ None)
+IsUnread AtPairs job = (job.handlers ≡ []) × (job.scripts ≡ []) × (job.schedule ≡ None)
+IsUnread AtHandlers job = (job.scripts ≡ []) × (job.schedule ≡ None)
+IsUnread (AtBody handler) job = (job.scripts ≡ []) × (job.schedule ≡ None)
+IsUnread AtScripts job = job.schedule ≡ None
+IsUnread (AtSteps script) job = job.schedule ≡ None
 IsUnread AtSchedule job = (lines : List TimedEvent) × (job.schedule ≡ Some lines)
 IsUnread AtDone job = (lines : List TimedEvent) × (job.schedule ≡ Some lines)
 IsUnread Over job = Unit {0}
@@ -94,9 +108,10 @@ pub no_lines : {A : Type 0} (f : A → Line) (xs : List A) (front : List Line) �
 no_lines f [] front e = append-nil front
 no_lines f (x ∷ xs) front e = absurd (cc)
 
-pub no_handlers : (hs : List HandlerText) (front : List Line) → hs ≡ [] → front ++ flat_map handler_lines hs ≡ front
-no_handlers [] front e = append-nil front
-no_handlers (h ∷ hs) front e = absurd (cc)
+pub no_parts : {A : Type 0} (f : A → List Line) (xs : List A) (front : List Line) → xs ≡ []
+    → front ++ flat_map f xs ≡ front
+no_parts f [] front e = append-nil front
+no_parts f (x ∷ xs) front e = absurd (cc)
 
 -- a line at the end of some
 one_more : {A : Type 0} (f : A → Line) (xs : List A) (x : A) (front : List Line) → front ++ map f (xs ++ x ∷ []) ≡
@@ -109,14 +124,25 @@ one_behind : {A : Type 0} (f : A → Line) (xs : List A) (x : A) (first : Line) 
 one_behind f xs x first front = ap (λ (ls : List Line). front ++ (first ∷ ls)) (map-append f xs (x ∷ [])) ∙ sym
     (append_assoc front (first ∷ map f xs) (f x ∷ []))
 
+-- a part more, which has these lines and the line `end`
+part_more : {A : Type 0} (f : A → List Line) (xs : List A) (x : A) (front lines : List Line) → f x ≡ lines
+    ++ end_line ∷ [] → front ++ flat_map f (xs ++ x ∷ []) ≡ ((front ++ flat_map f xs) ++ lines) ++ end_line ∷ []
+part_more f xs x front lines e =
+    ap (λ (ls : List Line). front ++ ls) (flat_map-append f xs (x ∷ []) ∙ ap
+    (λ (ls : List Line). flat_map f xs ++ ls) (append-nil (f x)))
+    ∙ sym (append_assoc front (flat_map f xs) (f x))
+    ∙ ap (λ (ls : List Line). (front ++ flat_map f xs) ++ ls) e
+    ∙ sym (append_assoc (front ++ flat_map f xs) lines (end_line ∷ []))
+
 pub handler_more : (hs : List HandlerText) (h : HandlerText) (front : List Line) → front ++ flat_map handler_lines
     (hs ++ h ∷ []) ≡ ((front ++ flat_map handler_lines hs) ++ (header_line h ∷ map action_text h.body))
     ++ end_line ∷ []
-handler_more hs h front =
-    ap (λ (ls : List Line). front ++ ls) (flat_map-append handler_lines hs (h ∷ []) ∙ ap
-    (λ (ls : List Line). flat_map handler_lines hs ++ ls) (append-nil (handler_lines h)))
-    ∙ sym (append_assoc front (flat_map handler_lines hs) (handler_lines h))
-    ∙ sym (append_assoc (front ++ flat_map handler_lines hs) (header_line h ∷ map action_text h.body) (end_line ∷ []))
+handler_more hs h front = part_more handler_lines hs h front (header_line h ∷ map action_text h.body) refl
+
+pub script_more : (ss : List NodeScript) (s : NodeScript) (front : List Line) → front ++ flat_map script_lines
+    (ss ++ s ∷ []) ≡ ((front ++ flat_map script_lines ss) ++ (script_line s ∷ map step_text s.steps))
+    ++ end_line ∷ []
+script_more ss s front = part_more script_lines ss s front (script_line s ∷ map step_text s.steps) refl
 
 -- the lines with what a line says
 abbrev pub SaysMore : (place : Place) → Job → Item place → State → Type 0
@@ -151,30 +177,42 @@ pub none_schedule : (settings : Parameters) (schedule : Option (List TimedEvent)
 none_schedule settings None front e = refl
 none_schedule settings (Some lines) front e = absurd (cc)
 
-opened_more : (job : Job) (s : Section) (state : State) → IsUnread AtHandlers job → opened job s ≡ Ok state
-    → SaysMore AtHandlers job s state
-opened_more job (section.Handler index role locks) state u h =
-    let p = unless_ok (handler_why job.handlers index) _ state h in
-    subst (λ (x : State). SaysMore AtHandlers job (section.Handler index role locks) x) p.1 (refl, u)
-opened_more job section.Schedule state u h = subst (λ (x : State). SaysMore AtHandlers job section.Schedule x)
+opened_more : (job : Job) (s : Section) (state : State) → IsUnread AtScripts job → opened job s ≡ Ok state
+    → SaysMore AtScripts job s state
+opened_more job (section.Script node thread) state u h =
+    let p = unless_ok (script_why job.scripts node thread) _ state h in
+    subst (λ (x : State). SaysMore AtScripts job (section.Script node thread) x) p.1 (refl, u)
+opened_more job section.Schedule state u h = subst (λ (x : State). SaysMore AtScripts job section.Schedule x)
     (ok_same h) (refl, ([], refl))
-opened_more job section.Done state u h = subst (λ (x : State). SaysMore AtHandlers job section.Done x) (ok_same h)
-    (none_schedule job.settings job.schedule (lines_with_handlers job) u, tt)
+opened_more job section.Done state u h = subst (λ (x : State). SaysMore AtScripts job section.Done x) (ok_same h)
+    (none_schedule job.settings job.schedule (lines_with_scripts job) u, tt)
 
 -- what has these lines has them by another place
-paired_more : (job : Job) (item : PairOrSection) (state : State) → IsUnread AtPairs job → paired job item ≡ Ok state
-    → SaysMore AtPairs job item state
-paired_more job (OfPair pair) state u h =
+headed_more : (job : Job) (item : NamedOr HandlerHeader Section) (state : State) → IsUnread AtHandlers job
+    → headed job item ≡ Ok state → SaysMore AtHandlers job item state
+headed_more job (Named header) state u h =
+    let p = unless_ok (handler_why job.handlers header.index) _ state h in
+    subst (λ (x : State). SaysMore AtHandlers job (Named header) x) p.1 (refl, u)
+headed_more job (Other s) state u h =
+    let m = opened_more job s state u.1 h in (
+      m.0 ∙ ap (λ (ls : List Line). ls ++ item_text AtScripts job.settings s ∷ []) (no_parts script_lines job.scripts
+          (lines_with_handlers job) u.0),
+      m.1,
+    )
+
+paired_more : (job : Job) (item : NamedOr PairCredits (NamedOr HandlerHeader Section)) (state : State) → IsUnread AtPairs job
+    → paired job item ≡ Ok state → SaysMore AtPairs job item state
+paired_more job (Named pair) state u h =
     let p = unless_ok (pair_why job.settings.pairs pair) _ state h in
-    subst (λ (x : State). SaysMore AtPairs job (OfPair pair) x) p.1 (
+    subst (λ (x : State). SaysMore AtPairs job (Named pair) x) p.1 (
       one_more pair_line job.settings.pairs pair
           (head_lines job),
       u,
     )
-paired_more job (OfSection s) state u h =
-    let m = opened_more job s state u.1 h in (
-      m.0 ∙ ap (λ (ls : List Line). ls ++ item_text AtHandlers job.settings s ∷ []) (no_handlers job.handlers
-          (lines_with_pairs job) u.0),
+paired_more job (Other item) state u h =
+    let m = headed_more job item state (u.1, u.2) h in (
+      m.0 ∙ ap (λ (ls : List Line). ls ++ item_text AtHandlers job.settings item ∷ []) (no_parts handler_lines
+          job.handlers (lines_with_pairs job) u.0),
       m.1,
     )
 
@@ -190,6 +228,18 @@ acted_more handler job (Some a) state u h =
       u,
     )
 
+scripted_more : (script : NodeScript) (job : Job) (item : Option ScriptStep) (state : State) → IsUnread
+    (AtSteps script) job → scripted script job item ≡ Ok state → SaysMore (AtSteps script) job item state
+scripted_more script job None state u h = subst (λ (x : State). SaysMore (AtSteps script) job None x) (ok_same h)
+    (script_more job.scripts script (lines_with_handlers job), u)
+scripted_more script job (Some s) state u h =
+    let p = unless_ok (step_why script.steps) _ state h in
+    subst (λ (x : State). SaysMore (AtSteps script) job (Some s) x) p.1 (
+      one_behind step_text script.steps s
+          (script_line script) (lines_with_scripts job),
+      u,
+    )
+
 -- the end of a schedule
 pub end_schedule : (settings : Parameters) (schedule : Option (List TimedEvent)) (front : List Line) →
     (lines : List TimedEvent) × (schedule ≡ Some lines) → front ++ schedule_lines settings schedule ≡ (front
@@ -201,13 +251,13 @@ end_schedule settings (Some lines) front e = sym (append_assoc front (codes "sch
 scheduled_more : (job : Job) (item : Option TimedEvent) (state : State) → IsUnread AtSchedule job
     → scheduled job item ≡ Ok state → SaysMore AtSchedule job item state
 scheduled_more job None state u h = subst (λ (x : State). SaysMore AtSchedule job None x) (ok_same h)
-    (end_schedule job.settings job.schedule (lines_with_handlers job) u, u)
+    (end_schedule job.settings job.schedule (lines_with_scripts job) u, u)
 scheduled_more job (Some t) state u h =
     let p = unless_ok (line_why job.settings.nodes (lines_of job.schedule) t) _ state h in
     subst (λ (x : State). SaysMore AtSchedule job (Some t) x) p.1 (
       one_behind
           (timed_text job.settings.nodes job.settings.threads) (lines_of job.schedule) t (codes "schedule")
-          (lines_with_handlers job),
+          (lines_with_scripts job),
       (lines_of job.schedule ++ t ∷ [], refl),
     )
 
@@ -217,14 +267,16 @@ pub says_more : (place : Place) (job : Job) (item : Item place) (state : State) 
 says_more (AtSetting setting) job number state u h = subst (λ (x : State). SaysMore (AtSetting setting) job number x)
     (ok_same h) (setting_more setting number job u)
 says_more AtSieve job rule state u h = subst (λ (x : State). SaysMore AtSieve job rule x) (ok_same h)
-    (no_lines pair_line job.settings.pairs (head_lines (record job { sieve = rule })) u.0, (u.1, u.2))
+    (no_lines pair_line job.settings.pairs (head_lines (record job { sieve = rule })) u.0, (u.1, u.2, u.3))
 says_more AtPairs job item state u h = paired_more job item state u h
-says_more AtHandlers job item state u h = opened_more job item state u h
+says_more AtHandlers job item state u h = headed_more job item state u h
 says_more (AtBody handler) job item state u h = acted_more handler job item state u h
+says_more AtScripts job item state u h = opened_more job item state u h
+says_more (AtSteps script) job item state u h = scripted_more script job item state u h
 says_more AtSchedule job item state u h = scheduled_more job item state u h
 says_more AtDone job item state u h = subst (λ (x : State). SaysMore AtDone job item x) (ok_same h) (
   sym
-      (append_assoc (lines_with_handlers job) (schedule_lines job.settings job.schedule) (done_line ∷ [])),
+      (append_assoc (lines_with_scripts job) (schedule_lines job.settings job.schedule) (done_line ∷ [])),
   tt,
 )
 says_more Over job item state u h = absurd item

@@ -1,28 +1,35 @@
 -- What is known wherever a text was read up to.
-use Rattle.std.proofs.Common.{◌≡◌, inl, inr, ℕ, ◌<◌, ◌≤◌, ◌⊎◌, ◌||◌, Bool, true, false, eqb, leb, cond, List, [], ◌∷◌}
-use Rattle.std.proofs.Common.{◌++◌, length, Option, Some, None, Ok, refl, subst, arith, length-append}
-use Rattle.std.proofs.lemmas.Bool.{and_parts, eqb-true, leb-true, leb-false}
+use Rattle.std.proofs.Common.{◌≡◌, inl, inr, ℕ, ◌<◌, ◌≤◌, ◌⊎◌, ◌||◌, ◌&&◌, Bool, true, false, eqb, leb, cond, List, [], ◌∷◌}
+use Rattle.std.proofs.Common.{◌++◌, length, ltb, Option, Some, None, Ok, refl, subst, arith, length-append}
+use Rattle.std.proofs.lemmas.Bool.{and_parts, eqb-true, leb-true, leb-false, ltb-true}
+use Rattle.datagram_grammar.specs.declared.pairs.PairCredits.{PairCredits}
 use Rattle.job_text.specs.Locks.{are_listed}
 use Rattle.job_text.specs.Bodies.{IsAction}
+use Rattle.job_text.specs.Scripts.{IsStep}
 use Rattle.job_text.specs.Places.{Setting, Version, Nodes, Credits, Threads, Segment, Last, Resend, Patience}
 use Rattle.job_text.specs.Places as places
-use Rattle.job_text.specs.Places.{Place, AtSetting, AtSieve, AtPairs, AtHandlers, AtBody, AtSchedule, AtDone, Over}
-use Rattle.job_text.specs.Places.{Item, IsItem, OfPair, OfSection, PairOrSection}
+use Rattle.job_text.specs.Places.{Place, AtSetting, AtSieve, AtPairs, AtHandlers, AtBody, AtScripts, AtSteps}
+use Rattle.job_text.specs.Places.{AtSchedule, AtDone, Over}
+use Rattle.job_text.specs.Places.{NamedOr, Named, Other, Item, IsItem}
 use Rattle.job_text.specs.JobReading.{State, least_job, with_number, behind_setting, with_action, lines_of, next}
-use Rattle.job_text.specs.JobReading.{opened, paired, acted, scheduled, has_index, has_pair, pair_why, handler_why}
-use Rattle.job_text.specs.JobReading.{action_why, line_why}
-use Rattle.job_text.specs.JobText.{IsHandler, IsSieve}
+use Rattle.job_text.specs.JobReading.{with_step, begun_script, begun, opened, headed, paired, acted, scripted, scheduled}
+use Rattle.job_text.specs.JobReading.{has_index, has_pair, has_thread, pair_why, handler_why, script_why, action_why}
+use Rattle.job_text.specs.JobReading.{step_why, line_why}
+use Rattle.job_text.specs.JobText.{IsHandler, IsNodeScript, IsSieve}
 use Rattle.job_text.specs.declared.fault.JobWhy.TheVariants.{Entry, Count}
 use Rattle.job_text.specs.declared.job.Action.{Action}
 use Rattle.job_text.specs.declared.job.HandlerText.{HandlerText}
 use Rattle.job_text.specs.declared.job.Job.{Job}
+use Rattle.job_text.specs.declared.job.NodeScript.{NodeScript}
+use Rattle.job_text.specs.declared.job.ScriptStep.{ScriptStep}
 use Rattle.job_text.specs.declared.job.SieveRule.{SieveRule}
 use Rattle.job_text.specs.declared.job.TimedEvent.{TimedEvent}
+use Rattle.job_text.specs.declared.sections.HandlerHeader.{HandlerHeader}
 use Rattle.job_text.specs.declared.sections.Section.{Section}
 use Rattle.job_text.specs.declared.sections.Section.TheVariants as section
 use Rattle.job_text.proofs.Ranges.{IsNumber, AreNumbers}
 use Rattle.job_text.proofs.JobLaws.{AreLeast, numbers_more, IsHead, head_sound, IsSound, pair_sound, pair_free_by}
-use Rattle.job_text.proofs.JobLaws.{handler_sound, all_more, empty_sound, line_sound}
+use Rattle.job_text.proofs.JobLaws.{handler_sound, script_sound, all_more, empty_sound, line_sound}
 use Rattle.job_text.specs.Refusals.{completed}
 use Rattle.job_text.proofs.StateLaws.{IsUnread, unless_ok, ok_same}
 
@@ -32,22 +39,31 @@ pub record IsBegun (handler : HandlerText) (job : Job) : Type 0 where
   pub new : has_index job.handlers handler.index ≡ false
   pub few : length job.handlers < 128
 
+-- a script so far
+pub record IsBegunScript (script : NodeScript) (job : Job) : Type 0 where
+  pub is : IsNodeScript job.settings.nodes job.settings.threads script
+  pub new : has_thread job.scripts script.node script.thread ≡ false
+
 abbrev pub IsState : Place → Job → Type 0
 IsState (AtSetting setting) job = IsHead job × AreLeast setting job.settings
 IsState AtSieve job = IsHead job
-IsState AtPairs job = IsSound job × (job.handlers ≡ []) × (job.schedule ≡ None)
-IsState AtHandlers job = IsSound job × (job.schedule ≡ None)
-IsState (AtBody handler) job = IsSound job × (job.schedule ≡ None) × IsBegun handler job
+IsState AtPairs job = IsSound job × (job.handlers ≡ []) × (job.scripts ≡ []) × (job.schedule ≡ None)
+IsState AtHandlers job = IsSound job × (job.scripts ≡ []) × (job.schedule ≡ None)
+IsState (AtBody handler) job = IsSound job × (job.scripts ≡ []) × (job.schedule ≡ None) × IsBegun handler job
+IsState AtScripts job = IsSound job × (job.schedule ≡ None)
+IsState (AtSteps script) job = IsSound job × (job.schedule ≡ None) × IsBegunScript script job
 IsState AtSchedule job = IsSound job × ((lines : List TimedEvent) × (job.schedule ≡ Some lines))
 IsState AtDone job = IsSound job × ((lines : List TimedEvent) × (job.schedule ≡ Some lines))
 IsState Over job = IsSound job
 
 pub unread : (place : Place) (job : Job) → IsState place job → IsUnread place job
-unread (AtSetting setting) job is = (is.0.pairs, is.0.handlers, is.0.schedule)
-unread AtSieve job is = (is.pairs, is.handlers, is.schedule)
-unread AtPairs job is = (is.1, is.2)
-unread AtHandlers job is = is.1
-unread (AtBody handler) job is = is.1
+unread (AtSetting setting) job is = (is.0.pairs, is.0.handlers, is.0.scripts, is.0.schedule)
+unread AtSieve job is = (is.pairs, is.handlers, is.scripts, is.schedule)
+unread AtPairs job is = (is.1, is.2, is.3)
+unread AtHandlers job is = (is.1, is.2)
+unread (AtBody handler) job is = (is.1, is.2)
+unread AtScripts job is = is.1
+unread (AtSteps script) job is = is.1
 unread AtSchedule job is = is.1
 unread AtDone job is = is.1
 unread Over job is = tt
@@ -58,7 +74,9 @@ sound_completed (AtSetting setting) job is = head_sound job is.0
 sound_completed AtSieve job is = head_sound job is
 sound_completed AtPairs job is = is.0
 sound_completed AtHandlers job is = is.0
-sound_completed (AtBody handler) job is = handler_sound job handler is.0 is.2.is is.2.new is.2.few
+sound_completed (AtBody handler) job is = handler_sound job handler is.0 is.3.is is.3.new is.3.few
+sound_completed AtScripts job is = is.0
+sound_completed (AtSteps script) job is = script_sound job script is.0 is.2.is is.2.new
 sound_completed AtSchedule job is = is.0
 sound_completed AtDone job is = is.0
 sound_completed Over job is = is
@@ -82,6 +100,7 @@ start_is = (
     sieve = record { lose = omega arith; repeat = omega arith; swap = omega arith };
     pairs = refl;
     handlers = refl;
+    scripts = refl;
     schedule = refl;
   },
   (refl, refl, refl),
@@ -97,6 +116,7 @@ head_more Version number job is all = record {
   sieve = is.sieve;
   pairs = is.pairs;
   handlers = is.handlers;
+  scripts = is.scripts;
   schedule = is.schedule;
 }
 head_more Patience number job is all = record {
@@ -104,6 +124,7 @@ head_more Patience number job is all = record {
   sieve = is.sieve;
   pairs = is.pairs;
   handlers = is.handlers;
+  scripts = is.scripts;
   schedule = is.schedule;
 }
 head_more setting number job is all = record {
@@ -111,6 +132,7 @@ head_more setting number job is all = record {
   sieve = is.sieve;
   pairs = is.pairs;
   handlers = is.handlers;
+  scripts = is.scripts;
   schedule = is.schedule;
 }
 
@@ -137,6 +159,7 @@ sieve_head job rule is one = record {
   sieve = one;
   pairs = is.pairs;
   handlers = is.handlers;
+  scripts = is.scripts;
   schedule = is.schedule;
 }
 
@@ -147,24 +170,47 @@ index_by true client index e f h high = inl (eqb-true index 0 e)
 index_by false true index e f h high = inr (leb-true 128 index f, omega arith)
 index_by false false index e f h high = absurd (cc)
 
+-- no reason that a test gives
+no_count : (b : Bool) → cond b (Some Count) None ≡ None → b ≡ false
+no_count true h = absurd (cc)
+no_count false h = refl
+
+no_entry : (b : Bool) → cond b (Some Entry) None ≡ None → b ≡ false
+no_entry true h = absurd (cc)
+no_entry false h = refl
+
 -- no reason against an action
 action_free : (handler : HandlerText) → action_why handler.body ≡ None → length handler.body < 64
-action_free handler h = leb-false 64 (length handler.body) (free_by (leb 64 (length handler.body)) h)
-  where
-    free_by : (b : Bool) → cond b (Some Count) None ≡ None → b ≡ false
-    free_by true h = absurd (cc)
-    free_by false h = refl
+action_free handler h = leb-false 64 (length handler.body) (no_count (leb 64 (length handler.body)) h)
 
-opened_state : (job : Job) (s : Section) (state : State) → IsState AtHandlers job → IsItem AtHandlers job.settings s
+opened_state : (job : Job) (s : Section) (state : State) → IsState AtScripts job → IsItem AtScripts job.settings s
     → opened job s ≡ Ok state → IsState state.place state.job
-opened_state job (section.Handler index role locks) state is item h =
-    let p = unless_ok (handler_why job.handlers index) _ state h in
-    let free = pair_free_by (has_index job.handlers index) (leb 128 (length job.handlers)) Entry Count p.0 in
-    let begun : HandlerText = record { index = index; role = role; locks = locks; body = [] } in
-    let tests = and_parts (eqb index 0 || leb 128 index) (are_listed 0 locks) item.1 in
-    let one : IsBegun begun job = record {
+opened_state job (section.Script node thread) state is item h =
+    let p = unless_ok (script_why job.scripts node thread) _ state h in
+    let there = and_parts (ltb node job.settings.nodes) (ltb thread job.settings.threads) item.1 in
+    let one : IsBegunScript (begun_script node thread) job = record {
       is = record {
-        index = index_by (eqb index 0) (leb 128 index) index refl refl tests.0 item.0.0.1;
+        node = ltb-true node job.settings.nodes there.0;
+        thread = ltb-true thread job.settings.threads there.1;
+        count = omega arith;
+        steps = tt;
+      };
+      new = no_entry (has_thread job.scripts node thread) p.0;
+    } in
+    subst (λ (x : State). IsState x.place x.job) p.1 (is.0, is.1, one)
+opened_state job section.Schedule state is item h = subst (λ (x : State). IsState x.place x.job) (ok_same h)
+    (empty_sound job is.0, ([], refl))
+opened_state job section.Done state is item h = subst (λ (x : State). IsState x.place x.job) (ok_same h) is.0
+
+headed_state : (job : Job) (item : NamedOr HandlerHeader Section) (state : State) → IsState AtHandlers job
+    → IsItem AtHandlers job.settings item → headed job item ≡ Ok state → IsState state.place state.job
+headed_state job (Named header) state is item h =
+    let p = unless_ok (handler_why job.handlers header.index) _ state h in
+    let free = pair_free_by (has_index job.handlers header.index) (leb 128 (length job.handlers)) Entry Count p.0 in
+    let tests = and_parts (eqb header.index 0 || leb 128 header.index) (are_listed 0 header.locks) item.1 in
+    let one : IsBegun (begun header) job = record {
+      is = record {
+        index = index_by (eqb header.index 0) (leb 128 header.index) header.index refl refl tests.0 item.0.0.1;
         locks = tests.1;
         count = omega arith;
         actions = tt;
@@ -172,41 +218,63 @@ opened_state job (section.Handler index role locks) state is item h =
       new = free.0;
       few = leb-false 128 (length job.handlers) free.1;
     } in
-    subst (λ (x : State). IsState x.place x.job) p.1 (is.0, is.1, one)
-opened_state job section.Schedule state is item h = subst (λ (x : State). IsState x.place x.job) (ok_same h)
-    (empty_sound job is.0, ([], refl))
-opened_state job section.Done state is item h = subst (λ (x : State). IsState x.place x.job) (ok_same h) is.0
+    subst (λ (x : State). IsState x.place x.job) p.1 (is.0, is.1, is.2, one)
+headed_state job (Other s) state is item h = opened_state job s state (is.0, is.2) item h
 
-paired_state : (job : Job) (item : PairOrSection) (state : State) → IsState AtPairs job
+paired_state : (job : Job) (item : NamedOr PairCredits (NamedOr HandlerHeader Section)) (state : State) → IsState AtPairs job
     → IsItem AtPairs job.settings item → paired job item ≡ Ok state → IsState state.place state.job
-paired_state job (OfPair pair) state is item h =
+paired_state job (Named pair) state is item h =
     let p = unless_ok (pair_why job.settings.pairs pair) _ state h in
     let free = pair_free_by (has_pair job.settings.pairs pair) (leb 64 (length job.settings.pairs)) Entry Count p.0 in
     subst (λ (x : State). IsState x.place x.job) p.1 (
       pair_sound job pair is.0 item.1 item.0.1.1.0.0 item.0.1.1.0.1
-          free.0 (leb-false 64 (length job.settings.pairs) free.1) is.2,
+          free.0 (leb-false 64 (length job.settings.pairs) free.1) is.3,
       is.1,
       is.2,
+      is.3,
     )
-paired_state job (OfSection s) state is item h = opened_state job s state (is.0, is.2) item h
+paired_state job (Other item) state is one h = headed_state job item state (is.0, is.2, is.3) one h
 
 acted_state : (handler : HandlerText) (job : Job) (item : Option Action) (state : State) → IsState
     (AtBody handler) job → IsItem (AtBody handler) job.settings item → acted handler job item ≡ Ok state
     → IsState state.place state.job
 acted_state handler job None state is item h = subst (λ (x : State). IsState x.place x.job) (ok_same h)
-    (handler_sound job handler is.0 is.2.is is.2.new is.2.few, is.1)
+    (handler_sound job handler is.0 is.3.is is.3.new is.3.few, is.1, is.2)
 acted_state handler job (Some a) state is item h =
     let p = unless_ok (action_why handler.body) _ state h in
     let lt = action_free handler p.0 in
     let one : IsBegun (with_action a handler) job = record {
       is = record {
-        index = is.2.is.index;
-        locks = is.2.is.locks;
+        index = is.3.is.index;
+        locks = is.3.is.locks;
         count = simp length-append (omega arith);
-        actions = all_more IsAction handler.body a is.2.is.actions item;
+        actions = all_more IsAction handler.body a is.3.is.actions item;
+      };
+      new = is.3.new;
+      few = is.3.few;
+    } in
+    subst (λ (x : State). IsState x.place x.job) p.1 (is.0, is.1, is.2, one)
+
+-- no reason against a step
+step_free : (script : NodeScript) → step_why script.steps ≡ None → length script.steps < 4096
+step_free script h = leb-false 4096 (length script.steps) (no_count (leb 4096 (length script.steps)) h)
+
+scripted_state : (script : NodeScript) (job : Job) (item : Option ScriptStep) (state : State) → IsState
+    (AtSteps script) job → IsItem (AtSteps script) job.settings item → scripted script job item ≡ Ok state
+    → IsState state.place state.job
+scripted_state script job None state is item h = subst (λ (x : State). IsState x.place x.job) (ok_same h)
+    (script_sound job script is.0 is.2.is is.2.new, is.1)
+scripted_state script job (Some s) state is item h =
+    let p = unless_ok (step_why script.steps) _ state h in
+    let lt = step_free script p.0 in
+    let one : IsBegunScript (with_step s script) job = record {
+      is = record {
+        node = is.2.is.node;
+        thread = is.2.is.thread;
+        count = simp length-append (omega arith);
+        steps = all_more IsStep script.steps s is.2.is.steps item;
       };
       new = is.2.new;
-      few = is.2.few;
     } in
     subst (λ (x : State). IsState x.place x.job) p.1 (is.0, is.1, one)
 
@@ -236,11 +304,14 @@ state_more AtSieve job rule state is item h =
     subst (λ (x : State). IsState x.place x.job) (ok_same h) (
       head_sound (record job { sieve = rule }) head,
       is.handlers,
+      is.scripts,
       is.schedule,
     )
 state_more AtPairs job item state is one h = paired_state job item state is one h
-state_more AtHandlers job item state is one h = opened_state job item state is one h
+state_more AtHandlers job item state is one h = headed_state job item state is one h
 state_more (AtBody handler) job item state is one h = acted_state handler job item state is one h
+state_more AtScripts job item state is one h = opened_state job item state is one h
+state_more (AtSteps script) job item state is one h = scripted_state script job item state is one h
 state_more AtSchedule job item state is one h = scheduled_state job item state is one h
 state_more AtDone job item state is one h = subst (λ (x : State). IsState x.place x.job) (ok_same h) is.0
 state_more Over job item state is one h = absurd item

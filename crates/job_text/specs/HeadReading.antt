@@ -85,6 +85,7 @@ head_at bytes = do
       patience = patience.0;
       sieve = rule.0;
       handlers = [];
+      scripts = [];
       schedule = None;
     },
     rule.1,

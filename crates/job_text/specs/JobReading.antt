@@ -8,8 +8,8 @@ use Rattle.datagram_grammar.specs.declared.pairs.PairCredits.{PairCredits}
 use Rattle.job_text.specs.Lines.{◌>>=◌, ended}
 use Rattle.job_text.specs.Reasons.{reason}
 use Rattle.job_text.specs.Places.{Setting, Version, Nodes, Credits, Threads, Segment, Last, Resend, Patience}
-use Rattle.job_text.specs.Places.{Place, AtSetting, AtSieve, AtPairs, AtHandlers, AtBody, AtSchedule, AtDone, Over}
-use Rattle.job_text.specs.Places.{PairOrSection, OfPair, OfSection, Item, item_at, item_form}
+use Rattle.job_text.specs.Places.{Place, AtSetting, AtSieve, AtPairs, AtHandlers, AtBody, AtScripts, AtSteps}
+use Rattle.job_text.specs.Places.{AtSchedule, AtDone, Over, NamedOr, Named, Other, Item, item_at, item_form}
 use Rattle.job_text.specs.Places as places
 use Rattle.job_text.specs.declared.fault.JobWhy.{JobWhy}
 use Rattle.job_text.specs.declared.fault.JobWhy.TheVariants.{Size, Early, Entry, Count, After}
@@ -17,9 +17,12 @@ use Rattle.job_text.specs.declared.job.Action.{Action}
 use Rattle.job_text.specs.declared.job.HandlerText.{HandlerText}
 use Rattle.job_text.specs.declared.job.Head.{Head}
 use Rattle.job_text.specs.declared.job.Job.{Job}
+use Rattle.job_text.specs.declared.job.NodeScript.{NodeScript}
 use Rattle.job_text.specs.declared.job.ScheduledEvent.{ScheduledEvent}
 use Rattle.job_text.specs.declared.job.ScheduledEvent.TheVariants as event
+use Rattle.job_text.specs.declared.job.ScriptStep.{ScriptStep}
 use Rattle.job_text.specs.declared.job.TimedEvent.{TimedEvent}
+use Rattle.job_text.specs.declared.sections.HandlerHeader.{HandlerHeader}
 use Rattle.job_text.specs.declared.sections.Section.{Section}
 use Rattle.job_text.specs.declared.sections.Section.TheVariants as section
 
@@ -47,6 +50,7 @@ least_job = record {
   patience = 1;
   sieve = record { lose = 0; repeat = 0; swap = 0 };
   handlers = [];
+  scripts = [];
   schedule = None;
 }
 
@@ -57,6 +61,7 @@ job_of_head head = record {
   patience = head.patience;
   sieve = head.sieve;
   handlers = [];
+  scripts = [];
   schedule = None;
 }
 
@@ -106,6 +111,18 @@ with_body body handler = record handler { body = body }
 abbrev pub with_handler : HandlerText → Job → Job
 with_handler handler job = record job { handlers = job.handlers ++ handler ∷ [] }
 
+-- a step
+abbrev pub with_step : ScriptStep → NodeScript → NodeScript
+with_step step script = record script { steps = script.steps ++ step ∷ [] }
+
+-- a script's steps, in place of those that it had
+abbrev pub with_steps : List ScriptStep → NodeScript → NodeScript
+with_steps steps script = record script { steps = steps }
+
+-- a script
+abbrev pub with_script : NodeScript → Job → Job
+with_script script job = record job { scripts = job.scripts ++ script ∷ [] }
+
 -- the lines of the schedule, none where there is none
 abbrev pub lines_of : Option (List TimedEvent) → List TimedEvent
 lines_of None = []
@@ -124,6 +141,10 @@ has_pair pairs pair = list_any (λ other. (other.from == pair.from) && (other.to
 abbrev pub has_index : List HandlerText → ℕ → Bool
 has_index handlers index = not (index == 0) && list_any (λ other. other == index) (map
     (λ handler. handler.index) handlers)
+
+-- whether a thread of a node has a script
+abbrev pub has_thread : List NodeScript → (node thread : ℕ) → Bool
+has_thread scripts node thread = list_any (λ script. (script.node == node) && (script.thread == thread)) scripts
 
 -- the rounds of a line
 abbrev pub rounds_of : ScheduledEvent → ℕ
@@ -161,6 +182,14 @@ pair_why pairs pair = if has_pair pairs pair then Some Entry else (if nat_le 64
 abbrev pub action_why : List Action → Option JobWhy
 action_why actions = if nat_le 64 (length actions) then Some Count else None
 
+-- why a script of this thread may not
+abbrev pub script_why : List NodeScript → (node thread : ℕ) → Option JobWhy
+script_why scripts node thread = if has_thread scripts node thread then Some Entry else None
+
+-- why a step may not
+abbrev pub step_why : List ScriptStep → Option JobWhy
+step_why steps = if nat_le 4096 (length steps) then Some Count else None
+
 -- why a line of the schedule may not
 abbrev pub line_why : (nodes : ℕ) → List TimedEvent → TimedEvent → Option JobWhy
 line_why nodes lines timed = if is_full nodes (length lines) (total_rounds lines) timed.event then Some Count else None
@@ -172,30 +201,48 @@ abbrev pub unless : Option JobWhy → State → Result State JobWhy
 unless None state = Ok state
 unless (Some why) state = Err why
 
--- behind the handlers, where a schedule comes or none
-abbrev pub behind_handlers : (schedule : Bool) → Job → State
-behind_handlers true job = record { place = AtSchedule; job = record job { schedule = Some [] } }
-behind_handlers false job = record { place = Over; job = job }
+-- behind the scripts, where a schedule comes or none
+abbrev pub behind_scripts : (schedule : Bool) → Job → State
+behind_scripts true job = record { place = AtSchedule; job = record job { schedule = Some [] } }
+behind_scripts false job = record { place = Over; job = job }
 
--- behind a line that begins a part
+-- a script without steps, and a handler without actions
+abbrev pub begun_script : (node thread : ℕ) → NodeScript
+begun_script node thread = record { node = node; thread = thread; steps = [] }
+
+abbrev pub begun : HandlerHeader → HandlerText
+begun header = record { index = header.index; role = header.role; locks = header.locks; body = [] }
+
+-- behind a line that begins a part behind the handlers
 abbrev pub opened : Job → Section → Result State JobWhy
-opened job (section.Handler index role locks) =
-    unless (handler_why job.handlers index)
-    (record { place = AtBody (record { index = index; role = role; locks = locks; body = [] }); job = job })
-opened job section.Schedule = Ok (behind_handlers true job)
-opened job section.Done = Ok (behind_handlers false job)
+opened job (section.Script node thread) =
+    unless (script_why job.scripts node thread) (record { place = AtSteps (begun_script node thread); job = job })
+opened job section.Schedule = Ok (behind_scripts true job)
+opened job section.Done = Ok (behind_scripts false job)
 
--- behind a pair, or such a line
-abbrev pub paired : Job → PairOrSection → Result State JobWhy
-paired job (OfPair pair) = unless (pair_why job.settings.pairs pair)
+-- behind the first line of a handler, or such a line
+abbrev pub headed : Job → NamedOr HandlerHeader Section → Result State JobWhy
+headed job (Named header) =
+    unless (handler_why job.handlers header.index) (record { place = AtBody (begun header); job = job })
+headed job (Other section) = opened job section
+
+-- behind a pair, or one of these
+abbrev pub paired : Job → NamedOr PairCredits (NamedOr HandlerHeader Section) → Result State JobWhy
+paired job (Named pair) = unless (pair_why job.settings.pairs pair)
     (record { place = AtPairs; job = with_own pair job })
-paired job (OfSection section) = opened job section
+paired job (Other item) = headed job item
 
 -- behind an action, or the line `end`
 abbrev pub acted : HandlerText → Job → Option Action → Result State JobWhy
 acted handler job None = Ok (record { place = AtHandlers; job = with_handler handler job })
 acted handler job (Some action) =
     unless (action_why handler.body) (record { place = AtBody (with_action action handler); job = job })
+
+-- behind a step, or the line `end`
+abbrev pub scripted : NodeScript → Job → Option ScriptStep → Result State JobWhy
+scripted script job None = Ok (record { place = AtScripts; job = with_script script job })
+scripted script job (Some step) =
+    unless (step_why script.steps) (record { place = AtSteps (with_step step script); job = job })
 
 -- behind a line of the schedule, or the line `end`
 abbrev pub scheduled : Job → Option TimedEvent → Result State JobWhy
@@ -212,8 +259,10 @@ next (AtSetting setting) job number = Ok (record {
 })
 next AtSieve job rule = Ok (record { place = AtPairs; job = record job { sieve = rule } })
 next AtPairs job item = paired job item
-next AtHandlers job section = opened job section
+next AtHandlers job item = headed job item
 next (AtBody handler) job item = acted handler job item
+next AtScripts job section = opened job section
+next (AtSteps script) job item = scripted script job item
 next AtSchedule job item = scheduled job item
 next AtDone job item = Ok (record { place = Over; job = job })
 next Over job item = absurd item

@@ -1,19 +1,21 @@
 -- The one text of a job.
 use Rattle.std.specs.Prelude.{◌≡◌, ◌≢◌, ℕ, ◌<◌, ◌≤◌, ◌*◌, ◌^◌, ◌⊎◌, ◌++◌, List, [], ◌∷◌, length, map, take, codes}
-use Rattle.std.specs.Prelude.{Option, Some, None, slice_get, true}
+use Rattle.std.specs.Prelude.{Option, Some, None, slice_get, true, false}
 use Rattle.std.specs.List.{AllByRecursion, flat_map}
 use Rattle.datagram_grammar.specs.Parameters.{Parameters, AreInRange, credits_in_all}
 use Rattle.datagram_grammar.specs.declared.pairs.PairCredits.{PairCredits}
 use Rattle.job_text.specs.Forms.{none_text, entry_text}
 use Rattle.job_text.specs.Bodies.{action_text, IsAction}
 use Rattle.job_text.specs.Events.{timed_text, IsTimed}
+use Rattle.job_text.specs.Scripts.{step_text, IsStep}
 use Rattle.job_text.specs.Places.{Setting, Version, Nodes, Credits, Threads, Segment, Last, Resend, Patience}
 use Rattle.job_text.specs.Places as places
-use Rattle.job_text.specs.Places.{setting_entry, sieve_entry, pair_entry, section_entry}
+use Rattle.job_text.specs.Places.{setting_entry, sieve_entry, pair_text, header_text, section_text}
 use Rattle.job_text.specs.Locks.{are_listed}
-use Rattle.job_text.specs.JobReading.{total_rounds, limit}
+use Rattle.job_text.specs.JobReading.{has_thread, total_rounds, limit}
 use Rattle.job_text.specs.declared.job.HandlerText.{HandlerText}
 use Rattle.job_text.specs.declared.job.Job.{Job}
+use Rattle.job_text.specs.declared.job.NodeScript.{NodeScript}
 use Rattle.job_text.specs.declared.job.SieveRule.{SieveRule}
 use Rattle.job_text.specs.declared.job.TimedEvent.{TimedEvent}
 use Rattle.job_text.specs.declared.sections.Section.TheVariants as section
@@ -50,14 +52,22 @@ abbrev pub sieve_line : SieveRule → Line
 sieve_line rule = entry_text none_text (sieve_entry rule)
 
 abbrev pub pair_line : PairCredits → Line
-pair_line pair = entry_text none_text (pair_entry pair)
+pair_line pair = pair_text pair
 
 abbrev pub header_line : HandlerText → Line
-header_line handler = entry_text none_text (section_entry (section.Handler handler.index handler.role handler.locks))
+header_line handler =
+    header_text (record { index = handler.index; role = handler.role; locks = handler.locks })
 
 -- the lines of a handler
 abbrev pub handler_lines : HandlerText → List Line
 handler_lines handler = header_line handler ∷ (map action_text handler.body ++ codes "end" ∷ [])
+
+abbrev pub script_line : NodeScript → Line
+script_line script = section_text (section.Script script.node script.thread)
+
+-- the lines of a script
+abbrev pub script_lines : NodeScript → List Line
+script_lines script = script_line script ∷ (map step_text script.steps ++ codes "end" ∷ [])
 
 -- the lines of a schedule
 abbrev pub timed_lines : Parameters → List TimedEvent → List Line
@@ -68,7 +78,7 @@ abbrev pub schedule_lines : Parameters → Option (List TimedEvent) → List Lin
 schedule_lines settings None = []
 schedule_lines settings (Some events) = codes "schedule" ∷ (timed_lines settings events ++ codes "end" ∷ [])
 
--- the lines before the pairs, before the handlers, and before the schedule
+-- the lines before the pairs, before the handlers, before the scripts, and before the schedule
 abbrev pub head_lines : Job → List Line
 head_lines job = map (setting_line job) all_settings ++ sieve_line job.sieve ∷ []
 
@@ -78,9 +88,12 @@ lines_with_pairs job = head_lines job ++ map pair_line job.settings.pairs
 abbrev pub lines_with_handlers : Job → List Line
 lines_with_handlers job = lines_with_pairs job ++ flat_map handler_lines job.handlers
 
+abbrev pub lines_with_scripts : Job → List Line
+lines_with_scripts job = lines_with_handlers job ++ flat_map script_lines job.scripts
+
 -- the lines of a job
 abbrev pub job_lines : Job → List Line
-job_lines job = lines_with_handlers job ++ (schedule_lines job.settings job.schedule ++ codes "done" ∷ [])
+job_lines job = lines_with_scripts job ++ (schedule_lines job.settings job.schedule ++ codes "done" ∷ [])
 
 -- ---- ranges
 
@@ -96,6 +109,18 @@ abbrev pub AreApart : List HandlerText → Type 0
 AreApart handlers =
     (k l : ℕ) (one other : HandlerText) → slice_get handlers k ≡ Some one → slice_get handlers l ≡ Some other
     → one.index ≢ 0 → one.index ≡ other.index → k ≡ l
+
+-- a script of a thread that is there, with at most 4,096 steps
+pub record IsNodeScript (nodes threads : ℕ) (script : NodeScript) : Type 0 where
+  pub node : script.node < nodes
+  pub thread : script.thread < threads
+  pub count : length script.steps ≤ 4096
+  pub steps : AllByRecursion IsStep script.steps
+
+-- no two scripts are of the same thread: behind each one there is none of its thread
+abbrev pub AreThreads : List NodeScript → Type 0
+AreThreads [] = Unit {0}
+AreThreads (script ∷ scripts) = (has_thread scripts script.node script.thread ≡ false) × AreThreads scripts
 
 -- a schedule: at most 65,536 lines, and at most 4,096 rounds in all, which times the nodes are at most 262,144
 pub record IsSchedule (settings : Parameters) (events : List TimedEvent) : Type 0 where
@@ -131,6 +156,8 @@ pub record IsJob (job : Job) : Type 0 where
   pub few_handlers : length job.handlers ≤ 128
   pub handlers : AllByRecursion IsHandler job.handlers
   pub apart : AreApart job.handlers
+  pub scripts : AllByRecursion (IsNodeScript job.settings.nodes job.settings.threads) job.scripts
+  pub threads : AreThreads job.scripts
   pub schedule : IsScheduleOrNone job.settings job.schedule
 
 -- the text of a job

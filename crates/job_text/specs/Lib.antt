@@ -7,6 +7,7 @@ pub mod Reasons
 pub mod Calls
 pub mod Events
 pub mod Bodies
+pub mod Scripts
 pub mod Reading
 pub mod Places
 pub mod JobReading

@@ -6,15 +6,19 @@ use Rattle.datagram_grammar.specs.Parameters.{Parameters, credits_in_all}
 use Rattle.datagram_grammar.specs.declared.pairs.PairCredits.{PairCredits}
 use Rattle.job_text.specs.Lines.{Word, ◌>>=◌, front, back}
 use Rattle.job_text.specs.Forms.{Number, Role, Shape, End, ◌▸◌, Any, Maker, Row, Entry}
-use Rattle.job_text.specs.Forms.{table_at, entry_text, IsOf, none_at, none_text, none_fits, U8}
+use Rattle.job_text.specs.Forms.{table_at, entry_text, IsOf, none_at, none_text, none_fits, U16, U8}
 use Rattle.job_text.specs.Locks.{are_listed}
 use Rattle.job_text.specs.Reasons.{table_form, words_left}
 use Rattle.job_text.specs.Bodies.{action_at, action_form, action_text, IsAction}
 use Rattle.job_text.specs.Events.{timed_at, timed_form, timed_text, IsTimed}
+use Rattle.job_text.specs.Scripts.{step_at, step_form, step_text, IsStep}
 use Rattle.job_text.specs.declared.job.Action.{Action}
 use Rattle.job_text.specs.declared.job.HandlerText.{HandlerText}
+use Rattle.job_text.specs.declared.job.NodeScript.{NodeScript}
+use Rattle.job_text.specs.declared.job.ScriptStep.{ScriptStep}
 use Rattle.job_text.specs.declared.job.SieveRule.{SieveRule}
 use Rattle.job_text.specs.declared.job.TimedEvent.{TimedEvent}
+use Rattle.job_text.specs.declared.sections.HandlerHeader.{HandlerHeader}
 use Rattle.job_text.specs.declared.sections.Section.{Section}
 use Rattle.job_text.specs.declared.sections.Section.TheVariants as section
 
@@ -37,24 +41,28 @@ pub data Place : Type 0 where
   AtSetting : Setting → Place
   AtSieve : Place
   AtPairs : Place  -- a pair, or what may stand instead
-  AtHandlers : Place  -- a handler, the schedule, or the end of the text
+  AtHandlers : Place  -- a handler, or what may stand instead
   AtBody : HandlerText → Place  -- an action of this handler, whose former actions it has, or its end
+  AtScripts : Place  -- a script, the schedule, or the end of the text
+  AtSteps : NodeScript → Place  -- a step of this script, whose former steps it has, or its end
   AtSchedule : Place  -- a line of the schedule, or its end
   AtDone : Place
   Over : Place  -- none
 
--- a line of a pair, or one that begins a part
-pub data PairOrSection : Type 0 where
-  OfPair : PairCredits → PairOrSection
-  OfSection : Section → PairOrSection
+-- a line that begins with a name, or another one
+pub data NamedOr (A B : Type 0) : Type 0 where
+  Named : A → NamedOr A B
+  Other : B → NamedOr A B
 
--- what a line there says; none for the line `end`
+-- what a line there says: one of several where it may be, and none for the line `end`
 abbrev pub Item : Place → Type 0
 Item (AtSetting setting) = ℕ
 Item AtSieve = SieveRule
-Item AtPairs = PairOrSection
-Item AtHandlers = Section
+Item AtPairs = NamedOr PairCredits (NamedOr HandlerHeader Section)
+Item AtHandlers = NamedOr HandlerHeader Section
 Item (AtBody handler) = Option Action
+Item AtScripts = Section
+Item (AtSteps script) = Option ScriptStep
 Item AtSchedule = Option TimedEvent
 Item AtDone = Unit {0}
 Item Over = ⊥
@@ -139,13 +147,37 @@ pair_fits settings pair =
     nat_lt pair.from settings.nodes && (nat_lt pair.to settings.nodes && (not (pair.from == pair.to)
     && nat_le (credits_in_all (in_place settings pair)) 65536))
 
--- ---- lines that begin a part
+-- what reads a pair
+unfoldable pub pair_at : Parameters → List ℕ → Option (PairCredits × List ℕ)
+pair_at settings bytes = table_at none_at (pair_row ∷ []) (pair_fits settings) bytes
+
+-- ---- handlers
+
+abbrev pub header_row : Row ⊥ HandlerHeader
+header_row = record {
+  name = codes "handler";
+  shape = U8 ▸ Role ▸ Any U8;
+  make = λ index role locks. record { index = index; role = role; locks = locks };
+}
+
+abbrev pub header_entry : HandlerHeader → Entry ⊥ HandlerHeader
+header_entry header = record { row = header_row; values = (header.index, (header.role, header.locks)) }
+
+-- the index of a handler is 0, or one of a client's; its locks rise strictly, and none is above 63
+abbrev pub header_fits : HandlerHeader → Bool
+header_fits header = ((header.index == 0) || nat_le 128 header.index) && are_listed 0 header.locks
+
+-- what reads the first line of a handler
+unfoldable pub header_at : List ℕ → Option (HandlerHeader × List ℕ)
+header_at bytes = table_at none_at (header_row ∷ []) header_fits bytes
+
+-- ---- lines that begin another part
 
 abbrev pub form : Word → (shape : Shape) → Maker ⊥ shape Section → Row ⊥ Section
 form name shape make = record { name = name; shape = shape; make = make }
 
-abbrev pub handler_row : Row ⊥ Section
-handler_row = form (codes "handler") (U8 ▸ Role ▸ Any U8) section.Handler
+abbrev pub script_row : Row ⊥ Section
+script_row = form (codes "script") (U16 ▸ U16 ▸ End) section.Script
 
 abbrev pub schedule_row : Row ⊥ Section
 schedule_row = form (codes "schedule") End section.Schedule
@@ -154,25 +186,49 @@ abbrev pub done_row : Row ⊥ Section
 done_row = form (codes "done") End section.Done
 
 abbrev pub sections : List (Row ⊥ Section)
-sections = handler_row ∷ schedule_row ∷ done_row ∷ []
+sections = script_row ∷ schedule_row ∷ done_row ∷ []
 
 -- how such a line is written
 abbrev pub section_entry : Section → Entry ⊥ Section
-section_entry (section.Handler index role locks) = record { row = handler_row; values = (index, (role, locks)) }
+section_entry (section.Script node thread) = record { row = script_row; values = (node, (thread, tt)) }
 section_entry section.Schedule = record { row = schedule_row; values = tt }
 section_entry section.Done = record { row = done_row; values = tt }
 
--- the index of a handler is 0, or one of a client's; its locks rise strictly, and none is above 63
-abbrev pub section_fits : Section → Bool
-section_fits (section.Handler index role locks) = ((index == 0) || nat_le 128 index) && are_listed 0 locks
-section_fits other = true
+-- the node and the thread of a script are there
+abbrev pub section_fits : (nodes threads : ℕ) → Section → Bool
+section_fits nodes threads (section.Script node thread) = nat_lt node nodes && nat_lt thread threads
+section_fits nodes threads other = true
 
 -- what reads such a line
-unfoldable pub section_at : List ℕ → Option (Section × List ℕ)
-section_at bytes = table_at none_at sections section_fits bytes
+unfoldable pub section_at : (nodes threads : ℕ) → List ℕ → Option (Section × List ℕ)
+section_at nodes threads bytes = table_at none_at sections (section_fits nodes threads) bytes
 
 unfoldable pub section_form : List ℕ → Bool
 section_form bytes = table_form (λ b. false) sections bytes
+
+-- ---- lines of two kinds, told apart by their first word
+
+-- what reads such a line
+abbrev pub named_or : {A B : Type 0} → Word → (List ℕ → Option (A × List ℕ)) → (List ℕ → Option (B × List ℕ))
+    → List ℕ → Option (NamedOr A B × List ℕ)
+named_or name at other bytes =
+    if bytes_eq (front bytes) name then (at bytes >>= λ x. Some (Named x.0, x.1))
+    else (other bytes >>= λ x. Some (Other x.0, x.1))
+
+-- whether it has a form, where so many words stand behind the name
+abbrev pub named_or_form : Word → (count : ℕ → Bool) → (List ℕ → Bool) → List ℕ → Bool
+named_or_form name count other bytes =
+    if bytes_eq (front bytes) name then count (words_left (back bytes)) else other bytes
+
+-- its text
+abbrev pub named_or_text : {A B : Type 0} → (A → List ℕ) → (B → List ℕ) → NamedOr A B → List ℕ
+named_or_text text other (Named item) = text item
+named_or_text text other (Other item) = other item
+
+-- what can be said so
+abbrev pub named_or_fits : {A B : Type 0} → (A → Type 0) → (B → Type 0) → NamedOr A B → Type 0
+named_or_fits fits other (Named item) = fits item
+named_or_fits fits other (Other item) = other item
 
 -- ---- lines up to the line `end`
 
@@ -193,26 +249,41 @@ end_or_fits fits (Some item) = fits item
 
 -- ---- a line by its place
 
--- a pair, or what begins a part
-unfoldable pub pair_at : Parameters → List ℕ → Option (PairCredits × List ℕ)
-pair_at settings bytes = table_at none_at (pair_row ∷ []) (pair_fits settings) bytes
+abbrev pub pair_text : PairCredits → List ℕ
+pair_text pair = entry_text none_text (pair_entry pair)
 
-abbrev pub pair_or_section_at : Parameters → List ℕ → Option (PairOrSection × List ℕ)
-pair_or_section_at settings bytes =
-    if bytes_eq (front bytes) (codes "pair") then (pair_at settings bytes >>= λ x. Some (OfPair x.0, x.1))
-    else (section_at bytes >>= λ x. Some (OfSection x.0, x.1))
+abbrev pub header_text : HandlerHeader → List ℕ
+header_text header = entry_text none_text (header_entry header)
 
-abbrev pub pair_or_section_form : List ℕ → Bool
-pair_or_section_form bytes =
-    if bytes_eq (front bytes) (codes "pair") then words_left (back bytes) == 3 else section_form bytes
+abbrev pub section_text : Section → List ℕ
+section_text section = entry_text none_text (section_entry section)
 
-abbrev pub pair_or_section_text : PairOrSection → List ℕ
-pair_or_section_text (OfPair pair) = entry_text none_text (pair_entry pair)
-pair_or_section_text (OfSection section) = entry_text none_text (section_entry section)
+abbrev pub IsPairLine : Parameters → PairCredits → Type 0
+IsPairLine settings pair = IsOf none_fits pair_entry (pair_fits settings) pair
 
-abbrev pub IsPairOrSection : Parameters → PairOrSection → Type 0
-IsPairOrSection settings (OfPair pair) = IsOf none_fits pair_entry (pair_fits settings) pair
-IsPairOrSection settings (OfSection section) = IsOf none_fits section_entry section_fits section
+abbrev pub IsHeader : HandlerHeader → Type 0
+IsHeader header = IsOf none_fits header_entry header_fits header
+
+abbrev pub IsSection : (nodes threads : ℕ) → Section → Type 0
+IsSection nodes threads section = IsOf none_fits section_entry (section_fits nodes threads) section
+
+-- a handler, or what begins another part
+abbrev pub header_or_section_at : Parameters → List ℕ → Option (NamedOr HandlerHeader Section × List ℕ)
+header_or_section_at settings bytes =
+    named_or (codes "handler") header_at (section_at settings.nodes settings.threads) bytes
+
+abbrev pub header_or_section_form : List ℕ → Bool
+header_or_section_form bytes = named_or_form (codes "handler") (λ n. nat_le 2 n) section_form bytes
+
+abbrev pub header_or_section_text : NamedOr HandlerHeader Section → List ℕ
+header_or_section_text item = named_or_text header_text section_text item
+
+abbrev pub IsHeaderOrSection : Parameters → NamedOr HandlerHeader Section → Type 0
+IsHeaderOrSection settings item = named_or_fits IsHeader (IsSection settings.nodes settings.threads) item
+
+-- whether a line among the pairs has a form
+abbrev pub pairs_form : List ℕ → Bool
+pairs_form bytes = named_or_form (codes "pair") (λ n. n == 3) header_or_section_form bytes
 
 -- the line `done`
 abbrev pub done_at : List ℕ → Option (Unit {0} × List ℕ)
@@ -223,9 +294,11 @@ abbrev pub item_at : (place : Place) → Parameters → List ℕ → Option (Ite
 item_at (AtSetting setting) settings bytes =
     table_at none_at (setting_row setting ∷ []) (setting_fits setting settings) bytes
 item_at AtSieve settings bytes = table_at none_at (sieve_row ∷ []) (λ rule. true) bytes
-item_at AtPairs settings bytes = pair_or_section_at settings bytes
-item_at AtHandlers settings bytes = section_at bytes
+item_at AtPairs settings bytes = named_or (codes "pair") (pair_at settings) (header_or_section_at settings) bytes
+item_at AtHandlers settings bytes = header_or_section_at settings bytes
 item_at (AtBody handler) settings bytes = end_or action_at bytes
+item_at AtScripts settings bytes = section_at settings.nodes settings.threads bytes
+item_at (AtSteps script) settings bytes = end_or step_at bytes
 item_at AtSchedule settings bytes = end_or (timed_at settings.nodes settings.threads) bytes
 item_at AtDone settings bytes = done_at bytes
 item_at Over settings bytes = None
@@ -234,9 +307,11 @@ item_at Over settings bytes = None
 abbrev pub item_form : (place : Place) → Parameters → List ℕ → Bool
 item_form (AtSetting setting) settings bytes = table_form (λ b. false) (setting_row setting ∷ []) bytes
 item_form AtSieve settings bytes = table_form (λ b. false) (sieve_row ∷ []) bytes
-item_form AtPairs settings bytes = pair_or_section_form bytes
-item_form AtHandlers settings bytes = section_form bytes
+item_form AtPairs settings bytes = pairs_form bytes
+item_form AtHandlers settings bytes = header_or_section_form bytes
 item_form (AtBody handler) settings bytes = action_form bytes
+item_form AtScripts settings bytes = section_form bytes
+item_form (AtSteps script) settings bytes = step_form bytes
 item_form AtSchedule settings bytes = timed_form settings.nodes settings.threads bytes
 item_form AtDone settings bytes = false
 item_form Over settings bytes = false
@@ -245,9 +320,11 @@ item_form Over settings bytes = false
 abbrev pub item_text : (place : Place) → Parameters → Item place → List ℕ
 item_text (AtSetting setting) settings number = entry_text none_text (setting_entry setting number)
 item_text AtSieve settings rule = entry_text none_text (sieve_entry rule)
-item_text AtPairs settings item = pair_or_section_text item
-item_text AtHandlers settings section = entry_text none_text (section_entry section)
+item_text AtPairs settings item = named_or_text pair_text header_or_section_text item
+item_text AtHandlers settings item = header_or_section_text item
 item_text (AtBody handler) settings item = end_or_text action_text item
+item_text AtScripts settings section = section_text section
+item_text (AtSteps script) settings item = end_or_text step_text item
 item_text AtSchedule settings item = end_or_text (timed_text settings.nodes settings.threads) item
 item_text AtDone settings item = codes "done"
 item_text Over settings item = absurd item
@@ -257,9 +334,11 @@ abbrev pub IsItem : (place : Place) → Parameters → Item place → Type 0
 IsItem (AtSetting setting) settings number =
     IsOf none_fits (setting_entry setting) (setting_fits setting settings) number
 IsItem AtSieve settings rule = IsOf none_fits sieve_entry (λ r. true) rule
-IsItem AtPairs settings item = IsPairOrSection settings item
-IsItem AtHandlers settings section = IsOf none_fits section_entry section_fits section
+IsItem AtPairs settings item = named_or_fits (IsPairLine settings) (IsHeaderOrSection settings) item
+IsItem AtHandlers settings item = IsHeaderOrSection settings item
 IsItem (AtBody handler) settings item = end_or_fits IsAction item
+IsItem AtScripts settings section = IsSection settings.nodes settings.threads section
+IsItem (AtSteps script) settings item = end_or_fits IsStep item
 IsItem AtSchedule settings item = end_or_fits (IsTimed settings.nodes settings.threads) item
 IsItem AtDone settings item = Unit {0}
 IsItem Over settings item = ⊥

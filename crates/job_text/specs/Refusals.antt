@@ -3,9 +3,11 @@ use Rattle.std.specs.Prelude.{◌≡◌, ℕ, zero, suc, ◌-◌, ◌<◌, ◌�
 use Rattle.std.specs.Prelude.{if◌then◌else◌, Err}
 use Rattle.job_text.specs.Reasons.{is_text}
 use Rattle.datagram_grammar.specs.Parameters.{Parameters}
-use Rattle.job_text.specs.Places.{Place, AtPairs, AtHandlers, AtBody, AtSchedule, OfPair, OfSection}
-use Rattle.job_text.specs.Places.{Item, item_form, item_text, IsItem}
-use Rattle.job_text.specs.JobReading.{limit, job_of, with_handler, lines_of, total_rounds, has_index, has_pair, is_full}
+use Rattle.job_text.specs.Places.{Place, AtPairs, AtHandlers, AtBody, AtScripts, AtSteps, AtSchedule}
+use Rattle.job_text.specs.Places.{NamedOr, Named, Other, Item, item_form, item_text, IsItem}
+use Rattle.job_text.specs.JobReading.{limit, job_of, with_handler, with_script, lines_of, total_rounds, has_index}
+use Rattle.job_text.specs.JobReading.{has_pair, has_thread, is_full}
+use Rattle.job_text.specs.declared.sections.HandlerHeader.{HandlerHeader}
 use Rattle.job_text.specs.declared.sections.Section.{Section}
 use Rattle.job_text.specs.declared.sections.Section.TheVariants as section
 use Rattle.job_text.specs.JobText.{IsJob, job_text}
@@ -52,9 +54,10 @@ pub record HasNoText (bytes : List ℕ) (line : ℕ) : Type 0 where
 
 -- ---- a line, and what came before it
 
--- the job that the lines so far are of, with the handler that they end with
+-- the job that the lines so far are of, with the handler or the script that they end with
 abbrev pub completed : Place → Job → Job
 completed (AtBody handler) job = with_handler handler job
+completed (AtSteps script) job = with_script script job
 completed place job = job
 
 -- the first line says this
@@ -62,23 +65,33 @@ abbrev pub Says : (place : Place) → Parameters → List ℕ → Item place →
 Says place settings rest item =
     IsItem place settings item × ((more : List ℕ) × (rest ≡ item_text place settings item ++ 10 ∷ more))
 
--- the index, or the pair, stood in a line before
-abbrev pub IsTakenIndex : Job → Section → Type 0
-IsTakenIndex job (section.Handler index role locks) = has_index job.handlers index ≡ true
-IsTakenIndex job other = ⊥
+-- the thread has a script, or the index or the pair stood in a line before
+abbrev pub IsTakenThread : Job → Section → Type 0
+IsTakenThread job (section.Script node thread) = has_thread job.scripts node thread ≡ true
+IsTakenThread job other = ⊥
+
+abbrev pub IsTakenIndex : Job → NamedOr HandlerHeader Section → Type 0
+IsTakenIndex job (Named header) = has_index job.handlers header.index ≡ true
+IsTakenIndex job (Other section) = IsTakenThread job section
 
 abbrev pub IsTaken : (place : Place) → Job → Item place → Type 0
-IsTaken AtPairs job (OfPair pair) = has_pair job.settings.pairs pair ≡ true
-IsTaken AtPairs job (OfSection begun) = IsTakenIndex job begun
-IsTaken AtHandlers job begun = IsTakenIndex job begun
+IsTaken AtPairs job (Named pair) = has_pair job.settings.pairs pair ≡ true
+IsTaken AtPairs job (Other item) = IsTakenIndex job item
+IsTaken AtHandlers job item = IsTakenIndex job item
+IsTaken AtScripts job section = IsTakenThread job section
 IsTaken place job item = ⊥
 
 -- there is no room for one more
+abbrev pub IsFullOfHandlers : Job → NamedOr HandlerHeader Section → Type 0
+IsFullOfHandlers job (Named header) = 128 ≤ length job.handlers
+IsFullOfHandlers job (Other section) = ⊥
+
 abbrev pub IsFull : (place : Place) → Job → Item place → Type 0
-IsFull AtPairs job (OfPair pair) = 64 ≤ length job.settings.pairs
-IsFull AtPairs job (OfSection begun) = 128 ≤ length job.handlers
-IsFull AtHandlers job begun = 128 ≤ length job.handlers
+IsFull AtPairs job (Named pair) = 64 ≤ length job.settings.pairs
+IsFull AtPairs job (Other item) = IsFullOfHandlers job item
+IsFull AtHandlers job item = IsFullOfHandlers job item
 IsFull (AtBody handler) job item = 64 ≤ length handler.body
+IsFull (AtSteps script) job item = 4096 ≤ length script.steps
 IsFull AtSchedule job (Some timed) =
     is_full job.settings.nodes (length (lines_of job.schedule)) (total_rounds (lines_of job.schedule)) timed.event
     ≡ true

@@ -2,26 +2,28 @@
 
 ghost use Rattle.std.specs.Prelude.{◌≡◌, ◌≤◌, ◌+◌, None};
 ghost use Rattle.job_text.specs.Places.{AtDone, Over, done_at};
-ghost use Rattle.job_text.specs.JobReading.{State, lined, job_of_head, behind_handlers, read};
+ghost use Rattle.job_text.specs.JobReading.{State, lined, job_of_head, behind_scripts, read};
 ghost use Rattle.job_text.specs.Reading.{Finds, GivesAt, Continues};
 ghost use Rattle.job_text.specs.declared.job.Job.{Job as JobState};
 
 use crate::fault::{JobFault, JobWhy, Other};
-use crate::job::{HandlerText, HandlerTexts, Head, Job};
+use crate::job::{HandlerTexts, Head, Job, NodeScript, NodeScripts};
 use crate::reasons::reason_of;
 use crate::schedules::schedule_at;
 use crate::words::{ended, is_name, name_of};
 use std::alloc::Global;
 
-/// The job of a head and these handlers, without a schedule.
-pub fn job_with(head: Head, texts: Vec<HandlerText>) -> Job
-    ensures { result ≡ record (job_of_head head) { handlers = texts.items } }
+/// The job of a head and these handlers and scripts, without a schedule.
+pub fn job_with(head: Head, handlers: HandlerTexts, scripts: Vec<NodeScript>) -> Job
+    ensures { result ≡ record (job_of_head head)
+        { handlers = handlers; scripts = scripts.items } }
 {
     Job {
         settings: head.settings,
         patience: head.patience,
         sieve: head.sieve,
-        handlers: HandlerTexts { texts },
+        handlers,
+        scripts: NodeScripts { scripts },
         schedule: None,
     }
 }
@@ -39,7 +41,7 @@ fn done_at(bytes: &[u8]) -> Result<&[u8], Other>
 
 /// The bytes after the line `done`, or why it isn't there.
 fn done_line(line: u32, bytes: &[u8]) -> Result<&[u8], JobFault>
-    requires { line ≤ 1000000 }
+    requires { line ≤ 30000000 }
     ensures { (job : JobState) → Continues (λ rest. read (record { place = Over; job = job })
         (line + 1) rest.now) result (read (record { place = AtDone; job = job }) line
         bytes.now) }
@@ -73,9 +75,9 @@ pub fn tail_at(
     line: u32,
     bytes: &[u8],
 ) -> Result<Job, JobFault>
-    requires line { line ≤ 900000 }
+    requires line { line ≤ 20000000 }
     requires none { job.schedule ≡ None }
-    ensures { GivesAt (λ j. j) result (read (behind_handlers schedule job) line bytes.now) }
+    ensures { GivesAt (λ j. j) result (read (behind_scripts schedule job) line bytes.now) }
 {
     if !schedule {
         return whole(job, line, bytes);

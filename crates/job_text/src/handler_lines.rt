@@ -1,11 +1,11 @@
 //! Reading the handlers of a job.
 
 ghost use Rattle.std.specs.Prelude.{◌≡◌, ◌+◌, ◌≤◌, ◌==◌, [], length, map, IfOk};
-ghost use Rattle.job_text.specs.Places.{AtHandlers, AtBody, end_or};
+ghost use Rattle.job_text.specs.Places.{AtHandlers, AtBody, AtScripts, end_or};
 ghost use Rattle.job_text.specs.Bodies.{action_at};
-ghost use Rattle.job_text.specs.JobReading.{State, lined, has_index, job_of_head, with_body, with_handler, handler_why, read};
+ghost use Rattle.job_text.specs.JobReading.{State, begun, lined, has_index, with_body, with_handler, handler_why, read};
 ghost use Rattle.job_text.specs.Lines.{front};
-ghost use Rattle.job_text.specs.Reading.{Reads, Continues, GivesAt};
+ghost use Rattle.job_text.specs.Reading.{Reads, Continues};
 ghost use Rattle.job_text.specs.declared.job.Job.{Job as JobState};
 ghost use Rattle.job_text.specs.declared.job.HandlerText.{HandlerText as HandlerValue};
 ghost use Rattle.std.specs.List.{list_any};
@@ -13,13 +13,12 @@ ghost use Rattle.std.specs.Str.{bytes_eq};
 ghost use Rattle.std.specs.Prelude.{codes};
 
 use crate::bodies::{action_at, action_form};
-use crate::endings::{job_with, tail_at};
 use crate::fault::{JobFault, JobWhy, Miss};
-use crate::job::{Action, Body, HandlerText, Head, Job};
+use crate::job::{Action, Body, HandlerText, HandlerTexts};
 use crate::operands::starts;
 use crate::reasons::reason_of;
-use crate::sections::{Section, section_form, section_line};
-use crate::words::{ended, is_name, name_of};
+use crate::sections::{HandlerHeader, header_line, header_why};
+use crate::words::{begins, ended, is_name, name_of};
 use std::alloc::Global;
 
 /// The most handlers of a job.
@@ -89,6 +88,18 @@ fn body_at(alloc: Global, first: u32, bytes: &[u8]) -> Result<(Body, u32, &[u8])
     }
 }
 
+/// The handler of this first line, with these actions.
+fn handler_of(header: HandlerHeader, body: Body) -> HandlerText
+    ensures { result ≡ with_body body (begun header) }
+{
+    HandlerText {
+        index: header.index,
+        role: header.role,
+        locks: header.locks,
+        body,
+    }
+}
+
 /// Whether a handler has this index.
 fn is_taken(handlers: &[HandlerText], index: u8) -> bool
     ensures { result ≡ list_any (λ t. t == index) (map (λ h. h.index) handlers.now) }
@@ -116,49 +127,43 @@ fn why_not(handlers: &[HandlerText], index: u8) -> Option<JobWhy>
     None
 }
 
-/// The job of a head, of the handlers that come next, and of what comes behind them.
-pub fn handlers_at(alloc: Global, head: Head, first: u32, bytes: &[u8]) -> Result<Job, JobFault>
+/// The handlers up to the first line of another kind, with its number and the bytes from it on.
+pub fn handlers_at(
+    alloc: Global,
+    first: u32,
+    bytes: &[u8],
+) -> Result<(HandlerTexts, u32, &[u8]), JobFault>
     requires { first ≤ 1000 }
-    ensures { GivesAt (λ j. j) result (read (record { place = AtHandlers; job = job_of_head head })
-        first bytes.now) }
+    ensures value { (job : JobState) →
+        Continues (λ x. read (record {
+          place = AtScripts;
+          job = record job { handlers = x.0 };
+        }) x.1 x.2.now)
+        result (read (record { place = AtHandlers; job = record job { handlers = [] } }) first bytes.now) }
+    ensures later { IfOk result (λ x. x.1 ≤ first + 8448) }
 {
     let mut texts = Vec::new(alloc);
     let mut rest = bytes;
     let mut line = first;
-    loop {
-        let (section, after) = match section_line(alloc, rest) {
+    while begins(b"handler", rest) {
+        let (header, after) = match header_line(alloc, rest) {
             Ok(read) => read,
             Err(Miss::NoMemory) => return Err(JobFault::NoMemory),
             Err(Miss::Unlike) => {
-                let why = reason_of(section_form(rest), rest);
+                let why = header_why(rest);
                 return Err(JobFault::Bad { line, why });
             }
         };
-        match section {
-            Section::Handler { index, role, locks } => {
-                if let Some(why) = why_not(&texts, index) {
-                    return Err(JobFault::Bad { line, why });
-                }
-                let (body, later, after) = match body_at(alloc, line + 1, after) {
-                    Ok(read) => read,
-                    Err(fault) => return Err(fault),
-                };
-                let handler = HandlerText {
-                    index,
-                    role,
-                    locks,
-                    body,
-                };
-                texts.push(handler)?;
-                rest = after;
-                line = later;
-            }
-            Section::Schedule => {
-                return tail_at(alloc, job_with(head, texts), true, line + 1, after);
-            }
-            Section::Done => {
-                return tail_at(alloc, job_with(head, texts), false, line + 1, after);
-            }
+        if let Some(why) = why_not(&texts, header.index) {
+            return Err(JobFault::Bad { line, why });
         }
+        let (body, later, after) = match body_at(alloc, line + 1, after) {
+            Ok(read) => read,
+            Err(fault) => return Err(fault),
+        };
+        texts.push(handler_of(header, body))?;
+        rest = after;
+        line = later;
     }
+    Ok((HandlerTexts { texts }, line, rest))
 }

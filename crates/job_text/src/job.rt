@@ -409,6 +409,93 @@ pub struct TimedEvent {
     pub event: ScheduledEvent,
 }
 
+/// A put of a script that waits until all of it was sent: `remote` and `local` are offsets in the segment of the node `to` and
+/// in the own one, `len` is how many bytes.
+#[derive(Clone, Copy, Debug, PartialEq, Eq)]
+pub struct PutText {
+    /// The node that it is sent to.
+    pub to: u16,
+    /// Where it is written there.
+    pub remote: u64,
+    /// Where the bytes are read here.
+    pub local: u64,
+    /// How many bytes.
+    pub len: u64,
+}
+
+/// A step that scripts alone have: it is tried again at each turn of its thread until it ends.
+#[derive(Debug, Drop)]
+pub enum WaitingStep {
+    /// Waits until the cell holds the number at least.
+    Until { cell: u8, operand: Operand },
+    /// A transfer, until it is complete (GASNet 1.8.1, extended API: gasnet_put, gasnet_get and gasnet_memset).
+    Transfer { transfer: BoxedTransfer },
+    /// Begins an explicit put, whose handle is put into the register, and waits until all of it was sent (gasnet_put_nb).
+    PutBegin { register: u8, put: PutText },
+    /// Begins an implicit put, and waits until all of it was sent (gasnet_put_nbi).
+    PutImplicit { put: PutText },
+    /// Waits for the transfer or the region whose handle is in the register (gasnet_wait_syncnb).
+    Wait { register: u8 },
+    /// Waits for all of them (gasnet_wait_syncnb_all).
+    WaitAll { registers: Registers },
+    /// Waits for one of them at least (gasnet_wait_syncnb_some).
+    WaitSome { registers: Registers },
+    /// Waits for implicit transfers of the thread (gasnet_wait_syncnbi_puts, _gets and _all).
+    WaitImplicit { which: ImplicitKind },
+    /// Waits at the barrier (gasnet_barrier_wait).
+    BarrierWait { id: i32, flags: u8 },
+}
+
+/// A step of a script.
+#[derive(Debug, Drop)]
+pub enum ScriptStep {
+    /// A call, as a line of a schedule has it.
+    Call { call: ScheduledCall },
+    /// What scripts alone have.
+    Waiting { step: WaitingStep },
+}
+
+/// The steps of a script, at most 4,096 where the job was read.
+#[derive(Debug, Drop)]
+pub struct ScriptSteps {
+    pub(crate) steps: Vec<ScriptStep>,
+}
+
+impl Model for ScriptSteps {
+    ghost use Rattle.std.specs.Prelude.{List};
+    ghost use Rattle.job_text.specs.declared.job.ScriptStep.{ScriptStep};
+
+    ghost Value = { List ScriptStep };
+
+    ghost view = { λ s. s.steps.items };
+}
+
+/// What a thread of a node does, step by step.
+#[derive(Debug, Drop)]
+pub struct NodeScript {
+    /// The node, below the job's nodes where the job was read.
+    pub node: u16,
+    /// The thread, below the job's threads where the job was read.
+    pub thread: u16,
+    /// Its steps.
+    pub steps: ScriptSteps,
+}
+
+/// The scripts of a job, no two of the same thread where it was read.
+#[derive(Debug, Drop)]
+pub struct NodeScripts {
+    pub(crate) scripts: Vec<NodeScript>,
+}
+
+impl Model for NodeScripts {
+    ghost use Rattle.std.specs.Prelude.{List};
+    ghost use Rattle.job_text.specs.declared.job.NodeScript.{NodeScript};
+
+    ghost Value = { List NodeScript };
+
+    ghost view = { λ s. s.scripts.items };
+}
+
 /// The actions of a handler, at most 64 where the job was read.
 #[derive(Debug, Drop)]
 pub struct Body {
@@ -478,7 +565,7 @@ pub struct SieveRule {
     pub swap: u32,
 }
 
-/// A job: the settings of all nodes, its handlers, and its schedule.
+/// A job: the settings of all nodes, its handlers, its scripts, and its schedule.
 #[derive(Drop)]
 pub struct Job {
     /// The numbers that all nodes know.
@@ -489,6 +576,8 @@ pub struct Job {
     pub sieve: SieveRule,
     /// The handlers, in the order in which they stand in the text.
     pub handlers: HandlerTexts,
+    /// The scripts, in the order in which they stand in the text.
+    pub scripts: NodeScripts,
     /// The lines of the schedule, where the text has one.
     pub schedule: Option<Schedule>,
 }
@@ -592,6 +681,24 @@ impl HandlerTexts {
         ensures { result.now ≡ self.now }
     {
         &self.texts
+    }
+}
+
+impl ScriptSteps {
+    /// The steps, in their order.
+    pub fn steps(&self) -> &[ScriptStep]
+        ensures { result.now ≡ self.now }
+    {
+        &self.steps
+    }
+}
+
+impl NodeScripts {
+    /// The scripts, in the order in which they stand in the text.
+    pub fn scripts(&self) -> &[NodeScript]
+        ensures { result.now ≡ self.now }
+    {
+        &self.scripts
     }
 }
 

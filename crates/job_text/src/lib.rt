@@ -28,14 +28,17 @@ mod payloads;
 mod reading;
 mod reasons;
 mod schedules;
+mod script_lines;
 mod sections;
 mod transfer_calls;
+mod waiting_steps;
 mod words;
 
 pub use fault::{JobFault, JobWhy};
 pub use job::{
     Action, Body, BoxedLong, BoxedMedium, BoxedTransfer, Bytes, HandlerText, HandlerTexts,
-    ImplicitKind, Job, ListedLocks, LongText, MediumText, Operand, Operands, Payload, Registers,
-    ReplyAction, Schedule, ScheduledCall, ScheduledEvent, SieveRule, TimedEvent, TransferText,
+    ImplicitKind, Job, ListedLocks, LongText, MediumText, NodeScript, NodeScripts, Operand,
+    Operands, Payload, PutText, Registers, ReplyAction, Schedule, ScheduledCall, ScheduledEvent,
+    ScriptStep, ScriptSteps, SieveRule, TimedEvent, TransferText, WaitingStep,
 };
 pub use reading::read_job;

@@ -6,7 +6,7 @@ ghost use Rattle.datagram_grammar.specs.Parameters.{AreInRange, credits_in_all};
 ghost use Rattle.job_text.specs.Lines.{front};
 ghost use Rattle.job_text.specs.Forms.{Number, part_at};
 ghost use Rattle.job_text.specs.JobReading.{State, lined, has_pair, job_of_head, read};
-ghost use Rattle.job_text.specs.Places.{AtPairs, AtHandlers, pair_at, pair_fits, pair_or_section_form};
+ghost use Rattle.job_text.specs.Places.{AtPairs, AtHandlers, pair_at, pair_fits, pairs_form};
 ghost use Rattle.job_text.specs.Reading.{Finds, Continues, IsPaired};
 ghost use Rattle.job_text.specs.Reasons.{reason};
 
@@ -94,7 +94,7 @@ fn pair_line<'a>(
 /// Why a line that begins with `pair` isn't read.
 fn pair_why(bytes: &[u8]) -> JobWhy
     requires { bytes_eq (front bytes.now) (codes "pair") ≡ true }
-    ensures { result ≡ reason pair_or_section_form bytes.now }
+    ensures { result ≡ reason pairs_form bytes.now }
 {
     let (_, rest) = name_of(bytes);
     reason_of(words_left(rest) == 3, bytes)

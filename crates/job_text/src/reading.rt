@@ -12,6 +12,7 @@ use crate::handler_lines::handlers_at;
 use crate::head::head_at;
 use crate::job::Job;
 use crate::pair_lines::pairs_at;
+use crate::script_lines::scripts_at;
 use std::alloc::Global;
 
 /// The most bytes of a job's text.
@@ -33,7 +34,11 @@ fn job_at(alloc: Global, bytes: &[u8]) -> Result<Job, JobFault>
         Ok(read) => read,
         Err(fault) => return Err(fault),
     };
-    handlers_at(alloc, head, line, rest)
+    let (handlers, line, rest) = match handlers_at(alloc, line, rest) {
+        Ok(read) => read,
+        Err(fault) => return Err(fault),
+    };
+    scripts_at(alloc, head, handlers, line, rest)
 }
 
 /// The job whose text the bytes are.

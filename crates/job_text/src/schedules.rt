@@ -81,7 +81,7 @@ pub fn schedule_at<'a>(
     first: u32,
     bytes: &'a [u8],
 ) -> Result<(Schedule, u32, &'a [u8]), JobFault>
-    requires { first ≤ 1000000 }
+    requires { first ≤ 20000000 }
     ensures value { Continues (λ x. read (record {
       place = AtDone;
       job = record job.now {

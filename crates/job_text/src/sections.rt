@@ -1,29 +1,39 @@
 //! Reading lines that begin a part of a job's text.
 
-ghost use Rattle.std.specs.Prelude.{◌≡◌, ◌||◌, ◌==◌, nat_le};
-ghost use Rattle.job_text.specs.Places.{section_at, section_form};
+ghost use Rattle.std.specs.Prelude.{◌≡◌, ◌||◌, ◌&&◌, ◌==◌, nat_le, nat_lt, codes, true};
+ghost use Rattle.std.specs.Str.{bytes_eq};
+ghost use Rattle.job_text.specs.Lines.{front};
+ghost use Rattle.job_text.specs.Places.{header_at, header_or_section_form, section_at, section_form};
 ghost use Rattle.job_text.specs.JobReading.{lined};
-ghost use Rattle.job_text.specs.Reading.{Reads};
+ghost use Rattle.job_text.specs.Reading.{Finds, Reads};
+ghost use Rattle.job_text.specs.Reasons.{reason};
 
-use crate::fault::Miss;
+use crate::fault::{JobWhy, Miss, Other};
 use crate::job::ListedLocks;
 use crate::kinds::role_at;
 use crate::locks::{are_listed, locks_at};
-use crate::numbers::byte_at;
-use crate::reasons::words_left;
+use crate::numbers::{byte_at, short_at};
+use crate::reasons::{reason_of, words_left};
 use crate::words::{ended, is_name, name_of};
 use handler_rules::Role;
 use std::alloc::Global;
 
-/// A line that begins a part of a job's text.
+/// The first line of a handler.
 #[derive(Debug, Drop)]
+pub struct HandlerHeader {
+    /// The index: 0, or one of a client's.
+    pub index: u8,
+    /// Whether the handler runs for requests or for replies.
+    pub role: Role,
+    /// The locks that it lists.
+    pub locks: ListedLocks,
+}
+
+/// A line that begins another part of a job's text.
+#[derive(Clone, Copy, Debug, PartialEq, Eq)]
 pub enum Section {
-    /// A handler.
-    Handler {
-        index: u8,
-        role: Role,
-        locks: ListedLocks,
-    },
+    /// A script of this thread.
+    Script { node: u16, thread: u16 },
     /// The schedule.
     Schedule,
     /// The end of the text.
@@ -37,24 +47,66 @@ fn is_index(index: u8) -> bool
     index == 0 || 128 <= index
 }
 
-/// What begins a part, and the bytes after its words.
-#[tactic(auto, unfolding(crate::specs::Places::section_at))]
-fn section_at(alloc: Global, bytes: &[u8]) -> Result<(Section, &[u8]), Miss>
-    ensures { Reads (λ x. (x.0, x.1.now)) result (section_at bytes.now) }
+/// What the first line of a handler says, and the bytes after its words.
+#[tactic(auto, unfolding(crate::specs::Places::header_at))]
+fn header_at(alloc: Global, bytes: &[u8]) -> Result<(HandlerHeader, &[u8]), Miss>
+    ensures { Reads (λ x. (x.0, x.1.now)) result (header_at bytes.now) }
 {
     let (name, rest) = name_of(bytes);
-    if is_name(name, b"handler") {
-        let (index, rest) = byte_at(rest, 255)?;
-        let (role, rest) = role_at(rest)?;
-        let (items, rest) = locks_at(alloc, rest)?;
-        if !is_index(index) {
-            return Err(Miss::Unlike);
+    if !is_name(name, b"handler") {
+        return Err(Miss::Unlike);
+    }
+    let (index, rest) = byte_at(rest, 255)?;
+    let (role, rest) = role_at(rest)?;
+    let (items, rest) = locks_at(alloc, rest)?;
+    if !is_index(index) {
+        return Err(Miss::Unlike);
+    }
+    if !are_listed(&items) {
+        return Err(Miss::Unlike);
+    }
+    let locks = ListedLocks { items };
+    Ok((HandlerHeader { index, role, locks }, rest))
+}
+
+/// What the first line of a handler says, and the bytes after it.
+pub fn header_line(alloc: Global, bytes: &[u8]) -> Result<(HandlerHeader, &[u8]), Miss>
+    ensures { Reads (λ x. (x.0, x.1.now)) result (lined header_at bytes.now) }
+{
+    let (header, rest) = header_at(alloc, bytes)?;
+    let rest = ended(rest)?;
+    Ok((header, rest))
+}
+
+/// Why a line that begins with `handler` isn't read.
+pub fn header_why(bytes: &[u8]) -> JobWhy
+    requires { bytes_eq (front bytes.now) (codes "handler") ≡ true }
+    ensures { result ≡ reason header_or_section_form bytes.now }
+{
+    let (_, rest) = name_of(bytes);
+    reason_of(2 <= words_left(rest), bytes)
+}
+
+/// Whether a node and a thread are there.
+fn is_there(nodes: u16, threads: u16, node: u16, thread: u16) -> bool
+    ensures { result ≡ (nat_lt node nodes && nat_lt thread threads) }
+{
+    node < nodes && thread < threads
+}
+
+/// What begins another part, and the bytes after its words.
+#[tactic(auto, unfolding(crate::specs::Places::section_at))]
+fn section_at(nodes: u16, threads: u16, bytes: &[u8]) -> Result<(Section, &[u8]), Other>
+    ensures { Finds (λ x. (x.0, x.1.now)) result (section_at nodes threads bytes.now) }
+{
+    let (name, rest) = name_of(bytes);
+    if is_name(name, b"script") {
+        let (node, rest) = short_at(rest, 65_535)?;
+        let (thread, rest) = short_at(rest, 65_535)?;
+        if !is_there(nodes, threads, node, thread) {
+            return Err(Other);
         }
-        if !are_listed(&items) {
-            return Err(Miss::Unlike);
-        }
-        let locks = ListedLocks { items };
-        return Ok((Section::Handler { index, role, locks }, rest));
+        return Ok((Section::Script { node, thread }, rest));
     }
     if is_name(name, b"schedule") {
         return Ok((Section::Schedule, rest));
@@ -62,27 +114,27 @@ fn section_at(alloc: Global, bytes: &[u8]) -> Result<(Section, &[u8]), Miss>
     if is_name(name, b"done") {
         return Ok((Section::Done, rest));
     }
-    Err(Miss::Unlike)
+    Err(Other)
 }
 
-/// What begins a part, and the bytes after its line.
-pub fn section_line(alloc: Global, bytes: &[u8]) -> Result<(Section, &[u8]), Miss>
-    ensures { Reads (λ x. (x.0, x.1.now)) result (lined section_at bytes.now) }
+/// What begins another part, and the bytes after its line.
+pub fn section_line(nodes: u16, threads: u16, bytes: &[u8]) -> Result<(Section, &[u8]), Other>
+    ensures { Finds (λ x. (x.0, x.1.now)) result (lined (section_at nodes threads) bytes.now) }
 {
-    let (section, rest) = section_at(alloc, bytes)?;
+    let (section, rest) = section_at(nodes, threads, bytes)?;
     let rest = ended(rest)?;
     Ok((section, rest))
 }
 
-/// Whether bytes have the form of what begins a part.
+/// Whether bytes have the form of what begins another part.
 #[tactic(auto, unfolding(crate::specs::Places::section_form))]
 pub fn section_form(bytes: &[u8]) -> bool
     ensures { result ≡ section_form bytes.now }
 {
     let (name, rest) = name_of(bytes);
     let count = words_left(rest);
-    if is_name(name, b"handler") {
-        return 2 <= count;
+    if is_name(name, b"script") {
+        return count == 2;
     }
     if is_name(name, b"schedule") {
         return count == 0;

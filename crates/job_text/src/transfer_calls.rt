@@ -19,24 +19,24 @@ use std::alloc::{AllocError, Global};
 
 /// The words of a put or a get.
 #[derive(Clone, Copy)]
-struct Move {
-    to: u16,
-    remote: u64,
-    local: u64,
-    len: u64,
+pub struct Move {
+    pub to: u16,
+    pub remote: u64,
+    pub local: u64,
+    pub len: u64,
 }
 
 /// The words of a memset.
 #[derive(Clone, Copy)]
-struct Fill {
-    to: u16,
-    remote: u64,
-    len: u64,
-    byte: u8,
+pub struct Fill {
+    pub to: u16,
+    pub remote: u64,
+    pub len: u64,
+    pub byte: u8,
 }
 
 /// What the words of a put or a get say, and the bytes after them.
-fn move_at(bytes: &[u8]) -> Result<(Move, &[u8]), Other>
+pub fn move_at(bytes: &[u8]) -> Result<(Move, &[u8]), Other>
     ensures { Finds (λ x. ((x.0.to, (x.0.remote, (x.0.local, (x.0.len, tt)))), x.1.now)) result
         (values_at none_at move_shape bytes.now) }
 {
@@ -54,7 +54,7 @@ fn move_at(bytes: &[u8]) -> Result<(Move, &[u8]), Other>
 }
 
 /// What the words of a memset say, and the bytes after them.
-fn fill_at(bytes: &[u8]) -> Result<(Fill, &[u8]), Other>
+pub fn fill_at(bytes: &[u8]) -> Result<(Fill, &[u8]), Other>
     ensures { Finds (λ x. ((x.0.to, (x.0.remote, (x.0.len, (x.0.byte, tt)))), x.1.now)) result
         (values_at none_at fill_shape bytes.now) }
 {
@@ -72,7 +72,7 @@ fn fill_at(bytes: &[u8]) -> Result<(Fill, &[u8]), Other>
 }
 
 /// The put of such words.
-fn put_of(words: Move) -> TransferText
+pub fn put_of(words: Move) -> TransferText
     ensures { result ≡ transfer.Put words.to words.remote words.local words.len }
 {
     TransferText::Put {
@@ -84,7 +84,7 @@ fn put_of(words: Move) -> TransferText
 }
 
 /// The get of such words.
-fn get_of(words: Move) -> TransferText
+pub fn get_of(words: Move) -> TransferText
     ensures { result ≡ transfer.Get words.to words.remote words.local words.len }
 {
     TransferText::Get {
@@ -96,7 +96,7 @@ fn get_of(words: Move) -> TransferText
 }
 
 /// The memset of such words.
-fn memset_of(words: Fill) -> TransferText
+pub fn memset_of(words: Fill) -> TransferText
     ensures { result ≡ transfer.Memset words.to words.remote words.len words.byte }
 {
     TransferText::Memset {
@@ -108,7 +108,7 @@ fn memset_of(words: Fill) -> TransferText
 }
 
 /// A transfer in an allocation of its own.
-fn boxed(alloc: Global, text: TransferText) -> Result<BoxedTransfer, AllocError>
+pub fn boxed(alloc: Global, text: TransferText) -> Result<BoxedTransfer, AllocError>
     ensures { IfOk result (λ transfer. transfer ≡ text) }
 {
     let inside = Box::new(alloc, text)?;

@@ -10,7 +10,7 @@ ghost use Rattle.node_script.specs.ScriptInvariant.{IsWithin};
 use crate::handlers::ScriptHandlers;
 use datagram_grammar::Settings;
 use handler_rules::Table;
-use job_text::{Job, Schedule, SieveRule, TimedEvent};
+use job_text::{Job, NodeScript, NodeScripts, Schedule, SieveRule, TimedEvent};
 use std::alloc::{AllocError, Global};
 use std::marker::Model;
 
@@ -23,6 +23,7 @@ pub struct Script {
     handlers: ScriptHandlers,
     /// The table in which the handlers are registered.
     table: Table,
+    scripts: NodeScripts,
     schedule: Option<Schedule>,
 }
 
@@ -37,6 +38,7 @@ impl Model for Script {
       patience = script.patience;
       sieve = script.sieve;
       handlers = script.handlers;
+      scripts = script.scripts;
       schedule = script.schedule;
     } };
 
@@ -57,6 +59,7 @@ impl Script {
             patience,
             sieve,
             handlers,
+            scripts,
             schedule,
         } = job;
         let (handlers, table) = ScriptHandlers::new(alloc, handlers)?;
@@ -66,6 +69,7 @@ impl Script {
             sieve,
             handlers,
             table,
+            scripts,
             schedule,
         })
     }
@@ -103,6 +107,13 @@ impl Script {
         ensures { result.now ≡ (registered self.now.handlers).table }
     {
         &self.table
+    }
+
+    /// The scripts of the nodes' threads, in the order in which they stand in the text.
+    pub fn scripts(&self) -> &[NodeScript]
+        ensures { result.now ≡ self.now.scripts }
+    {
+        self.scripts.scripts()
     }
 
     /// The number of lines of the schedule, 0 where there is none.

@@ -122,7 +122,7 @@ const FORMS: [(usize, &str, u32); 38] = [
         20,
     ),
     (26, "handler 128\n", 26),
-    (29, "script 0 0\n", 29),
+    (29, "script 0 0\n", 30),
     (29, "end\n", 29),
     (29, "schedule 1\n", 29),
     (30, "0\n", 30),

@@ -1,6 +1,6 @@
 use Rattle.std.proofs.Common.{◌∙◌, sym, ap, subst, Result, ℕ, List}
 use Rattle.job_text.specs.HeadReading.{◌>>=◌, head_at}
-use Rattle.job_text.specs.JobReading.{BadLine}
+use Rattle.job_text.specs.JobReading.{BadLine, job_of_head}
 use Rattle.job_text.specs.Reading.{FailsAt, GivesAt}
 use Rattle.job_text.specs.declared.job.Job.{Job}
 use Rattle.job_text.proofs.HeadRuns.{pairs_on}
@@ -22,9 +22,17 @@ returns-in-Err-pairs_at c =
     (λ (r : Result (Job × List ℕ) BadLine). ◌>>=◌ {B = Job} r pairs_on) c.in-Ok.ensures.value in
     subst (λ (r : Result Job BadLine). FailsAt c.in-Err-pairs_at.fault r) (sym same) c.in-Err-pairs_at.ensures.value
 
+pub returns-in-Err-handlers_at : goal.returns-in-Err-handlers_at
+returns-in-Err-handlers_at c =
+    let same = job_heads c.args.bytes.now c.if-bytes-gt-LIMIT.false ∙ ap
+    (λ (r : Result (Job × List ℕ) BadLine). ◌>>=◌ {B = Job} r pairs_on) c.in-Ok.ensures.value
+    ∙ c.in-Ok-pairs_at.ensures.value in
+    subst (λ (r : Result Job BadLine). FailsAt c.in-Err-handlers_at.fault r) (sym same)
+    (c.in-Err-handlers_at.ensures.value (job_of_head c.in-Ok-pairs_at.read.0))
+
 pub returns : goal.returns
 returns c =
     let same = job_heads c.args.bytes.now c.if-bytes-gt-LIMIT.false ∙ ap
     (λ (r : Result (Job × List ℕ) BadLine). ◌>>=◌ {B = Job} r pairs_on) c.in-Ok.ensures.value
-    ∙ c.in-Ok-pairs_at.ensures.value in
-    subst (λ (r : Result Job BadLine). GivesAt (λ (j : Job). j) c.handlers_at.result r) (sym same) c.handlers_at.ensures
+    ∙ c.in-Ok-pairs_at.ensures.value ∙ c.in-Ok-handlers_at.ensures.value (job_of_head c.in-Ok-pairs_at.read.0) in
+    subst (λ (r : Result Job BadLine). GivesAt (λ (j : Job). j) c.scripts_at.result r) (sym same) c.scripts_at.ensures

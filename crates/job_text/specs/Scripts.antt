@@ -1,0 +1,139 @@
+-- The forms of steps in a script.
+use Rattle.std.specs.Prelude.{ℕ, List, [], ◌∷◌, Option, Some, None, Bool, true, false, ◌||◌, codes}
+use Rattle.job_text.specs.Lines.{Word, ◌>>=◌}
+use Rattle.job_text.specs.Forms.{Value, Integer, Implicit, Shape, End, ◌▸◌, Many, Maker, Values, Row, Entry}
+use Rattle.job_text.specs.Forms.{table_at, entry_text, IsOf, none_at, none_text, none_fits, U8}
+use Rattle.job_text.specs.Reasons.{table_form}
+use Rattle.job_text.specs.Calls.{move_shape, fill_shape, call_at, call_form, call_text, IsCall}
+use Rattle.job_text.specs.declared.job.PutText.{PutText}
+use Rattle.job_text.specs.declared.job.ScheduledCall.{ScheduledCall}
+use Rattle.job_text.specs.declared.job.ScriptStep.{ScriptStep}
+use Rattle.job_text.specs.declared.job.ScriptStep.TheVariants as step
+use Rattle.job_text.specs.declared.job.TransferText.{TransferText}
+use Rattle.job_text.specs.declared.job.TransferText.TheVariants as transfer
+use Rattle.job_text.specs.declared.job.WaitingStep.{WaitingStep}
+use Rattle.job_text.specs.declared.job.WaitingStep.TheVariants as waiting
+
+-- ---- what scripts alone have
+
+-- a form of step that waits
+abbrev pub form : Word → (shape : Shape) → Maker ⊥ shape WaitingStep → Row ⊥ WaitingStep
+form name shape make = record { name = name; shape = shape; make = make }
+
+abbrev pub until_row : Row ⊥ WaitingStep
+until_row = form (codes "until") (U8 ▸ Value ▸ End) waiting.Until
+
+-- blocking transfers (GASNet 1.8.1, extended API: gasnet_put, gasnet_get, gasnet_memset)
+abbrev pub put_row : Row ⊥ WaitingStep
+put_row = form (codes "put") move_shape (λ to remote local len. waiting.Transfer (transfer.Put to remote local len))
+
+abbrev pub get_row : Row ⊥ WaitingStep
+get_row = form (codes "get") move_shape (λ to remote local len. waiting.Transfer (transfer.Get to remote local len))
+
+abbrev pub memset_row : Row ⊥ WaitingStep
+memset_row = form (codes "memset") fill_shape
+    (λ to remote len byte. waiting.Transfer (transfer.Memset to remote len byte))
+
+-- puts that wait until all was sent (gasnet_put_nb, gasnet_put_nbi)
+abbrev pub put : (to remote local len : ℕ) → PutText
+put to remote local len = record { to = to; remote = remote; local = local; len = len }
+
+abbrev pub put_begin_row : Row ⊥ WaitingStep
+put_begin_row = form (codes "put-nb") (U8 ▸ move_shape)
+    (λ register to remote local len. waiting.PutBegin register (put to remote local len))
+
+abbrev pub put_implicit_row : Row ⊥ WaitingStep
+put_implicit_row = form (codes "put-nbi") move_shape
+    (λ to remote local len. waiting.PutImplicit (put to remote local len))
+
+-- synchronisation that waits (gasnet_wait_syncnb and its like), of up to 16 registers
+abbrev pub wait_row : Row ⊥ WaitingStep
+wait_row = form (codes "wait") (U8 ▸ End) waiting.Wait
+
+abbrev pub wait_all_row : Row ⊥ WaitingStep
+wait_all_row = form (codes "wait-all") (Many 1 16 U8) waiting.WaitAll
+
+abbrev pub wait_some_row : Row ⊥ WaitingStep
+wait_some_row = form (codes "wait-some") (Many 1 16 U8) waiting.WaitSome
+
+abbrev pub wait_implicit_row : Row ⊥ WaitingStep
+wait_implicit_row = form (codes "wait-nbi") (Implicit ▸ End) waiting.WaitImplicit
+
+-- the barrier (gasnet_barrier_wait)
+abbrev pub barrier_wait_row : Row ⊥ WaitingStep
+barrier_wait_row = form (codes "barrier-wait") (Integer ▸ U8 ▸ End) waiting.BarrierWait
+
+-- from `wait` on
+unfoldable pub sync_waits : List (Row ⊥ WaitingStep)
+sync_waits = wait_row ∷ wait_all_row ∷ wait_some_row ∷ wait_implicit_row ∷ barrier_wait_row ∷ []
+
+-- the forms of steps that wait
+unfoldable pub waits : List (Row ⊥ WaitingStep)
+waits = until_row ∷ put_row ∷ get_row ∷ memset_row ∷ put_begin_row ∷ put_implicit_row ∷ sync_waits
+
+-- the words of such a step
+abbrev pub words : (row : Row ⊥ WaitingStep) → Values ⊥ row.shape → Entry ⊥ WaitingStep
+words row values = record { row = row; values = values }
+
+-- how a blocking transfer is written
+abbrev pub transfer_entry : TransferText → Entry ⊥ WaitingStep
+transfer_entry (transfer.Put to remote local len) = words put_row (to, (remote, (local, (len, tt))))
+transfer_entry (transfer.Get to remote local len) = words get_row (to, (remote, (local, (len, tt))))
+transfer_entry (transfer.Memset to remote len byte) = words memset_row (to, (remote, (len, (byte, tt))))
+
+-- how a step that waits is written
+abbrev pub waiting_entry : WaitingStep → Entry ⊥ WaitingStep
+waiting_entry (waiting.Until cell operand) = words until_row (cell, (operand, tt))
+waiting_entry (waiting.Transfer transfer) = transfer_entry transfer
+waiting_entry (waiting.PutBegin register put) =
+    words put_begin_row (register, (put.to, (put.remote, (put.local, (put.len, tt)))))
+waiting_entry (waiting.PutImplicit put) =
+    words put_implicit_row (put.to, (put.remote, (put.local, (put.len, tt))))
+waiting_entry (waiting.Wait register) = words wait_row (register, tt)
+waiting_entry (waiting.WaitAll registers) = words wait_all_row registers
+waiting_entry (waiting.WaitSome registers) = words wait_some_row registers
+waiting_entry (waiting.WaitImplicit which) = words wait_implicit_row (which, tt)
+waiting_entry (waiting.BarrierWait id flags) = words barrier_wait_row (id, (flags, tt))
+
+-- what reads a step that waits
+unfoldable pub waiting_at : List ℕ → Option (WaitingStep × List ℕ)
+waiting_at bytes = table_at none_at waits (λ step. true) bytes
+
+-- whether bytes have the form of one
+unfoldable pub waiting_form : List ℕ → Bool
+waiting_form bytes = table_form (λ bytes. false) waits bytes
+
+-- the text of one
+abbrev pub waiting_text : WaitingStep → List ℕ
+waiting_text step = entry_text none_text (waiting_entry step)
+
+-- one whose words can be said
+abbrev pub IsWaiting : WaitingStep → Type 0
+IsWaiting step = IsOf none_fits waiting_entry (λ step. true) step
+
+-- ---- steps
+
+-- what was found, or else another
+infixl 5 ◌<|>◌
+abbrev pub ◌<|>◌ : {A : Type 0} → Option A → Option A → Option A
+None <|> other = other
+(Some x) <|> other = Some x
+
+-- what reads a step: a call, or what scripts alone have; no two of these forms have the same name
+unfoldable pub step_at : List ℕ → Option (ScriptStep × List ℕ)
+step_at bytes =
+    (call_at bytes >>= λ x. Some (step.Call x.0, x.1)) <|> (waiting_at bytes >>= λ x. Some (step.Waiting x.0, x.1))
+
+-- whether bytes have the form of a step
+unfoldable pub step_form : List ℕ → Bool
+step_form bytes = call_form bytes || waiting_form bytes
+
+-- the text of a step
+abbrev pub step_text : ScriptStep → List ℕ
+step_text (step.Call call) = call_text call
+step_text (step.Waiting waiting) = waiting_text waiting
+
+-- a step whose words can be said
+abbrev pub IsStep : ScriptStep → Type 0
+IsStep (step.Call call) = IsCall call
+IsStep (step.Waiting waiting) = IsWaiting waiting

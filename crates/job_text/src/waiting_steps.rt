@@ -1,0 +1,190 @@
+//! Reading the steps of a script.
+
+ghost use Rattle.std.specs.Prelude.{◌≡◌, false};
+ghost use Rattle.job_text.specs.Forms.{named_at, none_at};
+ghost use Rattle.job_text.specs.Reading.{Reads};
+ghost use Rattle.job_text.specs.Reasons.{named_form};
+ghost use Rattle.job_text.specs.Scripts.{put, step_at, step_form, sync_waits, waiting_at, waiting_form, waits};
+
+use crate::calls::{call_at, call_form};
+use crate::fault::Miss;
+use crate::job::{PutText, ScriptStep, WaitingStep};
+use crate::kinds::implicit_at;
+use crate::numbers::byte_at;
+use crate::operand_lists::registers_at;
+use crate::operands::{integer_at, value_at};
+use crate::reasons::{is_between, words_left};
+use crate::transfer_calls::{Move, boxed, fill_at, get_of, memset_of, move_at, put_of};
+use crate::words::{is_name, name_of};
+use std::alloc::Global;
+
+/// The put of such words.
+fn put_text(words: Move) -> PutText
+    ensures { result ≡ put words.to words.remote words.local words.len }
+{
+    PutText {
+        to: words.to,
+        remote: words.remote,
+        local: words.local,
+        len: words.len,
+    }
+}
+
+/// The step that a line says, by its name and the bytes after it, from `wait` on.
+#[tactic(auto, unfolding(crate::specs::Scripts::sync_waits))]
+fn sync_wait_at<'a>(
+    alloc: Global,
+    name: &[u8],
+    rest: &'a [u8],
+) -> Result<(WaitingStep, &'a [u8]), Miss>
+    ensures { Reads (λ x. (x.0, x.1.now)) result (named_at none_at sync_waits name.now rest.now) }
+{
+    if is_name(name, b"wait") {
+        let (register, rest) = byte_at(rest, 255)?;
+        return Ok((WaitingStep::Wait { register }, rest));
+    }
+    if is_name(name, b"wait-all") {
+        let (registers, rest) = registers_at(alloc, rest)?;
+        return Ok((WaitingStep::WaitAll { registers }, rest));
+    }
+    if is_name(name, b"wait-some") {
+        let (registers, rest) = registers_at(alloc, rest)?;
+        return Ok((WaitingStep::WaitSome { registers }, rest));
+    }
+    if is_name(name, b"wait-nbi") {
+        let (which, rest) = implicit_at(rest)?;
+        return Ok((WaitingStep::WaitImplicit { which }, rest));
+    }
+    if is_name(name, b"barrier-wait") {
+        let (id, rest) = integer_at(rest)?;
+        let (flags, rest) = byte_at(rest, 255)?;
+        return Ok((WaitingStep::BarrierWait { id, flags }, rest));
+    }
+    Err(Miss::Unlike)
+}
+
+/// The step that a line says, by its name and the bytes after it.
+#[tactic(auto, unfolding(crate::specs::Scripts::waits))]
+fn named_wait_at<'a>(
+    alloc: Global,
+    name: &[u8],
+    rest: &'a [u8],
+) -> Result<(WaitingStep, &'a [u8]), Miss>
+    ensures { Reads (λ x. (x.0, x.1.now)) result (named_at none_at waits name.now rest.now) }
+{
+    if is_name(name, b"until") {
+        let (cell, rest) = byte_at(rest, 255)?;
+        let (operand, rest) = value_at(rest)?;
+        return Ok((WaitingStep::Until { cell, operand }, rest));
+    }
+    if is_name(name, b"put") {
+        let (words, rest) = move_at(rest)?;
+        let transfer = boxed(alloc, put_of(words))?;
+        return Ok((WaitingStep::Transfer { transfer }, rest));
+    }
+    if is_name(name, b"get") {
+        let (words, rest) = move_at(rest)?;
+        let transfer = boxed(alloc, get_of(words))?;
+        return Ok((WaitingStep::Transfer { transfer }, rest));
+    }
+    if is_name(name, b"memset") {
+        let (words, rest) = fill_at(rest)?;
+        let transfer = boxed(alloc, memset_of(words))?;
+        return Ok((WaitingStep::Transfer { transfer }, rest));
+    }
+    if is_name(name, b"put-nb") {
+        let (register, rest) = byte_at(rest, 255)?;
+        let (words, rest) = move_at(rest)?;
+        let put = put_text(words);
+        return Ok((WaitingStep::PutBegin { register, put }, rest));
+    }
+    if is_name(name, b"put-nbi") {
+        let (words, rest) = move_at(rest)?;
+        let put = put_text(words);
+        return Ok((WaitingStep::PutImplicit { put }, rest));
+    }
+    sync_wait_at(alloc, name, rest)
+}
+
+/// The step that scripts alone have and a line says, and the bytes after it.
+#[tactic(auto, unfolding(crate::specs::Scripts::waiting_at))]
+fn waiting_at(alloc: Global, bytes: &[u8]) -> Result<(WaitingStep, &[u8]), Miss>
+    ensures { Reads (λ x. (x.0, x.1.now)) result (waiting_at bytes.now) }
+{
+    let (name, rest) = name_of(bytes);
+    named_wait_at(alloc, name, rest)
+}
+
+/// The step that a line says, and the bytes after it.
+#[tactic(auto, unfolding(crate::specs::Scripts::step_at))]
+pub fn step_at(alloc: Global, bytes: &[u8]) -> Result<(ScriptStep, &[u8]), Miss>
+    ensures { Reads (λ x. (x.0, x.1.now)) result (step_at bytes.now) }
+{
+    match call_at(alloc, bytes) {
+        Ok((call, rest)) => Ok((ScriptStep::Call { call }, rest)),
+        Err(Miss::NoMemory) => Err(Miss::NoMemory),
+        Err(Miss::Unlike) => {
+            let (step, rest) = waiting_at(alloc, bytes)?;
+            Ok((ScriptStep::Waiting { step }, rest))
+        }
+    }
+}
+
+/// Whether the words after a name are a form of step that scripts alone have.
+#[tactic(auto, unfolding(crate::specs::Scripts::waits, crate::specs::Scripts::sync_waits))]
+fn named_wait_form(name: &[u8], rest: &[u8]) -> bool
+    ensures { result ≡ named_form (λ b. false) waits name.now rest.now }
+{
+    let count = words_left(rest);
+    if is_name(name, b"until") {
+        return count == 2;
+    }
+    if is_name(name, b"put") {
+        return count == 4;
+    }
+    if is_name(name, b"get") {
+        return count == 4;
+    }
+    if is_name(name, b"memset") {
+        return count == 4;
+    }
+    if is_name(name, b"put-nb") {
+        return count == 5;
+    }
+    if is_name(name, b"put-nbi") {
+        return count == 4;
+    }
+    if is_name(name, b"wait") {
+        return count == 1;
+    }
+    if is_name(name, b"wait-all") {
+        return is_between(count, 1, 16);
+    }
+    if is_name(name, b"wait-some") {
+        return is_between(count, 1, 16);
+    }
+    if is_name(name, b"wait-nbi") {
+        return count == 1;
+    }
+    if is_name(name, b"barrier-wait") {
+        return count == 2;
+    }
+    false
+}
+
+/// Whether bytes have the form of a step that scripts alone have.
+#[tactic(auto, unfolding(crate::specs::Scripts::waiting_form))]
+fn waiting_form(bytes: &[u8]) -> bool
+    ensures { result ≡ waiting_form bytes.now }
+{
+    let (name, rest) = name_of(bytes);
+    named_wait_form(name, rest)
+}
+
+/// Whether bytes have the form of a step.
+#[tactic(auto, unfolding(crate::specs::Scripts::step_form))]
+pub fn step_form(bytes: &[u8]) -> bool
+    ensures { result ≡ step_form bytes.now }
+{
+    call_form(bytes) || waiting_form(bytes)
+}
