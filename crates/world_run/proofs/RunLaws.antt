@@ -1,4 +1,5 @@
 -- The laws hold of the run of each job.
+use Rattle.datagram_grammar.specs.Parameters.{AreInRange}
 use Rattle.endpoint_rules.specs.EndpointLocal.{nothing_begun}
 use Rattle.plain_world.specs.Headline.{Headline}
 use Rattle.endpoint_rules.specs.EndpointRules.{at_the_opening}
@@ -11,6 +12,7 @@ use Rattle.node_script.specs.Bodies.{script_meaning}
 use Rattle.job_text.specs.JobText.{IsJob}
 use Rattle.job_text.specs.declared.job.Job.{Job as JobState}
 use Rattle.node_script.specs.LawfulBodies.{lawful-script}
+use Rattle.node_script.specs.ScriptInvariant.{AreWithin}
 use Rattle.node_script.specs.Registration.{registered}
 use Rattle.node_script.specs.Schedules.{world_job}
 use Rattle.world_run.specs.RunText.{run_events}
@@ -18,23 +20,29 @@ use Rattle.world_run.specs.RunLaws.{RunLaws}
 use Rattle.world_run.proofs.ScheduleAmong.{lines_among}
 use Rattle.world_run.proofs.LinesTell.{lines_tell, ran_told_once, returned_told_once}
 
--- the headline holds of the run of each job
-run_headline : (j : JobState) → IsJob j → Headline (world_job j) (λ i. nothing_begun j.settings) (run_events j)
-run_headline j h =
-    headline j.settings (registered j.handlers).table (script_meaning j.handlers) (run_events j) h.settings
+-- the headline holds of the run of each job whose settings are in range and whose nodes are there
+run_headline : (j : JobState) → AreInRange j.settings → AreWithin j.settings (lines_of j.schedule)
+    → Headline (world_job j) (λ i. nothing_begun j.settings) (run_events j)
+run_headline j range within =
+    headline j.settings (registered j.handlers).table (script_meaning j.handlers) (run_events j) range
     (lawful-script j.handlers)
-    (lines_among (world_job j) (lines_of j.schedule) (at_the_opening j.settings) (job_within j h))
+    (lines_among (world_job j) (lines_of j.schedule) (at_the_opening j.settings) within)
 
-pub run_laws : (j : JobState) → IsJob j → RunLaws j
-run_laws j h = record {
-  among = lines_among (world_job j) (lines_of j.schedule) (at_the_opening j.settings) (job_within j h);
-  headline = run_headline j h;
+-- and all laws do
+pub laws_within : (j : JobState) → AreInRange j.settings → AreWithin j.settings (lines_of j.schedule) → RunLaws j
+laws_within j range within = record {
+  among = lines_among (world_job j) (lines_of j.schedule) (at_the_opening j.settings) within;
+  headline = run_headline j range within;
   told = lines_tell j;
-  ran = ran_told_once j (run_headline j h);
-  returned = returned_told_once j (run_headline j h);
+  ran = ran_told_once j (run_headline j range within);
+  returned = returned_told_once j (run_headline j range within);
   most = run_greatest j.settings (registered j.handlers).table (script_meaning j.handlers) (run_events j);
-  transfers = transfers_hold j.settings (registered j.handlers).table (script_meaning j.handlers) h.settings
+  transfers = transfers_hold j.settings (registered j.handlers).table (script_meaning j.handlers) range
       (lawful-script j.handlers);
-  barrier = barrier_holds j.settings (registered j.handlers).table (script_meaning j.handlers) h.settings
+  barrier = barrier_holds j.settings (registered j.handlers).table (script_meaning j.handlers) range
       (lawful-script j.handlers);
 }
+
+-- of each job
+pub run_laws : (j : JobState) → IsJob j → RunLaws j
+run_laws j h = laws_within j h.settings (job_within j h)

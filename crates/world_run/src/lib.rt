@@ -24,4 +24,6 @@ mod run;
 mod said;
 mod violations;
 
+pub use output::{any_violation, write_nodes};
 pub use run::{RunEnd, run_job};
+pub use said::Said;

@@ -1,0 +1,163 @@
+-- Lines of the drill, one after the other.
+use Rattle.std.proofs.Common.{◌≡◌, ℕ, suc, ◌+◌, List, [], ◌∷◌, ◌++◌, Option, refl, sym, ap, subst, ◌∙◌, append_assoc, arith}
+use Rattle.datagram_grammar.specs.Parameters.{Parameters}
+use Rattle.handler_rules.specs.declared.table.Entry.{Entry}
+use Rattle.handler_rules.specs.Runs.{Meaning}
+use Rattle.plain_world.specs.World.{Timed, run, world_after, world_answer}
+use Rattle.endpoint_rules.specs.EndpointRules.{OtherCall, Records, RecordsEvent, at_the_opening, job_of, timed, transition}
+use Rattle.gas_world.specs.Events.{ForItsRecords, Steps, job_in}
+use Rattle.gas_world.specs.Settling.{WorldJob}
+use Rattle.gas_world.specs.Stands.{Stands}
+use Rattle.gas_world.specs.Told.{world_told}
+use Rattle.gas_world.specs.Worlds.{WorldState}
+use Rattle.gas_world.specs.declared.event.WorldAnswer.{WorldAnswer}
+use Rattle.gas_world.specs.declared.event.WorldAnswer.TheVariants as answers
+use Rattle.gas_world.proofs.Moving.{run_append, same_job, stands_both}
+use Rattle.job_text.specs.declared.job.Job.{Job as JobState}
+use Rattle.job_text.specs.declared.job.ScheduledEvent.{ScheduledEvent}
+use Rattle.job_text.specs.declared.job.TimedEvent.{TimedEvent}
+use Rattle.node_script.specs.AnswerWords.{Sight, sight_of}
+use Rattle.node_script.specs.Bodies.{script_meaning}
+use Rattle.node_script.specs.Schedules.{line_events, schedule_events, world_job}
+use Rattle.world_run.specs.RunText.{line_words, node_of, run_most, run_records, world_words}
+use Rattle.world_run.specs.ScheduleRun.{StandsAfter}
+use Rattle.drill_run.specs.Counting.{AreAtMost, Tallies, count_in}
+use Rattle.drill_run.specs.Draws.{round_at}
+use Rattle.drill_run.specs.Drilling.{CountsEvent, CountsLines, IsDrilled, Stage, job_by}
+use Rattle.drill_run.specs.Rounds.{at_time, bare_job, drill_job, drill_schedule, drill_settings, round_lines, rounds_lines}
+use Rattle.drill_run.specs.Summary.{answers_to, count_of, drill_answers}
+use Rattle.drill_run.specs.declared.counts.Counted.{Counted}
+use Rattle.drill_run.proofs.Tallied.{tallies_both, tallies_none}
+
+-- ---- lines
+
+-- the events of lines, and of lines after them
+pub schedule_append : (job : WorldJob) (xs ys : List TimedEvent) (w : Records)
+    → schedule_events job (xs ++ ys) w
+    ≡ schedule_events job xs w ++ schedule_events job ys (run job (schedule_events job xs w) w)
+schedule_append job [] ys w = refl
+schedule_append job (x ∷ xs) ys w =
+    let first = line_events job w x.time x.event in
+    let w' = run job first w in
+    let more = schedule_events job xs w' in
+    ap (λ es. first ++ es) (schedule_append job xs ys w')
+    ∙ (sym (append_assoc first more (schedule_events job ys (run job more w')))
+    ∙ ap (λ v. (first ++ more) ++ schedule_events job ys v) (sym (run_append job first more w)))
+
+-- and their answers
+pub answers_append : (job : WorldJob) (xs ys : List TimedEvent) (w : Records)
+    → answers_to job (xs ++ ys) w
+    ≡ answers_to job xs w ++ answers_to job ys (run job (schedule_events job xs w) w)
+answers_append job [] ys w = refl
+answers_append job (x ∷ xs) ys w =
+    let first = line_events job w x.time x.event in
+    let w' = run job first w in
+    let more = schedule_events job xs w' in
+    ap (λ answers. line_words job w x ∷ answers)
+    (answers_append job xs ys w'
+    ∙ ap (λ v. answers_to job xs w' ++ answers_to job ys v) (sym (run_append job first more w)))
+
+-- ---- stages
+
+-- lines, and then those that the records after them decide
+pub lines_then : (job : WorldJob) (lines more : Records → List TimedEvent) (old mid new : Stage)
+    → CountsLines job lines old mid → CountsLines job more mid new
+    → CountsLines job (λ w. lines w ++ more (run job (schedule_events job (lines w) w) w)) old new
+lines_then job lines more old mid new h k = λ w most stands.
+    let events = schedule_events job (lines w) w in
+    let after = run job events w in
+    let first = h w most stands in
+    let then = k after _ first.0 in
+    rw (schedule_append job (lines w) (more after) w, answers_append job (lines w) (more after) w) (
+      stands_both job new.world events (schedule_events job (more after) after) w most then.0,
+      tallies_both old.counts mid.counts new.counts (answers_to job (lines w) w) (answers_to job (more after) after)
+          first.1 then.1,
+    )
+
+-- ---- events
+
+-- an event happened, and its answer was counted
+counted_event : (meaning : Meaning) (old new : Stage) (event : Timed OtherCall) (answer : WorldAnswer)
+    → ForItsRecords old.world (λ records most.
+    (answer ≡ world_told (world_answer (job_in meaning old.world) records event))
+    × StandsAfter (job_in meaning old.world) new.world (event ∷ []) records most)
+    → ((sight : Sight) → Tallies old.counts new.counts (world_words sight answer ∷ []))
+    → CountsEvent (job_in meaning old.world) event old new
+counted_event meaning old new event answer steps tallies = λ records most stands.
+    let stepped = steps records most stands in
+    let node = node_of event.event in
+    let sight = sight_of old.world.settings node (world_after (job_in meaning old.world) records event node) in (
+      stepped.1,
+      subst (λ (a : WorldAnswer). Tallies old.counts new.counts (world_words sight a ∷ [])) stepped.0 (tallies sight),
+    )
+
+pub event_counts : (meaning : Meaning) (old new : Stage) (now : ℕ) (event : RecordsEvent) (answer : WorldAnswer)
+    → (answer ≡ answers.NoMemory → ⊥) → Steps meaning old.world (transition now event answer) new.world
+    → ((sight : Sight) → Tallies old.counts new.counts (world_words sight answer ∷ []))
+    → CountsEvent (job_in meaning old.world) (timed now event) old new
+event_counts meaning old new now event (answers.Node answer) n steps tallies =
+    counted_event meaning old new (timed now event) (answers.Node answer) steps tallies
+event_counts meaning old new now event answers.Unsent n steps tallies =
+    counted_event meaning old new (timed now event) answers.Unsent steps tallies
+event_counts meaning old new now event answers.NoMemory n steps tallies = absurd (n refl)
+
+-- a message whose number the records decide
+pub delivery_counts : (job : WorldJob) (old new : Stage) (time number : ℕ) (by : Records → ℕ)
+    (event : ℕ → ScheduledEvent)
+    → ForItsRecords old.world (λ records most. number ≡ by records)
+    → CountsLines job (λ records. at_time time (event number) ∷ []) old new
+    → CountsLines job (λ records. at_time time (event (by records)) ∷ []) old new
+delivery_counts job old new time number by event same h = λ records most stands.
+    subst
+    (λ n. StandsAfter job new.world (schedule_events job (at_time time (event n) ∷ []) records) records most
+    × Tallies old.counts new.counts (answers_to job (at_time time (event n) ∷ []) records))
+    (same records most stands) (h records most stands)
+
+-- two lines, where the second one's world has the settings and the table of the first one's
+pub two_lines : (text : JobState) (old mid new : Stage) (first second : TimedEvent)
+    → mid.world.settings ≡ old.world.settings → mid.world.table ≡ old.world.table
+    → CountsLines (job_by text old.world) (λ records. first ∷ []) old mid
+    → CountsLines (job_by text mid.world) (λ records. second ∷ []) mid new
+    → CountsLines (job_by text old.world) (λ records. first ∷ second ∷ []) old new
+two_lines text old mid new first second settings table h k =
+    lines_then (job_by text old.world) (λ records. first ∷ []) (λ records. second ∷ []) old mid new h
+    (same_job (λ job. CountsLines job (λ records. second ∷ []) mid new) (script_meaning text.handlers) old.world mid.world
+    settings table k)
+
+-- ---- rounds
+
+-- the drill's world does as its job says
+pub same_drill : (P : WorldJob → Type 0) (text : JobState) (world : WorldState) → text ≡ bare_job → IsDrilled world
+    → P (job_by text world) → P (world_job bare_job)
+same_drill P text world same drilled h =
+    subst
+    (λ (table : List (Option Entry)). P (job_of drill_settings table (script_meaning bare_job.handlers))) drilled.table
+    (subst (λ (s : Parameters). P (job_of s world.table (script_meaning bare_job.handlers))) drilled.settings
+    (subst (λ (t : JobState). P (job_by t world)) same h))
+
+pub no_rounds : (job : WorldJob) (seed : ℕ) (old : Stage) → CountsLines job (rounds_lines job seed 0) old old
+unfolding rounds_lines
+no_rounds job seed old = λ records most stands. (stands, tallies_none old.counts)
+
+pub one_more_round : (job : WorldJob) (seed count : ℕ) (old mid new : Stage)
+    → CountsLines job (rounds_lines job seed count) old mid
+    → CountsLines job (round_lines count (round_at seed count)) mid new
+    → CountsLines job (rounds_lines job seed (count + 1)) old new
+unfolding rounds_lines
+one_more_round job seed count old mid new h k =
+    let next : suc count ≡ count + 1 = omega arith in
+    subst (λ n. CountsLines job (rounds_lines job seed n) old new) next
+    (lines_then job (rounds_lines job seed count) (round_lines count (round_at seed count)) old mid new h k)
+
+-- what the drill came to: the world stands for the end of its run, and its answers were counted
+pub record HasRun (seed : ℕ) (new : Stage) : Type 0 where
+  pub stands : Stands new.world (run_records (drill_job seed)) (run_most (drill_job seed))
+  pub counts : (counted : Counted) → count_in new.counts counted ≡ count_of counted (drill_answers seed)
+
+pub all_rounds : (seed : ℕ) (old new : Stage) → Stands old.world (at_the_opening drill_settings) (λ i. 0)
+    → AreAtMost 0 old.counts → CountsLines (world_job bare_job) (rounds_lines (world_job bare_job) seed 20000) old new
+    → HasRun seed new
+unfolding drill_schedule
+all_rounds seed old new stands none h =
+    let it = h (at_the_opening drill_settings) (λ i. 0) stands in
+    record { stands = it.0; counts = λ counted. it.1 counted ∙ omega (arith, none counted) }

@@ -1,0 +1,17 @@
+use Rattle.std.proofs.Common.{◌≡◌, ◌*◌}
+use Rattle.node_script.specs.Schedules.{world_job}
+use Rattle.drill_run.specs.Counting.{AreAtMost}
+use Rattle.drill_run.specs.Draws.{before_round}
+use Rattle.drill_run.specs.Drilling.{CountsLines, stage}
+use Rattle.drill_run.specs.Rounds.{bare_job, rounds_lines}
+use Rattle.drill_run.proofs.drill.run_rounds.Given as goal
+
+abbrev pub invariant-loop-now : goal.invariant-loop-now
+invariant-loop-now l = record {
+  settings : l.world.settings ≡ l.initial.world.settings;
+  table : l.world.table ≡ l.initial.world.table;
+  draws : l.draws ≡ before_round l.seed l.now;
+  few : AreAtMost (2 * l.now) l.counts;
+  runs : CountsLines (world_job bare_job) (rounds_lines (world_job bare_job) l.seed l.now)
+      (stage l.initial.world l.initial.counts) (stage l.world l.counts);
+}

@@ -1,0 +1,81 @@
+-- Counting the first words of answers.
+use Rattle.std.specs.Prelude.{◌≡◌, ℕ, ◌+◌, ◌≤◌, ◌==◌, Bool, false, List, Option, Some, None, slice_index}
+use Rattle.node_record.specs.declared.answer.Asked.{Asked}
+use Rattle.node_record.specs.declared.answer.Asked.TheVariants as asked
+use Rattle.node_record.specs.declared.answer.Delivered.{Delivered}
+use Rattle.node_record.specs.declared.answer.Delivered.TheVariants as delivered
+use Rattle.node_record.specs.declared.answer.Ticked.{Ticked}
+use Rattle.node_record.specs.declared.answer.Ticked.TheVariants as ticked
+use Rattle.endpoint_rules.specs.declared.answer.Answer.{Answer}
+use Rattle.endpoint_rules.specs.declared.answer.Answer.TheVariants as answers
+use Rattle.gas_world.specs.declared.event.WorldAnswer.{WorldAnswer}
+use Rattle.gas_world.specs.declared.event.WorldAnswer.TheVariants as world_answers
+use Rattle.node_script.specs.Lines.{Line}
+use Rattle.drill_run.specs.Summary.{count_of}
+use Rattle.drill_run.specs.declared.counts.Counted.{Counted}
+use Rattle.drill_run.specs.declared.counts.Counted.TheVariants as counted
+
+-- ---- counts
+
+-- where a word's count stands among the counts
+abbrev pub place_of : Counted → ℕ
+place_of counted.Accepted = 0
+place_of counted.Chunk = 1
+place_of counted.Resend = 2
+place_of counted.Ran = 3
+place_of counted.Again = 4
+place_of counted.Stale = 5
+place_of counted.Returned = 6
+place_of counted.Late = 7
+place_of counted.NotYet = 8
+place_of counted.Unsent = 9
+
+abbrev pub count_in : List ℕ → Counted → ℕ
+count_in counts counted = slice_index counts (place_of counted)
+
+-- no count is more than this
+abbrev pub AreAtMost : ℕ → List ℕ → Type 0
+AreAtMost most counts = (counted : Counted) → count_in counts counted ≤ most
+
+-- each count rose by the number of these answers that begin with its word
+abbrev pub Tallies : (old new : List ℕ) → List Line → Type 0
+Tallies old new answers = (counted : Counted) → count_in new counted ≡ count_in old counted + count_of counted answers
+
+-- ---- the word of an answer
+
+-- the word with which the answer to a request begins, if it is counted
+abbrev pub asked_as : Asked → Option Counted
+asked_as (asked.Accepted to slot number) = Some counted.Accepted
+asked_as asked.Ran = Some counted.Ran
+asked_as asked.NotYet = Some counted.NotYet
+asked_as _ = None
+
+-- that to a delivery
+abbrev pub delivered_as : Delivered → Option Counted
+delivered_as (delivered.Ran at) = Some counted.Ran
+delivered_as (delivered.Noted at note) = Some counted.Ran
+delivered_as (delivered.Again at) = Some counted.Again
+delivered_as delivered.Stale = Some counted.Stale
+delivered_as (delivered.Returned to slot number) = Some counted.Returned
+delivered_as delivered.Late = Some counted.Late
+delivered_as _ = None
+
+-- that to a tick
+abbrev pub ticked_as : Ticked → Option Counted
+ticked_as (ticked.Resend at) = Some counted.Resend
+ticked_as (ticked.Chunk at) = Some counted.Chunk
+ticked_as _ = None
+
+-- that to any event
+abbrev pub counted_by : WorldAnswer → Option Counted
+counted_by (world_answers.Node (answers.Asked answer)) = asked_as answer
+counted_by (world_answers.Node (answers.Delivered answer)) = delivered_as answer
+counted_by (world_answers.Node (answers.Ticked answer)) = ticked_as answer
+counted_by (world_answers.Node answer) = None
+counted_by world_answers.Unsent = Some counted.Unsent
+counted_by world_answers.NoMemory = None
+
+-- it is this one
+abbrev pub is_counted : Counted → Option Counted → Bool
+is_counted counted None = false
+is_counted counted (Some other) = place_of counted == place_of other

@@ -1,0 +1,328 @@
+//! The run of the drill.
+
+ghost use Rattle.std.specs.Prelude.{◌≡◌, ◌<◌, ◌+◌, ◌-◌, ◌^◌, ℕ, IfOk, OnOk};
+ghost use Rattle.gas_outside.specs.Buffered.{outbox};
+ghost use Rattle.endpoint_rules.specs.EndpointRules.{at_the_opening, timed};
+ghost use Rattle.gas_world.specs.Aims.{MayFall};
+ghost use Rattle.gas_world.specs.Events.{ForItsRecords, event_of};
+ghost use Rattle.gas_world.specs.Stands.{Stands};
+ghost use Rattle.plain_world.specs.World.{IsAmong};
+ghost use Rattle.node_script.specs.Schedules.{world_job};
+ghost use Rattle.world_run.specs.LinesWritten.{Says, OnDone};
+ghost use Rattle.world_run.specs.RunLaws.{RunLaws};
+ghost use Rattle.world_run.specs.ScheduleRun.{StandsForRun};
+ghost use Rattle.drill_run.specs.Counting.{AreAtMost};
+ghost use Rattle.drill_run.specs.DrillEnds.{DrillEnds};
+ghost use Rattle.drill_run.specs.Drilling.{CountsEvent, CountsLines, IsDrilled, job_by, stage};
+ghost use Rattle.drill_run.specs.Rounds.{bare_job, deed_lines, drill_job, drill_settings, number_of, round_lines};
+ghost use Rattle.drill_run.specs.Rounds.{rounds_lines};
+ghost use Rattle.drill_run.specs.Summary.{drill_lines};
+ghost use Rattle.drill_run.specs.declared.rounds.Deed.TheVariants as Deed;
+
+use crate::counts::Counts;
+use crate::draws::Draws;
+use crate::rounds::{Deed, Round, draw_round};
+use crate::summary::write_drill;
+use endpoint_rules::Call;
+use gas_outside::{BufferedSink, Sink};
+use gas_world::{World, WorldAnswer, WorldEvent};
+use job_text::{JobFault, read_job};
+use node_script::Script;
+use put_get::{Some3, Transfer};
+use std::alloc::{AllocError, Global};
+use world_run::{RunEnd, Said, any_violation};
+
+/// How many rounds there are.
+const ROUNDS: u64 = 20_000;
+
+/// The text of the drill's job. Its schedule isn't read, but made as it runs.
+const TEXT: &[u8] = b"gasnet 1
+job 7
+nodes 4
+credits 2
+threads 1
+segment 65536
+last 18446744073709551615
+resend 8
+patience 1
+sieve 0 0 0
+handler 128 request
+add 0 a0
+reply short 129 a0
+end
+handler 129 reply
+add 1 a0
+end
+done
+";
+
+/// The job of the drill, with its handlers registered. Want of memory is its one error.
+fn drill_script(alloc: Global) -> Result<Script, AllocError>
+    ensures { IfOk result (λ script. script ≡ bare_job) }
+{
+    match read_job(alloc, TEXT) {
+        Ok(job) => Script::new(alloc, job),
+        Err(JobFault::NoMemory) => Err(AllocError),
+        Err(JobFault::Bad { .. }) => unreachable!(),
+    }
+}
+
+/// Runs one event, and counts its answer. Want of memory is its one error.
+fn run_event(
+    world: &mut World,
+    counts: &mut Counts,
+    script: &Script,
+    now: u64,
+    event: &WorldEvent<'_>,
+) -> Result<(), AllocError>
+    requires among { IsAmong world.old.settings (event_of event.now) }
+    requires called { MayFall world.old.settings event.now }
+    requires few { AreAtMost (2 ^ 64 - 2) counts.old }
+    ensures settings { world.new.settings ≡ world.old.settings }
+    ensures table { world.new.table ≡ world.old.table }
+    ensures few { (most : ℕ) → AreAtMost most counts.old → AreAtMost (most + 1) counts.new }
+    ensures runs { OnOk result (CountsEvent (job_by script.now world.old)
+        (timed now (event_of event.now)) (stage world.old counts.old) (stage world.new counts.new)) }
+{
+    match world.step(script.handlers(), now, event) {
+        WorldAnswer::NoMemory => Err(AllocError),
+        answer => {
+            counts.count(&answer);
+            Ok(())
+        }
+    }
+}
+
+/// A Short request.
+fn run_short(
+    world: &mut World,
+    counts: &mut Counts,
+    script: &Script,
+    now: u64,
+    round: Round,
+) -> Result<(), AllocError>
+    requires drilled { IsDrilled world.old }
+    requires from { round.from < 4 }
+    requires few { AreAtMost (2 ^ 64 - 2) counts.old }
+    ensures settings { world.new.settings ≡ world.old.settings }
+    ensures table { world.new.table ≡ world.old.table }
+    ensures few { (most : ℕ) → AreAtMost most counts.old → AreAtMost (most + 1) counts.new }
+    ensures runs { OnOk result (CountsLines (job_by script.now world.old)
+        (deed_lines now Deed.Short round) (stage world.old counts.old) (stage world.new counts.new)) }
+{
+    let args = [(round.rest % 1000) as i32];
+    let event = WorldEvent::Call {
+        node: round.from,
+        thread: 0,
+        call: Call::Short {
+            to: round.to,
+            handler: 128,
+            args: &args,
+        },
+    };
+    run_event(world, counts, script, now, &event)
+}
+
+/// A try of the implicit transfers, and then a put.
+fn run_put(
+    world: &mut World,
+    counts: &mut Counts,
+    script: &Script,
+    now: u64,
+    round: Round,
+) -> Result<(), AllocError>
+    requires drilled { IsDrilled world.old }
+    requires from { round.from < 4 }
+    requires few { AreAtMost (2 ^ 64 - 3) counts.old }
+    ensures settings { world.new.settings ≡ world.old.settings }
+    ensures table { world.new.table ≡ world.old.table }
+    ensures few { (most : ℕ) → AreAtMost most counts.old → AreAtMost (most + 2) counts.new }
+    ensures runs { OnOk result (CountsLines (job_by script.now world.old)
+        (deed_lines now Deed.Put round) (stage world.old counts.old) (stage world.new counts.new)) }
+{
+    let tried = WorldEvent::Call {
+        node: round.from,
+        thread: 0,
+        call: Call::SyncImplicit { which: Some3::All },
+    };
+    run_event(world, counts, script, now, &tried)?;
+    let transfer = Transfer::Put {
+        to: round.to,
+        remote: u64::from(round.rest % 8) * 4096,
+        local: 0,
+        len: 4096,
+    };
+    let begun = WorldEvent::Call {
+        node: round.from,
+        thread: 0,
+        call: Call::BeginImplicit { transfer },
+    };
+    run_event(world, counts, script, now, &begun)
+}
+
+/// The number of the message that a round delivers.
+fn number_of(world: &World, round: Round) -> u64
+    requires from { round.from < world.now.settings.nodes }
+    requires to { round.to < world.now.settings.nodes }
+    ensures { ForItsRecords world.now (λ records most. result ≡ number_of round records) }
+{
+    let accepted = world.accepted(round.from, round.to);
+    accepted
+        .saturating_sub(u64::from(round.rest % 4))
+        .max(1)
+}
+
+/// The delivery of a request.
+fn run_request(
+    world: &mut World,
+    counts: &mut Counts,
+    script: &Script,
+    now: u64,
+    round: Round,
+) -> Result<(), AllocError>
+    requires drilled { IsDrilled world.old }
+    requires from { round.from < 4 }
+    requires to { round.to < 4 }
+    requires few { AreAtMost (2 ^ 64 - 2) counts.old }
+    ensures settings { world.new.settings ≡ world.old.settings }
+    ensures table { world.new.table ≡ world.old.table }
+    ensures few { (most : ℕ) → AreAtMost most counts.old → AreAtMost (most + 1) counts.new }
+    ensures runs { OnOk result (CountsLines (job_by script.now world.old)
+        (deed_lines now Deed.Request round) (stage world.old counts.old)
+        (stage world.new counts.new)) }
+{
+    let event = WorldEvent::Request {
+        from: round.from,
+        to: round.to,
+        number: number_of(world, round),
+    };
+    run_event(world, counts, script, now, &event)
+}
+
+/// The delivery of a reply.
+fn run_reply(
+    world: &mut World,
+    counts: &mut Counts,
+    script: &Script,
+    now: u64,
+    round: Round,
+) -> Result<(), AllocError>
+    requires drilled { IsDrilled world.old }
+    requires from { round.from < 4 }
+    requires to { round.to < 4 }
+    requires few { AreAtMost (2 ^ 64 - 2) counts.old }
+    ensures settings { world.new.settings ≡ world.old.settings }
+    ensures table { world.new.table ≡ world.old.table }
+    ensures few { (most : ℕ) → AreAtMost most counts.old → AreAtMost (most + 1) counts.new }
+    ensures runs { OnOk result (CountsLines (job_by script.now world.old)
+        (deed_lines now Deed.Reply round) (stage world.old counts.old)
+        (stage world.new counts.new)) }
+{
+    let event = WorldEvent::Reply {
+        from: round.from,
+        to: round.to,
+        number: number_of(world, round),
+    };
+    run_event(world, counts, script, now, &event)
+}
+
+/// A round at the time `now`. Want of memory is its one error.
+fn run_round(
+    world: &mut World,
+    counts: &mut Counts,
+    script: &Script,
+    now: u64,
+    round: Round,
+) -> Result<(), AllocError>
+    requires drilled { IsDrilled world.old }
+    requires from { round.from < 4 }
+    requires to { round.to < 4 }
+    requires few { AreAtMost (2 ^ 64 - 3) counts.old }
+    ensures settings { world.new.settings ≡ world.old.settings }
+    ensures table { world.new.table ≡ world.old.table }
+    ensures few { (most : ℕ) → AreAtMost most counts.old → AreAtMost (most + 2) counts.new }
+    ensures runs { OnOk result (CountsLines (job_by script.now world.old)
+        (round_lines now round) (stage world.old counts.old) (stage world.new counts.new)) }
+{
+    match round.deed {
+        Deed::Short => run_short(world, counts, script, now, round),
+        Deed::Put => run_put(world, counts, script, now, round),
+        Deed::Tick => {
+            let event = WorldEvent::Tick { node: round.from };
+            run_event(world, counts, script, now, &event)
+        }
+        Deed::Request => run_request(world, counts, script, now, round),
+        Deed::Reply => run_reply(world, counts, script, now, round),
+    }
+}
+
+/// All rounds. Want of memory is its one error.
+fn run_rounds(
+    world: &mut World,
+    counts: &mut Counts,
+    script: &Script,
+    seed: u64,
+) -> Result<(), AllocError>
+    requires script { script.now ≡ bare_job }
+    requires drilled { IsDrilled world.old }
+    requires none { AreAtMost 0 counts.old }
+    ensures settings { world.new.settings ≡ world.old.settings }
+    ensures table { world.new.table ≡ world.old.table }
+    ensures runs { OnOk result (CountsLines (world_job bare_job)
+        (rounds_lines (world_job bare_job) seed 20000)
+        (stage world.old counts.old) (stage world.new counts.new)) }
+{
+    let mut draws = Draws::new(seed);
+    for now in 0..ROUNDS {
+        let round = draw_round(&mut draws);
+        run_round(world, counts, script, now, round)?;
+    }
+    Ok(())
+}
+
+/// Runs the drill in its world, which is at the opening, and writes its lines.
+fn drill_in<K: Sink>(
+    world: &mut World,
+    script: &Script,
+    seed: u64,
+    sink: &mut BufferedSink<K>,
+) -> Said
+    requires script { script.now ≡ bare_job }
+    requires drilled { IsDrilled world.old }
+    requires stands { Stands world.old (at_the_opening drill_settings) (λ i. 0) }
+    ensures lines { Says (outbox K.taken K.faults sink.old) (outbox K.taken K.faults sink.new)
+        (drill_lines seed) result }
+    ensures world { OnDone result (StandsForRun (drill_job seed) world.new) }
+{
+    let mut counts = Counts::new();
+    match run_rounds(world, &mut counts, script, seed) {
+        Err(AllocError) => Said::NoMemory,
+        Ok(()) => Said::from_wrote(write_drill(seed, world, &counts, sink)),
+    }
+}
+
+/// Runs the drill of a seed in a new world, and writes its lines: the seed, how many answers began with each of ten words, and
+/// the lines of each node.
+///
+/// Want of memory may end it before it wrote. The laws hold of its run, however far it came.
+#[tactic(auto, using(crate::proofs::DrillLaws::drill_laws))]
+pub fn run_drill<K: Sink>(alloc: Global, seed: u64, sink: &mut BufferedSink<K>) -> RunEnd
+    ensures run { DrillEnds seed (outbox K.taken K.faults sink.old)
+        (outbox K.taken K.faults sink.new) result }
+    ensures laws { RunLaws (drill_job seed) }
+{
+    let Ok(script) = drill_script(alloc) else {
+        return RunEnd::NoMemory;
+    };
+    let Ok(mut world) = World::new(alloc, script.settings(), script.table()) else {
+        return RunEnd::NoMemory;
+    };
+    match drill_in(&mut world, &script, seed, sink) {
+        Said::Done => {
+            let violated = any_violation(&world);
+            RunEnd::Done { violated, world }
+        }
+        Said::Fault => RunEnd::Fault,
+        Said::NoMemory => RunEnd::NoMemory,
+    }
+}
