@@ -91,6 +91,8 @@ bare_is = record {
   few_handlers = lit≤ tt;
   handlers = (request_is, (reply_is, tt));
   apart = are_apart;
+  scripts = tt;
+  threads = tt;
   schedule = tt;
 }
 

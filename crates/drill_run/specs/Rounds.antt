@@ -94,6 +94,7 @@ bare_job = record {
   patience = 1;
   sieve = record { lose = 0; repeat = 0; swap = 0 };
   handlers = request_handler ∷ reply_handler ∷ [];
+  scripts = [];
   schedule = None;
 }
 
