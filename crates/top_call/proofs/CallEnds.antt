@@ -1,17 +1,17 @@
 -- The last line of a call, after its other lines; what the sink behind took in the end; and what the exit status says.
 use Rattle.std.proofs.Common.{◌≡◌, ℕ, List, [], ◌∷◌, ◌++◌, length, Option, Some, None, refl, sym, ap, subst, ◌∙◌}
-use Rattle.std.proofs.Common.{append-nil, length-append, ◌⊎◌, inl, inr, ◌+◌, ◌≤◌, ◌<◌, Err, arith, Bool, true, false}
+use Rattle.std.proofs.Common.{append-nil, length-append, ◌⊎◌, inl, inr, ◌+◌, ◌≤◌, ◌<◌, Err, arith, Bool, true, false, lit<}
 use Rattle.std.specs.Io.KnownBytes.{Consumes, IsAtEnd}
 use Rattle.gas_outside.specs.Buffered.{Outbox, Gathers, GathersAll, Flushes}
 use Rattle.gas_outside.specs.declared.writing.Wrote.{Wrote}
 use Rattle.gas_outside.specs.declared.writing.Wrote.TheVariants as wrote
-use Rattle.gas_outside.proofs.Outboxes.{gathers_more, gathers_then, gathers_first, flushed, front_given, rose_later}
+use Rattle.gas_outside.proofs.Outboxes.{flushed, front_given, gathers_first, gathers_more}
+use Rattle.gas_outside.proofs.Outboxes.{gathers_none, gathers_then, rose_later}
 use Rattle.gas_world.specs.Worlds.{WorldState}
 use Rattle.node_script.specs.Lines.{Line, spell, line_text}
 use Rattle.job_text.specs.declared.job.Job.{Job as JobState}
 use Rattle.job_text.specs.JobText.{JobText}
-use Rattle.job_text.specs.JobReading.{limit}
-use Rattle.job_text.specs.JobReading.{job_of}
+use Rattle.job_text.specs.JobReading.{limit, job_of}
 use Rattle.job_text.specs.Refusals.{IsNoMemory, IsBadLine, IsMeant}
 use Rattle.job_text.specs.Refusals as refusals
 use Rattle.job_text.specs.declared.fault.JobWhy.{JobWhy}
@@ -19,188 +19,247 @@ use Rattle.job_text.specs.declared.fault.JobWhy.TheVariants.{Size}
 use Rattle.job_text.specs.declared.fault.JobFault.{JobFault}
 use Rattle.job_text.specs.declared.fault.JobFault.TheVariants as faults
 use Rattle.world_run.specs.RunText.{is_violated, run_lines}
-use Rattle.world_run.specs.RunEnds.{IsRun}
+use Rattle.world_run.specs.RunEnds.{EndsSaying}
 use Rattle.world_run.specs.RunLaws.{RunLaws}
-use Rattle.world_run.specs.LinesWritten.{LinesUpTo}
+use Rattle.world_run.specs.declared.run.RunEnd.{RunEnd}
+use Rattle.world_run.specs.declared.run.RunEnd.TheVariants as runs
 use Rattle.world_run.proofs.LinesWritten.{one_more}
-use Rattle.top_call.specs.TopCall.{Input, Output, Command, Call, ReadsJob, ReadsNoJob, IsWorld, RunsJob, Ends, Takes}
-use Rattle.top_call.specs.TopCall.{Means, StatusMeans, IsComplete, command_in, took_in, status_line, code_of, end_of}
-use Rattle.top_call.specs.TopCall.{Ran, Told, Cut}
-use Rattle.top_call.specs.TopParts.{ReadsOrNot, IsReadJob, Says, GivesOn, EndsBy, cut}
+use Rattle.drill_run.specs.Rounds.{drill_job}
+use Rattle.drill_run.specs.Summary.{drill_lines}
+use Rattle.top_call.specs.Outsides.{Input, Output, Call, Reading, Takes, read_in, took_in}
+use Rattle.top_call.specs.Commands.{code_of, end_of, status_line}
+use Rattle.top_call.specs.CommandEnds.{After, EndsHow, EndsRun, GivesJob, LeavesRun, ReadsJob, ReadsNoJob, SaysAlone}
+use Rattle.top_call.specs.CommandEnds.{DrillEnds, Ends, UsageEnds, WorldEnds, gives, said_last, unasked}
+use Rattle.top_call.specs.TopCall.{Cut, Told, Means}
+use Rattle.top_call.specs.TopParts.{ReadsOrNot, IsReadJob, Says, SaysRun, GivesOn, EndsBy, cut}
 use Rattle.top_call.specs.declared.command.JobRead.{JobRead}
 use Rattle.top_call.specs.declared.command.JobRead.TheVariants as reads
 use Rattle.top_call.specs.declared.ending.End.{End}
 use Rattle.top_call.specs.declared.ending.End.TheVariants as ends
 use Rattle.top_call.specs.declared.ending.Ended.{Ended}
+use Rattle.top_call.specs.declared.words.Command.{Command}
+use Rattle.top_call.specs.declared.words.Command.TheVariants as commands
+
+-- ---- what is claimed of the world
+
+-- what a command says where a world is claimed it says where none is
+abbrev pub Weakens : EndsHow → Type 0
+Weakens Ends =
+    (end : End) (world : Option WorldState) (said : List ℕ) → Ends end (gives world) said → Ends end unasked said
+
+weak_alone : (end : End) (world : Option WorldState) (said : List ℕ) → SaysAlone end (gives world) said
+    → SaysAlone end unasked said
+weak_alone end world said h = record { no_world = tt; said_is = h.said_is }
+
+weak_run : (job : JobState) (lines : List Line) (violated : Bool) (world : Option WorldState) (said : List ℕ)
+    → EndsRun job lines violated (gives world) said → EndsRun job lines violated unasked said
+weak_run job lines violated world said h =
+    record { laws = h.laws; violated_is = h.violated_is; said_is = h.said_is; world_after = tt }
+
+weak_left : (job : JobState) (lines : List Line) (world : Option WorldState) (said : List ℕ)
+    → LeavesRun job lines (gives world) said → LeavesRun job lines unasked said
+weak_left job lines world said h = record {
+  laws = h.laws;
+  front = h.front;
+  rest = h.rest;
+  whole = h.whole;
+  said_is = h.said_is;
+  no_world = tt;
+}
+
+pub weak_world : (reading : Reading) → Weakens (WorldEnds reading)
+weak_world reading ends.Done world said h =
+    record { job = h.job; read = h.read; run = weak_run h.job (run_lines h.job) false world said h.run }
+weak_world reading ends.Violations world said h =
+    record { job = h.job; read = h.read; run = weak_run h.job (run_lines h.job) true world said h.run }
+weak_world reading (ends.BadJob line reason) world said h =
+    record { read = h.read; alone = weak_alone (ends.BadJob line reason) world said h.alone }
+weak_world reading ends.ReadFault world said h =
+    record { rose = h.rose; alone = weak_alone ends.ReadFault world said h.alone }
+weak_world reading ends.NoMemory world said (inl alone) = inl (weak_alone ends.NoMemory world said alone)
+weak_world reading ends.NoMemory world said (inr left) =
+    inr (record { job = left.job; read = left.read; run = weak_left left.job (run_lines left.job) world said left.run })
+weak_world reading ends.Usage world said h = h
+weak_world reading ends.WriteFault world said h = h
+
+pub weak_drill : (seed : ℕ) → Weakens (DrillEnds seed)
+weak_drill seed ends.Done world said h = weak_run (drill_job seed) (drill_lines seed) false world said h
+weak_drill seed ends.Violations world said h = weak_run (drill_job seed) (drill_lines seed) true world said h
+weak_drill seed ends.NoMemory world said h = weak_left (drill_job seed) (drill_lines seed) world said h
+weak_drill seed ends.Usage world said h = h
+weak_drill seed (ends.BadJob line reason) world said h = h
+weak_drill seed ends.ReadFault world said h = h
+weak_drill seed ends.WriteFault world said h = h
+
+pub weak_usage : Weakens UsageEnds
+weak_usage end world said h = (h.0, weak_alone end world said h.1)
+
+-- so of each command
+pub weak_ends : (asked : Option Command) (reading : Reading) → Weakens (Ends asked reading)
+weak_ends None reading = weak_usage
+weak_ends (Some commands.World) reading = weak_world reading
+weak_ends (Some (commands.Drill seed)) reading = weak_drill seed
 
 -- ---- the last line
 
--- how a command went on as its last line was said: it ended so, and that line went in; or the sink failed
-said_last : (command : Command) (old middle new : Outbox) (front : List Line) (end : End) (world : Option WorldState)
+-- an end whose line is said
+abbrev pub IsSaid : End → Type 0
+IsSaid ends.WriteFault = ⊥
+IsSaid _ = Unit {0}
+
+-- all that it says went in
+all_told : (Ends : EndsHow) (took : List ℕ → Wrote → Type 0) (end : End) (world : Option WorldState) → IsSaid end
+    → Told Ends took end world → Means Ends took world end
+all_told Ends took ends.WriteFault world said h = absurd said
+all_told Ends took end world said h = h
+
+-- a command says the line of such an end behind these lines
+pub says_last : (Ends : EndsHow) (old middle new : Outbox) (front : List Line) (end : End) (world : Option WorldState)
     (ended : Ended)
-    → ((lines : List Line) → lines ≡ front ++ status_line end ∷ [] → Ends command end lines)
-    → (Gathers old new (spell (front ++ status_line end ∷ [])) → Means command (GathersAll old new) world end)
-    → Gathers old middle (spell front) → Says end world middle new ended → EndsBy command old new ended
-said_last command old middle new front end world ended ends_so whole h says = elim says [
-  | inl done ↦ subst (λ (e : Ended). EndsBy command old new e) (sym done.0)
-      (whole (rw (one_more front (status_line end))
-      (gathers_more old middle new (spell front) (line_text (status_line end)) h done.1)))
-  | inr failed ↦ subst (λ (e : Ended). EndsBy command old new e) (sym failed.0) (record {
+    → Weakens Ends → IsSaid end → Ends end (gives world) (said_last front end) → Gathers old middle (spell front)
+    → Says end world middle new ended → EndsBy Ends old new ended
+says_last Ends old middle new front end world ended weak is_said ends_so h says = elim says [
+  | inl done ↦ subst (λ (e : Ended). EndsBy Ends old new e) (sym done.0)
+      (all_told Ends (GathersAll old new) end world is_said (record {
+        said = said_last front end;
+        ends = ends_so;
+        written = rw (one_more front (status_line end))
+            (gathers_more old middle new (spell front) (line_text (status_line end)) h done.1);
+      }))
+  | inr failed ↦ subst (λ (e : Ended). EndsBy Ends old new e) (sym failed.0) (record {
     end = end;
-    lines = front ++ status_line end ∷ [];
-    ends = ends_so (front ++ status_line end ∷ []) refl;
+    said = said_last front end;
+    ends = weak end world (said_last front end) ends_so;
     cut = rw (one_more front (status_line end))
         (gathers_then old middle new (spell front) (line_text (status_line end)) wrote.Fault h failed.1);
     no_world = refl;
   })
 ]
 
--- an end without a world
-abbrev IsPlain : End → Type 0
-IsPlain ends.Done = ⊥
-IsPlain ends.Violations = ⊥
-IsPlain ends.WriteFault = ⊥
-IsPlain _ = Unit {0}
-
--- all its lines went in
-plain_end : (command : Command) (took : List ℕ → Wrote → Type 0) (end : End) → IsPlain end
-    → Told command took end None → Means command took None end
-plain_end command took ends.Done plain told = absurd plain
-plain_end command took ends.Violations plain told = absurd plain
-plain_end command took ends.WriteFault plain told = absurd plain
-plain_end command took ends.Usage plain told = told
-plain_end command took (ends.BadJob line reason) plain told = told
-plain_end command took ends.ReadFault plain told = told
-plain_end command took ends.NoMemory plain told = told
-
--- a command says the line of such an end, after whole lines
-pub says_last : (command : Command) (old middle new : Outbox) (front : List Line) (end : End) (ended : Ended)
-    → IsPlain end → ((lines : List Line) → lines ≡ front ++ status_line end ∷ [] → Ends command end lines)
-    → Gathers old middle (spell front) → Says end None middle new ended → EndsBy command old new ended
-says_last command old middle new front end ended plain ends_so =
-    said_last command old middle new front end None ended ends_so
-    (λ went. plain_end command (GathersAll old new) end plain (record {
-      lines = front ++ status_line end ∷ [];
-      ends = ends_so (front ++ status_line end ∷ []) refl;
-      written = went;
-      no_world = refl;
-    }))
-
 -- ---- a run
 
--- how a run ends that came to its end, by whether a node noted a violation
-run_ends : (command : Command) (job : JobState) (violated : Bool) (lines : List Line)
-    → RunsJob command violated lines → Ends command (end_of violated) lines
-run_ends command job true lines run = run
-run_ends command job false lines run = run
+-- of a command that runs this job and says these lines: how it may end at the end of the run, and where memory ran out
+pub record Runs (Ends : EndsHow) (job : JobState) (lines : List Line) : Type 0 where
+  pub laws : RunLaws job
+  pub weak : Weakens Ends
+  pub whole : (violated : Bool) (world : Option WorldState) (said : List ℕ)
+      → EndsRun job lines violated (gives world) said → Ends (end_of violated) (gives world) said
+  pub cut : (violated : Bool) (said : List ℕ) → EndsRun job lines violated unasked said
+      → Ends (end_of violated) unasked said
+  pub left : (said : List ℕ) → LeavesRun job lines (gives None) said → Ends ends.NoMemory (gives None) said
 
--- its lines all went in
-run_means : (command : Command) (took : List ℕ → Wrote → Type 0) (violated : Bool) (world : Option WorldState)
-    → Ran command took violated world → Means command took world (end_of violated)
-run_means command took true world ran = ran
-run_means command took false world ran = ran
+end_said : (violated : Bool) → IsSaid (end_of violated)
+end_said true = tt
+end_said false = tt
 
--- the run came to its end, and the status line was said behind its lines
-pub says_run : (command : Command) (old middle new : Outbox) (job : JobState) (violated : Bool) (world : WorldState)
+-- the run ended so, and then its status line was said
+pub run_told : (Ends : EndsHow) (job : JobState) (lines : List Line) (old middle new : Outbox) (run : RunEnd)
     (ended : Ended)
-    → IsWorld command.words → ReadsJob command.before.left command.after.left job → RunLaws job
-    → IsRun job old middle violated world → Says (end_of violated) (Some world) middle new ended
-    → EndsBy command old new ended
-says_run command old middle new job violated world ended words read laws run =
-    let runs : (lines : List Line) → lines ≡ run_lines job ++ status_line (end_of violated) ∷ []
-    → RunsJob command violated lines =
-    λ lines said. record {
-      words = words;
-      job = job;
-      read = read;
-      laws = laws;
-      violated_is = sym run.violated_is;
-      said = said;
-    } in
-    said_last command old middle new (run_lines job) (end_of violated) (Some world) ended
-    (λ lines said. run_ends command job violated lines (runs lines said))
-    (λ went. run_means command (GathersAll old new) violated (Some world) (record {
-      lines = run_lines job ++ status_line (end_of violated) ∷ [];
-      run = runs (run_lines job ++ status_line (end_of violated) ∷ []) refl;
-      written = went;
-      world_after = record { state = world; world_is = refl; stands = run.stands };
-    })) run.lines
-
--- the sink failed in the run
-pub cuts_run : (command : Command) (old new : Outbox) (job : JobState)
-    → IsWorld command.words → ReadsJob command.before.left command.after.left job → RunLaws job
-    → GathersAll old new (spell (run_lines job)) wrote.Fault → EndsBy command old new cut
-cuts_run command old new job words read laws went =
-    let violated = is_violated job in
-    let line = status_line (end_of violated) in
-    record {
-      end = end_of violated;
-      lines = run_lines job ++ line ∷ [];
-      ends = run_ends command job violated _ (record {
-        words = words;
-        job = job;
-        read = read;
-        laws = laws;
-        violated_is = refl;
-        said = refl;
-      });
-      cut = rw (one_more (run_lines job) line) (gathers_first old new (spell (run_lines job)) (line_text line) went);
+    → Runs Ends job lines → EndsSaying job lines old middle run → SaysRun run middle new ended
+    → EndsBy Ends old new ended
+run_told Ends job lines old middle new (runs.Done violated world) ended by h says =
+    says_last Ends old middle new lines (end_of violated) (Some world) ended by.weak (end_said violated)
+    (by.whole violated (Some world) (said_last lines (end_of violated)) (record {
+      laws = by.laws;
+      violated_is = sym h.violated_is;
+      said_is = refl;
+      world_after = record { state = world; world_is = refl; stands = h.stands };
+    })) h.lines says
+run_told Ends job lines old middle new runs.Fault ended by h says =
+    let end = end_of (is_violated job) in
+    let went : GathersAll old new (spell lines) wrote.Fault =
+    subst (λ (out : Outbox). GathersAll old out (spell lines) wrote.Fault) (sym says.1) h in
+    subst (λ (e : Ended). EndsBy Ends old new e) (sym says.0) (record {
+      end = end;
+      said = said_last lines end;
+      ends =
+          by.cut (is_violated job) (said_last lines end)
+          (record { laws = by.laws; violated_is = refl; said_is = refl; world_after = tt });
+      cut = rw (one_more lines (status_line end))
+          (gathers_first old new (spell lines) (line_text (status_line end)) went);
       no_world = refl;
-    }
+    })
+run_told Ends job lines old middle new runs.NoMemory ended by h says =
+    says_last Ends old middle new h.1.front ends.NoMemory None ended by.weak tt
+    (by.left (said_last h.1.front ends.NoMemory) (record {
+      laws = by.laws;
+      front = h.1.front;
+      rest = h.0;
+      whole = h.1.whole;
+      said_is = refl;
+      no_world = refl;
+    })) h.1.gathered says
 
--- memory ran out in the run
-pub says_front : (command : Command) (old middle new : Outbox) (job : JobState) (rest : List Line) (ended : Ended)
-    → IsWorld command.words → ReadsJob command.before.left command.after.left job → RunLaws job
-    → LinesUpTo old middle (run_lines job) rest → Says ends.NoMemory None middle new ended
-    → EndsBy command old new ended
-says_front command old middle new job rest ended words read laws went =
-    says_last command old middle new went.front ends.NoMemory ended tt
-    (λ lines said. record {
-      words = words;
-      front = went.front;
-      before = inr (record { job = job; read = read; laws = laws; rest = rest; whole = went.whole });
-      said = said;
-    }) went.gathered
+-- `world` runs the job that was read
+world_whole : (reading : Reading) (job : JobState) (after : After) (violated : Bool) (said : List ℕ)
+    → GivesJob reading job → EndsRun job (run_lines job) violated after said
+    → WorldEnds reading (end_of violated) after said
+world_whole reading job after true said read run = record { job = job; read = read; run = run }
+world_whole reading job after false said read run = record { job = job; read = read; run = run }
+
+pub world_runs : (reading : Reading) (job : JobState) → GivesJob reading job → RunLaws job
+    → Runs (WorldEnds reading) job (run_lines job)
+world_runs reading job read laws = record {
+  laws = laws;
+  weak = weak_world reading;
+  whole = λ violated world said. world_whole reading job (gives world) violated said read;
+  cut = λ violated said. world_whole reading job unasked violated said read;
+  left = λ said left. inr (record { job = job; read = read; run = left });
+}
+
+-- `drill` runs its own
+drill_whole : (seed : ℕ) (after : After) (violated : Bool) (said : List ℕ)
+    → EndsRun (drill_job seed) (drill_lines seed) violated after said → DrillEnds seed (end_of violated) after said
+drill_whole seed after true said run = run
+drill_whole seed after false said run = run
+
+pub drill_runs : (seed : ℕ) → RunLaws (drill_job seed) → Runs (DrillEnds seed) (drill_job seed) (drill_lines seed)
+drill_runs seed laws = record {
+  laws = laws;
+  weak = weak_drill seed;
+  whole = λ violated world said. drill_whole seed (gives world) violated said;
+  cut = λ violated said. drill_whole seed unasked violated said;
+  left = λ said left. left;
+}
+
+-- ---- a status line alone
+
+-- behind nothing
+pub says_alone : (Ends : EndsHow) (old new : Outbox) (end : End) (ended : Ended)
+    → Weakens Ends → IsSaid end → Ends end (gives None) (said_last [] end) → Says end None old new ended
+    → EndsBy Ends old new ended
+says_alone Ends old new end ended weak is_said ends_so says =
+    says_last Ends old old new [] end None ended weak is_said ends_so (gathers_none old) says
+
+-- it says so
+pub alone : (end : End) → SaysAlone end (gives None) (said_last [] end)
+alone end = record { no_world = refl; said_is = refl }
 
 -- ---- what waited is given on
 
 -- what the sink took, by another account of it
-means_by : (command : Command) (took other : List ℕ → Wrote → Type 0) (world : Option WorldState) (end : End)
+means_by : (Ends : EndsHow) (took other : List ℕ → Wrote → Type 0) (world : Option WorldState) (end : End)
     → ((end ≡ ends.WriteFault → ⊥) → (bytes : List ℕ) → took bytes wrote.Done → other bytes wrote.Done)
     → (end ≡ ends.WriteFault → (bytes : List ℕ) → took bytes wrote.Fault → other bytes wrote.Fault)
-    → Means command took world end → Means command other world end
-means_by command took other world ends.Done done fault h =
-    record { lines = h.lines; run = h.run; written = done (λ e. (cc)) _ h.written; world_after = h.world_after }
-means_by command took other world ends.Violations done fault h =
-    record { lines = h.lines; run = h.run; written = done (λ e. (cc)) _ h.written; world_after = h.world_after }
-means_by command took other world ends.WriteFault done fault h =
-    record { end = h.end; lines = h.lines; ends = h.ends; cut = fault refl _ h.cut; no_world = h.no_world }
-means_by command took other world ends.Usage done fault h =
-    record { lines = h.lines; ends = h.ends; written = done (λ e. (cc)) _ h.written; no_world = h.no_world }
-means_by command took other world (ends.BadJob line reason) done fault h =
-    record { lines = h.lines; ends = h.ends; written = done (λ e. (cc)) _ h.written; no_world = h.no_world }
-means_by command took other world ends.ReadFault done fault h =
-    record { lines = h.lines; ends = h.ends; written = done (λ e. (cc)) _ h.written; no_world = h.no_world }
-means_by command took other world ends.NoMemory done fault h =
-    record { lines = h.lines; ends = h.ends; written = done (λ e. (cc)) _ h.written; no_world = h.no_world }
+    → Means Ends took world end → Means Ends other world end
+means_by Ends took other world ends.WriteFault done fault h =
+    record { end = h.end; said = h.said; ends = h.ends; cut = fault refl _ h.cut; no_world = h.no_world }
+means_by Ends took other world end done fault h =
+    record { said = h.said; ends = h.ends; written = done (λ e. (cc)) _ h.written }
 
--- all lines went in, and then the sink failed
-cut_after : (command : Command) (took other : List ℕ → Wrote → Type 0) (world : Option WorldState) (end : End)
-    → (end ≡ ends.WriteFault → ⊥) → ((bytes : List ℕ) → took bytes wrote.Done → other bytes wrote.Fault)
-    → Means command took world end → Cut command other None
-cut_after command took other world ends.Done other_end by h =
-    record { end = ends.Done; lines = h.lines; ends = h.run; cut = by _ h.written; no_world = refl }
-cut_after command took other world ends.Violations other_end by h =
-    record { end = ends.Violations; lines = h.lines; ends = h.run; cut = by _ h.written; no_world = refl }
-cut_after command took other world ends.WriteFault other_end by h = absurd (other_end refl)
-cut_after command took other world ends.Usage other_end by h =
-    record { end = ends.Usage; lines = h.lines; ends = h.ends; cut = by _ h.written; no_world = refl }
-cut_after command took other world (ends.BadJob line reason) other_end by h =
-    record { end = ends.BadJob line reason; lines = h.lines; ends = h.ends; cut = by _ h.written; no_world = refl }
-cut_after command took other world ends.ReadFault other_end by h =
-    record { end = ends.ReadFault; lines = h.lines; ends = h.ends; cut = by _ h.written; no_world = refl }
-cut_after command took other world ends.NoMemory other_end by h =
-    record { end = ends.NoMemory; lines = h.lines; ends = h.ends; cut = by _ h.written; no_world = refl }
+-- all that it says went in, and then the sink failed
+cut_after : (Ends : EndsHow) (took other : List ℕ → Wrote → Type 0) (world : Option WorldState) (end : End)
+    → Weakens Ends → (end ≡ ends.WriteFault → ⊥)
+    → ((bytes : List ℕ) → took bytes wrote.Done → other bytes wrote.Fault) → Means Ends took world end
+    → Cut Ends other None
+cut_after Ends took other world ends.WriteFault weak other_end by h = absurd (other_end refl)
+cut_after Ends took other world end weak other_end by h = record {
+  end = end;
+  said = h.said;
+  ends = weak end world h.said h.ends;
+  cut = by _ h.written;
+  no_world = refl;
+}
 
 -- the sink behind one that gathers
 abbrev pub behind : Outbox → Output
@@ -219,25 +278,25 @@ took_some old middle new bytes none h flush =
     (rose_later old.faults middle.faults new.faults h.later flush.rose, rest.0, rest.1)
 
 -- how a command ended, once what waited was given on
-pub means : (command : Command) (old middle new : Outbox) (before after : Ended)
-    → old.pending ≡ [] → EndsBy command old middle before → GivesOn middle new before after
-    → Means command (Takes (behind old) (behind new)) after.world after.end
-means command old middle new before after none h given =
+pub means : (Ends : EndsHow) (old middle new : Outbox) (before after : Ended)
+    → Weakens Ends → old.pending ≡ [] → EndsBy Ends old middle before → GivesOn middle new before after
+    → Means Ends (Takes (behind old) (behind new)) after.world after.end
+means Ends old middle new before after weak none h given =
     let took = Takes (behind old) (behind new) in
-    let So : Ended → Type 0 = λ ended. Means command took ended.world ended.end in
+    let So : Ended → Type 0 = λ ended. Means Ends took ended.world ended.end in
     elim given [
       | inl failed ↦ subst So (sym failed.1)
-          (means_by command (GathersAll old middle) took before.world before.end
+          (means_by Ends (GathersAll old middle) took before.world before.end
           (λ other. absurd (other failed.0))
           (λ is bytes front.
           subst (λ (out : Outbox). Takes (behind old) (behind out) bytes wrote.Fault) (sym failed.2)
           (took_front old middle bytes none front)) h)
       | inr (inl done) ↦ subst So (sym done.1)
-          (means_by command (GathersAll old middle) took before.world before.end
+          (means_by Ends (GathersAll old middle) took before.world before.end
           (λ other bytes whole. flushed old middle new bytes wrote.Done none whole done.2)
           (λ is. absurd (done.0 is)) h)
       | inr (inr failed) ↦ subst So (sym failed.1)
-          (cut_after command (GathersAll old middle) took before.world before.end failed.0
+          (cut_after Ends (GathersAll old middle) took before.world before.end weak failed.0
           (λ bytes whole. took_some old middle new bytes none whole failed.2) h)
     ]
 
@@ -291,7 +350,7 @@ pub reads_long : (left left' : Option (List ℕ)) → ((bytes : List ℕ) × (li
 reads_long left left' h = record { bytes = h.0; read = h.2; none = inl (h.1, refl, refl) }
 
 -- a source that told a job's text doesn't give bytes that are no job
-not_no_job : (bytes : List ℕ) (l' : Option (List ℕ)) (j : JobState) (line : ℕ) (why : JobWhy) → JobText j bytes
+pub not_no_job : (bytes : List ℕ) (l' : Option (List ℕ)) (j : JobState) (line : ℕ) (why : JobWhy) → JobText j bytes
     → ReadsNoJob (Some bytes) l' line why → ⊥
 not_no_job bytes None j line why text r = r.read
 not_no_job bytes (Some ys) j line why text r = elim r.none [
@@ -300,93 +359,3 @@ not_no_job bytes (Some ys) j line why text r = elim r.none [
   | inr other ↦ let same : bytes ≡ r.bytes = r.read ∙ ap (λ z. r.bytes ++ z) other.0 ∙ append-nil r.bytes in
       other.3 j (subst (JobText j) same text)
 ]
-
--- ---- exit statuses
-
-pub status_means : (call : Call) (end : End) → Means (command_in call) (took_in call) call.world end
-    → StatusMeans call (code_of end)
-status_means call ends.Done h = record {
-  is_status = (ends.Done, refl);
-  ok = λ e. h;
-  violations = λ e. absurd (omega (arith, e));
-  usage = λ e. absurd (omega (arith, e));
-  bad_job = λ e. absurd (omega (arith, e));
-  read_fault = λ e. absurd (omega (arith, e));
-  write_fault = λ e. absurd (omega (arith, e));
-  no_memory = λ e. absurd (omega (arith, e));
-}
-status_means call ends.Violations h = record {
-  is_status = (ends.Violations, refl);
-  ok = λ e. absurd (omega (arith, e));
-  violations = λ e. h;
-  usage = λ e. absurd (omega (arith, e));
-  bad_job = λ e. absurd (omega (arith, e));
-  read_fault = λ e. absurd (omega (arith, e));
-  write_fault = λ e. absurd (omega (arith, e));
-  no_memory = λ e. absurd (omega (arith, e));
-}
-status_means call ends.Usage h = record {
-  is_status = (ends.Usage, refl);
-  ok = λ e. absurd (omega (arith, e));
-  violations = λ e. absurd (omega (arith, e));
-  usage = λ e. h;
-  bad_job = λ e. absurd (omega (arith, e));
-  read_fault = λ e. absurd (omega (arith, e));
-  write_fault = λ e. absurd (omega (arith, e));
-  no_memory = λ e. absurd (omega (arith, e));
-}
-status_means call (ends.BadJob line reason) h = record {
-  is_status = (ends.BadJob line reason, refl);
-  ok = λ e. absurd (omega (arith, e));
-  violations = λ e. absurd (omega (arith, e));
-  usage = λ e. absurd (omega (arith, e));
-  bad_job = λ e. (line, reason, h);
-  read_fault = λ e. absurd (omega (arith, e));
-  write_fault = λ e. absurd (omega (arith, e));
-  no_memory = λ e. absurd (omega (arith, e));
-}
-status_means call ends.ReadFault h = record {
-  is_status = (ends.ReadFault, refl);
-  ok = λ e. absurd (omega (arith, e));
-  violations = λ e. absurd (omega (arith, e));
-  usage = λ e. absurd (omega (arith, e));
-  bad_job = λ e. absurd (omega (arith, e));
-  read_fault = λ e. h;
-  write_fault = λ e. absurd (omega (arith, e));
-  no_memory = λ e. absurd (omega (arith, e));
-}
-status_means call ends.WriteFault h = record {
-  is_status = (ends.WriteFault, refl);
-  ok = λ e. absurd (omega (arith, e));
-  violations = λ e. absurd (omega (arith, e));
-  usage = λ e. absurd (omega (arith, e));
-  bad_job = λ e. absurd (omega (arith, e));
-  read_fault = λ e. absurd (omega (arith, e));
-  write_fault = λ e. h;
-  no_memory = λ e. absurd (omega (arith, e));
-}
-status_means call ends.NoMemory h = record {
-  is_status = (ends.NoMemory, refl);
-  ok = λ e. absurd (omega (arith, e));
-  violations = λ e. absurd (omega (arith, e));
-  usage = λ e. absurd (omega (arith, e));
-  bad_job = λ e. absurd (omega (arith, e));
-  read_fault = λ e. absurd (omega (arith, e));
-  write_fault = λ e. absurd (omega (arith, e));
-  no_memory = λ e. h;
-}
-
--- a call that could read a job
-pub completes : (call : Call) (end : End) → Means (command_in call) (took_in call) call.world end
-    → IsComplete call (code_of end)
-completes call ends.Done h words holds faultless = inl refl
-completes call ends.Violations h words holds faultless = inr (inl refl)
-completes call ends.NoMemory h words holds faultless = inr (inr refl)
-completes call ends.Usage h words holds faultless = absurd (h.ends.words words)
-completes call ends.ReadFault h words holds faultless = absurd (faultless.source h.ends.rose)
-completes call ends.WriteFault h words holds faultless = absurd (faultless.sink h.cut.0)
-completes call (ends.BadJob line reason) h words holds faultless =
-    let left = call.after.source.left in
-    absurd
-    (not_no_job holds.bytes left holds.job line reason holds.text
-    (subst (λ (before : Option (List ℕ)). ReadsNoJob before left line reason) holds.told h.ends.read))

@@ -1,6 +1,6 @@
 -- Readers and writers of std, with a count of their errors.
 use Rattle.std.specs.Prelude.{ℕ, List, Option}
-use Rattle.top_call.specs.TopCall.{Seen}
+use Rattle.top_call.specs.Outsides.{Seen}
 
 -- a reader or a writer, and how often it gave an error
 pub record Counted (D : Type 0) : Type 0 where

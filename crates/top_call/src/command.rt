@@ -1,13 +1,16 @@
 //! The commands of the program.
 
-ghost use Rattle.std.specs.Prelude.{◌≡◌, ◌∷◌, [], ◌↔◌, IsTrue, map, codes, string_bytes};
+ghost use Rattle.std.specs.Prelude.{map, string_bytes};
 ghost use Rattle.gas_outside.specs.Buffered.{outbox};
-ghost use Rattle.top_call.specs.TopCall.{IsWorld, command_of, input};
-ghost use Rattle.top_call.specs.TopParts.{ReadsOrNot, IsReadJob, EndsBy};
+ghost use Rattle.top_call.specs.CommandEnds.{DrillEnds, WorldEnds};
+ghost use Rattle.top_call.specs.Outsides.{input, reading_of};
+ghost use Rattle.top_call.specs.TopParts.{EndsAsked, EndsBy, IsReadJob, ReadsOrNot, SaysRun};
 ghost use Rattle.job_text.specs.JobText.{IsJob};
 
 use crate::ending::{End, Ended};
 use crate::status::say;
+use crate::words::{Command, asked};
+use drill_run::run_drill;
 use gas_outside::{BufferedSink, ReadAll, Sink, Source, read_all};
 use job_text::{Job, JobFault, JobWhy, read_job};
 use node_script::Script;
@@ -66,36 +69,49 @@ fn job_from<S: Source>(alloc: Global, source: &mut S) -> JobRead
     }
 }
 
-/// The command `world`, whose words were read.
+/// Says the status line behind the lines of a run, and answers how the command ended.
+fn say_run<K: Sink>(sink: &mut BufferedSink<K>, run: RunEnd) -> Ended
+    ensures { SaysRun run (outbox K.taken K.faults sink.old)
+        (outbox K.taken K.faults sink.new) result }
+{
+    match run {
+        RunEnd::Done { violated, world } => say(sink, End::of_run(violated), Some(world)),
+        RunEnd::Fault => Ended {
+            end: End::WriteFault,
+            world: None,
+        },
+        RunEnd::NoMemory => say(sink, End::NoMemory, None),
+    }
+}
+
+/// The command `world`.
 fn world_command<S: Source, K: Sink>(
     alloc: Global,
     source: &mut S,
     sink: &mut BufferedSink<K>,
 ) -> Ended
-    ensures { EndsBy (command_of (codes "world" ∷ [])
-        (input S.left S.faults source.old) (input S.left S.faults source.new))
+    ensures { EndsBy
+        (WorldEnds (reading_of (input S.left S.faults source.old) (input S.left S.faults source.new)))
         (outbox K.taken K.faults sink.old) (outbox K.taken K.faults sink.new) result }
 {
     match job_from(alloc, source) {
         JobRead::NoMemory => say(sink, End::NoMemory, None),
         JobRead::Fault => say(sink, End::ReadFault, None),
         JobRead::NoJob { line, why } => say(sink, End::BadJob { line, why }, None),
-        JobRead::Job(script) => match run_job(alloc, &script, sink) {
-            RunEnd::Done { violated, world } => say(sink, End::of_run(violated), Some(world)),
-            RunEnd::Fault => Ended {
-                end: End::WriteFault,
-                world: None,
-            },
-            RunEnd::NoMemory => say(sink, End::NoMemory, None),
-        },
+        JobRead::Job(script) => {
+            let run = run_job(alloc, &script, sink);
+            say_run(sink, run)
+        }
     }
 }
 
-/// Whether the words are the one word `world`.
-fn is_world(words: &[String]) -> bool
-    ensures { IsTrue result ↔ IsWorld (map string_bytes words.now) }
+/// The command `drill`.
+fn drill_command<K: Sink>(alloc: Global, seed: u64, sink: &mut BufferedSink<K>) -> Ended
+    ensures { EndsBy (DrillEnds seed) (outbox K.taken K.faults sink.old)
+        (outbox K.taken K.faults sink.new) result }
 {
-    words.len() == 1 && words[0].as_str() == "world"
+    let run = run_drill(alloc, seed, sink);
+    say_run(sink, run)
 }
 
 /// Does what the words say.
@@ -105,13 +121,13 @@ pub fn command<S: Source, K: Sink>(
     source: &mut S,
     sink: &mut BufferedSink<K>,
 ) -> Ended
-    ensures { EndsBy (command_of (map string_bytes words.now)
-        (input S.left S.faults source.old) (input S.left S.faults source.new))
+    ensures { EndsAsked (map string_bytes words.now)
+        (reading_of (input S.left S.faults source.old) (input S.left S.faults source.new))
         (outbox K.taken K.faults sink.old) (outbox K.taken K.faults sink.new) result }
 {
-    if is_world(words) {
-        world_command(alloc, source, sink)
-    } else {
-        say(sink, End::Usage, None)
+    match asked(words) {
+        Some(Command::World) => world_command(alloc, source, sink),
+        Some(Command::Drill { seed }) => drill_command(alloc, seed, sink),
+        None => say(sink, End::Usage, None),
     }
 }

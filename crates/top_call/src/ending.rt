@@ -1,7 +1,7 @@
 //! How a command ends.
 
 ghost use Rattle.std.specs.Prelude.{◌≡◌};
-ghost use Rattle.top_call.specs.TopCall.{code_of, end_of, why_word};
+ghost use Rattle.top_call.specs.Commands.{code_of, end_of, why_word};
 
 use gas_world::World;
 use job_text::JobWhy;

@@ -3,7 +3,7 @@
 ghost use Rattle.std.specs.Prelude.{◌≡◌, ◌∷◌, [], codes, decimal};
 ghost use Rattle.gas_outside.specs.Buffered.{GathersAll, outbox};
 ghost use Rattle.node_script.specs.Lines.{line_text};
-ghost use Rattle.top_call.specs.TopCall.{status_line, why_word};
+ghost use Rattle.top_call.specs.Commands.{status_line, why_word};
 ghost use Rattle.top_call.specs.TopParts.{Says};
 
 use crate::ending::{End, Ended, why_word};

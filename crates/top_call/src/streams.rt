@@ -4,7 +4,8 @@ ghost use Rattle.std.specs.Prelude.{Option, map, string_bytes};
 ghost use Rattle.std.specs.Process.{exit_status};
 ghost use Rattle.gas_world.specs.Worlds.{WorldState};
 ghost use Rattle.top_call.specs.Standard.{streams_seen, uncounted};
-ghost use Rattle.top_call.specs.TopCall.{IsComplete, StatusMeans, call_of};
+ghost use Rattle.top_call.specs.Outsides.{call_of};
+ghost use Rattle.top_call.specs.TopCall.{IsComplete, StatusMeans};
 
 use crate::outside::Outside;
 use crate::standard::{ReaderSource, WriterSink};

@@ -2,7 +2,8 @@
 
 ghost use Rattle.std.specs.Prelude.{map, string_bytes};
 ghost use Rattle.gas_outside.specs.Buffered.{outbox};
-ghost use Rattle.top_call.specs.TopCall.{IsComplete, StatusMeans, call_of, seen};
+ghost use Rattle.top_call.specs.Outsides.{call_of, seen};
+ghost use Rattle.top_call.specs.TopCall.{IsComplete, StatusMeans};
 ghost use Rattle.top_call.specs.TopParts.{GivesOn};
 
 use crate::command::command;
@@ -40,11 +41,12 @@ fn flushed<K: Sink>(sink: &mut BufferedSink<K>, ended: Ended) -> Ended
 
 /// The top call: does what the words say (the program's own name is none of them), and gives the outside back.
 ///
-/// The words `world` alone read a job and run it. The last line written is `status CODE NAME`, but with code 5:
+/// The word `world` alone reads a job and runs it; `drill SEED` runs the drill of that number, and reads nothing. The last line
+/// written is `status CODE NAME`, but with code 5:
 ///
-/// - 0 `ok`: the job was run, the lines of its run were written before, and no node noted a violation;
+/// - 0 `ok`: the job or the drill was run, the lines of its run were written before, and no node noted a violation;
 /// - 1 `violations`: the same, and a node noted a violation;
-/// - 2 `usage`: the words are others;
+/// - 2 `usage`: the words are those of no command;
 /// - 3 `bad-job LINE WHY`: the bytes read are no job's text; the first bad line, and the first reason that applies to
 ///   it. Of more than 4,194,304 bytes they are `0 size`;
 /// - 4 `read-fault`, only where the source's count of faults rose, or stands at its last value;

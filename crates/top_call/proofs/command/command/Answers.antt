@@ -1,13 +1,27 @@
-use Rattle.std.proofs.Common.{[], sym, ◌∙◌}
-use Rattle.gas_outside.proofs.Outboxes.{gathers_none}
+use Rattle.std.proofs.Common.{Some, None, map, refl, string_bytes, subst}
+use Rattle.top_call.specs.Commands.{Asks}
 use Rattle.top_call.specs.declared.ending.End.TheVariants as ends
-use Rattle.top_call.proofs.CallEnds.{says_last}
+use Rattle.top_call.specs.declared.words.Command.TheVariants as commands
+use Rattle.top_call.proofs.CallEnds.{alone, says_alone, weak_usage}
 use Rattle.top_call.proofs.command.command.Goals as goal
 
-pub returns-else-is_world : goal.returns-else-is_world
-returns-else-is_world g c =
-    says_last _ _ _ _ [] ends.Usage c.say.result tt
-    (λ lines said. record {
-      words = λ world. let q = sym c.if-is_world.false ∙ c.is_world.ensures.1 world in (cc);
-      said = said;
-    }) (gathers_none _) c.say.ensures
+pub returns-in-Some-World : goal.returns-in-Some-World
+returns-in-Some-World g c = record {
+  asked = Some commands.World;
+  asked_is = subst (Asks (map string_bytes c.args.words.now)) c.in-Some-World.field-0-is c.in-Some-World.ensures;
+  ends = c.world_command.ensures;
+}
+
+pub returns-in-Some-Drill : goal.returns-in-Some-Drill
+returns-in-Some-Drill g c = record {
+  asked = Some (commands.Drill c.in-Some-Drill.seed);
+  asked_is = subst (Asks (map string_bytes c.args.words.now)) c.in-Some-Drill.field-0-is c.in-Some-Drill.ensures;
+  ends = c.drill_command.ensures;
+}
+
+pub returns-in-None : goal.returns-in-None
+returns-in-None g c = record {
+  asked = None;
+  asked_is = c.in-None.ensures;
+  ends = says_alone _ _ _ ends.Usage c.say.result weak_usage tt (refl, alone ends.Usage) c.say.ensures;
+}

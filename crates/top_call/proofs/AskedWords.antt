@@ -1,0 +1,52 @@
+-- Whether words are those of a command.
+use Rattle.std.proofs.Common.{◌≡◌, ℕ, ◌<◌, ◌^◌, List, [], ◌∷◌, length, refl, ap, arith, codes, ◌∙◌}
+use Rattle.std.specs.Prelude.{decimal}
+use Rattle.node_script.specs.Lines.{Word}
+use Rattle.top_call.specs.Commands.{Asks, AsksNothing}
+use Rattle.top_call.specs.declared.words.Command.{Command}
+use Rattle.top_call.specs.declared.words.Command.TheVariants as commands
+
+-- one word
+pub asks_world : (word : Word) → word ≡ codes "world" → Asks (word ∷ []) commands.World
+asks_world word is = record { in_range = tt; words_are = ap (λ (w : Word). w ∷ []) is }
+
+one_other_by : (word : Word) (command : Command) → (word ≡ codes "world" → ⊥) → Asks (word ∷ []) command → ⊥
+one_other_by word commands.World other asks = let same = asks.words_are in other (cc)
+one_other_by word (commands.Drill seed) other asks = let same = asks.words_are in absurd (cc)
+
+pub one_other : (word : Word) → (word ≡ codes "world" → ⊥) → AsksNothing (word ∷ [])
+one_other word other command = one_other_by word command other
+
+-- two words
+pub asks_drill : (name word : Word) (seed : ℕ) → seed < 2 ^ 64 → name ≡ codes "drill" → word ≡ decimal seed
+    → Asks (name ∷ word ∷ []) (commands.Drill seed)
+asks_drill name word seed fits is number = record {
+  in_range = fits;
+  words_are = ap (λ (w : Word). w ∷ word ∷ []) is ∙ ap (λ (w : Word). codes "drill" ∷ w ∷ []) number;
+}
+
+two_other_by : (name word : Word) (command : Command) → (name ≡ codes "drill" → ⊥) → Asks (name ∷ word ∷ []) command → ⊥
+two_other_by name word commands.World other asks = let same = asks.words_are in absurd (cc)
+two_other_by name word (commands.Drill seed) other asks = let same = asks.words_are in other (cc)
+
+pub two_other : (name word : Word) → (name ≡ codes "drill" → ⊥) → AsksNothing (name ∷ word ∷ [])
+two_other name word other command = two_other_by name word command other
+
+no_seed_by : (name word : Word) (command : Command) → ((seed : ℕ) → seed < 2 ^ 64 → word ≡ decimal seed → ⊥)
+    → Asks (name ∷ word ∷ []) command → ⊥
+no_seed_by name word commands.World none asks = let same = asks.words_are in absurd (cc)
+no_seed_by name word (commands.Drill seed) none asks =
+    let same = asks.words_are in none seed asks.in_range (cc)
+
+pub no_seed : (name word : Word) → ((seed : ℕ) → seed < 2 ^ 64 → word ≡ decimal seed → ⊥)
+    → AsksNothing (name ∷ word ∷ [])
+no_seed name word none command = no_seed_by name word command none
+
+-- any other number of words
+other_count_by : (words : List Word) (command : Command) → (length words ≡ 1 → ⊥) → (length words ≡ 2 → ⊥)
+    → Asks words command → ⊥
+other_count_by words commands.World one two asks = one (ap length asks.words_are)
+other_count_by words (commands.Drill seed) one two asks = two (ap length asks.words_are)
+
+pub other_count : (words : List Word) → (length words ≡ 1 → ⊥) → (length words ≡ 2 → ⊥) → AsksNothing words
+other_count words one two command = other_count_by words command one two
