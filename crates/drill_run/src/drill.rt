@@ -167,9 +167,7 @@ fn number_of(world: &World, round: Round) -> u64
     ensures { ForItsRecords world.now (λ records most. result ≡ number_of round records) }
 {
     let accepted = world.accepted(round.from, round.to);
-    accepted
-        .saturating_sub(u64::from(round.rest % 4))
-        .max(1)
+    accepted.saturating_sub(u64::from(round.rest % 4)).max(1)
 }
 
 /// The delivery of a request.

@@ -55,7 +55,7 @@ pub fn write_drill<K: Sink>(
 ) -> Wrote
     ensures { Writes world.now
         (λ records most. spell (first_line seed ∷ (count_lines (count_in counts.now)
-            ++ end_lines world.now.settings records most)))
+        ++ end_lines world.now.settings records most)))
         (outbox K.taken K.faults sink.old) (outbox K.taken K.faults sink.new) result }
 {
     if let Wrote::Fault = write_first(sink, seed) {

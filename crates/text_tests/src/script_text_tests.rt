@@ -5,7 +5,8 @@ use std::alloc::Global;
 use std::test::*;
 
 /// The ten lines of a head: four nodes with two threads each.
-const HEAD: &str = "gasnet 1\njob 7\nnodes 4\ncredits 2\nthreads 2\nsegment 65536\nlast 9\nresend 8\npatience 1\nsieve 0 0 0\n";
+const HEAD: &str =
+    "gasnet 1\njob 7\nnodes 4\ncredits 2\nthreads 2\nsegment 65536\nlast 9\nresend 8\npatience 1\nsieve 0 0 0\n";
 
 /// Steps that may stand in a script.
 const STEPS: [&str; 16] = [
@@ -200,7 +201,12 @@ fn script_of(alloc: Global, steps: &[&str], times: u32) -> Result<Vec<u8>, Fail>
 fn a_script_has_4096_steps(rt: HostRuntime) -> Result<(), Fail> {
     let most = script_of(rt.alloc(), &STEPS, 256)?;
     let job = read_job(rt.alloc(), &most)?;
-    let steps: usize = job.scripts.scripts().iter().map(|s| s.steps.steps().len()).sum();
+    let steps: usize = job
+        .scripts
+        .scripts()
+        .iter()
+        .map(|s| s.steps.steps().len())
+        .sum();
     assert_eq!(rt; steps, 4_096);
     let more = script_of(rt.alloc(), &["poll"], 4_097)?;
     assert_eq!(rt; refused(rt.alloc(), &more), Some((4_108, JobWhy::Count)));
