@@ -6,6 +6,7 @@ use Rattle.std.proofs.lemmas.List.{length-append, length-set, length-take-le}
 use Rattle.datagram_grammar.specs.declared.pairs.PairCredits.{PairCredits}
 use Rattle.datagram_grammar.specs.declared.settings.Settings.TheInside.{Inside}
 use Rattle.datagram_grammar.specs.Parameters.{Parameters, AreInRange, IsPair, own_credits, credits_in_all, with_pair}
+use Rattle.datagram_grammar.specs.Parameters.{credits_of, upgraded}
 use Rattle.datagram_grammar.specs.Stored.{no_pair, parameters_of, IsStored}
 use Rattle.datagram_grammar.proofs.Credits.{pairs_added, last_pair, sum_with_pair}
 
@@ -99,3 +100,43 @@ stored_added inside pair sum is room takes total =
           ∙ (drop-replicate 1 (64 - inside.count) no_pair ∙ ap (λ n. replicate n no_pair) (omega arith))));
       sum = total ∙ ap credits_in_all (sym same);
     }
+
+-- ---- another version
+
+-- the credits of all pairs are no matter of the version
+upgraded_credits : (settings : Parameters) → credits_in_all (upgraded settings) ≡ credits_in_all settings
+unfolding credits_in_all credits_of
+upgraded_credits settings = refl
+
+-- settings within their limits are so in version 2
+pub upgraded_range : (settings : Parameters) → AreInRange settings → AreInRange (upgraded settings)
+upgraded_range settings range = record {
+  version = refl;
+  some_node = range.some_node;
+  nodes = range.nodes;
+  nodes_at_first = λ first. omega (arith, first);
+  some_credit = range.some_credit;
+  credits = range.credits;
+  pairs = range.pairs;
+  few_pairs = range.few_pairs;
+  credits_in_all = rw (upgraded_credits settings) range.credits_in_all;
+  some_thread = range.some_thread;
+  threads = range.threads;
+  pages = range.pages;
+  some_page = range.some_page;
+  segment = range.segment;
+  segments = range.segments;
+  last = range.last;
+  some_time = range.some_time;
+  resend = range.resend;
+}
+
+-- settings that are stored stay so in version 2
+pub upgraded_stored : (inside : Inside) → IsStored inside → IsStored (record inside { version = 2 })
+upgraded_stored inside is = record {
+  range = upgraded_range (parameters_of inside) is.range;
+  places = is.places;
+  count = is.count;
+  rest = is.rest;
+  sum = is.sum ∙ sym (upgraded_credits (parameters_of inside));
+}

@@ -44,6 +44,10 @@ credits_in_all settings = sum_below (λ from. sum_below (credits_towards setting
 abbrev pub with_pair : Parameters → PairCredits → Parameters
 with_pair settings pair = record settings { pairs = settings.pairs ++ pair ∷ [] }
 
+-- the settings with datagrams of version 2
+abbrev pub upgraded : Parameters → Parameters
+upgraded settings = record settings { version = 2 }
+
 -- ---- limits
 
 -- the credits are of two different nodes, and within their limits

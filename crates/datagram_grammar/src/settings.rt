@@ -1,7 +1,7 @@
 //! The settings of a job.
 
 ghost use Rattle.std.specs.Prelude.{◌≡◌, ◌≢◌, true, MatchOption, [], replicate};
-ghost use Rattle.datagram_grammar.specs.Parameters.{Parameters, AreInRange, credits_of, with_pair};
+ghost use Rattle.datagram_grammar.specs.Parameters.{Parameters, AreInRange, credits_of, upgraded, with_pair};
 ghost use Rattle.datagram_grammar.specs.Stored.{no_pair};
 ghost use Rattle.datagram_grammar.specs.declared.pairs.PairCredits.{PairCredits};
 ghost use Rattle.datagram_grammar.specs.Content.{is_version};
@@ -244,6 +244,23 @@ impl Settings {
         ensures { result ≡ credits_of self.now from to }
     {
         own_credits(&self.places[..self.count], from, to).unwrap_or(self.credits)
+    }
+
+    /// The credits of each ordered pair of nodes that has none of its own.
+    pub fn base_credits(&self) -> u16
+        ensures { result ≡ self.now.credits }
+    {
+        self.credits
+    }
+
+    /// The same settings for datagrams of version 2, in whose limits they are too.
+    pub fn upgraded(&self) -> Settings
+        ensures { result ≡ upgraded self.now }
+    {
+        Settings {
+            version: 2,
+            ..*self
+        }
     }
 
     /// The pairs that have credits of their own, in the order in which they were set.
