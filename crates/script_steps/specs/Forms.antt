@@ -1,0 +1,122 @@
+-- How each step of a script is tried, and where it ends.
+-- Origin: this project's profile; waiting is that of the blocking calls of GASNet 1.8.1.
+use Rattle.std.specs.Prelude.{ℤ, Bool, true, false, not, List, [], Option, None, Some}
+use Rattle.std.specs.Option.{option_map}
+use Rattle.hsl_locks.specs.declared.answer.LockAnswer.TheVariants as locking
+use Rattle.named_barrier.specs.declared.answer.BarrierAnswer.TheVariants as barrier
+use Rattle.node_record.specs.Record.{Node}
+use Rattle.node_record.specs.declared.answer.Asked.TheVariants as asked
+use Rattle.put_get.specs.Operation.{has_unissued}
+use Rattle.put_get.specs.declared.operation.Handle.{Handle}
+use Rattle.put_get.specs.declared.operation.Synced.TheVariants as synced
+use Rattle.put_get.specs.declared.operation.Transfer.{Transfer}
+use Rattle.put_get.specs.declared.operation.Transfer.TheVariants as transfers
+use Rattle.endpoint_rules.specs.EndpointLocal.{EndpointLocal}
+use Rattle.endpoint_rules.specs.EndpointRules.{OnTransfers, OnBarrier}
+use Rattle.endpoint_rules.specs.TransferCalls.{TransferCall, Begin, BeginImplicit, Sync, SyncHandle}
+use Rattle.endpoint_rules.specs.TransferCalls.{SyncAll, SyncSome, SyncImplicit}
+use Rattle.endpoint_rules.specs.BarrierCalls.{TryBarrier}
+use Rattle.endpoint_rules.specs.Called.{Performs}
+use Rattle.endpoint_rules.specs.declared.answer.Answer.{Answer}
+use Rattle.endpoint_rules.specs.declared.answer.Answer.TheVariants as answers
+use Rattle.endpoint_rules.specs.declared.answer.Begun.TheVariants as begun
+use Rattle.job_text.specs.declared.job.PutText.{PutText}
+use Rattle.job_text.specs.declared.job.ScheduledCall.{ScheduledCall}
+use Rattle.job_text.specs.declared.job.ScheduledCall.TheVariants as call
+use Rattle.job_text.specs.declared.job.ScriptStep.{ScriptStep}
+use Rattle.job_text.specs.declared.job.ScriptStep.TheVariants as step
+use Rattle.job_text.specs.declared.job.WaitingStep.{WaitingStep}
+use Rattle.job_text.specs.declared.job.WaitingStep.TheVariants as waiting
+use Rattle.node_script.specs.Bodies.{operand_value}
+use Rattle.node_script.specs.ScheduledCalls.{meant_by, transfer_of, some_of}
+use Rattle.node_runs.specs.Actions.{Form, Once, Again, Until, Twice, Looks, Reading}
+use Rattle.node_runs.specs.Scripts.{ThreadCall}
+
+-- ---- answers at which a step waits
+
+-- a request can't go now: all credits are out, or a handler that would run waits for a lock
+abbrev pub is_put_off : Answer → Bool
+is_put_off (answers.Asked asked.NotYet) = true
+is_put_off (answers.Asked (asked.LockBusy lock)) = true
+is_put_off _ = false
+
+-- another one holds the lock
+abbrev pub is_held : Answer → Bool
+is_held (answers.Lock locking.Held) = true
+is_held _ = false
+
+-- what is synchronised isn't complete (GASNET_ERR_NOT_READY)
+abbrev pub is_not_ready : Answer → Bool
+is_not_ready (answers.Synced synced.NotReady) = true
+is_not_ready (answers.Barrier barrier.NotReady) = true
+is_not_ready _ = false
+
+-- ---- calls that a schedule has, too
+
+-- a request and a lock are waited for; each other call is made once
+abbrev pub call_form : ScheduledCall → (meant : ThreadCall) → Form EndpointLocal
+call_form (call.Short to handler operands) meant = Again is_put_off meant
+call_form (call.Medium text) meant = Again is_put_off meant
+call_form (call.Long text) meant = Again is_put_off meant
+call_form (call.LongAsync text) meant = Again is_put_off meant
+call_form (call.Lock lock) meant = Again is_held meant
+call_form _ meant = Once meant
+
+-- ---- transfers
+
+-- the handle of what the answer says is under way
+abbrev pub begun_handle : Answer → Option Handle
+begun_handle (answers.Begun (begun.Handle handle)) = Some handle
+begun_handle (answers.Started (begun.Handle handle)) = Some handle
+begun_handle _ = None
+
+abbrev pub on_transfers : TransferCall → ThreadCall
+on_transfers call = Performs (OnTransfers call)
+
+-- the second call of a blocking transfer: the synchronisation of what its first one began, if that is under way
+abbrev pub sync_of : (first : Answer) → Option ThreadCall
+sync_of first = option_map (λ handle. on_transfers (SyncHandle handle)) (begun_handle first)
+
+-- a blocking transfer that was done in its first call is answered as one that was synchronised
+abbrev pub as_synced : Answer → Answer
+as_synced (answers.Begun begun.Done) = answers.Synced synced.Ok
+as_synced answer = answer
+
+-- no chunk of the operation of that handle is unissued
+abbrev pub is_issued : Option Handle → Node EndpointLocal → Bool
+is_issued None node = true
+is_issued (Some handle) node = not (has_unissued handle.serial node.local.operations)
+
+-- no chunk of what the first call began is unissued; so it is where that began nothing
+abbrev pub is_sent : (first : Answer) → Node EndpointLocal → Bool
+is_sent first node = is_issued (begun_handle first) node
+
+-- the transfer of a put of a script alone
+abbrev pub put_of : PutText → Transfer
+put_of put = transfers.Put put.to put.remote put.local put.len
+
+-- ---- steps
+
+-- how a step that scripts alone have is tried, by the cells of its node
+abbrev pub waiting_form : (cells : List ℤ) → WaitingStep → Form EndpointLocal
+waiting_form cells (waiting.Until cell operand) = Until cell (operand_value cells [] operand)
+-- gasnet_put, gasnet_get and gasnet_memset: the operation is begun without a register
+waiting_form cells (waiting.Transfer transfer) =
+    Twice (on_transfers (Begin None (transfer_of transfer))) sync_of is_not_ready as_synced
+-- gasnet_put_nb and gasnet_put_nbi: the source may be written again once all chunks were issued
+waiting_form cells (waiting.PutBegin register put) =
+    Looks (on_transfers (Begin (Some register) (put_of put))) is_sent
+waiting_form cells (waiting.PutImplicit put) = Looks (on_transfers (BeginImplicit (put_of put))) is_sent
+-- gasnet_wait_syncnb and its like
+waiting_form cells (waiting.Wait register) = Again is_not_ready (on_transfers (Sync register))
+waiting_form cells (waiting.WaitAll registers) = Again is_not_ready (on_transfers (SyncAll registers))
+waiting_form cells (waiting.WaitSome registers) = Again is_not_ready (on_transfers (SyncSome registers))
+waiting_form cells (waiting.WaitImplicit which) =
+    Again is_not_ready (on_transfers (SyncImplicit (some_of which)))
+-- gasnet_barrier_wait
+waiting_form cells (waiting.BarrierWait id flags) = Again is_not_ready (Performs (OnBarrier (TryBarrier id flags)))
+
+-- how a step is tried, by the record of its node as the try begins: `cN` is read from the node's cells
+abbrev pub step_form : Reading EndpointLocal ScriptStep
+step_form (step.Call call) node = call_form call (meant_by node.local.core.cells call)
+step_form (step.Waiting waiting) node = waiting_form node.local.core.cells waiting

@@ -1,0 +1,137 @@
+-- What the events of a turn do to an endpoint, and how the try of a step went.
+-- Origin: this project's profile.
+use Rattle.std.specs.Prelude.{ℕ, ◌≡◌, List, [], ◌∷◌, Bool, ◌&&◌, if◌then◌else◌, map, Option, None, Some}
+use Rattle.std.specs.Prelude.{is_some, is_none}
+use Rattle.std.specs.Option.{option_map, option_or, option_to_list}
+use Rattle.handler_rules.specs.Runs.{Meaning}
+use Rattle.node_record.specs.Record.{Node}
+use Rattle.node_record.specs.NodeStep.{Job, node_answer}
+use Rattle.node_record.specs.declared.answer.SlotRef.{SlotRef}
+use Rattle.am_core.specs.CoreContracts.{IsSameNode}
+use Rattle.endpoint_rules.specs.Called.{node_event}
+use Rattle.endpoint_rules.specs.EndpointLocal.{EndpointLocal, IsEndpointKept}
+use Rattle.endpoint_rules.specs.EndpointRules.{OtherCall, RecordEvent, told}
+use Rattle.endpoint_rules.specs.declared.answer.Answer.{Answer}
+use Rattle.gas_endpoint.specs.Endpoints.{EndpointState, EndpointStands, ForItsRecord, job_here}
+use Rattle.job_text.specs.declared.job.ScriptStep.{ScriptStep}
+use Rattle.node_runs.specs.Actions.{Form, Progress, call_of, ended_by, begins, tried_form}
+use Rattle.node_runs.specs.Outgoing.{slot_of, StaysWell}
+use Rattle.node_runs.specs.Scripts.{ThreadCall, Tried as FormTried}
+use Rattle.node_runs.specs.Turn.{node_run, node_sends}
+use Rattle.script_steps.specs.Forms.{step_form}
+use Rattle.script_steps.specs.declared.trial.Trial.{Trial}
+use Rattle.script_steps.specs.declared.trial.Tried.{Tried}
+
+-- the job of an endpoint, as its node's record knows it
+abbrev pub EndpointJob : Type 0
+EndpointJob = Job EndpointLocal OtherCall Answer
+
+-- ---- events of an endpoint, one after another
+
+-- events at one time, by the record that they find, and the slots of what they send, in order
+pub record Happening : Type 0 where
+  pub now : ℕ
+  pub events : Node EndpointLocal → List RecordEvent
+  pub slots : List SlotRef
+
+-- of a record of the node `me`: the endpoint stands for what these events leave, and each message that they sent is
+-- that of its slot
+pub record HasHappened
+    (job : EndpointJob) (me : ℕ) (happening : Happening) (node : Node EndpointLocal) (new : EndpointState) : Type 0
+  where
+    pub stands : EndpointStands new (node_run job me happening.now (happening.events node) node)
+    pub slots_are : happening.slots ≡ map slot_of (node_sends job me happening.now (happening.events node) node)
+    pub well : StaysWell job (IsEndpointKept job.settings) me happening.now (happening.events node) node
+
+-- these events happened to the endpoint, of every record for which it stood
+pub record Happen (meaning : Meaning) (old : EndpointState) (happening : Happening) (new : EndpointState) : Type 0
+  where
+    pub same : IsSameNode old.core new.core
+    pub happened : ForItsRecord old (λ node. HasHappened (job_here meaning old) old.core.me happening node new)
+
+-- ---- the try of a step that has a form
+
+-- the try of a step of a thread that is read so, where it began with this answer
+pub record FormTrial : Type 0 where
+  pub now : ℕ
+  pub thread : ℕ
+  pub form : Node EndpointLocal → Form EndpointLocal
+  pub began : Option Answer
+
+-- the call that it makes, if it makes one, by the record that it finds
+abbrev pub trial_call : FormTrial → Node EndpointLocal → Option ThreadCall
+trial_call trial node = call_of (trial.form node) trial.began
+
+-- the event of the call
+abbrev pub trial_events : FormTrial → Node EndpointLocal → List RecordEvent
+trial_events trial node = option_to_list (option_map (node_event trial.thread) (trial_call trial node))
+
+-- the answer of the call
+abbrev pub trial_answer : EndpointJob → (me : ℕ) → FormTrial → Node EndpointLocal → Option Answer
+trial_answer job me trial node =
+    option_map (λ call. told (node_answer job me node trial.now (node_event trial.thread call))) (trial_call trial node)
+
+-- the record after it
+abbrev pub trial_after : EndpointJob → (me : ℕ) → FormTrial → Node EndpointLocal → Node EndpointLocal
+trial_after job me trial node = node_run job me trial.now (trial_events trial node) node
+
+-- the answer with which a try of this form began its step, where it began it and didn't end it
+abbrev pub begun_by : Form EndpointLocal → (began ended answer : Option Answer) → Option Answer
+begun_by form began ended answer = if begins form && is_none began && is_none ended then answer else None
+
+-- how the try went, of a record that it found
+pub record WentSo (job : EndpointJob) (me : ℕ) (trial : FormTrial) (tried : Tried) (node : Node EndpointLocal) : Type 0
+  where
+    pub ended : tried.ended
+        ≡ ended_by (trial.form node) trial.began (trial_after job me trial node) (trial_answer job me trial node)
+    pub began : tried.began
+        ≡ begun_by (trial.form node) trial.began tried.ended (trial_answer job me trial node)
+
+-- the events of the try, and the slot of what they sent
+abbrev pub trial_happening : FormTrial → Tried → Happening
+trial_happening trial tried =
+    record { now = trial.now; events = trial_events trial; slots = option_to_list tried.sent }
+
+-- the endpoint was asked what the try calls, and the try went so
+pub record TriesForm
+    (meaning : Meaning) (old : EndpointState) (trial : FormTrial) (tried : Tried) (new : EndpointState) : Type 0
+  where
+    pub happen : Happen meaning old (trial_happening trial tried) new
+    pub went : ForItsRecord old (WentSo (job_here meaning old) old.core.me trial tried)
+
+-- ---- the try of a step
+
+-- the step, as it is read
+abbrev pub as_form : Trial → FormTrial
+as_form trial = record {
+  now = trial.time;
+  thread = trial.thread;
+  form = step_form trial.step.now;
+  began = trial.began;
+}
+
+-- what is left of the script whose step was tried, and behind which this is left
+abbrev pub left_by : Trial → Tried → (rest : List ScriptStep) → Progress ScriptStep
+left_by trial tried rest =
+    if is_some tried.ended then record { left = rest; began = None }
+    else record { left = trial.step.now ∷ rest; began = option_or tried.began trial.began }
+
+-- how the try went, as what it told says it
+abbrev pub as_tried : Trial → Tried → (rest : List ScriptStep) → FormTried (Progress ScriptStep)
+as_tried trial tried rest =
+    record { left = left_by trial tried rest; ended = tried.ended; began = is_some tried.began }
+
+-- of a record that the try found: it went as the step's form says
+abbrev pub IsTriedSo : EndpointJob → (me : ℕ) → Trial → Tried → Node EndpointLocal → Type 0
+IsTriedSo job me trial tried node =
+    (rest : List ScriptStep)
+    → tried_form (step_form trial.step.now node) trial.step.now rest trial.began
+    (trial_after job me (as_form trial) node) (trial_answer job me (as_form trial) node)
+    ≡ as_tried trial tried rest
+
+-- a step was tried: of every record for which the endpoint stood, the try made the one call that the step's form makes,
+-- if that makes one, and went as the form says
+pub record Tries (meaning : Meaning) (old : EndpointState) (trial : Trial) (tried : Tried) (new : EndpointState)
+    : Type 0 where
+  pub happen : Happen meaning old (trial_happening (as_form trial) tried) new
+  pub tried_so : ForItsRecord old (IsTriedSo (job_here meaning old) old.core.me trial tried)
