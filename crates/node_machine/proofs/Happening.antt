@@ -1,0 +1,209 @@
+-- What the calls of an endpoint do, as parts of a turn.
+use Rattle.std.proofs.Common.{◌≡◌, ℕ, List, [], ◌∷◌, ◌++◌, map, Option, Some, None, refl, sym, ap, ap₂, ◌∙◌, subst}
+use Rattle.std.proofs.Common.{append_assoc, true}
+use Rattle.std.specs.Option.{option_to_list}
+use Rattle.std.proofs.lemmas.List.{map-append}
+use Rattle.datagram_grammar.specs.Content.{is_version}
+use Rattle.datagram_grammar.specs.Message.{Message, Spells}
+use Rattle.datagram_grammar.specs.Parameters.{Parameters}
+use Rattle.datagram_grammar.specs.Reading.{message_at}
+use Rattle.datagram_grammar.specs.Refusals.{first_refusal}
+use Rattle.datagram_grammar.specs.declared.refused.Refused.{Refused}
+use Rattle.datagram_grammar.proofs.Laws.{takes}
+use Rattle.handler_rules.specs.declared.table.Entry.{Entry}
+use Rattle.handler_rules.specs.Runs.{Meaning}
+use Rattle.node_record.specs.Invariant.{NodeInvariant}
+use Rattle.node_record.specs.NodeStep.{Comes, Ticks, node_after}
+use Rattle.node_record.specs.Record.{Node}
+use Rattle.node_record.specs.declared.answer.SlotRef.{SlotRef}
+use Rattle.plain_world.specs.Sent.{Packet, sends as sent_by}
+use Rattle.am_core.specs.CoreContracts.{IsSameNode}
+use Rattle.am_core.specs.CoreState.{CoreState}
+use Rattle.endpoint_rules.specs.EndpointLocal.{EndpointLocal, IsEndpointKept}
+use Rattle.endpoint_rules.specs.EndpointRules.{RecordEvent, transition, job_of}
+use Rattle.endpoint_rules.specs.Sends.{sends}
+use Rattle.endpoint_rules.specs.declared.answer.Answer.{Answer}
+use Rattle.gas_endpoint.specs.Endpoints.{EndpointState, EndpointStands, NodeSteps, BytesCome, job_here}
+use Rattle.gas_endpoint.specs.Sends.{AreThatOf, NodeSends}
+use Rattle.node_runs.specs.Fitting.{AreBytes}
+use Rattle.node_runs.specs.Outgoing.{slot_of, StaysWell}
+use Rattle.node_runs.specs.Turn.{node_run, node_sends, coming, comes}
+use Rattle.script_steps.specs.Tries.{EndpointJob, Happening, HasHappened, Happen}
+use Rattle.node_machine.specs.Parts.{at_once}
+
+-- ---- two lists of events, one after the other
+
+pub run-append : (job : EndpointJob) (me now : ℕ) (first second : List RecordEvent) (node : Node EndpointLocal)
+    → node_run job me now (first ++ second) node ≡ node_run job me now second (node_run job me now first node)
+run-append job me now [] second node = refl
+run-append job me now (event ∷ first) second node =
+    run-append job me now first second (node_after job me node now event)
+
+pub sends-append : (job : EndpointJob) (me now : ℕ) (first second : List RecordEvent) (node : Node EndpointLocal)
+    → node_sends job me now (first ++ second) node
+    ≡ node_sends job me now first node ++ node_sends job me now second (node_run job me now first node)
+sends-append job me now [] second node = refl
+sends-append job me now (event ∷ first) second node =
+    let after = node_after job me node now event in
+    ap (λ (later : List Packet). sent_by job me node now event ++ later) (sends-append job me now first second after)
+    ∙ sym (append_assoc (sent_by job me node now event) (node_sends job me now first after)
+    (node_sends job me now second (node_run job me now first after)))
+
+well-append : (job : EndpointJob) (IsKept : (me : ℕ) → EndpointLocal → Type 0) (me now : ℕ)
+    (first second : List RecordEvent) (node : Node EndpointLocal)
+    → StaysWell job IsKept me now first node
+    → StaysWell job IsKept me now second (node_run job me now first node)
+    → StaysWell job IsKept me now (first ++ second) node
+well-append job IsKept me now [] second node well later = later
+well-append job IsKept me now (event ∷ first) second node well later =
+    (well.0, well-append job IsKept me now first second (node_after job me node now event) well.1 later)
+
+-- what holds of the same node after an event holds of it before
+pub at_same : (old new : CoreState) (P : Parameters → List (Option Entry) → ℕ → Type 0) → IsSameNode old new
+    → P new.settings new.table new.me → P old.settings old.table old.me
+at_same old new P same holds =
+    subst (λ me. P old.settings old.table me) same.me_is
+    (subst (λ table. P old.settings table new.me) same.table
+    (subst (λ settings. P settings new.table new.me) same.settings holds))
+
+pub same_after : (old mid new : CoreState) → IsSameNode old mid → IsSameNode mid new → IsSameNode old new
+same_after old mid new first second = record {
+  settings = second.settings ∙ first.settings;
+  me_is = second.me_is ∙ first.me_is;
+  table = second.table ∙ first.table;
+  segment_length = second.segment_length ∙ first.segment_length;
+}
+
+pub same_here : (core : CoreState) → IsSameNode core core
+same_here core = record { settings = refl; me_is = refl; table = refl; segment_length = refl }
+
+-- these events, and then those
+abbrev pub then_those : (meaning : Meaning) (old : EndpointState) (first second : Happening) → Happening
+then_those meaning old first second = record {
+  now = first.now;
+  events = λ node. first.events node
+      ++ second.events (node_run (job_here meaning old) old.core.me first.now (first.events node) node);
+  slots = first.slots ++ second.slots;
+}
+
+pub happen_then : (meaning : Meaning) (old mid new : EndpointState) (first second : Happening)
+    → second.now ≡ first.now → Happen meaning old first mid → Happen meaning mid second new
+    → Happen meaning old (then_those meaning old first second) new
+happen_then meaning old mid new first second one A B = record {
+  same = same_after old.core mid.core new.core A.same B.same;
+  happened = λ node stands.
+      let job = job_here meaning old in
+      let me = old.core.me in
+      let a = A.happened node stands in
+      let between = node_run job me first.now (first.events node) node in
+      let b = at_same old.core mid.core (λ settings table at.
+      HasHappened (job_of settings table meaning) at (record second { now = first.now }) between new) A.same
+      (subst (λ (now : ℕ). HasHappened (job_here meaning mid) mid.core.me (record second { now = now }) between new) one
+      (B.happened between a.stands)) in
+      record {
+        stands = subst (EndpointStands new)
+            (sym (run-append job me first.now (first.events node) (second.events between) node)) b.stands;
+        slots_are = ap₂ (λ (p q : List SlotRef). p ++ q) a.slots_are b.slots_are
+            ∙ (sym (map-append slot_of (node_sends job me first.now (first.events node) node)
+            (node_sends job me first.now (second.events between) between))
+            ∙ ap (map slot_of)
+            (sym (sends-append job me first.now (first.events node) (second.events between) node)));
+        well = well-append job (IsEndpointKept old.core.settings) me first.now (first.events node)
+            (second.events between) node a.well b.well;
+      };
+}
+
+-- ---- one event, or none
+
+-- the invariant of the record for which an endpoint stands
+pub well_of : (endpoint : EndpointState) (node : Node EndpointLocal) → EndpointStands endpoint node
+    → NodeInvariant endpoint.core.settings (IsEndpointKept endpoint.core.settings) endpoint.core.me node
+well_of endpoint node stands = record {
+  orderly = stands.core.invariant_.orderly;
+  own = stands.core.invariant_.own;
+  asked = stands.core.invariant_.asked;
+  replied = stands.core.invariant_.replied;
+  kept = stands.kept;
+}
+
+no_end : (packets : List Packet) → packets ++ [] ≡ packets
+no_end [] = refl
+no_end (packet ∷ packets) = ap (λ (more : List Packet). packet ∷ more) (no_end packets)
+
+-- the slots of the messages that an event sent
+slots_there : (at : Option SlotRef) (packets : List Packet) → AreThatOf at packets
+    → option_to_list at ≡ map slot_of (packets ++ [])
+slots_there None packets are = ap (λ (l : List Packet). map slot_of (l ++ [])) (sym are)
+slots_there (Some at) packets are =
+    ap (λ (s : SlotRef). s ∷ []) (sym are.2) ∙ ap (λ (l : List Packet). map slot_of (l ++ [])) (sym are.1)
+
+pub one_happens : (meaning : Meaning) (old new : EndpointState) (now : ℕ) (event : RecordEvent) (answer : Answer)
+    → NodeSteps meaning old (transition now event answer) new → NodeSends meaning old (transition now event answer)
+    → Happen meaning old (at_once now (event ∷ []) (option_to_list (sends answer))) new
+one_happens meaning old new now event answer N S = record {
+  same = N.same;
+  happened = λ node stands.
+      let job = job_here meaning old in
+      let it = N.steps node stands in
+      record {
+        stands = it.1;
+        slots_are = slots_there (sends answer) (sent_by job old.core.me node now event) (S node stands);
+        well = (
+          well_of old node stands,
+          at_same old.core new.core (λ settings table me. NodeInvariant settings (IsEndpointKept settings) me
+              (node_after job old.core.me node now event)) N.same
+              (well_of new (node_after job old.core.me node now event) it.1),
+        );
+      };
+}
+
+pub none_happens : (meaning : Meaning) (old : EndpointState) (now : ℕ) → Happen meaning old (at_once now [] []) old
+none_happens meaning old now = record {
+  same = same_here old.core;
+  happened = λ node stands. record { stands = stands; slots_are = refl; well = well_of old node stands };
+}
+
+-- ---- the delivery of bytes
+
+version_at : (version : ℕ) (bytes : List ℕ) → (message_at version bytes).version ≡ version
+unfolding message_at
+version_at version bytes = refl
+
+-- bytes of a known version
+known_happen : (meaning : Meaning) (old new : EndpointState) (now : ℕ) (bytes : List ℕ) (answer : Answer)
+    → is_version old.core.settings.version ≡ true → AreBytes bytes
+    → BytesCome meaning old (transition now bytes answer) new
+    → ((message : Message) → message.version ≡ old.core.settings.version → Spells message bytes
+    → NodeSends meaning old (transition now (Comes message) answer))
+    → Happen meaning old (at_once now (comes old.core.settings.version (Some bytes)) (option_to_list (sends answer)))
+    new
+known_happen meaning old new now bytes answer known are B S = by_refusal (first_refusal version bytes) refl
+  where
+    version : ℕ
+    version = old.core.settings.version
+
+    by_refusal : (o : Option Refused) → first_refusal version bytes ≡ o
+        → Happen meaning old (at_once now (coming version o bytes) (option_to_list (sends answer))) new
+    by_refusal None e =
+        let spelled = takes version bytes known are e in
+        let message = message_at version bytes in
+        one_happens meaning old new now (Comes message) answer
+        (B.comes message (version_at version bytes) spelled) (S message (version_at version bytes) spelled)
+    by_refusal (Some reason) e =
+        let none = B.refused reason e in
+        subst (λ (endpoint : EndpointState).
+        Happen meaning old (at_once now [] (option_to_list (sends answer))) endpoint) (sym none.1)
+        (subst (λ (said : Answer). Happen meaning old (at_once now [] (option_to_list (sends said))) old) (sym none.0)
+        (none_happens meaning old now))
+
+pub bytes_happen : (meaning : Meaning) (old new : EndpointState) (now : ℕ) (bytes : List ℕ) (answer : Answer)
+    → AreBytes bytes → BytesCome meaning old (transition now bytes answer) new
+    → ((message : Message) → message.version ≡ old.core.settings.version → Spells message bytes
+    → NodeSends meaning old (transition now (Comes message) answer))
+    → Happen meaning old (at_once now (comes old.core.settings.version (Some bytes)) (option_to_list (sends answer)))
+    new
+bytes_happen meaning old new now bytes answer are B S = record {
+  same = B.same;
+  happened = λ node stands.
+      (known_happen meaning old new now bytes answer stands.core.range.version are B S).happened node stands;
+}

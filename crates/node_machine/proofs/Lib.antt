@@ -1,0 +1,7 @@
+pub mod Happening
+pub mod Locks
+pub mod Scripting
+pub mod Turning
+pub mod Standing
+pub mod Opening
+pub mod Merging

@@ -1,0 +1,336 @@
+-- Who holds locks changes only where a step ends: no delivery and no tick changes it, nor a call at which a step waits.
+use Rattle.std.proofs.Common.{◌≡◌, ℕ, Bool, true, false, true≢false, List, [], ◌∷◌, ◌++◌, Option, None, Some, refl, sym, ap, ◌∙◌}
+use Rattle.std.proofs.Common.{inl, inr, subst}
+use Rattle.std.specs.Prelude.{◌==◌}
+use Rattle.std.specs.Prelude.{Result, Ok, Err}
+use Rattle.std.specs.Option.{option_map, option_to_list}
+use Rattle.std.proofs.lemmas.Bool.{cases_Bool}
+use Rattle.std.proofs.lemmas.Option.{same_Some}
+use Rattle.datagram_grammar.specs.Content.{Content, code, is_ack, content_of}
+use Rattle.datagram_grammar.specs.Message.{Message}
+use Rattle.datagram_grammar.specs.Parameters.{Parameters}
+use Rattle.datagram_grammar.specs.Refusals.{first_refusal}
+use Rattle.datagram_grammar.specs.declared.refused.Refused.{Refused as RefusedBytes}
+use Rattle.access_region.specs.Regions.{has_begun, region_of}
+use Rattle.access_region.specs.declared.Region.{Region as BegunRegion}
+use Rattle.hsl_locks.specs.declared.answer.Held.{Held}
+use Rattle.hsl_locks.specs.declared.answer.LockAnswer.{LockAnswer}
+use Rattle.hsl_locks.specs.declared.answer.LockAnswer.TheVariants as locking
+use Rattle.hsl_locks.specs.declared.answer.Owner.TheVariants as owner
+use Rattle.hsl_locks.specs.Locks.{lock_answer, after_lock}
+use Rattle.handler_rules.specs.declared.rules.Forbidden.{Forbidden}
+use Rattle.handler_rules.specs.declared.table.Entry.{Entry}
+use Rattle.handler_rules.specs.Runs.{Meaning}
+use Rattle.put_get.specs.declared.operation.Handle.{Handle}
+use Rattle.put_get.specs.declared.operation.Mode.{Mode}
+use Rattle.put_get.specs.declared.operation.Transfer.{Transfer}
+use Rattle.node_record.specs.declared.answer.Asked.{Asked}
+use Rattle.node_record.specs.declared.answer.Asked.TheVariants as asked
+use Rattle.node_record.specs.Behaviour.{Ask, Contact}
+use Rattle.node_record.specs.NodeStep.{Asks, Does, Comes, Ticks, site_of, node_after, node_answer}
+use Rattle.node_record.specs.Record.{Node}
+use Rattle.node_record.specs.Step.{Verdict, Runs, Returns, verdict, after_delivery, request_answer, after_request}
+use Rattle.node_record.specs.Step.{TickChoice, Resends, Sends, Rests, tick_choice, after_tick}
+use Rattle.am_core.specs.ClientRules.{rules}
+use Rattle.am_core.specs.HandlerRuns.{handlers_of, run_reply}
+use Rattle.am_core.specs.Kept.{Local}
+use Rattle.am_core.specs.Library.{note_handler}
+use Rattle.endpoint_rules.specs.BarrierCalls.{BarrierCall}
+use Rattle.endpoint_rules.specs.Called.{Requests, Performs, node_event}
+use Rattle.endpoint_rules.specs.CoreCalls.{LocalCall, Poll, Attempt, Lock, Unlock, Cell, SetCell, OnSegment, if_allowed}
+use Rattle.endpoint_rules.specs.EndpointLocal.{EndpointLocal}
+use Rattle.endpoint_rules.specs.EndpointRules.{OtherCall, OnCore, OnTransfers, OnBarrier, RecordEvent, job_of, told}
+use Rattle.endpoint_rules.specs.EndpointRules.{endpoint_rules, unless_forbidden}
+use Rattle.endpoint_rules.specs.TransferCalls.{Caller, TransferCall, Begin, BeginImplicit, IsIssued, Sync, SyncHandle}
+use Rattle.endpoint_rules.specs.TransferCalls.{SyncAll, SyncSome, SyncImplicit, RegionBegin, RegionEnd, transfer_does}
+use Rattle.endpoint_rules.specs.TransferCalls.{after_beginning, ended}
+use Rattle.endpoint_rules.specs.declared.answer.Answer.{Answer}
+use Rattle.endpoint_rules.specs.declared.answer.Answer.TheVariants as answers
+use Rattle.endpoint_rules.specs.declared.answer.Begun.{Begun}
+use Rattle.endpoint_rules.specs.declared.answer.Begun.TheVariants as begun
+use Rattle.job_text.specs.declared.job.ScheduledCall.{ScheduledCall}
+use Rattle.job_text.specs.declared.job.ScheduledCall.TheVariants as call
+use Rattle.job_text.specs.declared.job.ScriptStep.{ScriptStep}
+use Rattle.job_text.specs.declared.job.ScriptStep.TheVariants as step
+use Rattle.job_text.specs.declared.job.WaitingStep.TheVariants as waiting
+use Rattle.node_runs.specs.Actions.{Form, Once, Again, Until, Twice, Looks, call_of, ended_by, FormMay, unless, next_call}
+use Rattle.node_runs.specs.Actions.{tried_step}
+use Rattle.node_runs.specs.Scripts.{ThreadCall}
+use Rattle.node_runs.specs.Turn.{node_run, comes, coming, before_try}
+use Rattle.script_steps.specs.Forms.{step_form, is_held, begun_handle, sync_of, on_transfers}
+use Rattle.script_steps.specs.Tries.{EndpointJob}
+use Rattle.node_machine.proofs.Happening.{run-append}
+
+-- the locks that are held
+abbrev pub locks_in : Node EndpointLocal → List Held
+locks_in node = node.local.core.locks
+
+some_none : {A : Type 0} {x : A} → Some x ≡ None → ⊥
+some_none e = cc
+
+-- ---- what happens to a node
+
+reply_keeps : (settings : Parameters) (table : List (Option Entry)) (meaning : Meaning) (contact : Contact)
+    (content : Content) (local : Local)
+    → (run_reply (handlers_of settings table meaning) contact content local).locks ≡ local.locks
+reply_keeps settings table meaning contact content local =
+    elim (cases_Bool (is_ack (code content.kind))) [ | inl e ↦ rw e refl | inr e ↦ rw e refl ]
+
+delivery_keeps : (settings : Parameters) (table : List (Option Entry)) (meaning : Meaning) (me : ℕ)
+    (node : Node EndpointLocal) (message : Message) (found : Verdict)
+    → locks_in (after_delivery (site_of (job_of settings table meaning) me) node message found) ≡ locks_in node
+delivery_keeps settings table meaning me node message Runs = refl
+delivery_keeps settings table meaning me node message Returns =
+    reply_keeps settings table meaning _ (content_of message) node.local.core
+delivery_keeps settings table meaning me node message _ = refl
+
+tick_keeps : (settings : Parameters) (table : List (Option Entry)) (meaning : Meaning) (me now : ℕ)
+    (node : Node EndpointLocal) (choice : TickChoice)
+    → locks_in (after_tick (site_of (job_of settings table meaning) me) node now choice) ≡ locks_in node
+tick_keeps settings table meaning me now node (Resends due) = refl
+tick_keeps settings table meaning me now node (Sends sending) =
+    elim (cases_Bool (sending.content.handler == note_handler)) [ | inl e ↦ rw e refl | inr e ↦ rw e refl ]
+tick_keeps settings table meaning me now node Rests = refl
+
+request_keeps : (settings : Parameters) (table : List (Option Entry)) (meaning : Meaning) (me now : ℕ)
+    (node : Node EndpointLocal) (ask : Ask) (answer : Asked)
+    → locks_in (after_request (site_of (job_of settings table meaning) me) node now ask answer) ≡ locks_in node
+request_keeps settings table meaning me now node ask (asked.Accepted to slot number) = refl
+request_keeps settings table meaning me now node ask asked.Ran =
+    reply_keeps settings table meaning _ _ _
+request_keeps settings table meaning me now node ask (asked.Forbidden forbidden) = refl
+request_keeps settings table meaning me now node ask _ = refl
+
+-- ---- calls that make no request
+
+begin_keeps : (caller : Caller) (transfer : Transfer) (mode : Mode) (says : Begun) (local : EndpointLocal)
+    → (after_beginning caller transfer mode says local).core.locks ≡ local.core.locks
+begin_keeps caller transfer mode (begun.Handle handle) local = refl
+begin_keeps caller transfer mode begun.Done local = refl
+begin_keeps caller transfer mode _ local = refl
+
+ended_keeps : (caller : Caller) (register : ℕ) (was : Option BegunRegion) (local : EndpointLocal)
+    → (ended caller register was local).1.core.locks ≡ local.core.locks
+ended_keeps caller register None local = refl
+ended_keeps caller register (Some was) local = by_name was.name refl
+  where
+    by_name : (name : Option ℕ) → was.name ≡ name → (ended caller register (Some was) local).1.core.locks ≡ local.core.locks
+    by_name None e = rw e refl
+    by_name (Some name) e = rw e refl
+
+transfer_keeps : (caller : Caller) (made : TransferCall) (local : EndpointLocal)
+    → (transfer_does caller made local).1.core.locks ≡ local.core.locks
+transfer_keeps caller (Begin register transfer) local = begin_keeps caller transfer _ _ local
+transfer_keeps caller (BeginImplicit transfer) local = begin_keeps caller transfer _ _ local
+transfer_keeps caller (SyncImplicit some) local =
+    elim (cases_Bool (has_begun local.regions caller.thread)) [ | inl e ↦ rw e refl | inr e ↦ rw e refl ]
+transfer_keeps caller RegionBegin local =
+    elim (cases_Bool (has_begun local.regions caller.thread)) [ | inl e ↦ rw e refl | inr e ↦ rw e refl ]
+transfer_keeps caller (RegionEnd register) local =
+    ended_keeps caller register (region_of local.regions caller.thread) local
+transfer_keeps caller _ local = refl
+
+-- a call by how the rule table judges it
+judged_keeps : (settings : Parameters) (table : List (Option Entry)) (meaning : Meaning) (thread : ℕ)
+    (judged : Result (Unit {0}) Forbidden) (local : EndpointLocal) (outcome : Answer × EndpointLocal)
+    → outcome.1.core.locks ≡ local.core.locks
+    → (unless_forbidden (endpoint_rules settings table meaning) thread judged local outcome).1.core.locks
+    ≡ local.core.locks
+judged_keeps settings table meaning thread (Ok allowed) local outcome same = same
+judged_keeps settings table meaning thread (Err forbidden) local outcome same = refl
+
+-- the call takes no lock and gives none back
+abbrev pub is_locking : ThreadCall → Bool
+is_locking (Performs (OnCore (Lock lock))) = true
+is_locking (Performs (OnCore (Unlock lock))) = true
+is_locking _ = false
+
+-- a call of a thread on what its core keeps, by how the rule table judges it
+allowed_keeps : (settings : Parameters) (table : List (Option Entry)) (meaning : Meaning) (thread : ℕ)
+    (judged : Result (Unit {0}) Forbidden) (answer : Answer) (local : Local)
+    → (if_allowed (rules settings table meaning) thread judged answer local).1.locks ≡ local.locks
+allowed_keeps settings table meaning thread (Ok allowed) answer local = refl
+allowed_keeps settings table meaning thread (Err forbidden) answer local = refl
+
+-- every call but these two
+call_keeps : (settings : Parameters) (table : List (Option Entry)) (meaning : Meaning) (me thread now : ℕ)
+    (node : Node EndpointLocal) (made : ThreadCall) → is_locking made ≡ false
+    → locks_in (node_after (job_of settings table meaning) me node now (node_event thread made)) ≡ locks_in node
+call_keeps settings table meaning me thread now node (Requests to asking) free =
+    request_keeps settings table meaning me now node _ _
+call_keeps settings table meaning me thread now node (Performs (OnCore Poll)) free =
+    allowed_keeps settings table meaning thread _ _ node.local.core
+call_keeps settings table meaning me thread now node (Performs (OnCore (Attempt kind))) free =
+    allowed_keeps settings table meaning thread _ _ node.local.core
+call_keeps settings table meaning me thread now node (Performs (OnCore (Lock lock))) free = absurd (true≢false free)
+call_keeps settings table meaning me thread now node (Performs (OnCore (Unlock lock))) free = absurd (true≢false free)
+call_keeps settings table meaning me thread now node (Performs (OnCore _)) free = refl
+call_keeps settings table meaning me thread now node (Performs (OnTransfers made)) free =
+    judged_keeps settings table meaning thread _ node.local _ (transfer_keeps _ made node.local)
+call_keeps settings table meaning me thread now node (Performs (OnBarrier made)) free =
+    judged_keeps settings table meaning thread _ node.local _ refl
+
+-- ---- the calls of steps
+
+-- the call is none on locks
+abbrev pub IsFree : ThreadCall → Type 0
+IsFree made = is_locking made ≡ false
+
+call_of_free : (form : Form EndpointLocal) (began : Option Answer) (made : ThreadCall)
+    → FormMay IsFree form → call_of form began ≡ Some made → IsFree made
+call_of_free (Once one) began made free e = subst IsFree (same_Some one made e) free
+call_of_free (Again waits one) began made free e = subst IsFree (same_Some one made e) free
+call_of_free (Until cell value) began made free e =
+    subst IsFree (same_Some (Performs (OnCore (Cell cell))) made e) refl
+call_of_free (Twice begin next waits says) None made free e = subst IsFree (same_Some begin made e) free.0
+call_of_free (Twice begin next waits says) (Some answer) made free e = free.1 answer made e
+call_of_free (Looks begin ready) None made free e = subst IsFree (same_Some begin made e) free
+call_of_free (Looks begin ready) (Some answer) made free e = absurd (some_none (sym e))
+
+-- the second call of a blocking transfer
+sync_free : (first : Answer) (made : ThreadCall) → sync_of first ≡ Some made → IsFree made
+sync_free first made = by_handle (begun_handle first)
+  where
+    by_handle : (handle : Option Handle)
+        → option_map (λ (one : Handle). on_transfers (SyncHandle one)) handle ≡ Some made → IsFree made
+    by_handle None e = absurd (some_none (sym e))
+    by_handle (Some handle) e = subst IsFree (same_Some (on_transfers (SyncHandle handle)) made e) refl
+
+-- how a step that takes or gives back a lock is told from others
+abbrev pub is_lock_step : ScriptStep → Bool
+is_lock_step (step.Call (call.Lock lock)) = true
+is_lock_step (step.Call (call.Unlock lock)) = true
+is_lock_step _ = false
+
+step_free : (one : ScriptStep) (node : Node EndpointLocal) → is_lock_step one ≡ false
+    → FormMay IsFree (step_form one node)
+step_free (step.Call (call.Lock lock)) node free = absurd (true≢false free)
+step_free (step.Call (call.Unlock lock)) node free = absurd (true≢false free)
+step_free (step.Call _) node free = refl
+step_free (step.Waiting (waiting.Transfer transfer)) node free = (refl, sync_free)
+step_free (step.Waiting _) node free = refl
+
+unless_waits : (waits : Bool) (answer : Answer) → unless waits answer ≡ None → waits ≡ true
+unless_waits true answer e = refl
+unless_waits false answer e = absurd (some_none e)
+
+-- a lock that another one holds is not taken
+held_stays : (held : List Held) (thread lock : ℕ) (answer : LockAnswer)
+    → lock_answer held (owner.Thread thread) lock 0 ≡ answer → is_held (answers.Lock answer) ≡ true
+    → after_lock held (owner.Thread thread) lock 0 ≡ held
+held_stays held thread lock locking.Held e waits = rw e refl
+held_stays held thread lock locking.Taken e waits = absurd (true≢false (sym waits))
+held_stays held thread lock (locking.Refused why) e waits = absurd (true≢false (sym waits))
+
+lock_waits : (settings : Parameters) (table : List (Option Entry)) (meaning : Meaning) (me thread now lock : ℕ)
+    (node : Node EndpointLocal)
+    → let job = job_of settings table meaning in
+    let event : RecordEvent = node_event thread (Performs (OnCore (Lock lock))) in
+    unless (is_held (told (node_answer job me node now event))) (told (node_answer job me node now event)) ≡ None
+    → locks_in (node_after job me node now event) ≡ locks_in node
+lock_waits settings table meaning me thread now lock node waits =
+    held_stays (locks_in node) thread lock (lock_answer (locks_in node) (owner.Thread thread) lock 0) refl
+    (unless_waits _ _ waits)
+
+-- a call at which its step waits
+waiting_keeps : (settings : Parameters) (table : List (Option Entry)) (meaning : Meaning) (me thread now : ℕ)
+    (one : ScriptStep) (node : Node EndpointLocal) (began : Option Answer) (made : ThreadCall)
+    → call_of (step_form one node) began ≡ Some made
+    → let job = job_of settings table meaning in
+    let after = node_after job me node now (node_event thread made) in
+    ended_by (step_form one node) began after (Some (told (node_answer job me node now (node_event thread made)))) ≡ None
+    → locks_in after ≡ locks_in node
+waiting_keeps settings table meaning me thread now one node began made is waits =
+    by_step one (is_lock_step one) refl is waits
+  where
+    by_step : (one : ScriptStep) (locks : Bool) → is_lock_step one ≡ locks
+        → call_of (step_form one node) began ≡ Some made
+        → let job = job_of settings table meaning in
+        let after = node_after job me node now (node_event thread made) in
+        ended_by (step_form one node) began after (Some (told (node_answer job me node now (node_event thread made))))
+        ≡ None
+        → locks_in after ≡ locks_in node
+    by_step one false free is waits =
+        call_keeps settings table meaning me thread now node made
+        (call_of_free (step_form one node) began made (step_free one node free) is)
+    by_step (step.Call (call.Lock lock)) true locks is waits =
+        subst (λ (m : ThreadCall).
+        unless (is_held (told (node_answer (job_of settings table meaning) me node now (node_event thread m))))
+        (told (node_answer (job_of settings table meaning) me node now (node_event thread m))) ≡ None
+        → locks_in (node_after (job_of settings table meaning) me node now (node_event thread m)) ≡ locks_in node)
+        (same_Some (Performs (OnCore (Lock lock))) made is) (lock_waits settings table meaning me thread now lock node)
+        waits
+    by_step (step.Call (call.Unlock lock)) true locks is waits = absurd (some_none waits)
+    by_step _ true locks is waits = absurd (true≢false (sym locks))
+
+-- ---- a turn
+
+-- each of these events is a delivery or a tick
+abbrev pub AreBefore : List RecordEvent → Type 0
+AreBefore [] = Unit {0}
+AreBefore (Asks ask ∷ events) = ⊥
+AreBefore (Does thread made ∷ events) = ⊥
+AreBefore (Comes message ∷ events) = AreBefore events
+AreBefore (Ticks ∷ events) = AreBefore events
+
+before_keep : (settings : Parameters) (table : List (Option Entry)) (meaning : Meaning) (me now : ℕ)
+    (events : List RecordEvent) (node : Node EndpointLocal) → AreBefore events
+    → locks_in (node_run (job_of settings table meaning) me now events node) ≡ locks_in node
+before_keep settings table meaning me now [] node are = refl
+before_keep settings table meaning me now (Asks ask ∷ events) node are = absurd are
+before_keep settings table meaning me now (Does thread made ∷ events) node are = absurd are
+before_keep settings table meaning me now (Comes message ∷ events) node are =
+    before_keep settings table meaning me now events _ are
+    ∙ delivery_keeps settings table meaning me node message (verdict (site_of (job_of settings table meaning) me) node
+    message)
+before_keep settings table meaning me now (Ticks ∷ events) node are =
+    before_keep settings table meaning me now events _ are
+    ∙ tick_keeps settings table meaning me now node (tick_choice (site_of (job_of settings table meaning) me) node now)
+
+are_before : (version : ℕ) (polls : Bool) (got : Option (List ℕ)) → AreBefore (before_try version polls got)
+are_before version false got = tt
+are_before version true None = tt
+are_before version true (Some bytes) = by_refusal (first_refusal version bytes)
+  where
+    by_refusal : (o : Option RefusedBytes) → AreBefore (coming version o bytes ++ Ticks ∷ [])
+    by_refusal None = tt
+    by_refusal (Some reason) = tt
+
+-- the try of a thread's next step, where it didn't end it
+next_keeps : (settings : Parameters) (table : List (Option Entry)) (meaning : Meaning) (me thread now : ℕ)
+    (left : List ScriptStep) (began : Option Answer) (node : Node EndpointLocal)
+    → let job = job_of settings table meaning in
+    let made = next_call step_form began left node in
+    let after = node_run job me now (option_to_list (option_map (node_event thread) made)) node in
+    (tried_step step_form began left node after
+    (option_map (λ call. told (node_answer job me node now (node_event thread call))) made)).ended ≡ None
+    → locks_in after ≡ locks_in node
+next_keeps settings table meaning me thread now [] began node waits = refl
+next_keeps settings table meaning me thread now (one ∷ left) began node waits =
+    by_call (call_of (step_form one node) began) refl waits
+  where
+    by_call : (made : Option ThreadCall) → call_of (step_form one node) began ≡ made
+        → let job = job_of settings table meaning in
+        let after = node_run job me now (option_to_list (option_map (node_event thread) made)) node in
+        ended_by (step_form one node) began after
+        (option_map (λ call. told (node_answer job me node now (node_event thread call))) made) ≡ None
+        → locks_in after ≡ locks_in node
+    by_call None is waits = refl
+    by_call (Some made) is waits =
+        waiting_keeps settings table meaning me thread now one node began made is waits
+
+-- a turn of a thread that didn't end its step
+pub turn_keeps : (settings : Parameters) (table : List (Option Entry)) (meaning : Meaning) (me thread now version : ℕ)
+    (polls : Bool) (got : Option (List ℕ)) (left : List ScriptStep) (began : Option Answer)
+    (node : Node EndpointLocal)
+    → let job = job_of settings table meaning in
+    let first = before_try version polls got in
+    let mid = node_run job me now first node in
+    let made = next_call step_form began left mid in
+    let after = node_run job me now (option_to_list (option_map (node_event thread) made)) mid in
+    (tried_step step_form began left mid after
+    (option_map (λ call. told (node_answer job me mid now (node_event thread call))) made)).ended ≡ None
+    → locks_in after ≡ locks_in node
+turn_keeps settings table meaning me thread now version polls got left began node waits =
+    next_keeps settings table meaning me thread now left began _ waits
+    ∙ before_keep settings table meaning me now (before_try version polls got) node (are_before version polls got)

@@ -1,0 +1,217 @@
+-- A turn of a thread, put together from its parts.
+use Rattle.std.proofs.Common.{◌≡◌, ℕ, Bool, ◌||◌, not, List, [], ◌∷◌, ◌++◌, map, length, Option, None, Some, refl, sym, ap}
+use Rattle.std.proofs.Common.{ap₂, ◌∙◌, subst}
+use Rattle.std.specs.Prelude.{is_some}
+use Rattle.std.specs.List.{Contains}
+use Rattle.std.specs.Option.{option_map, option_to_list}
+use Rattle.std.proofs.lemmas.List.{length-map}
+use Rattle.datagram_grammar.specs.Content.{spelling}
+use Rattle.datagram_grammar.specs.Parameters.{Parameters}
+use Rattle.handler_rules.specs.declared.table.Entry.{Entry}
+use Rattle.handler_rules.specs.Runs.{Meaning, IsLawfulMeaning}
+use Rattle.hsl_locks.specs.declared.answer.Owner.TheVariants as owner
+use Rattle.hsl_locks.specs.Locks.{holds}
+use Rattle.lists.specs.Put.{put}
+use Rattle.node_record.specs.Record.{Node}
+use Rattle.node_record.specs.SlotMessages.{message_at}
+use Rattle.node_record.specs.declared.answer.SlotRef.{SlotRef}
+use Rattle.plain_world.specs.Sent.{Packet, Asking, Replying}
+use Rattle.endpoint_rules.specs.EndpointLocal.{EndpointLocal, IsEndpointKept}
+use Rattle.endpoint_rules.specs.EndpointRules.{job_of}
+use Rattle.endpoint_rules.specs.declared.answer.Answer.{Answer}
+use Rattle.endpoint_rules.proofs.Sound.{rules_sound}
+use Rattle.gas_endpoint.specs.Endpoints.{EndpointState, EndpointStands, ForItsRecord, job_here}
+use Rattle.job_text.specs.declared.job.ScriptStep.{ScriptStep}
+use Rattle.node_runs.specs.Actions.{Progress, OwnScripts, tried_step}
+use Rattle.node_runs.specs.Laws.{GotBytes}
+use Rattle.node_runs.specs.Outgoing.{slot_of, SentStands}
+use Rattle.node_runs.specs.Scripts.{NodeJob, Tried as FormTried}
+use Rattle.node_runs.specs.Turn.{MachineState, before_try, first_events, as_tried, turn_events, tried_answer, try_of}
+use Rattle.node_runs.specs.Turn.{node_run, node_sends, is_some_there, datagram, receiver, message_of}
+use Rattle.node_runs.proofs.Outgoings.{sent_stand, turns_come_first}
+use Rattle.script_steps.specs.Forms.{step_form}
+use Rattle.script_steps.specs.Tries.{EndpointJob, HasHappened, Happen}
+use Rattle.script_steps.specs.declared.trial.Tried.{Tried}
+use Rattle.node_machine.specs.Parts.{at_once}
+use Rattle.node_machine.specs.Scripted.{NextTrial, TriesNext, after_next, answer_of_next, events_of_next, as_said}
+use Rattle.node_machine.specs.Scripted.{progress_after}
+use Rattle.node_machine.specs.States.{datagram_at, as_there}
+use Rattle.node_machine.specs.Turns.{slots_of, job_at, TurnTaken, turn_by, is_changed, GoesAsTurn, TakesTurn}
+use Rattle.node_machine.specs.declared.turn.Done.{Done}
+use Rattle.node_machine.proofs.Happening.{happen_then, at_same, same_after, run-append}
+use Rattle.node_machine.proofs.Locks.{turn_keeps}
+
+-- ---- the slots of packets
+
+some_there : (packets : List Packet) → is_some_there (map slot_of packets) ≡ is_some_there packets
+some_there [] = refl
+some_there (packet ∷ packets) = refl
+
+peer_is : (packet : Packet) → (slot_of packet).peer ≡ receiver packet
+peer_is (Asking place content) = refl
+peer_is (Replying place content) = refl
+
+here : (packet : Packet) (packets : List Packet) → Contains (packet ∷ packets) packet
+here packet packets = ?
+
+there : (other packet : Packet) (packets : List Packet) → Contains packets packet → Contains (other ∷ packets) packet
+there other packet packets h = ?
+
+-- the datagrams at the slots of messages that stand there
+stand_there : (settings : Parameters) (me : ℕ) (node : Node EndpointLocal) (packets : List Packet)
+    → ((packet : Packet) → Contains packets packet
+    → message_at settings me node (slot_of packet) ≡ Some (spelling (message_of settings packet)))
+    → map (datagram_at settings me node) (map slot_of packets) ≡ map as_there (map (datagram settings) packets)
+stand_there settings me node [] stand = refl
+stand_there settings me node (packet ∷ packets) stand =
+    ap₂ (λ (one : ℕ × Option (List ℕ)) (more : List (ℕ × Option (List ℕ))). one ∷ more)
+    (ap₂ (λ (to : ℕ) (bytes : Option (List ℕ)). (to, bytes)) (peer_is packet) (stand packet (here packet packets)))
+    (stand_there settings me node packets (λ other h. stand other (there packet other packets h)))
+
+-- ---- a turn of a state
+
+-- of what was tried, as the try of the turn says it
+tried_is : (meaning : Meaning) (old mid new : EndpointState) (taken : TurnTaken)
+    (state : MachineState EndpointLocal (OwnScripts ScriptStep)) (slots : List SlotRef) (tried : Tried)
+    → EndpointStands old state.node
+    → Happen meaning old
+    (at_once taken.now (first_events (job_at meaning old) state taken.thread taken.got) slots) mid
+    → TriesNext meaning mid
+    (record { now = taken.now; thread = taken.thread; progress = state.own taken.thread }) tried new
+    → let job = job_at meaning old in
+    let me = old.core.me in
+    let node = as_tried job me state taken.thread taken.now taken.got in
+    tried_step step_form (state.own taken.thread).began (state.own taken.thread).left node
+    (node_run job.job me taken.now (turn_events job me state taken.thread taken.now taken.got) state.node)
+    (tried_answer job me state taken.thread taken.now taken.got)
+    ≡ as_said (record { now = taken.now; thread = taken.thread; progress = state.own taken.thread }) tried
+tried_is meaning old mid new taken state slots tried stands before tries =
+    let job = job_at meaning old in
+    let me = old.core.me in
+    let trial : NextTrial =
+    record { now = taken.now; thread = taken.thread; progress = state.own taken.thread } in
+    let first = first_events job state taken.thread taken.got in
+    let node = as_tried job me state taken.thread taken.now taken.got in
+    let run = run-append job.job me taken.now first (events_of_next trial node) state.node in
+    let so = at_same old.core mid.core (λ settings table at.
+    tried_step step_form trial.progress.began trial.progress.left node
+    (after_next (job_of settings table meaning) at trial node)
+    (answer_of_next (job_of settings table meaning) at trial node)
+    ≡ as_said trial tried) before.same
+    (tries.tried_so node (before.happened state.node stands).stands) in
+    ap (λ (after : Node EndpointLocal). tried_step step_form trial.progress.began trial.progress.left node after
+    (tried_answer job me state taken.thread taken.now taken.got)) run
+    ∙ so
+
+same_changed : (got slots packets ended began : Bool) (more less : Bool) → slots ≡ packets → ended ≡ more → began ≡ less
+    → (got || packets || more || less) ≡ (got || slots || ended || began)
+same_changed got slots packets ended began more less e f h =
+    sym (ap₂ (λ (x y : Bool). got || x || y || began) e f ∙ ap (λ (x : Bool). got || packets || more || x) h)
+
+-- a turn of a state for which the endpoint stands
+state_goes : (meaning : Meaning) (old mid new : EndpointState) (taken : TurnTaken)
+    (state : MachineState EndpointLocal (OwnScripts ScriptStep)) (slots : List SlotRef) (tried : Tried) (done : Done)
+    → IsLawfulMeaning meaning → GotBytes taken.got → EndpointStands old state.node
+    → Happen meaning old
+    (at_once taken.now (first_events (job_at meaning old) state taken.thread taken.got) slots) mid
+    → TriesNext meaning mid
+    (record { now = taken.now; thread = taken.thread; progress = state.own taken.thread }) tried new
+    → slots_of done.outgoing ≡ slots ++ option_to_list tried.sent → done.ended ≡ tried.ended
+    → done.began ≡ is_some tried.began
+    → GoesAsTurn (job_at meaning old) old.core.me taken state done
+    × EndpointStands new (turn_by (job_at meaning old) old.core.me taken state).after.node
+    × ((turn_by (job_at meaning old) old.core.me taken state).after.own
+    ≡ put state.own taken.thread (progress_after (state.own taken.thread) tried))
+state_goes meaning old mid new taken state slots tried done lawful bytes stands before tries slots_is ended_is began_is =
+    let it = turn_by job me taken state in
+    let sent : slots_of done.outgoing ≡ map slot_of it.packets = slots_is ∙ all.slots_are in (
+      record {
+        ended = ap (λ (t : FormTried (Progress ScriptStep)). t.ended) went ∙ sym ended_is;
+        changed = same_changed (is_some taken.got) (is_some_there (slots_of done.outgoing)) (is_some_there it.packets)
+            (is_some done.ended) done.began _ _
+            (ap is_some_there sent ∙ some_there it.packets)
+            (ap is_some (ended_is ∙ sym (ap (λ (t : FormTried (Progress ScriptStep)). t.ended) went)))
+            (began_is ∙ sym (ap (λ (t : FormTried (Progress ScriptStep)). t.began) went));
+        sends = sym (length-map it.packets slot_of) ∙ ap length (sym sent);
+        sent = subst (λ (l : List SlotRef). map (datagram_at settings me it.after.node) l
+            ≡ map as_there (map (datagram settings) it.packets)) (sym sent)
+            (stand_there settings me it.after.node it.packets stood);
+        locks = λ none. kept (ended_is ∙ none);
+      },
+      all.stands,
+      ap (λ (t : FormTried (Progress ScriptStep)). put state.own taken.thread t.left) went,
+    )
+  where
+    job : NodeJob EndpointLocal (OwnScripts ScriptStep)
+    job = job_at meaning old
+
+    me : ℕ
+    me = old.core.me
+
+    settings : Parameters
+    settings = old.core.settings
+
+    trial : NextTrial
+    trial = record { now = taken.now; thread = taken.thread; progress = state.own taken.thread }
+
+    node : Node EndpointLocal
+    node = as_tried job me state taken.thread taken.now taken.got
+
+    all : HasHappened job.job me (record {
+      now = taken.now;
+      events = λ (x : Node EndpointLocal). first_events job state taken.thread taken.got
+          ++ events_of_next trial (node_run job.job me taken.now (first_events job state taken.thread taken.got) x);
+      slots = slots ++ option_to_list tried.sent;
+    }) state.node new
+    all = (happen_then meaning old mid new
+        (at_once taken.now (first_events job state taken.thread taken.got) slots)
+        (record { now = taken.now; events = events_of_next trial; slots = option_to_list tried.sent }) refl before
+        tries.happen).happened state.node stands
+
+    went : tried_step step_form (state.own taken.thread).began (state.own taken.thread).left node
+        (node_run job.job me taken.now (turn_events job me state taken.thread taken.now taken.got) state.node)
+        (tried_answer job me state taken.thread taken.now taken.got)
+        ≡ as_said trial tried
+    went = tried_is meaning old mid new taken state slots tried stands before tries
+
+    stood : SentStands job.job me taken.now (turn_events job me state taken.thread taken.now taken.got) state.node
+    stood = sent_stand job.job (IsEndpointKept settings) me taken.now
+        (turn_events job me state taken.thread taken.now taken.got) state.node
+        (rules_sound settings old.core.table meaning stands.core.range lawful)
+        (turns_come_first job me taken.thread taken.now state taken.got stands.core.range.version bytes) all.well
+
+    kept : tried.ended ≡ None
+        → (turn_by job me taken state).after.node.local.core.locks ≡ state.node.local.core.locks
+    kept none =
+        let run = run-append job.job me taken.now (first_events job state taken.thread taken.got)
+        (events_of_next trial node) state.node in
+        ap (λ (x : Node EndpointLocal). x.local.core.locks) run
+        ∙ turn_keeps settings old.core.table meaning me taken.thread taken.now settings.version
+        (job.polls taken.thread state.node.local) taken.got trial.progress.left trial.progress.began state.node
+        (ap (λ (after : Node EndpointLocal). (tried_step step_form trial.progress.began trial.progress.left node after
+        (tried_answer job me state taken.thread taken.now taken.got)).ended) (sym run)
+        ∙ (ap (λ (t : FormTried (Progress ScriptStep)). t.ended) went ∙ none))
+
+pub turn_goes : (meaning : Meaning) (old mid new : EndpointState) (taken : TurnTaken) (progress : Progress ScriptStep)
+    (polls : Bool) (slots : List SlotRef) (tried : Tried) (done : Done)
+    → IsLawfulMeaning meaning → GotBytes taken.got
+    → ForItsRecord old (λ node. polls ≡ not (holds (owner.Thread taken.thread) node.local.core.locks))
+    → Happen meaning old (at_once taken.now (before_try old.core.settings.version polls taken.got) slots) mid
+    → TriesNext meaning mid (record { now = taken.now; thread = taken.thread; progress = progress }) tried new
+    → slots_of done.outgoing ≡ slots ++ option_to_list tried.sent → done.ended ≡ tried.ended
+    → done.began ≡ is_some tried.began
+    → TakesTurn meaning (old, progress) taken done (new, progress_after progress tried)
+turn_goes meaning old mid new taken progress polls slots tried done lawful bytes polled before tries slots_is ended_is
+    began_is =
+    record {
+      same = same_after old.core mid.core new.core before.same tries.happen.same;
+      goes = λ state stands own.
+          let version = old.core.settings.version in
+          let it = state_goes meaning old mid new taken state slots tried done lawful bytes stands
+          (subst (λ (b : Bool). Happen meaning old (at_once taken.now (before_try version b taken.got) slots) mid)
+          (polled state.node stands) before)
+          (subst (λ (p : Progress ScriptStep).
+          TriesNext meaning mid (record { now = taken.now; thread = taken.thread; progress = p }) tried new)
+          (sym own) tries) slots_is ended_is began_is in
+          (it.0, it.1, it.2 ∙ ap (λ (p : Progress ScriptStep). put state.own taken.thread (progress_after p tried)) own);
+    }

@@ -1,0 +1,68 @@
+-- What the machine of a node keeps, as contracts see it.
+-- Origin: this project's profile.
+use Rattle.std.specs.Prelude.{ℕ, ◌≡◌, Bool, not, List, [], length, Option, None, Some, slice_get}
+use Rattle.std.specs.List.{AllByRecursion, list_all}
+use Rattle.hsl_locks.specs.declared.answer.Owner.TheVariants as owner
+use Rattle.hsl_locks.specs.Locks.{holds}
+use Rattle.node_record.specs.declared.answer.SlotRef.{SlotRef}
+use Rattle.endpoint_rules.specs.declared.answer.Answer.{Answer}
+use Rattle.gas_endpoint.specs.Endpoints.{EndpointState, IsNodeOf}
+use Rattle.gas_endpoint.specs.Parts.{HasRecord}
+use Rattle.job_text.specs.JobText.{IsJob}
+use Rattle.job_text.specs.Scripts.{IsStep}
+use Rattle.job_text.specs.declared.job.Job.{Job as JobState}
+use Rattle.job_text.specs.declared.job.ScriptStep.{ScriptStep}
+use Rattle.node_script.specs.Registration.{registered}
+use Rattle.node_runs.specs.Actions.{Progress, OwnScripts}
+use Rattle.node_runs.specs.Turn.{is_some_there}
+
+-- the machine of a node of a job
+pub record MachineKept : Type 0 where
+  pub job : JobState
+  pub endpoint : EndpointState
+  -- of each thread: what is left of its script, and the answer with which its next step began
+  pub scripts : List (Progress ScriptStep)
+  -- the slots of the messages that its last turn sent which wasn't empty, in order
+  pub outgoing : List SlotRef
+  pub answer : Option Answer  -- of the script step that ended in that turn
+
+-- ---- scripts
+
+-- a script without steps
+abbrev pub no_steps : Progress ScriptStep
+no_steps = record { left = []; began = None }
+
+abbrev pub progress_or_none : Option (Progress ScriptStep) → Progress ScriptStep
+progress_or_none None = no_steps
+progress_or_none (Some progress) = progress
+
+-- what is left of each thread's script; a thread that isn't there has none
+abbrev pub own_scripts : List (Progress ScriptStep) → OwnScripts ScriptStep
+own_scripts scripts thread = progress_or_none (slice_get scripts thread)
+
+-- no step is left
+abbrev pub is_done : Progress ScriptStep → Bool
+is_done progress = not (is_some_there progress.left)
+
+-- no script has a step left
+abbrev pub are_done : List (Progress ScriptStep) → Bool
+are_done scripts = list_all is_done scripts
+
+-- each word of the steps that are left can be said in a text
+abbrev pub CanBeSaid : Progress ScriptStep → Type 0
+CanBeSaid progress = AllByRecursion IsStep progress.left
+
+-- ---- the machine
+
+-- the thread polls, since it holds no lock
+abbrev pub polls_at : MachineKept → (thread : ℕ) → Bool
+polls_at machine thread = not (holds (owner.Thread thread) machine.endpoint.core.locks)
+
+-- what holds of every machine
+pub record IsMachine (machine : MachineKept) : Type 0 where
+  pub job : IsJob machine.job
+  pub node : IsNodeOf machine.job.settings (registered machine.job.handlers).table machine.endpoint.core.me
+      machine.endpoint
+  pub threads : length machine.scripts ≡ machine.job.settings.threads
+  pub said : AllByRecursion CanBeSaid machine.scripts
+  pub record_ : HasRecord machine.endpoint

@@ -1,0 +1,44 @@
+-- The traces of the nodes of a job that was read, in an order in which they can go, are a run of the world.
+-- Origin: this project's profile.
+use Rattle.std.specs.Prelude.{ℕ, ◌≡◌, ◌≤◌, List, length, map, Some, slice_get}
+use Rattle.machine.specs.declared.entry.Entry.{Entry}
+use Rattle.machine.specs.Fronts.{Node, start, full, Reaches}
+use Rattle.plain_world.specs.World.{Timed}
+use Rattle.endpoint_rules.specs.EndpointRules.{OtherCall}
+use Rattle.job_text.specs.JobText.{IsJob}
+use Rattle.job_text.specs.declared.job.Job.{Job as JobState}
+use Rattle.node_script.specs.Bodies.{script_meaning}
+use Rattle.node_script.specs.Registration.{registered}
+use Rattle.node_runs.specs.Actions.{scripts_of}
+use Rattle.node_runs.specs.Laws.{nodes_with}
+use Rattle.node_runs.specs.Merged.{carried, order_of}
+use Rattle.node_runs.specs.Order.{NodeEntry, own_entries}
+use Rattle.node_runs.specs.WorldRun.{IsWorldRun}
+use Rattle.script_steps.specs.Forms.{step_form}
+use Rattle.node_machine.specs.States.{NodeState, state_of, scripts_at, state_steps}
+
+-- the nodes of a job before all turns, each with its trace: the node of rank i is in its opening state
+abbrev pub nodes_of : JobState → (traces : List (List Entry)) → List (Node NodeState)
+nodes_of job traces = map (carried (state_of job)) (nodes_with job.settings (scripts_at job) traces)
+
+-- the order of the entries that a list of ranks gives
+abbrev pub order_by : JobState → (traces : List (List Entry)) → (ranks : List ℕ) → List NodeEntry
+order_by job traces ranks = order_of (nodes_of job traces) (start (nodes_of job traces)) ranks
+
+-- these entries, in this order, are a run of the job's world, whose turns are these events
+abbrev pub IsRunOf : JobState → List NodeEntry → (turns : List (List (Timed OtherCall))) → Type 0
+IsRunOf job items turns =
+    IsWorldRun job.settings (registered job.handlers).table (script_meaning job.handlers) (scripts_of step_form)
+    (scripts_at job) items turns
+
+-- of a job that a text says: where a list of ranks reaches the front that has all entries of the nodes' traces, they are
+-- a run of the world in its order, and the entries of each node in it are the node's trace
+abbrev pub AreTracesARun : Type 0
+AreTracesARun =
+    (job : JobState) (traces : List (List Entry)) (ranks : List ℕ)
+    → IsJob job → length traces ≤ job.settings.nodes
+    → Reaches state_steps (nodes_of job traces) ranks (full (nodes_of job traces))
+    → (turns : List (List (Timed OtherCall)))
+    × IsRunOf job (order_by job traces ranks) turns
+    × ((node : ℕ) (trace : List Entry) → slice_get traces node ≡ Some trace
+    → own_entries node (order_by job traces ranks) ≡ trace)

@@ -1,0 +1,72 @@
+-- What a turn of a thread does to the endpoint of its node, and to the thread's script.
+-- Origin: this project's profile.
+use Rattle.std.specs.Prelude.{ℕ, ◌≡◌, ◌||◌, Bool, List, [], ◌∷◌, ◌++◌, length, map, Option, None, Some, is_some}
+use Rattle.std.specs.Option.{option_to_list}
+use Rattle.handler_rules.specs.Runs.{Meaning}
+use Rattle.lists.specs.Put.{put}
+use Rattle.machine.specs.declared.turns.Turned.{Turned}
+use Rattle.node_record.specs.declared.answer.SlotRef.{SlotRef}
+use Rattle.am_core.specs.CoreContracts.{IsSameNode}
+use Rattle.endpoint_rules.specs.EndpointLocal.{EndpointLocal}
+use Rattle.endpoint_rules.specs.declared.answer.Answer.{Answer}
+use Rattle.gas_endpoint.specs.Endpoints.{EndpointState, EndpointStands}
+use Rattle.job_text.specs.declared.job.ScriptStep.{ScriptStep}
+use Rattle.node_runs.specs.Actions.{Progress, OwnScripts, scripts_of}
+use Rattle.node_runs.specs.Scripts.{NodeJob, Tried as FormTried}
+use Rattle.node_runs.specs.Turn.{MachineState, Turn, turn, try_of, datagram, is_some_there}
+use Rattle.node_runs.specs.WorldRun.{endpoint_job}
+use Rattle.script_steps.specs.Forms.{step_form}
+use Rattle.node_machine.specs.States.{datagram_at, as_there}
+use Rattle.node_machine.specs.declared.outgoing.Outgoing.{Outgoing}
+use Rattle.node_machine.specs.declared.turn.Done.{Done}
+
+-- the slots, in the order in which their messages go
+abbrev pub slots_of : Outgoing → List SlotRef
+slots_of outgoing = option_to_list outgoing.reply ++ option_to_list outgoing.tick ++ option_to_list outgoing.call
+
+-- the job of an endpoint with handlers that do this
+abbrev pub job_at : Meaning → EndpointState → NodeJob EndpointLocal (OwnScripts ScriptStep)
+job_at meaning endpoint =
+    endpoint_job endpoint.core.settings endpoint.core.table meaning (scripts_of step_form)
+
+-- a turn of a thread
+pub record TurnTaken : Type 0 where
+  pub thread : ℕ
+  pub now : ℕ
+  pub got : Option (List ℕ)
+
+-- that turn, of a node's record and what is left of its scripts
+abbrev pub turn_by : NodeJob EndpointLocal (OwnScripts ScriptStep) → (me : ℕ) → TurnTaken
+    → MachineState EndpointLocal (OwnScripts ScriptStep) → Turn EndpointLocal (OwnScripts ScriptStep)
+turn_by job me taken state = turn job me state taken.thread taken.now taken.got
+
+-- something was got or sent, or the step ended or began
+abbrev pub is_changed : TurnTaken → Done → Bool
+is_changed taken done =
+    is_some taken.got || is_some_there (slots_of done.outgoing) || is_some done.ended || done.began
+
+-- of a state of the node: the turn goes to what the endpoint stands for then, and what it told is the turn's
+pub record GoesAsTurn
+    (job : NodeJob EndpointLocal (OwnScripts ScriptStep)) (me : ℕ) (taken : TurnTaken)
+    (state : MachineState EndpointLocal (OwnScripts ScriptStep)) (done : Done) : Type 0 where
+  pub ended : (try_of job me state taken.thread taken.now taken.got).ended ≡ done.ended
+  pub changed : (turn_by job me taken state).changed ≡ is_changed taken done
+  pub sends : length (turn_by job me taken state).packets ≡ length (slots_of done.outgoing)
+  -- each datagram stands in its slot
+  pub sent : map (datagram_at job.job.settings me (turn_by job me taken state).after.node) (slots_of done.outgoing)
+      ≡ map as_there (map (datagram job.job.settings) (turn_by job me taken state).packets)
+  -- it changes locks only where it ended its step
+  pub locks : done.ended ≡ None
+      → (turn_by job me taken state).after.node.local.core.locks ≡ state.node.local.core.locks
+
+-- a turn of a thread of which this was left of its script: it went so for every state for which the endpoint stood, and
+-- this is left now
+pub record TakesTurn
+    (meaning : Meaning) (old : EndpointState × Progress ScriptStep) (taken : TurnTaken) (done : Done)
+    (new : EndpointState × Progress ScriptStep) : Type 0 where
+  pub same : IsSameNode old.0.core new.0.core
+  pub goes : (state : MachineState EndpointLocal (OwnScripts ScriptStep))
+      → EndpointStands old.0 state.node → state.own taken.thread ≡ old.1
+      → GoesAsTurn (job_at meaning old.0) old.0.core.me taken state done
+      × EndpointStands new.0 (turn_by (job_at meaning old.0) old.0.core.me taken state).after.node
+      × ((turn_by (job_at meaning old.0) old.0.core.me taken state).after.own ≡ put state.own taken.thread new.1)

@@ -1,0 +1,53 @@
+//! What is left of a thread's script.
+
+ghost use Rattle.std.specs.Prelude.{◌≡◌};
+ghost use Rattle.node_machine.specs.Kept.{are_done};
+ghost use Rattle.node_machine.specs.Cursors.{progress_of, progress_of_all};
+ghost use Rattle.node_machine.specs.Scripted.{progress_after};
+
+use endpoint_rules::Answer;
+use job_text::ScriptStep;
+use script_steps::Tried;
+
+/// What is left of a thread's script.
+#[derive(Clone, Copy)]
+pub struct Cursor<'a> {
+    /// The steps that are left.
+    pub left: &'a [ScriptStep],
+    /// The answer with which the next one began, where an earlier try began it.
+    pub began: Option<Answer>,
+}
+
+/// Whether no thread has a step left.
+pub fn are_done(cursors: &[Cursor<'_>]) -> bool
+    ensures { result ≡ are_done (progress_of_all cursors.now) }
+{
+    cursors.iter().all(|cursor| cursor.left.is_empty())
+}
+
+impl<'a> Cursor<'a> {
+    /// At the first of these steps.
+    pub fn new(steps: &'a [ScriptStep]) -> Cursor<'a>
+        ensures { progress_of result ≡ record { left = steps.now; began = None } }
+    {
+        Cursor {
+            left: steps,
+            began: None,
+        }
+    }
+
+    /// Goes on after the next step was tried, if there is one.
+    pub fn go_on(&mut self, tried: &Tried)
+        ensures { progress_of self.new ≡ progress_after (progress_of self.old) tried.now }
+    {
+        if self.left.is_empty() {
+            return;
+        }
+        if tried.ended.is_some() {
+            self.left = &self.left[1..];
+            self.began = None;
+        } else if tried.began.is_some() {
+            self.began = tried.began;
+        }
+    }
+}

@@ -1,0 +1,198 @@
+//! The machine of a node.
+
+ghost use Rattle.std.specs.Prelude.{◌≡◌, ◌<◌, IfOk};
+ghost use Rattle.job_text.specs.JobText.{IsJob};
+ghost use Rattle.node_machine.specs.Cursors.{progress_of_all};
+ghost use Rattle.node_machine.specs.Openings.{AreFirst};
+ghost use Rattle.node_machine.specs.States.{NodeStands, opening_state, steps_of_thread};
+
+use crate::cursor::{Cursor, are_done};
+use crate::outgoing::Outgoing;
+use crate::turn::{ThreadTurn, take_turn};
+use endpoint_rules::Answer;
+use gas_endpoint::Endpoint;
+use job_text::{NodeScript, ScriptStep};
+use machine::{Machine, Turned};
+use node_script::Script;
+use std::alloc::{AllocError, Global};
+use std::marker::Model;
+
+/// The machine of a node of a job: its endpoint, and how far the scripts of its threads have come.
+///
+/// All memory is taken by `new`; the steps stay the job's.
+#[derive(Drop)]
+pub struct NodeMachine<'a> {
+    job: &'a Script,
+    endpoint: Endpoint,
+    /// For each thread what is left of its script.
+    cursors: Vec<Cursor<'a>>,
+    /// What its last turn sent that wasn't empty.
+    outgoing: Outgoing,
+    /// The answer of the script step that ended in that turn.
+    answer: Option<Answer>,
+}
+
+impl<'a> Model for NodeMachine<'a> {
+    ghost use Rattle.node_machine.specs.Kept.{MachineKept};
+
+    ghost Value = { MachineKept };
+
+    ghost use Rattle.node_machine.specs.Kept.{IsMachine};
+    ghost use Rattle.node_machine.specs.Cursors.{progress_of_all};
+    ghost use Rattle.node_machine.specs.Turns.{slots_of};
+
+    ghost view = { λ m. record {
+      job = m.job.now;
+      endpoint = m.endpoint;
+      scripts = progress_of_all m.cursors.items;
+      outgoing = slots_of m.outgoing;
+      answer = m.answer;
+    } };
+
+    ghost invariant = { λ m. IsMachine (record {
+      job = m.job.now;
+      endpoint = m.endpoint;
+      scripts = progress_of_all m.cursors.items;
+      outgoing = slots_of m.outgoing;
+      answer = m.answer;
+    }) };
+}
+
+/// The steps of the thread's script; none where it has no script.
+fn steps_of_thread(scripts: &[NodeScript], node: u16, thread: u16) -> &[ScriptStep]
+    ensures { result.now ≡ steps_of_thread scripts.now node thread }
+{
+    for script in scripts {
+        if script.node == node && script.thread == thread {
+            return script.steps.steps();
+        }
+    }
+    &[]
+}
+
+/// At the first steps of the scripts of a node's threads.
+fn cursors_of(alloc: Global, job: &Script, me: u16) -> Result<Vec<Cursor<'_>>, AllocError>
+    ensures { IfOk result (λ cursors.
+        AreFirst job.now me (progress_of_all cursors.items)) }
+{
+    let threads = job.settings().threads();
+    let mut cursors = Vec::with_capacity(alloc, usize::from(threads))?;
+    for thread in 0..threads {
+        cursors.push_reserved(Cursor::new(steps_of_thread(job.scripts(), me, thread)));
+    }
+    Ok(cursors)
+}
+
+impl<'a> NodeMachine<'a> {
+    /// The machine of node `me` of the job, which did nothing, at the first steps of its scripts.
+    ///
+    /// It is refused for want of memory alone.
+    pub fn new(alloc: Global, job: &'a Script, me: u16) -> Result<NodeMachine<'a>, AllocError>
+        requires job { IsJob job.now }
+        requires me { me < job.now.settings.nodes }
+        ensures { IfOk result (λ machine. NodeStands machine (opening_state job.now me)) }
+    {
+        let endpoint = Endpoint::new(alloc, job.settings(), me, job.table())?;
+        let cursors = cursors_of(alloc, job, me)?;
+        Ok(NodeMachine {
+            job,
+            endpoint,
+            cursors,
+            outgoing: Outgoing::NONE,
+            answer: None,
+        })
+    }
+
+    /// The answer of the script step that ended in the last turn that wasn't empty; None exactly where none ended in it.
+    pub fn answer(&self) -> Option<Answer>
+        ensures { result ≡ self.now.answer }
+    {
+        self.answer
+    }
+
+    /// The endpoint.
+    pub fn endpoint(&self) -> &Endpoint
+        ensures { result.now ≡ self.now.endpoint }
+    {
+        &self.endpoint
+    }
+
+    /// The endpoint alone.
+    pub fn into_endpoint(self) -> Endpoint
+        ensures { result ≡ self.endpoint }
+    {
+        let NodeMachine { endpoint, .. } = self;
+        endpoint
+    }
+}
+
+impl<'a> Machine for NodeMachine<'a> {
+    ghost use Rattle.node_machine.specs.Kept.{are_done, polls_at};
+    ghost use Rattle.node_machine.specs.States.{NodeState, NodeStands, after_turn, polls_in, sent};
+    ghost use Rattle.node_machine.specs.States.{turned};
+
+    ghost State = { NodeState };
+
+    ghost stands = { NodeStands };
+
+    ghost thread_count = { λ machine. machine.job.settings.threads };
+
+    ghost polls_at = { polls_at };
+
+    ghost is_over = { λ machine. are_done machine.scripts };
+
+    ghost polls_in = { polls_in };
+
+    ghost after = { after_turn };
+
+    ghost turned = { turned };
+
+    ghost sent = { sent };
+
+    fn threads(&self) -> u16 {
+        self.job.settings().threads()
+    }
+
+    fn polls(&self, thread: u16) -> bool {
+        self.endpoint.polls(thread)
+    }
+
+    fn over(&self) -> bool {
+        are_done(&self.cursors)
+    }
+
+    fn turn(&mut self, thread: u16, now: u64, got: Option<&[u8]>) -> Turned {
+        let came = got.is_some();
+        let polls = self.endpoint.polls(thread);
+        let turn = ThreadTurn { thread, now, polls };
+        let mut cursor = self.cursors[usize::from(thread)];
+        let done = take_turn(
+            &mut self.endpoint,
+            self.job.handlers(),
+            &mut cursor,
+            turn,
+            got,
+        );
+        self.cursors[usize::from(thread)] = cursor;
+        if !done.is_change(came) {
+            return Turned {
+                changed: false,
+                stepped: false,
+                sends: 0,
+            };
+        }
+        self.outgoing = done.outgoing;
+        self.answer = done.ended;
+        Turned {
+            changed: true,
+            stepped: done.ended.is_some(),
+            sends: done.outgoing.count(),
+        }
+    }
+
+    fn outgoing(&self, i: u8) -> Option<(u16, &[u8])> {
+        let at = self.outgoing.slot(i)?;
+        let bytes = self.endpoint.message(at)?;
+        Some((at.peer, bytes))
+    }
+}

@@ -1,0 +1,93 @@
+//! The parts of a turn before the try of a step.
+
+ghost use Rattle.std.specs.Prelude.{◌≡◌, ◌++◌, ◌∷◌, [], Option, Some, true, IsSome, option_copied};
+ghost use Rattle.std.specs.Option.{option_to_list};
+ghost use Rattle.node_record.specs.NodeStep.{Ticks};
+ghost use Rattle.node_runs.specs.Fitting.{AreBytes};
+ghost use Rattle.node_runs.specs.Laws.{GotBytes};
+ghost use Rattle.node_runs.specs.Turn.{before_try, comes};
+ghost use Rattle.script_steps.specs.Tries.{Happen};
+ghost use Rattle.node_machine.specs.Parts.{at_once};
+
+use am_core::SlotRef;
+use endpoint_rules::Event;
+use gas_endpoint::Endpoint;
+use handler_rules::Handlers;
+
+/// Bytes are delivered. Answers the slot of what that sent.
+fn deliver_bytes<H: Handlers>(
+    endpoint: &mut Endpoint,
+    handlers: &H,
+    now: u64,
+    bytes: &[u8],
+) -> Option<SlotRef>
+    ensures happen { Happen (H.meaning handlers.now) endpoint.old
+        (at_once now (comes endpoint.old.core.settings.version (Some bytes.now))
+        (option_to_list result)) endpoint.new }
+    ensures bytes { AreBytes bytes.now }
+{
+    endpoint
+        .step(handlers, now, &Event::Deliver { bytes })
+        .sends()
+}
+
+/// What was got is delivered. Answers the slot of what that sent.
+fn deliver<H: Handlers>(
+    endpoint: &mut Endpoint,
+    handlers: &H,
+    now: u64,
+    got: Option<&[u8]>,
+) -> Option<SlotRef>
+    ensures happen { Happen (H.meaning handlers.now) endpoint.old
+        (at_once now (comes endpoint.old.core.settings.version (option_copied got.entry))
+        (option_to_list result)) endpoint.new }
+    ensures bytes { GotBytes (option_copied got.entry) }
+{
+    match got {
+        Some(bytes) => deliver_bytes(endpoint, handlers, now, bytes),
+        None => None,
+    }
+}
+
+/// A tick. Answers the slot of what it sent.
+fn tick<H: Handlers>(endpoint: &mut Endpoint, handlers: &H, now: u64) -> Option<SlotRef>
+    ensures { Happen (H.meaning handlers.now) endpoint.old
+        (at_once now (Ticks ∷ []) (option_to_list result)) endpoint.new }
+{
+    endpoint.step(handlers, now, &Event::Tick).sends()
+}
+
+/// The slots of the messages that were sent before a try.
+#[derive(Clone, Copy, Debug)]
+pub struct SentBefore {
+    /// Of the reply to what was got.
+    pub reply: Option<SlotRef>,
+    /// Of the request that the tick sent.
+    pub tick: Option<SlotRef>,
+}
+
+/// Where the thread polls, what was got is delivered, and then the node ticks.
+pub fn before_try<H: Handlers>(
+    endpoint: &mut Endpoint,
+    handlers: &H,
+    now: u64,
+    polls: bool,
+    got: Option<&[u8]>,
+) -> SentBefore
+    requires { IsSome got → polls ≡ true }
+    ensures happen { Happen (H.meaning handlers.now) endpoint.old
+        (at_once now
+        (before_try endpoint.old.core.settings.version polls (option_copied got.entry))
+        (option_to_list result.reply ++ option_to_list result.tick)) endpoint.new }
+    ensures bytes { GotBytes (option_copied got.entry) }
+{
+    if !polls {
+        return SentBefore {
+            reply: None,
+            tick: None,
+        };
+    }
+    let reply = deliver(endpoint, handlers, now, got);
+    let tick = tick(endpoint, handlers, now);
+    SentBefore { reply, tick }
+}

@@ -1,0 +1,115 @@
+//! A turn of a thread.
+
+ghost use Rattle.std.specs.Prelude.{◌≡◌, ◌<◌, ◌||◌, IsSome, true, not, is_some, option_copied};
+ghost use Rattle.hsl_locks.specs.Locks.{holds};
+ghost use Rattle.gas_endpoint.specs.Endpoints.{ForItsRecord};
+ghost use Rattle.node_machine.specs.Kept.{CanBeSaid};
+ghost use Rattle.node_machine.specs.Cursors.{progress_of};
+ghost use Rattle.node_machine.specs.Scripted.{TriesNext};
+ghost use Rattle.node_runs.specs.Turn.{is_some_there};
+ghost use Rattle.node_machine.specs.Turns.{TakesTurn, slots_of};
+
+use crate::cursor::Cursor;
+use crate::outgoing::Outgoing;
+use crate::parts::before_try;
+use endpoint_rules::Answer;
+use gas_endpoint::Endpoint;
+use handler_rules::Handlers;
+use hsl_locks::Owner;
+use script_steps::{Trial, Tried, attempt};
+
+/// Which thread takes a turn, and when.
+#[derive(Clone, Copy, Debug)]
+pub struct ThreadTurn {
+    /// The thread.
+    pub thread: u16,
+    /// The time.
+    pub now: u64,
+    /// The thread polls: it holds no lock.
+    pub polls: bool,
+}
+
+/// What a turn did.
+#[derive(Clone, Copy, Debug)]
+pub struct Done {
+    /// The messages that it sent.
+    pub outgoing: Outgoing,
+    /// The answer of the script step that it ended.
+    pub ended: Option<Answer>,
+    /// It began a script step, and didn't end it.
+    pub began: bool,
+}
+
+impl Done {
+    /// Something was got or sent, or the step ended or began.
+    pub fn is_change(&self, came: bool) -> bool
+        ensures { result ≡ (came || is_some_there (slots_of self.now.outgoing)
+            || is_some self.now.ended || self.now.began) }
+    {
+        came || self.outgoing.is_any() || self.ended.is_some() || self.began
+    }
+}
+
+/// Tries the next step of a thread's script, if there is one.
+fn try_next<H: Handlers>(
+    endpoint: &mut Endpoint,
+    handlers: &H,
+    cursor: &Cursor<'_>,
+    turn: ThreadTurn,
+) -> Tried
+    requires thread { turn.thread < endpoint.old.core.settings.threads }
+    requires said { CanBeSaid (progress_of cursor.now) }
+    ensures { TriesNext (H.meaning handlers.now) endpoint.old
+        (record { now = turn.now; thread = turn.thread; progress = progress_of cursor.now })
+        result endpoint.new }
+{
+    match cursor.left.first() {
+        Some(step) => attempt(
+            endpoint,
+            handlers,
+            &Trial {
+                time: turn.now,
+                thread: turn.thread,
+                step,
+                began: cursor.began,
+            },
+        ),
+        None => Tried {
+            sent: None,
+            ended: None,
+            began: None,
+        },
+    }
+}
+
+/// A turn of a thread, with its script: where it polls, what was got is delivered, and the node ticks; then the next step of
+/// the script is tried.
+pub fn take_turn<H: Handlers>(
+    endpoint: &mut Endpoint,
+    handlers: &H,
+    cursor: &mut Cursor<'_>,
+    turn: ThreadTurn,
+    got: Option<&[u8]>,
+) -> Done
+    requires thread { turn.thread < endpoint.old.core.settings.threads }
+    requires said { CanBeSaid (progress_of cursor.old) }
+    requires polls { ForItsRecord endpoint.old (λ node.
+        turn.polls ≡ not (holds (Owner.Thread turn.thread) node.local.core.locks)) }
+    requires got { IsSome got.entry → turn.polls ≡ true }
+    ensures { TakesTurn (H.meaning handlers.now) (endpoint.old, progress_of cursor.old)
+        (record { thread = turn.thread; now = turn.now; got = option_copied got.entry }) result
+        (endpoint.new, progress_of cursor.new) }
+{
+    let sent = before_try(endpoint, handlers, turn.now, turn.polls, got);
+    let tried = try_next(endpoint, handlers, cursor, turn);
+    cursor.go_on(&tried);
+    Done {
+        outgoing: Outgoing {
+            reply: sent.reply,
+            tick: sent.tick,
+            call: tried.sent,
+        },
+        ended: tried.ended,
+        began: tried.began.is_some(),
+    }
+}
