@@ -5,3 +5,4 @@ pub mod Turning
 pub mod Standing
 pub mod Opening
 pub mod Merging
+pub mod Steps

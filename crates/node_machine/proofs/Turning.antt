@@ -1,9 +1,9 @@
 -- A turn of a thread, put together from its parts.
 use Rattle.std.proofs.Common.{◌≡◌, ℕ, Bool, ◌||◌, not, List, [], ◌∷◌, ◌++◌, map, length, Option, None, Some, refl, sym, ap}
-use Rattle.std.proofs.Common.{ap₂, ◌∙◌, subst}
+use Rattle.std.proofs.Common.{ap₂, ◌∙◌, subst, suc, arith, cond}
 use Rattle.std.specs.Prelude.{is_some}
-use Rattle.std.specs.List.{Contains}
-use Rattle.std.specs.Option.{option_map, option_to_list}
+use Rattle.std.specs.List.{AllByRecursion, Contains}
+use Rattle.std.specs.Option.{option_map, option_or, option_to_list}
 use Rattle.std.proofs.lemmas.List.{length-map}
 use Rattle.datagram_grammar.specs.Content.{spelling}
 use Rattle.datagram_grammar.specs.Parameters.{Parameters}
@@ -21,6 +21,7 @@ use Rattle.endpoint_rules.specs.EndpointRules.{job_of}
 use Rattle.endpoint_rules.specs.declared.answer.Answer.{Answer}
 use Rattle.endpoint_rules.proofs.Sound.{rules_sound}
 use Rattle.gas_endpoint.specs.Endpoints.{EndpointState, EndpointStands, ForItsRecord, job_here}
+use Rattle.job_text.specs.Scripts.{IsStep}
 use Rattle.job_text.specs.declared.job.ScriptStep.{ScriptStep}
 use Rattle.node_runs.specs.Actions.{Progress, OwnScripts, tried_step}
 use Rattle.node_runs.specs.Laws.{GotBytes}
@@ -32,6 +33,7 @@ use Rattle.node_runs.proofs.Outgoings.{sent_stand, turns_come_first}
 use Rattle.script_steps.specs.Forms.{step_form}
 use Rattle.script_steps.specs.Tries.{EndpointJob, HasHappened, Happen}
 use Rattle.script_steps.specs.declared.trial.Tried.{Tried}
+use Rattle.node_machine.specs.Kept.{CanBeSaid}
 use Rattle.node_machine.specs.Parts.{at_once}
 use Rattle.node_machine.specs.Scripted.{NextTrial, TriesNext, after_next, answer_of_next, events_of_next, as_said}
 use Rattle.node_machine.specs.Scripted.{progress_after}
@@ -52,10 +54,10 @@ peer_is (Asking place content) = refl
 peer_is (Replying place content) = refl
 
 here : (packet : Packet) (packets : List Packet) → Contains (packet ∷ packets) packet
-here packet packets = ?
+here packet packets = (0, omega arith, refl)
 
 there : (other packet : Packet) (packets : List Packet) → Contains packets packet → Contains (other ∷ packets) packet
-there other packet packets h = ?
+there other packet packets h = (suc h.0, let low = h.1 in omega (arith, low), h.2)
 
 -- the datagrams at the slots of messages that stand there
 stand_there : (settings : Parameters) (me : ℕ) (node : Node EndpointLocal) (packets : List Packet)
@@ -192,6 +194,23 @@ state_goes meaning old mid new taken state slots tried done lawful bytes stands 
         (tried_answer job me state taken.thread taken.now taken.got)).ended) (sym run)
         ∙ (ap (λ (t : FormTried (Progress ScriptStep)). t.ended) went ∙ none))
 
+-- what can be said of a script can be said of its rest
+rest_said : (step : ScriptStep) (rest : List ScriptStep) (began : Option Answer) (ended : Option Answer)
+    (later : Option Answer) → AllByRecursion IsStep (step ∷ rest)
+    → AllByRecursion IsStep (cond {A = Progress ScriptStep} (is_some ended) (record { left = rest; began = None })
+    (record { left = step ∷ rest; began = later })).left
+rest_said step rest began None later said = said
+rest_said step rest began (Some answer) later said = said.1
+
+progress_said : (progress : Progress ScriptStep) (tried : Tried) → CanBeSaid progress
+    → CanBeSaid (progress_after progress tried)
+progress_said progress tried said = by_left progress.left progress.began said
+  where
+    by_left : (left : List ScriptStep) (began : Option Answer) → AllByRecursion IsStep left
+        → CanBeSaid (progress_after (record { left = left; began = began }) tried)
+    by_left [] began said = said
+    by_left (step ∷ rest) began said = rest_said step rest began tried.ended (option_or tried.began began) said
+
 pub turn_goes : (meaning : Meaning) (old mid new : EndpointState) (taken : TurnTaken) (progress : Progress ScriptStep)
     (polls : Bool) (slots : List SlotRef) (tried : Tried) (done : Done)
     → IsLawfulMeaning meaning → GotBytes taken.got
@@ -205,6 +224,7 @@ turn_goes meaning old mid new taken progress polls slots tried done lawful bytes
     began_is =
     record {
       same = same_after old.core mid.core new.core before.same tries.happen.same;
+      said = progress_said progress tried;
       goes = λ state stands own.
           let version = old.core.settings.version in
           let it = state_goes meaning old mid new taken state slots tried done lawful bytes stands

@@ -64,5 +64,6 @@ pub record IsMachine (machine : MachineKept) : Type 0 where
   pub node : IsNodeOf machine.job.settings (registered machine.job.handlers).table machine.endpoint.core.me
       machine.endpoint
   pub threads : length machine.scripts ≡ machine.job.settings.threads
-  pub said : AllByRecursion CanBeSaid machine.scripts
+  pub said : (thread : ℕ) (progress : Progress ScriptStep) → slice_get machine.scripts thread ≡ Some progress
+      → CanBeSaid progress
   pub record_ : HasRecord machine.endpoint

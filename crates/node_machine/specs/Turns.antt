@@ -16,6 +16,7 @@ use Rattle.node_runs.specs.Scripts.{NodeJob, Tried as FormTried}
 use Rattle.node_runs.specs.Turn.{MachineState, Turn, turn, try_of, datagram, is_some_there}
 use Rattle.node_runs.specs.WorldRun.{endpoint_job}
 use Rattle.script_steps.specs.Forms.{step_form}
+use Rattle.node_machine.specs.Kept.{CanBeSaid}
 use Rattle.node_machine.specs.States.{datagram_at, as_there}
 use Rattle.node_machine.specs.declared.outgoing.Outgoing.{Outgoing}
 use Rattle.node_machine.specs.declared.turn.Done.{Done}
@@ -65,6 +66,7 @@ pub record TakesTurn
     (meaning : Meaning) (old : EndpointState × Progress ScriptStep) (taken : TurnTaken) (done : Done)
     (new : EndpointState × Progress ScriptStep) : Type 0 where
   pub same : IsSameNode old.0.core new.0.core
+  pub said : CanBeSaid old.1 → CanBeSaid new.1
   pub goes : (state : MachineState EndpointLocal (OwnScripts ScriptStep))
       → EndpointStands old.0 state.node → state.own taken.thread ≡ old.1
       → GoesAsTurn (job_at meaning old.0) old.0.core.me taken state done

@@ -1,0 +1,91 @@
+-- A machine before all turns.
+use Rattle.std.proofs.Common.{◌≡◌, inl, inr, ℕ, ◌<◌, ◌≤◌, ◌≢◌, Bool, true, false, ◌&&◌, List, [], ◌∷◌, Option, None, Some}
+use Rattle.std.proofs.Common.{refl, sym, ap, ◌∙◌, subst, slice_get, arith, eqb, ne_eqb, cond, length}
+use Rattle.std.specs.List.{AllByRecursion}
+use Rattle.std.proofs.Math.Path.{fun_ext}
+use Rattle.std.proofs.lemmas.Bool.{cases_Bool, cases_lt}
+use Rattle.std.proofs.lemmas.Option.{same_Some, slice_get_past, slice_get_within}
+use Rattle.datagram_grammar.specs.Parameters.{Parameters}
+use Rattle.node_record.specs.Record.{opening_node}
+use Rattle.endpoint_rules.specs.EndpointLocal.{nothing_begun}
+use Rattle.gas_endpoint.specs.Endpoints.{EndpointState, EndpointStands, IsNodeOf}
+use Rattle.job_text.specs.JobText.{IsJob, IsNodeScript}
+use Rattle.job_text.specs.Scripts.{IsStep}
+use Rattle.job_text.specs.declared.job.Job.{Job as JobState}
+use Rattle.job_text.specs.declared.job.NodeScript.{NodeScript}
+use Rattle.job_text.specs.declared.job.ScriptStep.{ScriptStep}
+use Rattle.node_script.specs.Registration.{registered}
+use Rattle.node_runs.specs.Actions.{Progress}
+use Rattle.node_machine.specs.Kept.{MachineKept, no_steps, progress_or_none, own_scripts, CanBeSaid, IsMachine}
+use Rattle.node_machine.specs.Openings.{AreFirst}
+use Rattle.node_machine.specs.States.{NodeStands, opening_state, scripts_at, steps_of_thread}
+
+-- ---- the steps of a thread
+
+-- a thread that isn't there has none
+no_thread : (nodes threads : ℕ) (scripts : List NodeScript) (node thread : ℕ)
+    → AllByRecursion (IsNodeScript nodes threads) scripts → threads ≤ thread → steps_of_thread scripts node thread ≡ []
+no_thread nodes threads [] node thread are past = refl
+no_thread nodes threads (script ∷ scripts) node thread are past =
+    let low = are.0.thread in
+    let apart : script.thread ≢ thread = omega (arith, low) in
+    let later = no_thread nodes threads scripts node thread are.1 past in
+    elim (cases_Bool (eqb script.node node)) [
+      | inl here ↦ rw (here, ne_eqb script.thread thread apart) later
+      | inr other ↦ rw other later
+    ]
+
+-- each of them can be said
+pub steps_said : (nodes threads : ℕ) (scripts : List NodeScript) (node thread : ℕ)
+    → AllByRecursion (IsNodeScript nodes threads) scripts → AllByRecursion IsStep (steps_of_thread scripts node thread)
+steps_said nodes threads [] node thread are = tt
+steps_said nodes threads (script ∷ scripts) node thread are =
+    by_test (eqb script.node node && eqb script.thread thread)
+    (steps_said nodes threads scripts node thread are.1)
+  where
+    by_test : (b : Bool) → AllByRecursion IsStep (steps_of_thread scripts node thread)
+        → AllByRecursion IsStep (cond b script.steps (steps_of_thread scripts node thread))
+    by_test true later = are.0.steps
+    by_test false later = later
+
+-- ---- the machine
+
+-- a machine that did nothing
+abbrev pub opened : JobState → EndpointState → List (Progress ScriptStep) → MachineKept
+opened job endpoint scripts =
+    record { job = job; endpoint = endpoint; scripts = scripts; outgoing = []; answer = None }
+
+pub opened_stands : (job : JobState) (me : ℕ) (endpoint : EndpointState) (scripts : List (Progress ScriptStep))
+    → IsJob job → IsNodeOf job.settings (registered job.handlers).table me endpoint
+    → EndpointStands endpoint (opening_node (nothing_begun job.settings)) → AreFirst job me scripts
+    → NodeStands (opened job endpoint scripts) (opening_state job me)
+opened_stands job me endpoint scripts is node stands first = record {
+  job_is = refl;
+  me_is = sym node.me_is;
+  node = stands;
+  own_is = fun_ext (λ thread. elim (cases_lt thread job.settings.threads) [
+    | inl there ↦ sym (ap progress_or_none (first.each thread there))
+    | inr past ↦
+        ap (λ (left : List ScriptStep). record { left = left; began = None })
+        (no_thread job.settings.nodes job.settings.threads job.scripts me thread is.scripts past)
+        ∙ sym (ap progress_or_none (slice_get_past scripts thread (subst (λ n. n ≤ thread) (sym first.threads) past)))
+  ]);
+  outgoing_is = refl;
+  answer_is = refl;
+}
+
+pub opened_is : (job : JobState) (me : ℕ) (endpoint : EndpointState) (scripts : List (Progress ScriptStep))
+    → IsJob job → IsNodeOf job.settings (registered job.handlers).table me endpoint
+    → EndpointStands endpoint (opening_node (nothing_begun job.settings)) → AreFirst job me scripts
+    → IsMachine (opened job endpoint scripts)
+opened_is job me endpoint scripts is node stands first = record {
+  job = is;
+  node = record { settings_are = node.settings_are; me_is = refl; table_is = node.table_is };
+  threads = first.threads;
+  said = λ thread progress at.
+      let inside = slice_get_within scripts thread progress at in
+      let there : thread < job.settings.threads = subst (λ n. thread < n) first.threads inside in
+      subst CanBeSaid (same_Some (scripts_at job me thread) progress (sym (first.each thread there) ∙ at))
+      (steps_said job.settings.nodes job.settings.threads job.scripts me thread is.scripts);
+  record_ = (opening_node (nothing_begun job.settings), stands);
+}

@@ -1,0 +1,291 @@
+-- What a machine stands for after a turn.
+use Rattle.std.proofs.Common.{◌≡◌, inl, inr, ℕ, ◌<◌, Bool, true, false, true≢false, cond, ◌||◌, not, List, [], ◌∷◌, map}
+use Rattle.std.proofs.Common.{length, Option, None, Some, refl, sym, ap, ap₂, ◌∙◌, subst, slice_get, arith, eqb, eqb-true}
+use Rattle.std.proofs.Common.{eq-eqb, ne_eqb, length-set}
+use Rattle.std.specs.Prelude.{is_some, slice_set}
+use Rattle.std.proofs.Math.Path.{fun_ext}
+use Rattle.std.proofs.lemmas.Bool.{cases_eq}
+use Rattle.std.proofs.lemmas.Option.{same_Some}
+use Rattle.datagram_grammar.specs.Parameters.{Parameters}
+use Rattle.handler_rules.specs.declared.table.Entry.{Entry}
+use Rattle.hsl_locks.specs.declared.answer.Held.{Held}
+use Rattle.hsl_locks.specs.declared.answer.Owner.TheVariants as owner
+use Rattle.hsl_locks.specs.Locks.{holds}
+use Rattle.lists.specs.Put.{put}
+use Rattle.lists.proofs.Indexes.{get-set_same, get-set_other}
+use Rattle.lists.proofs.Put.{put_same, put_other}
+use Rattle.machine.specs.declared.turns.Turned.{Turned}
+use Rattle.node_record.specs.Record.{Node}
+use Rattle.node_record.specs.declared.answer.SlotRef.{SlotRef}
+use Rattle.am_core.specs.CoreContracts.{IsSameNode}
+use Rattle.endpoint_rules.specs.EndpointLocal.{EndpointLocal}
+use Rattle.endpoint_rules.specs.declared.answer.Answer.{Answer}
+use Rattle.gas_endpoint.specs.Endpoints.{EndpointState, EndpointStands}
+use Rattle.job_text.specs.declared.job.Job.{Job as JobState}
+use Rattle.job_text.specs.declared.job.ScriptStep.{ScriptStep}
+use Rattle.node_script.specs.Bodies.{script_meaning}
+use Rattle.node_script.specs.Registration.{registered}
+use Rattle.node_runs.specs.Actions.{Progress, OwnScripts, scripts_of}
+use Rattle.node_runs.specs.Order.{Ranked}
+use Rattle.node_runs.specs.Scripts.{NodeJob}
+use Rattle.node_runs.specs.Turn.{MachineState, Turn, turn, datagram, is_some_there}
+use Rattle.node_runs.specs.WorldRun.{endpoint_job}
+use Rattle.node_runs.proofs.Emptying.{empty_turns}
+use Rattle.script_steps.specs.Forms.{step_form}
+use Rattle.script_steps.specs.Laws.{WaitingIsCalm}
+use Rattle.node_machine.specs.Kept.{MachineKept, no_steps, progress_or_none, own_scripts, polls_at, CanBeSaid, IsMachine}
+use Rattle.node_machine.specs.States.{NodeState, state_of, script_job, after_turn, turned, datagram_at, as_there}
+use Rattle.node_machine.specs.States.{NodeStands}
+use Rattle.node_machine.specs.Turns.{slots_of, job_at, TurnTaken, turn_by, is_changed, GoesAsTurn, TakesTurn}
+use Rattle.node_machine.specs.declared.turn.Done.{Done}
+
+-- ---- scripts
+
+-- what is left of the scripts, where one thread's went on
+own_set : (scripts : List (Progress ScriptStep)) (thread : ℕ) (progress : Progress ScriptStep)
+    → thread < length scripts
+    → put (own_scripts scripts) thread progress ≡ own_scripts (slice_set scripts thread progress)
+own_set scripts thread progress inside = fun_ext (λ other. elim (cases_eq other thread) [
+  | inl same ↦
+      ap (put (own_scripts scripts) thread progress) same
+      ∙ (put_same (own_scripts scripts) thread progress
+      ∙ (sym (ap progress_or_none (get-set_same scripts thread progress inside))
+      ∙ ap (own_scripts (slice_set scripts thread progress)) (sym same)))
+  | inr apart ↦
+      put_other (own_scripts scripts) thread progress other apart
+      ∙ sym (ap progress_or_none (get-set_other scripts thread progress other apart))
+])
+
+-- ---- a turn of a machine
+
+-- a machine that took a turn: what it was, the turn, what the turn did, and the endpoint and the script then
+pub record Turning : Type 0 where
+  pub machine : MachineKept
+  pub taken : TurnTaken
+  pub done : Done
+  pub endpoint : EndpointState
+  pub progress : Progress ScriptStep
+
+-- all that is known of it
+pub record IsTurning (it : Turning) : Type 0 where
+  pub is : IsMachine it.machine
+  pub inside : it.taken.thread < length it.machine.scripts
+  pub before : Progress ScriptStep
+  pub there : slice_get it.machine.scripts it.taken.thread ≡ Some before
+  pub takes : TakesTurn (script_meaning it.machine.job.handlers) (it.machine.endpoint, before) it.taken it.done
+      (it.endpoint, it.progress)
+
+-- the scripts after it
+abbrev pub scripts_then : Turning → List (Progress ScriptStep)
+scripts_then it = slice_set it.machine.scripts it.taken.thread it.progress
+
+-- the machine after it, with these datagrams and this answer
+abbrev pub machine_with : Turning → (outgoing : List SlotRef) → (answer : Option Answer) → MachineKept
+machine_with it outgoing answer = record {
+  job = it.machine.job;
+  endpoint = it.endpoint;
+  scripts = scripts_then it;
+  outgoing = outgoing;
+  answer = answer;
+}
+
+-- of a job and a node, what is known of the turn of a state
+pub record Facts (it : Turning) (state : MachineState EndpointLocal (OwnScripts ScriptStep))
+    (job : NodeJob EndpointLocal (OwnScripts ScriptStep)) (me : ℕ) : Type 0 where
+  pub goes : GoesAsTurn job me it.taken state it.done
+  pub node : EndpointStands it.endpoint (turn_by job me it.taken state).after.node
+  pub own : (turn_by job me it.taken state).after.own ≡ put state.own it.taken.thread it.progress
+
+-- the job of a machine is that of its endpoint
+job_same : (machine : MachineKept) → IsMachine machine
+    → job_at (script_meaning machine.job.handlers) machine.endpoint ≡ script_job machine.job
+job_same machine is = ap₂ (λ (settings : Parameters) (table : List (Option Entry)).
+    endpoint_job settings table (script_meaning machine.job.handlers) (scripts_of step_form))
+    is.node.settings_are is.node.table_is
+
+facts_at : (it : Turning) → IsTurning it → (state : MachineState EndpointLocal (OwnScripts ScriptStep))
+    → EndpointStands it.machine.endpoint state.node → state.own ≡ own_scripts it.machine.scripts
+    → Facts it state (script_job it.machine.job) it.machine.endpoint.core.me
+facts_at it T state stands own =
+    let meaning = script_meaning it.machine.job.handlers in
+    let G = T.takes.goes state stands
+    (ap (λ (f : OwnScripts ScriptStep). f it.taken.thread) own ∙ ap progress_or_none T.there) in
+    subst (λ (job : NodeJob EndpointLocal (OwnScripts ScriptStep)).
+    Facts it state job it.machine.endpoint.core.me) (job_same it.machine T.is)
+    (record { goes = G.0; node = G.1; own = G.2 })
+
+facts_of : (it : Turning) → IsTurning it → (state : NodeState) → NodeStands it.machine state
+    → Facts it state.ranked.state (script_job state.job) state.ranked.me
+facts_of it T state S =
+    subst (λ (me : ℕ). Facts it state.ranked.state (script_job state.job) me) (sym S.me_is)
+    (subst (λ (job : JobState). Facts it state.ranked.state (script_job job) it.machine.endpoint.core.me) (sym S.job_is)
+    (facts_at it T state.ranked.state S.node S.own_is))
+
+-- the machine's node is the same
+me_then : (it : Turning) → IsTurning it → (state : NodeState) → NodeStands it.machine state
+    → state.ranked.me ≡ it.endpoint.core.me
+me_then it T state S = S.me_is ∙ sym T.takes.same.me_is
+
+own_then : (it : Turning) → IsTurning it → (state : NodeState) → NodeStands it.machine state
+    → (turn_by (script_job state.job) state.ranked.me it.taken state.ranked.state).after.own ≡ own_scripts (scripts_then it)
+own_then it T state S =
+    (facts_of it T state S).own
+    ∙ (ap (λ (own : OwnScripts ScriptStep). put own it.taken.thread it.progress) S.own_is
+    ∙ own_set it.machine.scripts it.taken.thread it.progress T.inside)
+
+-- a turn that changed something
+pub changed_stands : (it : Turning) → IsTurning it → (state : NodeState) → NodeStands it.machine state
+    → is_changed it.taken it.done ≡ true
+    → NodeStands (machine_with it (slots_of it.done.outgoing) it.done.ended)
+    (after_turn state it.taken.thread it.taken.now it.taken.got)
+changed_stands it T state S changed =
+    let F = facts_of it T state S in
+    let job = script_job state.job in
+    let next = turn_by job state.ranked.me it.taken state.ranked.state in
+    let is : next.changed ≡ true = F.goes.changed ∙ changed in
+    record {
+      job_is = S.job_is;
+      me_is = me_then it T state S;
+      node = F.node;
+      own_is = own_then it T state S;
+      outgoing_is = ap₂ (λ (text : JobState) (me : ℕ).
+          map (datagram_at text.settings me next.after.node) (slots_of it.done.outgoing))
+          (sym S.job_is) (sym (me_then it T state S))
+          ∙ (F.goes.sent
+          ∙ ap (map as_there) (sym (ap (λ (b : Bool).
+          cond b (map (datagram state.job.settings) next.packets) state.ranked.state.outgoing) is)));
+      answer_is = ap (λ (b : Bool). cond b _ state.ranked.state.answer) is ∙ F.goes.ended;
+    }
+
+-- an empty turn leaves the state
+pub empty_leaves : WaitingIsCalm → (state : NodeState) (thread now : ℕ) → (turned state thread now None).changed ≡ false
+    → after_turn state thread now None ≡ state
+empty_leaves calm state thread now quiet =
+    ap (λ (machine : MachineState EndpointLocal (OwnScripts ScriptStep)).
+    state_of state.job (record { me = state.ranked.me; state = machine }))
+    (empty_turns (script_job state.job)
+    (calm state.job.settings (registered state.job.handlers).table (script_meaning state.job.handlers))
+    state.ranked.me thread now state.ranked.state quiet)
+
+none_got : (got : Option (List ℕ)) → is_some got ≡ false → got ≡ None
+none_got None e = refl
+none_got (Some bytes) e = absurd (true≢false e)
+
+or_parts : (a b : Bool) → (a || b) ≡ false → (a ≡ false) × (b ≡ false)
+or_parts true b e = absurd (true≢false e)
+or_parts false b e = (refl, e)
+
+-- of a turn that changed nothing
+pub record IsQuiet (it : Turning) : Type 0 where
+  pub got : it.taken.got ≡ None
+  pub ended : is_some it.done.ended ≡ false
+
+pub quiet_is : (it : Turning) → is_changed it.taken it.done ≡ false → IsQuiet it
+quiet_is it quiet =
+    let a = or_parts (is_some it.taken.got || is_some_there (slots_of it.done.outgoing) || is_some it.done.ended)
+    it.done.began quiet in
+    let b = or_parts (is_some it.taken.got || is_some_there (slots_of it.done.outgoing)) (is_some it.done.ended) a.0 in
+    let c = or_parts (is_some it.taken.got) (is_some_there (slots_of it.done.outgoing)) b.0 in
+    record { got = none_got it.taken.got c.0; ended = b.1 }
+
+-- what a turn told
+pub told_is : (it : Turning) → IsTurning it → (state : NodeState) → NodeStands it.machine state
+    → turned state it.taken.thread it.taken.now it.taken.got
+    ≡ record {
+      changed = is_changed it.taken it.done;
+      stepped = is_some it.done.ended;
+      sends = cond (is_changed it.taken it.done) (length (slots_of it.done.outgoing)) 0;
+    }
+told_is it T state S =
+    let F = facts_of it T state S in
+    let next = turn_by (script_job state.job) state.ranked.me it.taken state.ranked.state in
+    ap₂ (λ (changed stepped : Bool). record {
+      changed = changed;
+      stepped = stepped;
+      sends = cond changed (length next.packets) 0;
+    }) F.goes.changed (ap is_some F.goes.ended)
+    ∙ ap (λ (count : ℕ). record {
+      changed = is_changed it.taken it.done;
+      stepped = is_some it.done.ended;
+      sends = cond (is_changed it.taken it.done) count 0;
+    }) F.goes.sends
+
+-- an empty turn
+pub quiet_stands : WaitingIsCalm → (it : Turning) → IsTurning it → (state : NodeState) → NodeStands it.machine state
+    → is_changed it.taken it.done ≡ false
+    → NodeStands (machine_with it it.machine.outgoing it.machine.answer)
+    (after_turn state it.taken.thread it.taken.now it.taken.got)
+quiet_stands calm it T state S quiet =
+    let F = facts_of it T state S in
+    let job = script_job state.job in
+    let got = (quiet_is it quiet).got in
+    let next = turn_by job state.ranked.me it.taken state.ranked.state in
+    let still : (turned state it.taken.thread it.taken.now None).changed ≡ false =
+    subst (λ (o : Option (List ℕ)). (turned state it.taken.thread it.taken.now o).changed ≡ false) got
+    (F.goes.changed ∙ quiet) in
+    let same : after_turn state it.taken.thread it.taken.now it.taken.got ≡ state =
+    ap (after_turn state it.taken.thread it.taken.now) got
+    ∙ empty_leaves calm state it.taken.thread it.taken.now still in
+    let left : next.after ≡ state.ranked.state = ap (λ (x : NodeState). x.ranked.state) same in
+    record {
+      job_is = S.job_is;
+      me_is = me_then it T state S;
+      node = F.node;
+      own_is = own_then it T state S;
+      outgoing_is = ap (λ (me : ℕ).
+          map (datagram_at it.machine.job.settings me next.after.node) it.machine.outgoing) T.takes.same.me_is
+          ∙ subst (λ (x : MachineState EndpointLocal (OwnScripts ScriptStep)).
+          map (datagram_at it.machine.job.settings it.machine.endpoint.core.me x.node) it.machine.outgoing
+          ≡ map as_there x.outgoing) (sym left) S.outgoing_is;
+      answer_is = ap (λ (x : MachineState EndpointLocal (OwnScripts ScriptStep)). x.answer) left ∙ S.answer_is;
+    }
+
+-- ---- what needs no state at hand
+
+-- a state of a record of the endpoint
+abbrev pub some_state : MachineKept → Node EndpointLocal → MachineState EndpointLocal (OwnScripts ScriptStep)
+some_state machine node =
+    record { node = node; own = own_scripts machine.scripts; outgoing = []; answer = None }
+
+-- of the record for which the endpoint stands
+some_facts : (it : Turning) → (T : IsTurning it)
+    → Facts it (some_state it.machine T.is.record_.0) (script_job it.machine.job) it.machine.endpoint.core.me
+some_facts it T = facts_at it T (some_state it.machine T.is.record_.0) T.is.record_.1 refl
+
+no_answer : (o : Option Answer) → is_some o ≡ false → o ≡ None
+no_answer None e = refl
+no_answer (Some answer) e = absurd (true≢false e)
+
+-- whether a thread polls changes only in a turn that ends a step
+pub polls_stay : (it : Turning) → IsTurning it → is_some it.done.ended ≡ false
+    → (outgoing : List SlotRef) (answer : Option Answer) (thread : ℕ)
+    → polls_at (machine_with it outgoing answer) thread ≡ polls_at it.machine thread
+polls_stay it T none outgoing answer thread =
+    let F = some_facts it T in
+    let locks : it.endpoint.core.locks ≡ it.machine.endpoint.core.locks =
+    F.node.core.locks_are ∙ (F.goes.locks (no_answer it.done.ended none) ∙ sym T.is.record_.1.core.locks_are) in
+    ap (λ (held : List Held). not (holds (owner.Thread thread) held)) locks
+
+-- the machine after it is one
+pub machine_is : (it : Turning) → IsTurning it → (outgoing : List SlotRef) (answer : Option Answer)
+    → IsMachine (machine_with it outgoing answer)
+machine_is it T outgoing answer = record {
+  job = T.is.job;
+  node = record {
+    settings_are = T.takes.same.settings ∙ T.is.node.settings_are;
+    me_is = refl;
+    table_is = T.takes.same.table ∙ T.is.node.table_is;
+  };
+  threads = length-set it.machine.scripts it.taken.thread it.progress ∙ T.is.threads;
+  said = λ thread progress at. elim (cases_eq thread it.taken.thread) [
+    | inl same ↦
+        subst CanBeSaid (same_Some it.progress progress
+        (sym (get-set_same it.machine.scripts it.taken.thread it.progress T.inside)
+        ∙ (ap (slice_get (scripts_then it)) (sym same) ∙ at)))
+        (T.takes.said (T.is.said it.taken.thread T.before T.there))
+    | inr apart ↦
+        T.is.said thread progress
+        (sym (get-set_other it.machine.scripts it.taken.thread it.progress thread apart) ∙ at)
+  ];
+  record_ = (_, (some_facts it T).node);
+}
