@@ -20,7 +20,7 @@ below : (n count : ℕ) → 1 ≤ count → n ≤ count - 1 → n < count
 below n count some low = omega (arith, some, low)
 
 -- the payload of a call of a schedule is one of a schedule
-call_given : (call : ScheduledCall) → IsCall call → IsGiven call
+pub call_given : (call : ScheduledCall) → IsCall call → IsGiven call
 call_given (calls.Short to handler operands) h = tt
 call_given (calls.Medium text) h = h.0.1.1.0
 call_given (calls.Long text) h = h.0.1.1.0

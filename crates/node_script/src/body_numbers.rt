@@ -13,7 +13,7 @@ pub(crate) const MOST: usize = 17;
 
 /// The number that an operand stands for: in an action of a handler, with the arguments of the message; elsewhere there
 /// are none.
-pub(crate) fn value_of(operand: Operand, cells: &Cells, args: &[i32]) -> i32
+pub fn value_of(operand: Operand, cells: &Cells, args: &[i32]) -> i32
     ensures { result ≡ operand_value cells.now args.now operand }
 {
     match operand {

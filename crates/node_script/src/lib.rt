@@ -30,7 +30,8 @@ mod transfer_texts;
 
 pub use answer_words::{lock_fault_word, rule_word};
 pub use answers::write_answer;
+pub use body_numbers::value_of;
 pub use handlers::ScriptHandlers;
-pub use line::Line;
+pub use line::{Line, call_of, some_of, transfer_of};
 pub use line_writer::write_line;
 pub use script::Script;

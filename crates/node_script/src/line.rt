@@ -95,8 +95,8 @@ fn line_of<'a>(timed: &'a TimedEvent, world: &World, args: &'a mut [i32; 17]) ->
     Line::Event { now, event }
 }
 
-/// A call, by the cells of its node.
-fn call_of<'a>(call: &'a ScheduledCall, cells: &Cells, args: &'a mut [i32; 17]) -> Call<'a>
+/// A call, by the cells of its node. The arguments of a request are put into `args`.
+pub fn call_of<'a>(call: &'a ScheduledCall, cells: &Cells, args: &'a mut [i32; 17]) -> Call<'a>
     requires { IsGiven call.now }
     ensures meant { meant result ≡ meant_by cells.now call.now }
     ensures callable { IsCallable result }
@@ -242,7 +242,7 @@ fn segment_call_of(call: &ScheduledCall) -> Call<'_>
 }
 
 /// A transfer.
-fn transfer_of(text: &TransferText) -> Transfer
+pub fn transfer_of(text: &TransferText) -> Transfer
     ensures { result ≡ transfer_of text.now }
 {
     match *text {
@@ -283,7 +283,7 @@ fn transfer_of(text: &TransferText) -> Transfer
 }
 
 /// The implicit operations of a synchronisation.
-fn some_of(kind: ImplicitKind) -> Some3
+pub fn some_of(kind: ImplicitKind) -> Some3
     ensures { result ≡ some_of kind }
 {
     match kind {

@@ -62,6 +62,15 @@ call_form (call.LongAsync text) meant = Again is_put_off meant
 call_form (call.Lock lock) meant = Again is_held meant
 call_form _ meant = Once meant
 
+-- the step of such a call waits at this answer of the call
+abbrev pub waits_at : ScheduledCall → Answer → Bool
+waits_at (call.Short to handler operands) answer = is_put_off answer
+waits_at (call.Medium text) answer = is_put_off answer
+waits_at (call.Long text) answer = is_put_off answer
+waits_at (call.LongAsync text) answer = is_put_off answer
+waits_at (call.Lock lock) answer = is_held answer
+waits_at _ answer = false
+
 -- ---- transfers
 
 -- the handle of what the answer says is under way
@@ -120,3 +129,20 @@ waiting_form cells (waiting.BarrierWait id flags) = Again is_not_ready (Performs
 abbrev pub step_form : Reading EndpointLocal ScriptStep
 step_form (step.Call call) node = call_form call (meant_by node.local.core.cells call)
 step_form (step.Waiting waiting) node = waiting_form node.local.core.cells waiting
+
+-- ---- kinds of steps
+
+-- the step begins a put, and waits until its chunks are issued
+abbrev pub IsPut : WaitingStep → Type 0
+IsPut (waiting.PutBegin register put) = Unit {0}
+IsPut (waiting.PutImplicit put) = Unit {0}
+IsPut _ = ⊥
+
+-- the step waits at a synchronisation or at the barrier
+abbrev pub IsSync : WaitingStep → Type 0
+IsSync (waiting.Wait register) = Unit {0}
+IsSync (waiting.WaitAll registers) = Unit {0}
+IsSync (waiting.WaitSome registers) = Unit {0}
+IsSync (waiting.WaitImplicit which) = Unit {0}
+IsSync (waiting.BarrierWait id flags) = Unit {0}
+IsSync _ = ⊥

@@ -1,7 +1,7 @@
 -- What the events of a turn do to an endpoint, and how the try of a step went.
 -- Origin: this project's profile.
 use Rattle.std.specs.Prelude.{ℕ, ◌≡◌, List, [], ◌∷◌, Bool, ◌&&◌, if◌then◌else◌, map, Option, None, Some}
-use Rattle.std.specs.Prelude.{is_some, is_none}
+use Rattle.std.specs.Prelude.{is_some, is_none, not}
 use Rattle.std.specs.Option.{option_map, option_or, option_to_list}
 use Rattle.handler_rules.specs.Runs.{Meaning}
 use Rattle.node_record.specs.Record.{Node}
@@ -11,14 +11,15 @@ use Rattle.am_core.specs.CoreContracts.{IsSameNode}
 use Rattle.endpoint_rules.specs.Called.{node_event}
 use Rattle.endpoint_rules.specs.EndpointLocal.{EndpointLocal, IsEndpointKept}
 use Rattle.endpoint_rules.specs.EndpointRules.{OtherCall, RecordEvent, told}
+use Rattle.endpoint_rules.specs.Sends.{sends}
 use Rattle.endpoint_rules.specs.declared.answer.Answer.{Answer}
 use Rattle.gas_endpoint.specs.Endpoints.{EndpointState, EndpointStands, ForItsRecord, job_here}
 use Rattle.job_text.specs.declared.job.ScriptStep.{ScriptStep}
-use Rattle.node_runs.specs.Actions.{Form, Progress, call_of, ended_by, begins, tried_form}
+use Rattle.node_runs.specs.Actions.{Form, Progress, call_of, ended_by, begins, tried_form, unless}
 use Rattle.node_runs.specs.Outgoing.{slot_of, StaysWell}
 use Rattle.node_runs.specs.Scripts.{ThreadCall, Tried as FormTried}
 use Rattle.node_runs.specs.Turn.{node_run, node_sends}
-use Rattle.script_steps.specs.Forms.{step_form}
+use Rattle.script_steps.specs.Forms.{is_sent, step_form}
 use Rattle.script_steps.specs.declared.trial.Trial.{Trial}
 use Rattle.script_steps.specs.declared.trial.Tried.{Tried}
 
@@ -48,6 +49,28 @@ pub record Happen (meaning : Meaning) (old : EndpointState) (happening : Happeni
   where
     pub same : IsSameNode old.core new.core
     pub happened : ForItsRecord old (λ node. HasHappened (job_here meaning old) old.core.me happening node new)
+
+-- a call of a thread at a time, with its answer
+pub record Made : Type 0 where
+  pub now : ℕ
+  pub thread : ℕ
+  pub meant : ThreadCall
+  pub answer : Answer
+
+-- its event, and the slot of what it sent
+abbrev pub made_happening : Made → Happening
+made_happening made = record {
+  now = made.now;
+  events = λ node. node_event made.thread made.meant ∷ [];
+  slots = option_to_list (sends made.answer);
+}
+
+-- the endpoint was asked this, and answered so
+pub record Makes (meaning : Meaning) (old : EndpointState) (made : Made) (new : EndpointState) : Type 0 where
+  pub happen : Happen meaning old (made_happening made) new
+  pub answered : ForItsRecord old (λ node.
+      made.answer
+      ≡ told (node_answer (job_here meaning old) old.core.me node made.now (node_event made.thread made.meant)))
 
 -- ---- the try of a step that has a form
 
@@ -87,6 +110,10 @@ pub record WentSo (job : EndpointJob) (me : ℕ) (trial : FormTrial) (tried : Tr
     pub began : tried.began
         ≡ begun_by (trial.form node) trial.began tried.ended (trial_answer job me trial node)
 
+-- a look at what the answer with which a step began is about: it ends the step where all of that is sent
+abbrev pub looked : (first : Answer) → Node EndpointLocal → Tried
+looked first node = record { sent = None; ended = unless (not (is_sent first node)) first; began = None }
+
 -- the events of the try, and the slot of what they sent
 abbrev pub trial_happening : FormTrial → Tried → Happening
 trial_happening trial tried =
@@ -101,14 +128,14 @@ pub record TriesForm
 
 -- ---- the try of a step
 
+-- the step, where it is read so
+abbrev pub read_as : Trial → (form : Node EndpointLocal → Form EndpointLocal) → FormTrial
+read_as trial form =
+    record { now = trial.time; thread = trial.thread; form = form; began = trial.began }
+
 -- the step, as it is read
 abbrev pub as_form : Trial → FormTrial
-as_form trial = record {
-  now = trial.time;
-  thread = trial.thread;
-  form = step_form trial.step.now;
-  began = trial.began;
-}
+as_form trial = read_as trial (step_form trial.step.now)
 
 -- what is left of the script whose step was tried, and behind which this is left
 abbrev pub left_by : Trial → Tried → (rest : List ScriptStep) → Progress ScriptStep

@@ -17,9 +17,13 @@
 //!   turn leaves the machine.
 #![tactic(auto)]
 
+mod answers;
+mod calls;
 mod laws;
+mod making;
 mod trial;
 mod tries;
+mod waiting;
 
 pub use laws::steps_law;
 pub use trial::{Trial, Tried};

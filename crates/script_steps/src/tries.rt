@@ -4,9 +4,12 @@ ghost use Rattle.std.specs.Prelude.{◌<◌};
 ghost use Rattle.job_text.specs.Scripts.{IsStep};
 ghost use Rattle.script_steps.specs.Tries.{Tries};
 
+use crate::calls::try_call;
 use crate::trial::{Trial, Tried};
+use crate::waiting::try_waiting;
 use gas_endpoint::Endpoint;
 use handler_rules::Handlers;
+use job_text::ScriptStep;
 
 /// Tries a step of a thread's script, with at most one call of the endpoint.
 pub fn attempt<H: Handlers>(endpoint: &mut Endpoint, handlers: &H, trial: &Trial<'_>) -> Tried
@@ -14,5 +17,8 @@ pub fn attempt<H: Handlers>(endpoint: &mut Endpoint, handlers: &H, trial: &Trial
     requires step { IsStep trial.now.step.now }
     ensures tries { Tries (H.meaning handlers.now) endpoint.old trial.now result endpoint.new }
 {
-    unreachable!()
+    match trial.step {
+        ScriptStep::Call { call } => try_call(endpoint, handlers, trial, call),
+        ScriptStep::Waiting { step } => try_waiting(endpoint, handlers, trial, step),
+    }
 }

@@ -1,0 +1,283 @@
+-- What a step of the endpoint leaves, as a try of a form of step.
+use Rattle.std.proofs.Common.{◌≡◌, ℕ, Bool, true, false, true≢false, cond, ◌&&◌, List, [], ◌∷◌, ◌++◌, map, Option, None, Some}
+use Rattle.std.proofs.Common.{refl, sym, ap, ◌∙◌, subst}
+use Rattle.std.specs.Prelude.{is_some, is_none}
+use Rattle.std.specs.Option.{option_map, option_or, option_to_list}
+use Rattle.handler_rules.specs.Runs.{Meaning}
+use Rattle.node_record.specs.Record.{Node}
+use Rattle.node_record.specs.Invariant.{NodeInvariant}
+use Rattle.node_record.specs.NodeStep.{Job, node_answer, node_after}
+use Rattle.node_record.specs.Transition.{Transition}
+use Rattle.node_record.specs.declared.answer.SlotRef.{SlotRef}
+use Rattle.plain_world.specs.Sent.{Packet, Asking, Replying, sends as sent_by}
+use Rattle.handler_rules.specs.declared.table.Entry.{Entry}
+use Rattle.datagram_grammar.specs.Parameters.{Parameters}
+use Rattle.am_core.specs.CoreState.{CoreState}
+use Rattle.am_core.specs.CoreContracts.{IsSameNode}
+use Rattle.endpoint_rules.specs.Called.{node_event, meant, called}
+use Rattle.endpoint_rules.specs.EndpointLocal.{EndpointLocal, IsEndpointKept}
+use Rattle.endpoint_rules.specs.EndpointRules.{OtherCall, RecordEvent, told, transition}
+use Rattle.endpoint_rules.specs.Sends.{sends}
+use Rattle.endpoint_rules.specs.declared.answer.Answer.{Answer}
+use Rattle.endpoint_rules.specs.declared.call.Call.{Call}
+use Rattle.gas_endpoint.specs.Endpoints.{EndpointState, EndpointStands, ForItsRecord, NodeSteps, job_here}
+use Rattle.gas_endpoint.specs.Sends.{AreThatOf, NodeSends, slot_of as endpoint_slot}
+use Rattle.job_text.specs.declared.job.ScriptStep.{ScriptStep}
+use Rattle.node_runs.specs.Actions.{Form, Once, Again, Until, Twice, Looks, Progress, call_of, ended_by, begins}
+use Rattle.node_runs.specs.Actions.{progress_after, tried_form}
+use Rattle.node_runs.specs.Outgoing.{slot_of, StaysWell}
+use Rattle.node_runs.specs.Scripts.{ThreadCall, Tried as FormTried}
+use Rattle.node_runs.specs.Turn.{node_run, node_sends}
+use Rattle.script_steps.specs.Tries.{EndpointJob, Happening, HasHappened, Happen, Made, made_happening, Makes, FormTrial}
+use Rattle.script_steps.specs.Tries.{trial_call, trial_events, trial_answer, trial_after, begun_by, WentSo}
+use Rattle.script_steps.specs.Tries.{trial_happening, TriesForm, as_form, left_by, as_tried, IsTriedSo, Tries}
+use Rattle.script_steps.specs.declared.trial.Trial.{Trial}
+use Rattle.script_steps.specs.declared.trial.Tried.{Tried}
+
+-- ---- an endpoint, and the slots of its messages
+
+-- the invariant holds of each record for which an endpoint stands
+pub well_of : (endpoint : EndpointState) (node : Node EndpointLocal) → EndpointStands endpoint node
+    → NodeInvariant endpoint.core.settings (IsEndpointKept endpoint.core.settings) endpoint.core.me node
+well_of endpoint node stands =
+    record {
+      orderly = stands.core.invariant_.orderly;
+      own = stands.core.invariant_.own;
+      asked = stands.core.invariant_.asked;
+      replied = stands.core.invariant_.replied;
+      kept = stands.kept;
+    }
+
+same_slot : (packet : Packet) → endpoint_slot packet ≡ slot_of packet
+same_slot (Asking place content) = refl
+same_slot (Replying place content) = refl
+
+append_none : (packets : List Packet) → packets ++ [] ≡ packets
+append_none [] = refl
+append_none (packet ∷ packets) = ap (λ (later : List Packet). packet ∷ later) (append_none packets)
+
+-- the slot that an answer tells
+slots_told : (told_slot : Option SlotRef) (packets : List Packet) → AreThatOf told_slot packets
+    → option_to_list told_slot ≡ map slot_of (packets ++ [])
+slots_told None packets none = ap (λ (list : List Packet). map slot_of (list ++ [])) (sym none)
+slots_told (Some at) packets one =
+    ap (λ (slot : SlotRef). slot ∷ []) (sym one.2 ∙ same_slot one.0)
+    ∙ ap (λ (list : List Packet). map slot_of (list ++ [])) (sym one.1)
+
+-- what holds at the node after an event holds at the same node before it
+pub at_same : (old new : CoreState) (Holds : Parameters → ℕ → Type 0) → IsSameNode old new
+    → Holds new.settings new.me → Holds old.settings old.me
+at_same old new Holds same holds =
+    subst (λ me. Holds old.settings me) same.me_is (subst (λ settings. Holds settings new.me) same.settings holds)
+
+-- a call of a thread
+pub call_made : (meaning : Meaning) (old new : EndpointState) (made : Made)
+    → NodeSteps meaning old (transition made.now (node_event made.thread made.meant) made.answer) new
+    → NodeSends meaning old (transition made.now (node_event made.thread made.meant) made.answer)
+    → Makes meaning old made new
+call_made meaning old new made steps sent =
+    record {
+      happen = record {
+        same = steps.same;
+        happened = λ node stands.
+            let after = node_after (job_here meaning old) old.core.me node made.now (node_event made.thread made.meant) in
+            let it = steps.steps node stands in
+            record {
+              stands = it.1;
+              slots_are = slots_told (sends made.answer) _ (sent node stands);
+              well = (
+                well_of old node stands,
+                at_same old.core new.core
+                (λ (settings : Parameters) (me : ℕ). NodeInvariant settings (IsEndpointKept settings) me after)
+                steps.same (well_of new after it.1),
+              );
+            };
+      };
+      answered = λ node stands. (steps.steps node stands).0;
+    }
+
+-- ---- a try that makes a call, and one that makes none
+
+-- the call of a try, by every record for which the endpoint stood
+pub record Calls (old : EndpointState) (trial : FormTrial) (tried : Tried) (made : Made) (new : EndpointState) : Type 0
+  where
+    pub now_is : made.now ≡ trial.now
+    pub thread_is : made.thread ≡ trial.thread
+    pub call_is : ForItsRecord old (λ node. trial_call trial node ≡ Some made.meant)
+    pub sent : tried.sent ≡ sends made.answer
+    pub ended : (node after : Node EndpointLocal) → EndpointStands old node → EndpointStands new after
+        → tried.ended ≡ ended_by (trial.form node) trial.began after (Some made.answer)
+    pub began : ForItsRecord old (λ node.
+        tried.began ≡ begun_by (trial.form node) trial.began tried.ended (Some made.answer))
+
+-- of a call that a form makes
+CallOf : (meaning : Meaning) (old : EndpointState) (trial : FormTrial) (tried : Tried) (new : EndpointState)
+    (node : Node EndpointLocal) → Option ThreadCall → Type 0
+CallOf meaning old trial tried new node call =
+    let job = job_here meaning old in
+    let events = option_to_list (option_map (node_event trial.thread) call) in
+    let after = node_run job old.core.me trial.now events node in
+    let answer = option_map
+        (λ call. told (node_answer job old.core.me node trial.now (node_event trial.thread call))) call in
+    EndpointStands new after
+    × (option_to_list tried.sent ≡ map slot_of (node_sends job old.core.me trial.now events node))
+    × StaysWell job (IsEndpointKept job.settings) old.core.me trial.now events node
+    × (tried.ended ≡ ended_by (trial.form node) trial.began after answer)
+    × (tried.began ≡ begun_by (trial.form node) trial.began tried.ended answer)
+
+-- so the try went
+goes_so : (meaning : Meaning) (old new : EndpointState) (trial : FormTrial) (tried : Tried)
+    → IsSameNode old.core new.core
+    → ForItsRecord old (λ node. CallOf meaning old trial tried new node (trial_call trial node))
+    → TriesForm meaning old trial tried new
+goes_so meaning old new trial tried same all =
+    record {
+      happen = record {
+        same = same;
+        happened = λ node stands.
+            let it = all node stands in record { stands = it.0; slots_are = it.1; well = it.2 };
+      };
+      went = λ node stands. let it = all node stands in record { ended = it.3; began = it.4 };
+    }
+
+pub tries_call : (meaning : Meaning) (old new : EndpointState) (trial : FormTrial) (tried : Tried) (made : Made)
+    → Makes meaning old made new → Calls old trial tried made new → TriesForm meaning old trial tried new
+tries_call meaning old new trial tried made makes calls =
+    goes_so meaning old new trial tried makes.happen.same
+    (λ node stands. subst (CallOf meaning old trial tried new node) (sym (calls.call_is node stands))
+    (with_call node stands trial.now trial.thread calls.now_is calls.thread_is))
+  where
+    with_call : (node : Node EndpointLocal) → EndpointStands old node → (now thread : ℕ) → made.now ≡ now
+        → made.thread ≡ thread
+        → CallOf meaning old (record trial { now = now; thread = thread }) tried new node (Some made.meant)
+    with_call node stands now thread now_is thread_is =
+        subst (λ t. CallOf meaning old (record trial { now = now; thread = t }) tried new node (Some made.meant)) thread_is
+        (subst (λ n. CallOf meaning old (record trial { now = n; thread = made.thread }) tried new node (Some made.meant))
+        now_is
+        (let happened = makes.happen.happened node stands in
+        let answered = makes.answered node stands in (
+          happened.stands,
+          ap option_to_list calls.sent ∙ happened.slots_are,
+          happened.well,
+          calls.ended node _ stands happened.stands
+          ∙ ap (λ (answer : Answer). ended_by (trial.form node) trial.began
+              (node_after (job_here meaning old) old.core.me node made.now (node_event made.thread made.meant))
+              (Some answer)) answered,
+          calls.began node stands
+          ∙ ap (λ (answer : Answer). begun_by (trial.form node) trial.began tried.ended (Some answer)) answered,
+        )))
+
+none_begun : (starts : Bool) → cond {A = Option Answer} starts None None ≡ None
+none_begun true = refl
+none_begun false = refl
+
+-- a try that makes no call
+pub tries_nothing : (meaning : Meaning) (endpoint : EndpointState) (trial : FormTrial) (tried : Tried)
+    → tried.sent ≡ None
+    → ForItsRecord endpoint (λ node. trial_call trial node ≡ None)
+    → ForItsRecord endpoint (λ node. tried.ended ≡ ended_by (trial.form node) trial.began node None)
+    → tried.began ≡ None → TriesForm meaning endpoint trial tried endpoint
+tries_nothing meaning endpoint trial tried sent none ended began =
+    goes_so meaning endpoint endpoint trial tried
+    (record { settings = refl; me_is = refl; table = refl; segment_length = refl })
+    (λ node stands. subst (CallOf meaning endpoint trial tried endpoint node) (sym (none node stands)) (
+      stands,
+      ap option_to_list sent,
+      well_of endpoint node stands,
+      ended node stands,
+      began ∙ sym (none_begun (begins (trial.form node) && is_none trial.began && is_none tried.ended)),
+    ))
+
+-- ---- the try of a step
+
+-- a form that begins something makes its first call
+first_call : (form : Form EndpointLocal) → begins form ≡ true → (call : ThreadCall) × (call_of form None ≡ Some call)
+first_call (Once call) starts = (call, refl)
+first_call (Again waits call) starts = (call, refl)
+first_call (Until cell value) starts = absurd (true≢false (sym starts))
+first_call (Twice begin next waits says) starts = (begin, refl)
+first_call (Looks begin ready) starts = (begin, refl)
+
+-- how a try went by whether it begins something, the answer with which its step began, whether and how it ended it, and
+-- the answer of its call
+went_by : (step : ScriptStep) (rest : List ScriptStep) (starts : Bool) (began ended answer : Option Answer)
+    → (starts ≡ true → began ≡ None → (said : Answer) × (answer ≡ Some said))
+    → ◌≡◌ {A = FormTried (Progress ScriptStep)}
+    (record {
+      left = cond {A = Progress ScriptStep} (is_some ended) (record { left = rest; began = None })
+          (cond {A = Progress ScriptStep} (starts && is_none began) (record { left = step ∷ rest; began = answer })
+          (record { left = step ∷ rest; began = began }));
+      ended = ended;
+      began = starts && is_none began && is_none ended;
+    })
+    (let begun : Option Answer = cond {A = Option Answer} (starts && is_none began && is_none ended) answer None in
+    record {
+      left = cond {A = Progress ScriptStep} (is_some ended) (record { left = rest; began = None })
+          (record { left = step ∷ rest; began = option_or begun began });
+      ended = ended;
+      began = is_some begun;
+    })
+went_by step rest true None None answer says =
+    let it = says refl refl in
+    subst (λ (o : Option Answer). ◌≡◌ {A = FormTried (Progress ScriptStep)}
+        (record { left = record { left = step ∷ rest; began = o }; ended = None; began = true })
+        (record { left = record { left = step ∷ rest; began = option_or o None }; ended = None; began = is_some o }))
+    (sym it.1) refl
+went_by step rest true None (Some end) answer says = refl
+went_by step rest true (Some first) None answer says = refl
+went_by step rest true (Some first) (Some end) answer says = refl
+went_by step rest false None None answer says = refl
+went_by step rest false None (Some end) answer says = refl
+went_by step rest false (Some first) None answer says = refl
+went_by step rest false (Some first) (Some end) answer says = refl
+
+-- so of what was told
+told_so : (form : Form EndpointLocal) (trial : Trial) (tried : Tried) (after : Node EndpointLocal)
+    (answer : Option Answer) → tried.ended ≡ ended_by form trial.began after answer
+    → tried.began ≡ begun_by form trial.began tried.ended answer
+    → (begins form ≡ true → trial.began ≡ None → (said : Answer) × (answer ≡ Some said)) → (rest : List ScriptStep)
+    → tried_form form trial.step.now rest trial.began after answer ≡ as_tried trial tried rest
+told_so form trial tried after answer ended began says rest =
+    let step = trial.step.now in
+    let by_end : Option Answer → FormTried (Progress ScriptStep) = λ end.
+        record {
+          left = progress_after form step rest trial.began end answer;
+          ended = end;
+          began = begins form && is_none trial.began && is_none end;
+        } in
+    let as_told : (end begun : Option Answer) → FormTried (Progress ScriptStep) = λ end begun.
+        record {
+          left = cond {A = Progress ScriptStep} (is_some end) (record { left = rest; began = None })
+              (record { left = step ∷ rest; began = option_or begun trial.began });
+          ended = end;
+          began = is_some begun;
+        } in
+    ap by_end (sym ended)
+    ∙ (went_by step rest (begins form) trial.began tried.ended answer says
+    ∙ ap (as_told tried.ended) (sym began))
+
+pub tries_step : (meaning : Meaning) (old new : EndpointState) (trial : Trial) (tried : Tried)
+    → TriesForm meaning old (as_form trial) tried new → Tries meaning old trial tried new
+tries_step meaning old new trial tried tries =
+    record {
+      happen = tries.happen;
+      tried_so = λ node stands rest.
+          let job = job_here meaning old in
+          let form = (as_form trial).form node in
+          let went = tries.went node stands in
+          told_so form trial tried (trial_after job old.core.me (as_form trial) node)
+          (trial_answer job old.core.me (as_form trial) node) went.ended went.began
+          (λ starts none. answered job old.core.me node form (first_call form starts) none) rest;
+    }
+  where
+    answered : (job : EndpointJob) (me : ℕ) (node : Node EndpointLocal) (form : Form EndpointLocal)
+        → (call : ThreadCall) × (call_of form None ≡ Some call) → trial.began ≡ None
+        → (said : Answer)
+        × (option_map (λ call. told (node_answer job me node trial.time (node_event trial.thread call)))
+        (call_of form trial.began) ≡ Some said)
+    answered job me node form call none = (
+      told (node_answer job me node trial.time (node_event trial.thread call.0)),
+      ap (λ (o : Option Answer). option_map
+          (λ call. told (node_answer job me node trial.time (node_event trial.thread call))) (call_of form o)) none
+      ∙ ap (option_map (λ call. told (node_answer job me node trial.time (node_event trial.thread call)))) call.1,
+    )
