@@ -30,17 +30,17 @@ use Rattle.node_record.specs.Behaviour.{Ask, Contact}
 use Rattle.node_record.specs.NodeStep.{Asks, Does, Comes, Ticks, site_of, node_after, node_answer}
 use Rattle.node_record.specs.Record.{Node}
 use Rattle.node_record.specs.Step.{Verdict, Runs, Returns, verdict, after_delivery, request_answer, after_request}
-use Rattle.node_record.specs.Step.{TickChoice, Resends, Sends, Rests, tick_choice, after_tick}
+use Rattle.node_record.specs.Step.{said, with_itself, is_worn_out, TickChoice, Resends, Sends, Rests, tick_choice, after_tick}
 use Rattle.am_core.specs.ClientRules.{rules}
 use Rattle.am_core.specs.HandlerRuns.{handlers_of, run_reply}
 use Rattle.am_core.specs.Kept.{Local}
 use Rattle.am_core.specs.Library.{note_handler}
-use Rattle.endpoint_rules.specs.BarrierCalls.{BarrierCall}
+use Rattle.endpoint_rules.specs.BarrierCalls.{BarrierCall, barrier_does}
 use Rattle.endpoint_rules.specs.Called.{Requests, Performs, node_event}
 use Rattle.endpoint_rules.specs.CoreCalls.{LocalCall, Poll, Attempt, Lock, Unlock, Cell, SetCell, OnSegment, if_allowed}
 use Rattle.endpoint_rules.specs.EndpointLocal.{EndpointLocal}
 use Rattle.endpoint_rules.specs.EndpointRules.{OtherCall, OnCore, OnTransfers, OnBarrier, RecordEvent, job_of, told}
-use Rattle.endpoint_rules.specs.EndpointRules.{endpoint_rules, unless_forbidden}
+use Rattle.endpoint_rules.specs.EndpointRules.{endpoint_rules, unless_forbidden, with_barrier}
 use Rattle.endpoint_rules.specs.TransferCalls.{Caller, TransferCall, Begin, BeginImplicit, IsIssued, Sync, SyncHandle}
 use Rattle.endpoint_rules.specs.TransferCalls.{SyncAll, SyncSome, SyncImplicit, RegionBegin, RegionEnd, transfer_does}
 use Rattle.endpoint_rules.specs.TransferCalls.{after_beginning, ended}
@@ -97,7 +97,9 @@ request_keeps : (settings : Parameters) (table : List (Option Entry)) (meaning :
     → locks_in (after_request (site_of (job_of settings table meaning) me) node now ask answer) ≡ locks_in node
 request_keeps settings table meaning me now node ask (asked.Accepted to slot number) = refl
 request_keeps settings table meaning me now node ask asked.Ran =
-    reply_keeps settings table meaning _ _ _
+    let site = site_of (job_of settings table meaning) me in
+    let out = site.behaviour.run (with_itself me) (said site node ask) node.local in
+    reply_keeps settings table meaning (with_itself me) out.1 out.0.core
 request_keeps settings table meaning me now node ask (asked.Forbidden forbidden) = refl
 request_keeps settings table meaning me now node ask _ = refl
 
@@ -152,12 +154,19 @@ allowed_keeps : (settings : Parameters) (table : List (Option Entry)) (meaning :
 allowed_keeps settings table meaning thread (Ok allowed) answer local = refl
 allowed_keeps settings table meaning thread (Err forbidden) answer local = refl
 
+-- a thread of the node
+abbrev pub caller_of : Parameters → (me thread : ℕ) → Node EndpointLocal → Caller
+caller_of settings me thread node =
+    record { settings = settings; me = me; thread = thread; worn = is_worn_out settings node }
+
 -- every call but these two
 call_keeps : (settings : Parameters) (table : List (Option Entry)) (meaning : Meaning) (me thread now : ℕ)
     (node : Node EndpointLocal) (made : ThreadCall) → is_locking made ≡ false
     → locks_in (node_after (job_of settings table meaning) me node now (node_event thread made)) ≡ locks_in node
 call_keeps settings table meaning me thread now node (Requests to asking) free =
-    request_keeps settings table meaning me now node _ _
+    let ask : Ask = record { thread = thread; to = to; what = asking } in
+    request_keeps settings table meaning me now node ask
+    (request_answer (site_of (job_of settings table meaning) me) node ask)
 call_keeps settings table meaning me thread now node (Performs (OnCore Poll)) free =
     allowed_keeps settings table meaning thread _ _ node.local.core
 call_keeps settings table meaning me thread now node (Performs (OnCore (Attempt kind))) free =
@@ -166,9 +175,13 @@ call_keeps settings table meaning me thread now node (Performs (OnCore (Lock loc
 call_keeps settings table meaning me thread now node (Performs (OnCore (Unlock lock))) free = absurd (true≢false free)
 call_keeps settings table meaning me thread now node (Performs (OnCore _)) free = refl
 call_keeps settings table meaning me thread now node (Performs (OnTransfers made)) free =
-    judged_keeps settings table meaning thread _ node.local _ (transfer_keeps _ made node.local)
+    let caller = caller_of settings me thread node in
+    judged_keeps settings table meaning thread _ node.local (transfer_does caller made node.local)
+    (transfer_keeps caller made node.local)
 call_keeps settings table meaning me thread now node (Performs (OnBarrier made)) free =
-    judged_keeps settings table meaning thread _ node.local _ refl
+    let caller = caller_of settings me thread node in
+    judged_keeps settings table meaning thread _ node.local
+    (with_barrier node.local (barrier_does caller made node.local.barrier)) refl
 
 -- ---- the calls of steps
 
@@ -218,7 +231,7 @@ unless_waits false answer e = absurd (some_none e)
 held_stays : (held : List Held) (thread lock : ℕ) (answer : LockAnswer)
     → lock_answer held (owner.Thread thread) lock 0 ≡ answer → is_held (answers.Lock answer) ≡ true
     → after_lock held (owner.Thread thread) lock 0 ≡ held
-held_stays held thread lock locking.Held e waits = rw e refl
+held_stays held thread lock locking.Held e waits = rw (e, after_lock) refl
 held_stays held thread lock locking.Taken e waits = absurd (true≢false (sym waits))
 held_stays held thread lock (locking.Refused why) e waits = absurd (true≢false (sym waits))
 

@@ -28,7 +28,7 @@ use Rattle.node_script.specs.Registration.{registered}
 use Rattle.node_runs.specs.Actions.{Progress, OwnScripts, scripts_of}
 use Rattle.node_runs.specs.Order.{Ranked}
 use Rattle.node_runs.specs.Scripts.{NodeJob}
-use Rattle.node_runs.specs.Turn.{MachineState, Turn, turn, datagram, is_some_there}
+use Rattle.node_runs.specs.Turn.{MachineState, Turn, turn, try_of, datagram, is_some_there}
 use Rattle.node_runs.specs.WorldRun.{endpoint_job}
 use Rattle.node_runs.proofs.Emptying.{empty_turns}
 use Rattle.script_steps.specs.Forms.{step_form}
@@ -154,7 +154,10 @@ changed_stands it T state S changed =
           ∙ (F.goes.sent
           ∙ ap (map as_there) (sym (ap (λ (b : Bool).
           cond b (map (datagram state.job.settings) next.packets) state.ranked.state.outgoing) is)));
-      answer_is = ap (λ (b : Bool). cond b _ state.ranked.state.answer) is ∙ F.goes.ended;
+      answer_is = ap (λ (b : Bool). cond b
+          (try_of job state.ranked.me state.ranked.state it.taken.thread it.taken.now it.taken.got).ended
+          state.ranked.state.answer) is
+          ∙ F.goes.ended;
     }
 
 -- an empty turn leaves the state

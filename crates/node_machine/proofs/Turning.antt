@@ -138,7 +138,7 @@ state_goes meaning old mid new taken state slots tried done lawful bytes stands 
         sent = subst (λ (l : List SlotRef). map (datagram_at settings me it.after.node) l
             ≡ map as_there (map (datagram settings) it.packets)) (sym sent)
             (stand_there settings me it.after.node it.packets stood);
-        locks = λ none. kept (ended_is ∙ none);
+        locks = λ none. kept (sym ended_is ∙ none);
       },
       all.stands,
       ap (λ (t : FormTried (Progress ScriptStep)). put state.own taken.thread t.left) went,
