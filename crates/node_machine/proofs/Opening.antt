@@ -1,7 +1,7 @@
 -- A machine before all turns.
 use Rattle.std.proofs.Common.{◌≡◌, inl, inr, ℕ, ◌<◌, ◌≤◌, ◌≢◌, Bool, true, false, ◌&&◌, List, [], ◌∷◌, Option, None, Some}
 use Rattle.std.proofs.Common.{refl, sym, ap, ◌∙◌, subst, slice_get, arith, eqb, ne_eqb, cond, length}
-use Rattle.std.specs.List.{AllByRecursion}
+use Rattle.std.specs.List.{AllByRecursion, find}
 use Rattle.std.proofs.Math.Path.{fun_ext}
 use Rattle.std.proofs.lemmas.Bool.{cases_Bool, cases_lt}
 use Rattle.std.proofs.lemmas.Option.{same_Some, slice_get_past, slice_get_within}
@@ -18,7 +18,7 @@ use Rattle.node_script.specs.Registration.{registered}
 use Rattle.node_runs.specs.Actions.{Progress}
 use Rattle.node_machine.specs.Kept.{MachineKept, no_steps, progress_or_none, own_scripts, CanBeSaid, IsMachine}
 use Rattle.node_machine.specs.Openings.{AreFirst}
-use Rattle.node_machine.specs.States.{NodeStands, opening_state, scripts_at, steps_of_thread}
+use Rattle.node_machine.specs.States.{NodeStands, opening_state, scripts_at, is_of, steps_or_none, steps_of_thread}
 
 -- ---- the steps of a thread
 
@@ -40,11 +40,10 @@ pub steps_said : (nodes threads : ℕ) (scripts : List NodeScript) (node thread 
     → AllByRecursion (IsNodeScript nodes threads) scripts → AllByRecursion IsStep (steps_of_thread scripts node thread)
 steps_said nodes threads [] node thread are = tt
 steps_said nodes threads (script ∷ scripts) node thread are =
-    by_test (eqb script.node node && eqb script.thread thread)
-    (steps_said nodes threads scripts node thread are.1)
+    by_test (is_of node thread script) (steps_said nodes threads scripts node thread are.1)
   where
     by_test : (b : Bool) → AllByRecursion IsStep (steps_of_thread scripts node thread)
-        → AllByRecursion IsStep (cond b script.steps (steps_of_thread scripts node thread))
+        → AllByRecursion IsStep (steps_or_none (cond b (Some script) (find (is_of node thread) scripts)))
     by_test true later = are.0.steps
     by_test false later = later
 

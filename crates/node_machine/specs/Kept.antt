@@ -1,6 +1,6 @@
 -- What the machine of a node keeps, as contracts see it.
 -- Origin: this project's profile.
-use Rattle.std.specs.Prelude.{ℕ, ◌≡◌, Bool, not, List, [], length, Option, None, Some, slice_get}
+use Rattle.std.specs.Prelude.{ℕ, ◌≡◌, ◌==◌, Bool, not, List, [], length, Option, None, Some, slice_get}
 use Rattle.std.specs.List.{AllByRecursion, list_all}
 use Rattle.hsl_locks.specs.declared.answer.Owner.TheVariants as owner
 use Rattle.hsl_locks.specs.Locks.{holds}
@@ -14,7 +14,6 @@ use Rattle.job_text.specs.declared.job.Job.{Job as JobState}
 use Rattle.job_text.specs.declared.job.ScriptStep.{ScriptStep}
 use Rattle.node_script.specs.Registration.{registered}
 use Rattle.node_runs.specs.Actions.{Progress, OwnScripts}
-use Rattle.node_runs.specs.Turn.{is_some_there}
 
 -- the machine of a node of a job
 pub record MachineKept : Type 0 where
@@ -42,7 +41,7 @@ own_scripts scripts thread = progress_or_none (slice_get scripts thread)
 
 -- no step is left
 abbrev pub is_done : Progress ScriptStep → Bool
-is_done progress = not (is_some_there progress.left)
+is_done progress = length progress.left == 0
 
 -- no script has a step left
 abbrev pub are_done : List (Progress ScriptStep) → Bool

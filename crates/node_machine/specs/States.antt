@@ -1,6 +1,6 @@
 -- The states for which the machine of a node stands, and what its turns do to them.
 -- Origin: this project's profile.
-use Rattle.std.specs.Prelude.{ℕ, ◌≡◌, ◌==◌, ◌&&◌, Bool, if◌then◌else◌, List, [], ◌∷◌, map, Option, None, Some}
+use Rattle.std.specs.Prelude.{ℕ, ◌≡◌, ◌==◌, ◌&&◌, Bool, List, [], map, find, Option, None, Some}
 use Rattle.datagram_grammar.specs.Parameters.{Parameters}
 use Rattle.machine.specs.Replay.{Steps}
 use Rattle.machine.specs.declared.turns.Turned.{Turned}
@@ -58,11 +58,17 @@ state_steps = record { polls = polls_in; after = after_turn; turned = turned; se
 
 -- ---- the opening
 
+-- the script is that of the thread
+abbrev pub is_of : (node thread : ℕ) → NodeScript → Bool
+is_of node thread script = (script.node == node) && (script.thread == thread)
+
+abbrev pub steps_or_none : Option NodeScript → List ScriptStep
+steps_or_none None = []
+steps_or_none (Some script) = script.steps
+
 -- the steps of the thread's script; none where it has no script
 abbrev pub steps_of_thread : List NodeScript → (node thread : ℕ) → List ScriptStep
-steps_of_thread [] node thread = []
-steps_of_thread (script ∷ scripts) node thread =
-    if (script.node == node) && (script.thread == thread) then script.steps else steps_of_thread scripts node thread
+steps_of_thread scripts node thread = steps_or_none (find (is_of node thread) scripts)
 
 -- the scripts of a node before all turns
 abbrev pub scripts_at : JobState → (node : ℕ) → OwnScripts ScriptStep

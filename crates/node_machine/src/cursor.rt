@@ -1,8 +1,9 @@
 //! What is left of a thread's script.
 
 ghost use Rattle.std.specs.Prelude.{◌≡◌};
-ghost use Rattle.node_machine.specs.Kept.{are_done};
-ghost use Rattle.node_machine.specs.Cursors.{progress_of, progress_of_all};
+ghost use Rattle.std.specs.List.{list_all};
+ghost use Rattle.node_machine.specs.Kept.{is_done};
+ghost use Rattle.node_machine.specs.Cursors.{progress_of};
 ghost use Rattle.node_machine.specs.Scripted.{progress_after};
 
 use endpoint_rules::Answer;
@@ -20,7 +21,7 @@ pub struct Cursor<'a> {
 
 /// Whether no thread has a step left.
 pub fn are_done(cursors: &[Cursor<'_>]) -> bool
-    ensures { result ≡ are_done (progress_of_all cursors.now) }
+    ensures { result ≡ list_all (λ cursor. is_done (progress_of cursor)) cursors.now }
 {
     cursors.iter().all(|cursor| cursor.left.is_empty())
 }

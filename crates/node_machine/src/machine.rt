@@ -62,12 +62,13 @@ impl<'a> Model for NodeMachine<'a> {
 fn steps_of_thread(scripts: &[NodeScript], node: u16, thread: u16) -> &[ScriptStep]
     ensures { result.now ≡ steps_of_thread scripts.now node thread }
 {
-    for script in scripts {
-        if script.node == node && script.thread == thread {
-            return script.steps.steps();
-        }
+    match scripts
+        .iter()
+        .find(|script| script.node == node && script.thread == thread)
+    {
+        Some(script) => script.steps.steps(),
+        None => &[],
     }
-    &[]
 }
 
 /// At the first steps of the scripts of a node's threads.
