@@ -1,5 +1,6 @@
-/* Makes the copies that the payloads of `longs` or the chunks of `puts` need: each from its place of one segment into a slot, and from there to the same place of
- * another segment. Its one argument is the number of payloads; it prints the CPU time of the copies in milliseconds, the least of some runs. */
+/* Makes the copies that payloads need: each from its place of one segment into a slot, and, as those of `longs` and the chunks of `puts`, from there to the same
+ * place of another segment. Its arguments are the number of payloads and of the copies of each, 1 or 2; it prints the CPU time of the copies in milliseconds, the
+ * least of some runs. */
 #include <stdio.h>
 #include <stdlib.h>
 #include <string.h>
@@ -16,7 +17,8 @@ static double milliseconds(void)
 
 int main(int count, char **words)
 {
-    long payloads = count == 2 ? atol(words[1]) : 0;
+    long payloads = count == 3 ? atol(words[1]) : 0;
+    int lands = count == 3 && atol(words[2]) == 2;
     char *source = calloc(PLACES, PAYLOAD), *target = calloc(PLACES, PAYLOAD), *slot = calloc(1, PAYLOAD);
     if (payloads <= 0 || !source || !target || !slot)
         return 1;
@@ -27,7 +29,8 @@ int main(int count, char **words)
             long offset = number % PLACES * PAYLOAD;
             memcpy(slot, source + offset, PAYLOAD);
             __asm__ volatile("" : : "r"(slot) : "memory"); /* both copies are made */
-            memcpy(target + offset, slot, PAYLOAD);
+            if (lands)
+                memcpy(target + offset, slot, PAYLOAD);
             __asm__ volatile("" : : "r"(target) : "memory");
         }
         double taken = milliseconds() - begin;
