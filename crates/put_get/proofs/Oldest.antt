@@ -1,5 +1,5 @@
 -- The least number among the records that are ready is that of the oldest operation.
-use Rattle.std.proofs.Common.{◌≡◌, ◌⊎◌, IfSome, IfNone, is_some, inl, inr, ℕ, zero, suc, ◌+◌, ◌<◌, Bool, true, false, true≢false, not, ◌&&◌, List, [], ◌∷◌, Option, None, Some, refl, sym, ap, ap₂, ◌∙◌, arith, lt-ltb, le-ltb}
+use Rattle.std.proofs.Common.{◌≡◌, drop, ◌⊎◌, IfSome, IfNone, is_some, inl, inr, ℕ, zero, suc, ◌+◌, ◌<◌, Bool, true, false, true≢false, not, ◌&&◌, List, [], ◌∷◌, Option, None, Some, refl, sym, ap, ap₂, ◌∙◌, arith, lt-ltb, le-ltb}
 use Rattle.std.specs.List.{slice_get, list_all, list_any}
 use Rattle.std.proofs.lemmas.Bool.{cases_Bool, cases_eq, cases_lt, and_parts, not-true}
 use Rattle.std.proofs.lemmas.Option.{same_Some, slice_get_within}
@@ -9,10 +9,11 @@ use Rattle.put_get.specs.declared.table.Standing.{Standing}
 use Rattle.lists.specs.Numbered.{numbered}
 use Rattle.put_get.specs.declared.table.Check.TheVariants.{Unissued}
 use Rattle.put_get.specs.Operation.{Operation, Sent, target, has_next, has_next_in, has_unissued, next_chunk, chunk_of}
-use Rattle.put_get.specs.Table.{is_unissued, on_place, IsPlaceOf}
+use Rattle.put_get.specs.Table.{is_unissued, unissued_count, on_place, IsPlaceOf}
 use Rattle.put_get.specs.Stands.{kept, Stands, is_ready, IsLeast, better, older, next_of, CanNote}
 use Rattle.put_get.proofs.Counts.{number_at}
 use Rattle.put_get.proofs.Tests.{same_test, any_at, any_from}
+use Rattle.put_get.proofs.Unissued.{none_left}
 
 none_is : (can : ℕ → Bool) (number : ℕ) (operations : List Operation)
     → ((place : ℕ) (operation : Operation) → slice_get operations place ≡ Some operation → (has_next operation && can (target operation.transfer)) ≡ false)
@@ -141,6 +142,25 @@ least_more can places end (Some last) best at_end least = elim (cases_Bool (is_r
   | inl ready ↦ rw ready (ready_more can places end last best at_end ready least)
   | inr idle ↦ rw idle (idle_more can places end last best at_end idle least)
 ]
+
+-- a place that has no unissued chunk isn't ready
+not_ready : (can : ℕ → Bool) (there : Standing) → is_unissued there ≡ false → is_ready can there ≡ false
+not_ready can there none = rw none refl
+
+-- it is the least of all, where no place behind has an unissued chunk
+pub least_all : (can : ℕ → Bool) (places : List (Option Standing)) (end : ℕ) (best : Option Standing)
+    → IsLeast can places end best → unissued_count (drop end places) ≡ 0 → IsLeast can places 256 best
+least_all can places end None least none = λ place there less at. elim (cases_lt place end) [
+  | inl before ↦ least place there before at
+  | inr behind ↦ not_ready can there (none_left places end place there none behind at)
+]
+least_all can places end (Some best) least none = (
+  least.0,
+  λ place there less at is. elim (cases_lt place end) [
+    | inl before ↦ least.1 place there before at is
+    | inr behind ↦ absurd (true≢false (sym is ∙ not_ready can there (none_left places end place there none behind at)))
+  ],
+)
 
 -- what was found is unissued, and stands
 pub unissued_of : (can : ℕ → Bool) (places : List (Option Standing)) (end : ℕ) (best : Standing)
