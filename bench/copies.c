@@ -1,12 +1,13 @@
 /* Makes the copies that payloads need: each from its place of one segment into a slot, and, as those of `longs` and the chunks of `puts`, from there to the same
  * place of another segment. Its arguments are the number of payloads and of the copies of each, 1 or 2; it prints the CPU time of the copies in milliseconds, the
- * least of some runs. */
+ * least of some runs. Both segments are written first, as those of a world are: the pages of an array that nothing wrote are all one page of zeros, which never
+ * leaves the cache. */
 #include <stdio.h>
 #include <stdlib.h>
 #include <string.h>
 #include <time.h>
 
-enum { PAYLOAD = 8192, PLACES = 8192, RUNS = 15 };
+enum { PAYLOAD = 8192, PLACES = 8192, SEGMENT = PAYLOAD * PLACES, RUNS = 15 };
 
 static double milliseconds(void)
 {
@@ -19,9 +20,11 @@ int main(int count, char **words)
 {
     long payloads = count == 3 ? atol(words[1]) : 0;
     int lands = count == 3 && atol(words[2]) == 2;
-    char *source = calloc(PLACES, PAYLOAD), *target = calloc(PLACES, PAYLOAD), *slot = calloc(1, PAYLOAD);
+    char *source = malloc(SEGMENT), *target = malloc(SEGMENT), *slot = calloc(1, PAYLOAD);
     if (payloads <= 0 || !source || !target || !slot)
         return 1;
+    memset(source, 1, SEGMENT);
+    memset(target, 1, SEGMENT);
     double least = 1e300;
     for (int run = 0; run < RUNS; run++) {
         double begin = milliseconds();
