@@ -85,7 +85,7 @@ handle_alike worn other thread handle operations all =
     ap (λ s. if handle == 0 then synced.Ok else unless_fault (fault_here thread its) s)
     (sync_alike worn other its (chosen_all (Agree worn other) (members handle operations) 1 operations all))
 
-all_alike : (worn other : ℕ → Bool) (thread : ℕ) (handles : List Handle) (operations : List Operation)
+pub all_alike : (worn other : ℕ → Bool) (thread : ℕ) (handles : List Handle) (operations : List Operation)
     → AllByRecursion (Agree worn other) operations
     → all_answer worn thread handles operations ≡ all_answer other thread handles operations
 all_alike worn other thread handles operations all =
@@ -93,7 +93,7 @@ all_alike worn other thread handles operations all =
     (sync_alike worn other (chosen (members_of handles operations) 1 operations)
     (chosen_all (Agree worn other) (members_of handles operations) 1 operations all))
 
-some_alike : (worn other : ℕ → Bool) (thread : ℕ) (handles : List Handle) (operations : List Operation)
+pub some_alike : (worn other : ℕ → Bool) (thread : ℕ) (handles : List Handle) (operations : List Operation)
     → AllByRecursion (Agree worn other) operations
     → some_answer worn thread handles operations ≡ some_answer other thread handles operations
 some_alike worn other thread handles operations all =
