@@ -1,6 +1,7 @@
 -- What the calls of an endpoint do, as parts of a turn.
 use Rattle.std.proofs.Common.{◌≡◌, ℕ, List, [], ◌∷◌, ◌++◌, map, Option, Some, None, refl, sym, ap, ap₂, ◌∙◌, subst}
-use Rattle.std.proofs.Common.{append_assoc, true}
+use Rattle.std.proofs.Common.{append_assoc, Bool, true, false, true≢false, Bor, option_copied}
+use Rattle.std.specs.Prelude.{IsSome}
 use Rattle.std.specs.Option.{option_to_list}
 use Rattle.std.proofs.lemmas.List.{map-append}
 use Rattle.datagram_grammar.specs.Content.{is_version}
@@ -26,8 +27,9 @@ use Rattle.endpoint_rules.specs.declared.answer.Answer.{Answer}
 use Rattle.gas_endpoint.specs.Endpoints.{EndpointState, EndpointStands, NodeSteps, BytesCome, job_here}
 use Rattle.gas_endpoint.specs.Sends.{AreThatOf, NodeSends}
 use Rattle.node_runs.specs.Fitting.{AreBytes}
+use Rattle.node_runs.specs.Laws.{GotBytes}
 use Rattle.node_runs.specs.Outgoing.{slot_of, StaysWell}
-use Rattle.node_runs.specs.Turn.{node_run, node_sends, coming, comes}
+use Rattle.node_runs.specs.Turn.{node_run, node_sends, coming, comes, before_try}
 use Rattle.script_steps.specs.Tries.{EndpointJob, Happening, HasHappened, Happen}
 use Rattle.node_machine.specs.Parts.{at_once}
 
@@ -207,3 +209,31 @@ bytes_happen meaning old new now bytes answer are B S = record {
   happened = λ node stands.
       (known_happen meaning old new now bytes answer stands.core.range.version are B S).happened node stands;
 }
+
+-- ---- what comes before a try
+
+-- a thread that doesn't poll
+pub still_happens : (meaning : Meaning) (old : EndpointState) (now version : ℕ) (polls : Bool) (got : Option (List ℕ))
+    → polls ≡ false → Happen meaning old (at_once now (before_try version polls got) []) old
+still_happens meaning old now version polls got e =
+    subst (λ (b : Bool). Happen meaning old (at_once now (before_try version b got) []) old) (sym e)
+    (none_happens meaning old now)
+
+-- a thread that polls
+pub both_happen : (meaning : Meaning) (old mid new : EndpointState) (now version : ℕ) (polls : Bool)
+    (got : Option (List ℕ)) (reply tick : Option SlotRef) → polls ≡ true
+    → Happen meaning old (at_once now (comes version got) (option_to_list reply)) mid
+    → Happen meaning mid (at_once now (Ticks ∷ []) (option_to_list tick)) new
+    → Happen meaning old
+    (at_once now (before_try version polls got) (option_to_list reply ++ option_to_list tick)) new
+both_happen meaning old mid new now version polls got reply tick e first second =
+    subst (λ (b : Bool). Happen meaning old
+    (at_once now (before_try version b got) (option_to_list reply ++ option_to_list tick)) new) (sym e)
+    (happen_then meaning old mid new (at_once now (comes version got) (option_to_list reply))
+    (at_once now (Ticks ∷ []) (option_to_list tick)) refl first second)
+
+-- nothing was got by a thread that doesn't poll
+pub none_got : (got : Option (Bor (List ℕ))) (polls : Bool) → polls ≡ false → (IsSome got → polls ≡ true)
+    → GotBytes (option_copied got)
+none_got None polls e asks = tt
+none_got (Some bytes) polls e asks = absurd (true≢false (sym (asks refl) ∙ e))

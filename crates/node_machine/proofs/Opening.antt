@@ -1,11 +1,13 @@
 -- A machine before all turns.
 use Rattle.std.proofs.Common.{◌≡◌, inl, inr, ℕ, ◌<◌, ◌≤◌, ◌≢◌, Bool, true, false, ◌&&◌, List, [], ◌∷◌, Option, None, Some}
-use Rattle.std.proofs.Common.{refl, sym, ap, ◌∙◌, subst, slice_get, arith, eqb, ne_eqb, cond, length}
+use Rattle.std.proofs.Common.{refl, sym, ap, ◌∙◌, subst, slice_get, arith, eqb, ne_eqb, cond, length, length-append}
+use Rattle.std.proofs.Common.{◌+◌, ◌++◌}
 use Rattle.std.specs.List.{AllByRecursion, find}
 use Rattle.std.proofs.Math.Path.{fun_ext}
 use Rattle.std.proofs.lemmas.Bool.{cases_Bool, cases_lt}
+use Rattle.std.proofs.lemmas.List.{map-append}
 use Rattle.std.proofs.lemmas.Option.{same_Some, slice_get_past, slice_get_within}
-use Rattle.datagram_grammar.specs.Parameters.{Parameters}
+use Rattle.lists.proofs.Places.{slice_get_kept, slice_get_last}
 use Rattle.node_record.specs.Record.{opening_node}
 use Rattle.endpoint_rules.specs.EndpointLocal.{nothing_begun}
 use Rattle.gas_endpoint.specs.Endpoints.{EndpointState, EndpointStands, IsNodeOf}
@@ -16,6 +18,8 @@ use Rattle.job_text.specs.declared.job.NodeScript.{NodeScript}
 use Rattle.job_text.specs.declared.job.ScriptStep.{ScriptStep}
 use Rattle.node_script.specs.Registration.{registered}
 use Rattle.node_runs.specs.Actions.{Progress}
+use Rattle.node_machine.specs.Cursors.{progress_of, progress_of_all}
+use Rattle.node_machine.specs.declared.cursor.Cursor.{Cursor}
 use Rattle.node_machine.specs.Kept.{MachineKept, no_steps, progress_or_none, own_scripts, CanBeSaid, IsMachine}
 use Rattle.node_machine.specs.Openings.{AreFirst}
 use Rattle.node_machine.specs.States.{NodeStands, opening_state, scripts_at, is_of, steps_or_none, steps_of_thread}
@@ -47,6 +51,36 @@ steps_said nodes threads (script ∷ scripts) node thread are =
     by_test true later = are.0.steps
     by_test false later = later
 
+-- ---- the threads, one after another
+
+-- of no thread
+pub first_none : (job : JobState) (me : ℕ) → AreFirst job me 0 []
+first_none job me = record { threads = refl; each = λ thread low. absurd (omega (arith, low)) }
+
+-- of one thread more
+pub first_push : (job : JobState) (me count : ℕ) (cursors more : List Cursor) (cursor : Cursor)
+    → AreFirst job me count (progress_of_all cursors) → more ≡ cursors ++ cursor ∷ []
+    → progress_of cursor ≡ scripts_at job me count → AreFirst job me (count + 1) (progress_of_all more)
+first_push job me count cursors more cursor first is_more is =
+    let pushed : progress_of_all more ≡ progress_of_all cursors ++ progress_of cursor ∷ [] =
+    ap progress_of_all is_more ∙ map-append progress_of cursors (cursor ∷ []) in
+    subst (AreFirst job me (count + 1)) (sym pushed) (record {
+      threads = let n = first.threads in
+          omega (arith, n, length-append (progress_of_all cursors) (progress_of cursor ∷ []));
+      each = λ thread low. elim (cases_lt thread count) [
+        | inl there ↦
+            slice_get_kept (progress_of_all cursors) (progress_of cursor) thread (scripts_at job me thread)
+            (first.each thread there)
+        | inr past ↦ (
+          let same : thread ≡ count = omega (arith, past, low) in
+          let last : thread ≡ length (progress_of_all cursors) = same ∙ sym first.threads in
+          ap (slice_get (progress_of_all cursors ++ progress_of cursor ∷ [])) last
+          ∙ (slice_get_last (progress_of_all cursors) (progress_of cursor)
+          ∙ ap (λ (p : Progress ScriptStep). Some p) (is ∙ ap (scripts_at job me) (sym same)))
+        )
+      ];
+    })
+
 -- ---- the machine
 
 -- a machine that did nothing
@@ -56,7 +90,7 @@ opened job endpoint scripts =
 
 pub opened_stands : (job : JobState) (me : ℕ) (endpoint : EndpointState) (scripts : List (Progress ScriptStep))
     → IsJob job → IsNodeOf job.settings (registered job.handlers).table me endpoint
-    → EndpointStands endpoint (opening_node (nothing_begun job.settings)) → AreFirst job me scripts
+    → EndpointStands endpoint (opening_node (nothing_begun job.settings)) → AreFirst job me job.settings.threads scripts
     → NodeStands (opened job endpoint scripts) (opening_state job me)
 opened_stands job me endpoint scripts is node stands first = record {
   job_is = refl;
@@ -75,7 +109,7 @@ opened_stands job me endpoint scripts is node stands first = record {
 
 pub opened_is : (job : JobState) (me : ℕ) (endpoint : EndpointState) (scripts : List (Progress ScriptStep))
     → IsJob job → IsNodeOf job.settings (registered job.handlers).table me endpoint
-    → EndpointStands endpoint (opening_node (nothing_begun job.settings)) → AreFirst job me scripts
+    → EndpointStands endpoint (opening_node (nothing_begun job.settings)) → AreFirst job me job.settings.threads scripts
     → IsMachine (opened job endpoint scripts)
 opened_is job me endpoint scripts is node stands first = record {
   job = is;

@@ -1,10 +1,10 @@
 //! The machine of a node.
 
-ghost use Rattle.std.specs.Prelude.{◌≡◌, ◌<◌, IfOk};
+ghost use Rattle.std.specs.Prelude.{◌≡◌, ◌<◌, IfOk, find, option_copied};
 ghost use Rattle.job_text.specs.JobText.{IsJob};
 ghost use Rattle.node_machine.specs.Cursors.{progress_of_all};
 ghost use Rattle.node_machine.specs.Openings.{AreFirst};
-ghost use Rattle.node_machine.specs.States.{NodeStands, opening_state, steps_of_thread};
+ghost use Rattle.node_machine.specs.States.{NodeStands, is_of, opening_state, steps_of_thread};
 
 use crate::cursor::{Cursor, are_done};
 use crate::outgoing::Outgoing;
@@ -58,14 +58,20 @@ impl<'a> Model for NodeMachine<'a> {
     }) };
 }
 
+/// The script of the thread, if it has one.
+fn script_of(scripts: &[NodeScript], node: u16, thread: u16) -> Option<&NodeScript>
+    ensures { option_copied result ≡ find (is_of node thread) scripts.now }
+{
+    scripts
+        .iter()
+        .find(|script| script.node == node && script.thread == thread)
+}
+
 /// The steps of the thread's script; none where it has no script.
 fn steps_of_thread(scripts: &[NodeScript], node: u16, thread: u16) -> &[ScriptStep]
     ensures { result.now ≡ steps_of_thread scripts.now node thread }
 {
-    match scripts
-        .iter()
-        .find(|script| script.node == node && script.thread == thread)
-    {
+    match script_of(scripts, node, thread) {
         Some(script) => script.steps.steps(),
         None => &[],
     }
@@ -74,12 +80,12 @@ fn steps_of_thread(scripts: &[NodeScript], node: u16, thread: u16) -> &[ScriptSt
 /// At the first steps of the scripts of a node's threads.
 fn cursors_of(alloc: Global, job: &Script, me: u16) -> Result<Vec<Cursor<'_>>, AllocError>
     ensures { IfOk result (λ cursors.
-        AreFirst job.now me (progress_of_all cursors.items)) }
+        AreFirst job.now me job.now.settings.threads (progress_of_all cursors.items)) }
 {
     let threads = job.settings().threads();
     let mut cursors = Vec::with_capacity(alloc, usize::from(threads))?;
     for thread in 0..threads {
-        cursors.push_reserved(Cursor::new(steps_of_thread(job.scripts(), me, thread)));
+        cursors.push(Cursor::new(steps_of_thread(job.scripts(), me, thread)))?;
     }
     Ok(cursors)
 }

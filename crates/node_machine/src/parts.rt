@@ -81,13 +81,14 @@ pub fn before_try<H: Handlers>(
         (option_to_list result.reply ++ option_to_list result.tick)) endpoint.new }
     ensures bytes { GotBytes (option_copied got.entry) }
 {
-    if !polls {
-        return SentBefore {
+    if polls {
+        let reply = deliver(endpoint, handlers, now, got);
+        let tick = tick(endpoint, handlers, now);
+        SentBefore { reply, tick }
+    } else {
+        SentBefore {
             reply: None,
             tick: None,
-        };
+        }
     }
-    let reply = deliver(endpoint, handlers, now, got);
-    let tick = tick(endpoint, handlers, now);
-    SentBefore { reply, tick }
 }

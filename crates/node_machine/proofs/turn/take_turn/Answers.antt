@@ -1,0 +1,40 @@
+-- A turn of a thread.
+use Rattle.std.proofs.Common.{◌<◌, refl, subst, sym, ◌++◌, option_copied, option_to_list}
+use Rattle.datagram_grammar.specs.Parameters.{Parameters}
+use Rattle.job_text.specs.declared.job.ScriptStep.{ScriptStep}
+use Rattle.node_runs.specs.Actions.{Progress}
+use Rattle.node_machine.specs.Cursors.{progress_of}
+use Rattle.node_machine.specs.Turns.{TurnTaken, TakesTurn}
+use Rattle.node_machine.specs.declared.turn.Done.{Done}
+use Rattle.node_machine.proofs.Turning.{turn_goes}
+use Rattle.node_machine.proofs.turn.take_turn.Goals as goal
+
+pub try_next-tried-requires-clause-thread : goal.try_next-tried-requires-clause-thread
+try_next-tried-requires-clause-thread g c =
+    subst (λ (settings : Parameters). c.args.turn.thread < settings.threads)
+    (sym c.before_try-sent.ensures.happen.same.settings) c.requires.thread
+
+pub returns : goal.returns
+returns g c =
+    let meaning = g.H.Handlers.meaning c.args.handlers.now in
+    let taken : TurnTaken = record {
+      thread = c.args.turn.thread;
+      now = c.args.turn.now;
+      got = option_copied c.args.got;
+    } in
+    let done : Done = record {
+      outgoing = record {
+        reply = c.before_try-sent.result.reply;
+        tick = c.before_try-sent.result.tick;
+        call = c.try_next-tried.result.sent;
+      };
+      ended = c.try_next-tried.result.ended;
+      began = c.is_some.result;
+    } in
+    subst (λ (p : Progress ScriptStep). TakesTurn meaning (c.args.endpoint.now, progress_of c.args.cursor.now) taken done
+    (c.try_next-tried.new.endpoint, p)) (sym c.go_on.ensures)
+    (turn_goes meaning c.args.endpoint.now c.before_try-sent.new.endpoint c.try_next-tried.new.endpoint taken
+    (progress_of c.args.cursor.now) c.args.turn.polls
+    (option_to_list c.before_try-sent.result.reply ++ option_to_list c.before_try-sent.result.tick)
+    c.try_next-tried.result done (g.met.H.Handlers.is_lawful c.args.handlers.now) c.before_try-sent.ensures.bytes
+    c.requires.polls c.before_try-sent.ensures.happen c.try_next-tried.ensures refl refl c.is_some.ensures)
