@@ -95,7 +95,7 @@ pub fn take_turn<H: Handlers>(
     requires said { CanBeSaid (progress_of cursor.old) }
     requires polls { ForItsRecord endpoint.old (λ node.
         turn.polls ≡ not (holds (Owner.Thread turn.thread) node.local.core.locks)) }
-    requires got { IsSome got.entry → turn.polls ≡ true }
+    requires got { IsSome got → turn.polls ≡ true }
     ensures { TakesTurn (H.meaning handlers.now) (endpoint.old, progress_of cursor.old)
         (record { thread = turn.thread; now = turn.now; got = option_copied got.entry }) result
         (endpoint.new, progress_of cursor.new) }
