@@ -1,8 +1,10 @@
 -- What a machine stands for after a turn.
 use Rattle.std.proofs.Common.{◌≡◌, inl, inr, ℕ, ◌<◌, Bool, true, false, true≢false, cond, ◌||◌, not, List, [], ◌∷◌, map}
-use Rattle.std.proofs.Common.{length, Option, None, Some, refl, sym, ap, ap₂, ◌∙◌, subst, slice_get, arith, eqb, eqb-true}
-use Rattle.std.proofs.Common.{eq-eqb, ne_eqb, length-set}
+use Rattle.std.proofs.Common.{length, Option, None, Some, refl, sym, ap, ap₂, ◌∙◌, subst, slice_get, arith}
+use Rattle.std.proofs.Common.{length-set, zero, suc, Bor, option_copied}
+use Rattle.std.specs.Option.{option_map}
 use Rattle.std.specs.Prelude.{is_some, slice_set}
+use Rattle.std.proofs.lemmas.List.{map-set}
 use Rattle.std.proofs.Math.Path.{fun_ext}
 use Rattle.std.proofs.lemmas.Bool.{cases_eq}
 use Rattle.std.proofs.lemmas.Option.{same_Some}
@@ -16,11 +18,13 @@ use Rattle.lists.proofs.Indexes.{get-set_same, get-set_other}
 use Rattle.lists.proofs.Put.{put_same, put_other}
 use Rattle.machine.specs.declared.turns.Turned.{Turned}
 use Rattle.node_record.specs.Record.{Node}
+use Rattle.node_record.specs.SlotMessages.{message_at}
 use Rattle.node_record.specs.declared.answer.SlotRef.{SlotRef}
 use Rattle.am_core.specs.CoreContracts.{IsSameNode}
 use Rattle.endpoint_rules.specs.EndpointLocal.{EndpointLocal}
 use Rattle.endpoint_rules.specs.declared.answer.Answer.{Answer}
 use Rattle.gas_endpoint.specs.Endpoints.{EndpointState, EndpointStands}
+use Rattle.job_text.specs.declared.job.HandlerText.{HandlerText}
 use Rattle.job_text.specs.declared.job.Job.{Job as JobState}
 use Rattle.job_text.specs.declared.job.ScriptStep.{ScriptStep}
 use Rattle.node_script.specs.Bodies.{script_meaning}
@@ -33,6 +37,9 @@ use Rattle.node_runs.specs.WorldRun.{endpoint_job}
 use Rattle.node_runs.proofs.Emptying.{empty_turns}
 use Rattle.script_steps.specs.Forms.{step_form}
 use Rattle.script_steps.specs.Laws.{WaitingIsCalm}
+use Rattle.node_machine.specs.Cursors.{progress_of, progress_of_all}
+use Rattle.node_machine.specs.declared.cursor.Cursor.{Cursor}
+use Rattle.node_machine.specs.Machines.{MachineTakes}
 use Rattle.node_machine.specs.Kept.{MachineKept, no_steps, progress_or_none, own_scripts, polls_at, CanBeSaid, IsMachine}
 use Rattle.node_machine.specs.States.{NodeState, state_of, script_job, after_turn, turned, datagram_at, as_there}
 use Rattle.node_machine.specs.States.{NodeStands}
@@ -292,3 +299,213 @@ machine_is it T outgoing answer = record {
   ];
   record_ = (_, (some_facts it T).node);
 }
+
+-- an option behind a reference
+copied_some : (got : Option (Bor (List ℕ))) → is_some got ≡ is_some (option_copied got)
+copied_some None = refl
+copied_some (Some bytes) = refl
+
+-- no step ended in a turn that changed nothing
+pub quiet_ended : (taken : TurnTaken) (done : Done) → is_changed taken done ≡ false → is_some done.ended ≡ false
+quiet_ended taken done quiet =
+    let a = or_parts (is_some taken.got || is_some_there (slots_of done.outgoing) || is_some done.ended) done.began
+    quiet in
+    (or_parts (is_some taken.got || is_some_there (slots_of done.outgoing)) (is_some done.ended) a.0).1
+
+-- ---- from what the code says
+
+-- a machine that has these cursors
+abbrev pub machine_at : JobState → EndpointState → List Cursor → List SlotRef → Option Answer → MachineKept
+machine_at job endpoint cursors outgoing answer = record {
+  job = job;
+  endpoint = endpoint;
+  scripts = progress_of_all cursors;
+  outgoing = outgoing;
+  answer = answer;
+}
+
+slice_get-map : {A B : Type 0} (f : A → B) (xs : List A) (i : ℕ) → slice_get (map f xs) i ≡ option_map f (slice_get xs i)
+slice_get-map f [] i = refl
+slice_get-map f (x ∷ xs) zero = refl
+slice_get-map f (x ∷ xs) (suc i) = slice_get-map f xs i
+
+-- the cursor of the thread was read
+pub record Reads (job : JobState) (cursors : List Cursor) (thread : ℕ) (cursor : Cursor) : Type 0 where
+  pub low : thread < job.settings.threads
+  pub read : slice_get cursors thread ≡ Some cursor
+
+pub reads_is : (machine : MachineKept) (job : JobState) (cursors from : List Cursor) (thread place : ℕ) (cursor : Cursor)
+    → job ≡ machine.job → thread < machine.job.settings.threads → place ≡ thread → from ≡ cursors
+    → slice_get from place ≡ Some cursor → Reads job cursors thread cursor
+reads_is machine job cursors from thread place cursor same low at is read = record {
+  low = subst (λ (it : JobState). thread < it.settings.threads) (sym same) low;
+  read = ap₂ (λ (xs : List Cursor) (i : ℕ). slice_get xs i) (sym is) (sym at) ∙ read;
+}
+
+-- what is left of the thread's script can be said
+pub read_said : (job : JobState) (endpoint : EndpointState) (cursors : List Cursor) (outgoing : List SlotRef)
+    (answer : Option Answer) (thread : ℕ) (cursor : Cursor)
+    → IsMachine (machine_at job endpoint cursors outgoing answer) → Reads job cursors thread cursor
+    → CanBeSaid (progress_of cursor)
+read_said job endpoint cursors outgoing answer thread cursor is R =
+    is.said thread (progress_of cursor)
+    (slice_get-map progress_of cursors thread ∙ ap (option_map progress_of) R.read)
+
+pub turning_is : (job : JobState) (endpoint : EndpointState) (cursors : List Cursor) (outgoing : List SlotRef)
+    (answer : Option Answer) (taken : TurnTaken) (cursor : Cursor) (handlers : List HandlerText) (done : Done)
+    (later : EndpointState) (progress : Progress ScriptStep)
+    → IsMachine (machine_at job endpoint cursors outgoing answer) → Reads job cursors taken.thread cursor
+    → handlers ≡ job.handlers
+    → TakesTurn (script_meaning handlers) (endpoint, progress_of cursor) taken done (later, progress)
+    → IsTurning (record {
+      machine = machine_at job endpoint cursors outgoing answer;
+      taken = taken;
+      done = done;
+      endpoint = later;
+      progress = progress;
+    })
+turning_is job endpoint cursors outgoing answer taken cursor handlers done later progress is R same takes = record {
+  is = is;
+  inside = subst (λ (n : ℕ). taken.thread < n) (sym is.threads) R.low;
+  before = progress_of cursor;
+  there = slice_get-map progress_of cursors taken.thread ∙ ap (option_map progress_of) R.read;
+  takes = subst (λ (texts : List HandlerText).
+      TakesTurn (script_meaning texts) (endpoint, progress_of cursor) taken done (later, progress)) same takes;
+}
+
+-- the scripts, where one cursor went on
+pub cursors_set : (cursors : List Cursor) (thread place : ℕ) (cursor : Cursor) → place ≡ thread
+    → slice_set (progress_of_all cursors) thread (progress_of cursor) ≡ progress_of_all (slice_set cursors place cursor)
+cursors_set cursors thread place cursor at =
+    ap (λ (i : ℕ). slice_set (progress_of_all cursors) i (progress_of cursor)) (sym at)
+    ∙ sym (map-set progress_of cursors place cursor)
+
+-- the machine took the turn
+pub takes_is : WaitingIsCalm → (it : Turning) → IsTurning it
+    → MachineTakes it.machine it.taken it.done (machine_with it it.machine.outgoing it.machine.answer)
+takes_is calm it T = record {
+  job = refl;
+  changed = λ changed state S. changed_stands it T state S changed;
+  quiet = λ quiet state S. quiet_stands calm it T state S quiet;
+  told = λ state S. told_is it T state S;
+  polls = λ none thread. polls_stay it T none it.machine.outgoing it.machine.answer thread;
+}
+
+-- both of a machine whose cursors were read and written
+pub record Took (job : JobState) (endpoint : EndpointState) (cursors : List Cursor) (outgoing : List SlotRef)
+    (answer : Option Answer) (taken : TurnTaken) (done : Done) (later : EndpointState) (more : List Cursor) : Type 0
+  where
+    pub is : IsMachine (machine_at job later more outgoing answer)
+    pub takes : MachineTakes (machine_at job endpoint cursors outgoing answer) taken done
+        (machine_at job later more outgoing answer)
+
+pub took : WaitingIsCalm → (job : JobState) (endpoint : EndpointState) (cursors : List Cursor)
+    (outgoing : List SlotRef) (answer : Option Answer) (taken : TurnTaken) (place : ℕ) (cursor next : Cursor)
+    (handlers : List HandlerText) (done : Done) (later : EndpointState)
+    → IsMachine (machine_at job endpoint cursors outgoing answer) → Reads job cursors taken.thread cursor
+    → place ≡ taken.thread → handlers ≡ job.handlers
+    → TakesTurn (script_meaning handlers) (endpoint, progress_of cursor) taken done (later, progress_of next)
+    → Took job endpoint cursors outgoing answer taken done later (slice_set cursors place next)
+took calm job endpoint cursors outgoing answer taken place cursor next handlers done later is R at same takes =
+    let it : Turning = record {
+      machine = machine_at job endpoint cursors outgoing answer;
+      taken = taken;
+      done = done;
+      endpoint = later;
+      progress = progress_of next;
+    } in
+    let T = turning_is job endpoint cursors outgoing answer taken cursor handlers done later (progress_of next) is R same
+    takes in
+    let scripts = cursors_set cursors taken.thread place next at in
+    record {
+      is = subst (λ (these : List (Progress ScriptStep)).
+          IsMachine (record (machine_with it outgoing answer) { scripts = these })) scripts
+          (machine_is it T outgoing answer);
+      takes = subst (λ (these : List (Progress ScriptStep)).
+          MachineTakes (machine_at job endpoint cursors outgoing answer) taken done
+          (record (machine_with it outgoing answer) { scripts = these })) scripts (takes_is calm it T);
+    }
+
+-- what the machine keeps of a turn is nothing that holds of every machine
+pub still_machine : (machine : MachineKept) (outgoing : List SlotRef) (answer : Option Answer) → IsMachine machine
+    → IsMachine (record machine { outgoing = outgoing; answer = answer })
+still_machine machine outgoing answer is =
+    record { job = is.job; node = is.node; threads = is.threads; said = is.said; record_ = is.record_ }
+
+-- an empty turn, as the trait says it
+pub empty_turn : WaitingIsCalm → (old : MachineKept) (taken : TurnTaken) (done : Done) (new : MachineKept)
+    → MachineTakes old taken done new → is_changed taken done ≡ false → (got : Option (List ℕ)) → taken.got ≡ got
+    → got ≡ None → (state : NodeState) → NodeStands old state → NodeStands new state
+empty_turn calm old taken done new M quiet got is none state S =
+    let still : (turned state taken.thread taken.now None).changed ≡ false =
+    subst (λ (o : Option (List ℕ)). (turned state taken.thread taken.now o).changed ≡ false) (is ∙ none)
+    (ap (λ (t : Turned). t.changed) (M.told state S) ∙ quiet) in
+    subst (NodeStands new)
+    (ap (after_turn state taken.thread taken.now) (is ∙ none) ∙ empty_leaves calm state taken.thread taken.now still)
+    (M.quiet quiet state S)
+
+-- what is told of an empty turn
+pub told_quiet : (old : MachineKept) (taken : TurnTaken) (done : Done) (new : MachineKept)
+    → MachineTakes old taken done new → is_changed taken done ≡ false → (state : NodeState) → NodeStands old state
+    → ◌≡◌ {A = Turned} (record { changed = false; stepped = false; sends = 0 })
+    (turned state taken.thread taken.now taken.got)
+told_quiet old taken done new M quiet state S =
+    sym (M.told state S
+    ∙ ap₂ (λ (changed stepped : Bool). record {
+      changed = changed;
+      stepped = stepped;
+      sends = cond changed (length (slots_of done.outgoing)) 0;
+    }) quiet (quiet_ended taken done quiet))
+
+-- what is told of another turn
+pub told_changed : (old : MachineKept) (taken : TurnTaken) (done : Done) (new : MachineKept) (stepped : Bool) (count : ℕ)
+    → MachineTakes old taken done new → is_changed taken done ≡ true → stepped ≡ is_some done.ended
+    → count ≡ length (slots_of done.outgoing) → (state : NodeState) → NodeStands old state
+    → ◌≡◌ {A = Turned} (record { changed = true; stepped = stepped; sends = count })
+    (turned state taken.thread taken.now taken.got)
+told_changed old taken done new stepped count M changed ends counts state S =
+    ap₂ (λ (b : Bool) (n : ℕ). record { changed = true; stepped = b; sends = n }) ends counts
+    ∙ sym (M.told state S
+    ∙ ap (λ (b : Bool). record {
+      changed = b;
+      stepped = is_some done.ended;
+      sends = cond b (length (slots_of done.outgoing)) 0;
+    }) changed)
+
+-- the test of the code
+pub change_is : (taken : TurnTaken) (done : Done) (got : Option (Bor (List ℕ))) (result came value : Bool)
+    → taken.got ≡ option_copied got
+    → result ≡ (came || is_some_there (slots_of done.outgoing) || is_some done.ended || done.began)
+    → came ≡ is_some got → result ≡ value → is_changed taken done ≡ value
+change_is taken done got result came value is test says e =
+    ap (λ (b : Bool). b || is_some_there (slots_of done.outgoing) || is_some done.ended || done.began)
+    (ap is_some is ∙ (sym (copied_some got) ∙ sym says))
+    ∙ (sym test ∙ e)
+
+-- ---- the datagram at a place
+
+-- the datagram of a slot is the one at its place
+pub datagram_is : (settings : Parameters) (me : ℕ) (node : Node EndpointLocal) (slots : List SlotRef)
+    (out : List (ℕ × List ℕ)) (i : ℕ) (at : Option SlotRef)
+    → map (datagram_at settings me node) slots ≡ map as_there out → at ≡ slice_get slots i
+    → option_map (datagram_at settings me node) at ≡ option_map as_there (slice_get out i)
+datagram_is settings me node slots out i at same is =
+    ap (option_map (datagram_at settings me node)) is
+    ∙ (sym (slice_get-map (datagram_at settings me node) slots i)
+    ∙ (ap (λ (l : List (ℕ × Option (List ℕ))). slice_get l i) same ∙ slice_get-map as_there out i))
+
+pub none_there : (settings : Parameters) (me : ℕ) (node : Node EndpointLocal) (datagram : Option (ℕ × List ℕ))
+    → option_map (datagram_at settings me node) None ≡ option_map as_there datagram → None ≡ datagram
+none_there settings me node None e = refl
+none_there settings me node (Some datagram) e = absurd cc
+
+pub one_there : (settings : Parameters) (me : ℕ) (node : Node EndpointLocal) (at : SlotRef) (bytes : Option (List ℕ))
+    (datagram : Option (ℕ × List ℕ))
+    → option_map (datagram_at settings me node) (Some at) ≡ option_map as_there datagram
+    → bytes ≡ message_at settings me node at → option_map (λ (these : List ℕ). (at.peer, these)) bytes ≡ datagram
+one_there settings me node at bytes None e is = absurd cc
+one_there settings me node at bytes (Some datagram) e is =
+    let pair = same_Some (datagram_at settings me node at) (as_there datagram) e in
+    let there : bytes ≡ Some datagram.1 = is ∙ ap (λ (x : ℕ × Option (List ℕ)). x.1) pair in
+    ap (option_map (λ (these : List ℕ). (at.peer, these))) there
+    ∙ ap (λ (to : ℕ). Some (to, datagram.1)) (ap (λ (x : ℕ × Option (List ℕ)). x.0) pair)

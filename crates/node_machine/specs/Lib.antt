@@ -5,4 +5,5 @@ pub mod States
 pub mod Openings
 pub mod Scripted
 pub mod Turns
+pub mod Machines
 pub mod Laws

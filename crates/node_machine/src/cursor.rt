@@ -1,6 +1,6 @@
 //! What is left of a thread's script.
 
-ghost use Rattle.std.specs.Prelude.{◌≡◌};
+ghost use Rattle.std.specs.Prelude.{◌≡◌, ◌<◌, Some, length, slice_get};
 ghost use Rattle.std.specs.List.{list_all};
 ghost use Rattle.node_machine.specs.Kept.{is_done};
 ghost use Rattle.node_machine.specs.Cursors.{progress_of};
@@ -17,6 +17,14 @@ pub struct Cursor<'a> {
     pub left: &'a [ScriptStep],
     /// The answer with which the next one began, where an earlier try began it.
     pub began: Option<Answer>,
+}
+
+/// What is left of the script of the thread at this place.
+pub fn cursor_at<'a>(cursors: &[Cursor<'a>], place: usize) -> Cursor<'a>
+    requires { place < length cursors.now }
+    ensures { slice_get cursors.now place ≡ Some result }
+{
+    cursors[place]
 }
 
 /// Whether no thread has a step left.

@@ -1,14 +1,16 @@
 //! The machine of a node.
 
-ghost use Rattle.std.specs.Prelude.{◌≡◌, ◌<◌, IfOk, find, option_copied};
+ghost use Rattle.std.specs.Prelude.{◌≡◌, ◌<◌, IfOk, IsSome, true, find, option_copied};
 ghost use Rattle.job_text.specs.JobText.{IsJob};
 ghost use Rattle.node_machine.specs.Cursors.{progress_of_all};
+ghost use Rattle.node_machine.specs.Kept.{polls_at};
+ghost use Rattle.node_machine.specs.Machines.{MachineTakes};
 ghost use Rattle.node_machine.specs.Openings.{AreFirst};
 ghost use Rattle.node_machine.specs.States.{NodeStands, is_of, opening_state, steps_of_thread};
 
-use crate::cursor::{Cursor, are_done};
+use crate::cursor::{Cursor, are_done, cursor_at};
 use crate::outgoing::Outgoing;
-use crate::turn::{ThreadTurn, take_turn};
+use crate::turn::{Done, ThreadTurn, take_turn};
 use endpoint_rules::Answer;
 use gas_endpoint::Endpoint;
 use job_text::{NodeScript, ScriptStep};
@@ -124,9 +126,30 @@ impl<'a> NodeMachine<'a> {
         &self.endpoint
     }
 
+    /// A turn of a thread, but for what the machine keeps of it.
+    fn take(&mut self, thread: u16, now: u64, got: Option<&[u8]>) -> Done
+        requires thread { thread < self.old.job.settings.threads }
+        requires polls { IsSome got → polls_at self.old thread ≡ true }
+        ensures { MachineTakes self.old
+            (record { thread = thread; now = now; got = option_copied got.entry }) result self.new }
+    {
+        let polls = self.endpoint.polls(thread);
+        let place = usize::from(thread);
+        let mut cursor = cursor_at(&self.cursors, place);
+        let done = take_turn(
+            &mut self.endpoint,
+            self.job.handlers(),
+            &mut cursor,
+            ThreadTurn { thread, now, polls },
+            got,
+        );
+        self.cursors[place] = cursor;
+        done
+    }
+
     /// The endpoint alone.
     pub fn into_endpoint(self) -> Endpoint
-        ensures { result ≡ self.endpoint }
+        ensures { result ≡ self.entry.endpoint }
     {
         let NodeMachine { endpoint, .. } = self;
         endpoint
@@ -170,17 +193,7 @@ impl<'a> Machine for NodeMachine<'a> {
 
     fn turn(&mut self, thread: u16, now: u64, got: Option<&[u8]>) -> Turned {
         let came = got.is_some();
-        let polls = self.endpoint.polls(thread);
-        let turn = ThreadTurn { thread, now, polls };
-        let mut cursor = self.cursors[usize::from(thread)];
-        let done = take_turn(
-            &mut self.endpoint,
-            self.job.handlers(),
-            &mut cursor,
-            turn,
-            got,
-        );
-        self.cursors[usize::from(thread)] = cursor;
+        let done = self.take(thread, now, got);
         if !done.is_change(came) {
             return Turned {
                 changed: false,
@@ -198,8 +211,12 @@ impl<'a> Machine for NodeMachine<'a> {
     }
 
     fn outgoing(&self, i: u8) -> Option<(u16, &[u8])> {
-        let at = self.outgoing.slot(i)?;
-        let bytes = self.endpoint.message(at)?;
-        Some((at.peer, bytes))
+        match self.outgoing.slot(i) {
+            Some(at) => match self.endpoint.message(at) {
+                Some(bytes) => Some((at.peer, bytes)),
+                None => None,
+            },
+            None => None,
+        }
     }
 }

@@ -1,0 +1,33 @@
+-- A machine that did nothing.
+use Rattle.std.proofs.Common.{◌∙◌, subst}
+use Rattle.datagram_grammar.specs.Parameters.{Parameters}
+use Rattle.node_record.specs.Record.{opening_node}
+use Rattle.endpoint_rules.specs.EndpointLocal.{nothing_begun}
+use Rattle.gas_endpoint.specs.Endpoints.{EndpointStands}
+use Rattle.node_machine.specs.Cursors.{progress_of_all}
+use Rattle.node_machine.proofs.Opening.{opened_stands, opened_is}
+use Rattle.node_machine.proofs.machine.NodeMachine.new.Goals as goal
+
+pub invariant_of-result : goal.invariant_of-result
+invariant_of-result c =
+    opened_is c.args.job.now c.args.me c.in_ok-endpoint.endpoint (progress_of_all c.in_ok-cursors.cursors.items)
+    c.requires.job (record {
+      settings_are = c.in_ok-endpoint.ensures.node.settings_are ∙ c.settings.ensures;
+      me_is = c.in_ok-endpoint.ensures.node.me_is;
+      table_is = c.in_ok-endpoint.ensures.node.table_is ∙ c.table.ensures;
+    })
+    (subst (λ (settings : Parameters).
+    EndpointStands c.in_ok-endpoint.endpoint (opening_node (nothing_begun settings))) c.settings.ensures
+    c.in_ok-endpoint.ensures.stands) c.in_ok-cursors.ensures
+
+pub returns : goal.returns
+returns c =
+    opened_stands c.args.job.now c.args.me c.in_ok-endpoint.endpoint (progress_of_all c.in_ok-cursors.cursors.items)
+    c.requires.job (record {
+      settings_are = c.in_ok-endpoint.ensures.node.settings_are ∙ c.settings.ensures;
+      me_is = c.in_ok-endpoint.ensures.node.me_is;
+      table_is = c.in_ok-endpoint.ensures.node.table_is ∙ c.table.ensures;
+    })
+    (subst (λ (settings : Parameters).
+    EndpointStands c.in_ok-endpoint.endpoint (opening_node (nothing_begun settings))) c.settings.ensures
+    c.in_ok-endpoint.ensures.stands) c.in_ok-cursors.ensures
