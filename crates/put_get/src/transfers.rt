@@ -12,7 +12,7 @@ ghost use Rattle.put_get.specs.Stands.{HasOperations, room_of, Stands, Agrees, m
 
 use crate::operation::{Handle, Mode, Next, Some3, Synced, TooMany, Transfer};
 use crate::slots::{Slots, Waiting};
-use crate::table::{Check, Pick, Standing, Table, either, flag_at};
+use crate::table::{Check, Pick, Standing, Table, either, flag_at, unissued_in};
 use std::alloc::{AllocError, Global};
 
 /// The operations of a node: a record for each one that isn't yet synchronised, at most 256.
@@ -134,14 +134,28 @@ impl Transfers {
             → result ≡ next_chunk (flag_at can.now) 1 operations }
         ensures can_note { IfSome result (λ next. CanNote self.now next.number) }
     {
-        let mut best = None;
-        for place in 0usize..256 {
-            best = better(self.table.at(place), can, best);
-        }
-        match best {
+        match self.oldest(can) {
             Some(standing) => Some(next_of(standing)),
             None => None,
         }
+    }
+
+    /// The oldest operation that has an unissued chunk to a node that can be asked. No place behind the last record with an
+    /// unissued chunk is looked at.
+    fn oldest(&self, can: &[bool]) -> Option<Standing>
+        ensures { IsLeast (flag_at can.now) self.now.table 256 result }
+    {
+        let mut best = None;
+        let mut left = self.table.unissued();
+        for place in 0usize..256 {
+            if left == 0 {
+                return best;
+            }
+            let there = self.table.at(place);
+            left -= unissued_in(there);
+            best = better(there, can, best);
+        }
+        best
     }
 
     /// Whether no operation has an unissued chunk. It looks at no record.
