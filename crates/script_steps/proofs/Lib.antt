@@ -1,1 +1,4 @@
 mod Trying
+mod Forming
+mod Fits
+mod Calm

@@ -52,10 +52,6 @@ same_slot : (packet : Packet) → endpoint_slot packet ≡ slot_of packet
 same_slot (Asking place content) = refl
 same_slot (Replying place content) = refl
 
-append_none : (packets : List Packet) → packets ++ [] ≡ packets
-append_none [] = refl
-append_none (packet ∷ packets) = ap (λ (later : List Packet). packet ∷ later) (append_none packets)
-
 -- the slot that an answer tells
 slots_told : (told_slot : Option SlotRef) (packets : List Packet) → AreThatOf told_slot packets
     → option_to_list told_slot ≡ map slot_of (packets ++ [])

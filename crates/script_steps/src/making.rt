@@ -26,11 +26,8 @@ pub(crate) fn make<H: Handlers>(
         (record { now = trial.now.time; thread = trial.now.thread; meant = meant call.now; answer = result })
         endpoint.new }
 {
-    let event = Event::Call {
-        thread: trial.thread,
-        call: *call,
-    };
-    endpoint.step(handlers, trial.time, &event)
+    let (thread, call) = (trial.thread, *call);
+    endpoint.step(handlers, trial.time, &Event::Call { thread, call })
 }
 
 /// Whether no chunk of what began with this answer is unissued.

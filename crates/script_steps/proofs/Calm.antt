@@ -1,0 +1,392 @@
+-- A try that waits leaves the record of its node.
+use Rattle.std.proofs.Common.{◌≡◌, ℕ, ℤ, Bool, true, false, true≢false, cond, ◌&&◌, map, List, [], ◌∷◌, ◌++◌, Option, None}
+use Rattle.std.proofs.Common.{Some, refl, sym, ap, ◌∙◌, subst}
+use Rattle.std.specs.Prelude.{◌==◌, is_some, is_none, Result, Ok, Err}
+use Rattle.std.specs.Option.{option_map}
+use Rattle.std.proofs.lemmas.List.{append-nil}
+use Rattle.std.proofs.lemmas.Option.{same_Some}
+use Rattle.datagram_grammar.specs.Parameters.{Parameters}
+use Rattle.handler_rules.specs.Runs.{Meaning, lock_refusal}
+use Rattle.handler_rules.specs.declared.rules.Forbidden.{Forbidden}
+use Rattle.handler_rules.specs.declared.rules.CallKind.TheVariants as kinds
+use Rattle.handler_rules.specs.declared.rules.Violation.{Violation}
+use Rattle.handler_rules.specs.declared.table.Entry.{Entry}
+use Rattle.am_core.specs.Kept.{Local, with_locks}
+use Rattle.am_core.specs.ClientRules.{with_violations, short_asking, medium_asking, long_asking}
+use Rattle.hsl_locks.specs.Locks.{lock_answer, after_lock}
+use Rattle.hsl_locks.specs.declared.answer.LockAnswer.{LockAnswer}
+use Rattle.hsl_locks.specs.declared.answer.LockAnswer.TheVariants as locking
+use Rattle.hsl_locks.specs.declared.answer.Held.{Held}
+use Rattle.hsl_locks.specs.declared.answer.Owner.{Owner}
+use Rattle.hsl_locks.specs.declared.answer.Owner.TheVariants as owner
+use Rattle.named_barrier.specs.Record.{BarrierRecord, try_after}
+use Rattle.named_barrier.specs.declared.answer.BarrierAnswer.{BarrierAnswer}
+use Rattle.named_barrier.specs.declared.answer.BarrierAnswer.TheVariants as barrier
+use Rattle.access_region.specs.Regions.{has_begun}
+use Rattle.put_get.specs.Syncs.{members_of, whole_of, left_by, after_handle, implicit_of}
+use Rattle.put_get.specs.declared.operation.Handle.{Handle}
+use Rattle.put_get.specs.declared.operation.Some3.{Some3}
+use Rattle.put_get.specs.declared.operation.Synced.{Synced}
+use Rattle.put_get.specs.declared.operation.Synced.TheVariants as synced
+use Rattle.node_record.specs.Record.{Node}
+use Rattle.node_record.specs.Behaviour.{Behaviour, Ask, Asking}
+use Rattle.node_record.specs.Step.{Site, request_answer, after_request, with_local, is_worn_out}
+use Rattle.node_record.specs.NodeStep.{Job, site_of, node_answer, node_after}
+use Rattle.node_record.specs.declared.answer.Asked.{Asked}
+use Rattle.node_record.specs.declared.answer.Asked.TheVariants as asked
+use Rattle.endpoint_rules.specs.CoreCalls.{Cell, Lock}
+use Rattle.endpoint_rules.specs.BarrierCalls.{TryBarrier, barrier_does}
+use Rattle.endpoint_rules.specs.TransferCalls.{Caller, TransferCall, transfer_does, Sync, SyncHandle, SyncAll, SyncSome}
+use Rattle.endpoint_rules.specs.TransferCalls.{SyncImplicit, transfer_kind, handle_in, emptied_by, whole_registers}
+use Rattle.endpoint_rules.specs.Called.{Requests, Performs, node_event}
+use Rattle.endpoint_rules.specs.EndpointLocal.{EndpointLocal, with_core}
+use Rattle.endpoint_rules.specs.EndpointRules.{OnCore, OnTransfers, OnBarrier, asked_answer, told, job_of, unless_forbidden}
+use Rattle.endpoint_rules.specs.EndpointRules.{with_barrier}
+use Rattle.endpoint_rules.specs.declared.answer.Answer.{Answer}
+use Rattle.endpoint_rules.specs.declared.answer.Answer.TheVariants as answers
+use Rattle.endpoint_rules.specs.declared.answer.Region.TheVariants as region
+use Rattle.job_text.specs.declared.job.ScheduledCall.{ScheduledCall}
+use Rattle.job_text.specs.declared.job.ScheduledCall.TheVariants as call
+use Rattle.job_text.specs.declared.job.ScriptStep.{ScriptStep}
+use Rattle.job_text.specs.declared.job.ScriptStep.TheVariants as step
+use Rattle.job_text.specs.declared.job.WaitingStep.{WaitingStep}
+use Rattle.job_text.specs.declared.job.WaitingStep.TheVariants as waiting
+use Rattle.node_script.specs.Bodies.{operand_value}
+use Rattle.node_script.specs.ScheduledCalls.{meant_by, given_from, some_of}
+use Rattle.node_runs.specs.Actions.{Form, Once, Again, Until, Twice, Looks, call_of, ended_by, begins, OwnScripts}
+use Rattle.node_runs.specs.Actions.{next_call, tried_step, scripts_of, unless}
+use Rattle.node_runs.specs.Empty.{IsCalm}
+use Rattle.node_runs.specs.Scripts.{ThreadCall}
+use Rattle.node_runs.specs.WorldRun.{endpoint_job}
+use Rattle.node_runs.proofs.Acting.{scripts_same}
+use Rattle.script_steps.specs.Forms.{is_put_off, is_held, is_not_ready, call_form, waiting_form, step_form}
+use Rattle.script_steps.specs.Forms.{begun_handle, on_transfers, sync_of}
+use Rattle.script_steps.specs.Tries.{EndpointJob}
+
+-- ---- calls, and answers at which a step waits
+
+-- the node of a job in which a thread makes a call
+record Place : Type 0 where
+  pub settings : Parameters
+  pub table : List (Option Entry)
+  pub meaning : Meaning
+  pub me : ℕ
+  pub thread : ℕ
+  pub now : ℕ
+
+abbrev job_at : Place → EndpointJob
+job_at place = job_of place.settings place.table place.meaning
+
+abbrev answer_of : Place → Node EndpointLocal → ThreadCall → Answer
+answer_of place node made = told (node_answer (job_at place) place.me node place.now (node_event place.thread made))
+
+abbrev after_of : Place → Node EndpointLocal → ThreadCall → Node EndpointLocal
+after_of place node made = node_after (job_at place) place.me node place.now (node_event place.thread made)
+
+-- a call whose answer is one to wait at leaves the record
+abbrev Leaves : (waits : Answer → Bool) → Place → Node EndpointLocal → ThreadCall → Type 0
+Leaves waits place node made = waits (answer_of place node made) ≡ true → after_of place node made ≡ node
+
+-- a request
+asked_leaves : (site : Site EndpointLocal) (node : Node EndpointLocal) (now : ℕ) (ask : Ask) (answer : Asked)
+    → is_put_off (asked_answer answer) ≡ true → after_request site node now ask answer ≡ node
+asked_leaves site node now ask (asked.Accepted to slot number) e = absurd (true≢false (sym e))
+asked_leaves site node now ask asked.Ran e = absurd (true≢false (sym e))
+asked_leaves site node now ask (asked.BadArg part) e = refl
+asked_leaves site node now ask (asked.Forbidden forbidden) e = absurd (true≢false (sym e))
+asked_leaves site node now ask (asked.LockBusy lock) e = refl
+asked_leaves site node now ask asked.WornOut e = refl
+asked_leaves site node now ask asked.NotYet e = refl
+
+request_leaves : (place : Place) (node : Node EndpointLocal) (to : ℕ) (what : Asking)
+    → Leaves is_put_off place node (Requests to what)
+request_leaves place node to what e =
+    let ask : Ask = record { thread = place.thread; to = to; what = what } in
+    let site = site_of (job_at place) place.me in
+    asked_leaves site node place.now ask (request_answer site node ask) e
+
+-- a lock
+held_is : (says : LockAnswer) → is_held (answers.Lock says) ≡ true → says ≡ locking.Held
+held_is locking.Taken e = absurd (true≢false (sym e))
+held_is locking.Held e = refl
+held_is (locking.Refused why) e = absurd (true≢false (sym e))
+
+held_after : (locks : List Held) (by : Owner) (lock : ℕ) → lock_answer locks by lock 0 ≡ locking.Held
+    → after_lock locks by lock 0 ≡ locks
+held_after locks by lock e = go (lock_answer locks by lock 0) e
+  where
+    go : (says : LockAnswer) → says ≡ locking.Held
+        → (elim says [ | locking.Taken ↦ locks ++ record { lock = lock; owner = by } ∷ []
+          | locking.Held ↦ locks
+          | locking.Refused why ↦ locks
+        ]) ≡ locks
+    go locking.Taken h = absurd (cc)
+    go locking.Held h = refl
+    go (locking.Refused why) h = refl
+
+lock_leaves : (place : Place) (node : Node EndpointLocal) (lock : ℕ)
+    → Leaves is_held place node (Performs (OnCore (Lock lock)))
+lock_leaves place node lock e =
+    let core = node.local.core in
+    let held : lock_answer core.locks (owner.Thread place.thread) lock 0 ≡ locking.Held =
+    held_is (lock_answer core.locks (owner.Thread place.thread) lock 0) e in
+    ap (λ (kept : Local). with_local node (with_core node.local kept))
+    (ap (λ (locks : List Held). with_locks locks
+        (with_violations place.thread (lock_refusal (lock_answer core.locks (owner.Thread place.thread) lock 0)) core))
+    (held_after core.locks (owner.Thread place.thread) lock held)
+    ∙ (ap (λ (says : LockAnswer). with_violations place.thread (lock_refusal says) core) held
+    ∙ ap (λ (violations : List Violation). record core { violations = violations }) (append-nil core.violations)))
+
+-- a call by how the rule table judges it
+judged_leaves : (behaviour : Behaviour EndpointLocal) (thread : ℕ) (judged : Result (Unit {0}) Forbidden)
+    (local : EndpointLocal) (outcome : Answer × EndpointLocal)
+    → (is_not_ready outcome.0 ≡ true → outcome.1 ≡ local)
+    → is_not_ready (unless_forbidden behaviour thread judged local outcome).0 ≡ true
+    → (unless_forbidden behaviour thread judged local outcome).1 ≡ local
+judged_leaves behaviour thread (Ok allowed) local outcome leaves e = leaves e
+judged_leaves behaviour thread (Err forbidden) local outcome leaves e = absurd (true≢false (sym e))
+
+-- what a synchronisation leaves, by its answer
+synced_leaves : (local : EndpointLocal) (left : Synced → EndpointLocal) (says : Synced)
+    → left synced.NotReady ≡ local → is_not_ready (answers.Synced says) ≡ true → left says ≡ local
+synced_leaves local left synced.Ok not_ready e = absurd (true≢false (sym e))
+synced_leaves local left synced.NotReady not_ready e = not_ready
+synced_leaves local left synced.NotYours not_ready e = absurd (true≢false (sym e))
+synced_leaves local left synced.BadHandle not_ready e = absurd (true≢false (sym e))
+synced_leaves local left (synced.WornOut node) not_ready e = absurd (true≢false (sym e))
+
+-- a handle that isn't ready leaves the operations
+handle_leaves : (handle : ℕ) (local : EndpointLocal)
+    → record local { operations = after_handle synced.NotReady handle local.operations } ≡ local
+handle_leaves handle local = go (handle == 0)
+  where
+    go : (invalid : Bool) → record local { operations = cond invalid local.operations local.operations } ≡ local
+    go true = refl
+    go false = refl
+
+-- the implicit operations, in a region or not
+implicit_leaves : (begun : Bool) (local : EndpointLocal) (outcome : Answer × EndpointLocal)
+    → (is_not_ready outcome.0 ≡ true → outcome.1 ≡ local)
+    → is_not_ready (cond {A = Answer × EndpointLocal} begun (answers.Region region.InRegion, local) outcome).0 ≡ true
+    → (cond {A = Answer × EndpointLocal} begun (answers.Region region.InRegion, local) outcome).1 ≡ local
+implicit_leaves true local outcome leaves e = absurd (true≢false (sym e))
+implicit_leaves false local outcome leaves e = leaves e
+
+-- a call on transfers that may wait
+record MayWait (call : TransferCall) : Type 0 where
+  pub leaves : (caller : Caller) (local : EndpointLocal) → is_not_ready (transfer_does caller call local).0 ≡ true
+      → (transfer_does caller call local).1 ≡ local
+
+transfer_leaves : (place : Place) (node : Node EndpointLocal) (call : TransferCall) → MayWait call
+    → Leaves is_not_ready place node (on_transfers call)
+transfer_leaves place node call may e =
+    let behaviour = (job_at place).behaviour.messages in
+    let caller : Caller = record {
+      settings = place.settings;
+      me = place.me;
+      thread = place.thread;
+      worn = is_worn_out place.settings node;
+    } in
+    ap (with_local node)
+    (judged_leaves behaviour place.thread (behaviour.judges place.thread (transfer_kind call) node.local) node.local
+    (transfer_does caller call node.local) (may.leaves caller node.local) e)
+
+sync_waits : (register : ℕ) → MayWait (Sync register)
+sync_waits register = record {
+  leaves = λ caller local e.
+      let handle = (handle_in local.registers register).serial in
+      synced_leaves local (λ says. record local { operations = after_handle says handle local.operations }) _
+      (handle_leaves handle local) e;
+}
+
+sync_handle_waits : (handle : Handle) → MayWait (SyncHandle handle)
+sync_handle_waits handle = record {
+  leaves = λ caller local e.
+      synced_leaves local (λ says. record local { operations = after_handle says handle.serial local.operations }) _
+      (handle_leaves handle.serial local) e;
+}
+
+sync_all_waits : (registers : List ℕ) → MayWait (SyncAll registers)
+sync_all_waits registers = record {
+  leaves = λ caller local e.
+      let handles = map (handle_in local.registers) registers in
+      synced_leaves local
+      (λ says. record local {
+        operations = left_by says (members_of handles local.operations) local.operations;
+        registers = emptied_by says registers local.registers;
+      }) _ refl e;
+}
+
+sync_some_waits : (registers : List ℕ) → MayWait (SyncSome registers)
+sync_some_waits registers = record {
+  leaves = λ caller local e.
+      let handles = map (handle_in local.registers) registers in
+      synced_leaves local
+      (λ says. record local {
+        operations = left_by says (whole_of handles local.operations) local.operations;
+        registers = emptied_by says (whole_registers local.operations local.registers registers) local.registers;
+      }) _ refl e;
+}
+
+sync_implicit_waits : (some : Some3) → MayWait (SyncImplicit some)
+sync_implicit_waits some = record {
+  leaves = λ caller local e.
+      implicit_leaves (has_begun local.regions caller.thread) local _
+      (λ not_ready. synced_leaves local
+          (λ says. record local {
+            operations = left_by says (implicit_of caller.thread some) local.operations;
+          }) _ refl not_ready)
+      e;
+}
+
+-- the barrier
+tried_leaves : (kept : BarrierRecord) (says : BarrierAnswer) → is_not_ready (answers.Barrier says) ≡ true
+    → try_after kept says ≡ kept
+tried_leaves kept barrier.Ok e = absurd (true≢false (sym e))
+tried_leaves kept barrier.Mismatch e = absurd (true≢false (sym e))
+tried_leaves kept barrier.NotReady e = refl
+tried_leaves kept barrier.NoNotify e = absurd (true≢false (sym e))
+tried_leaves kept barrier.BadFlags e = absurd (true≢false (sym e))
+tried_leaves kept (barrier.WornOut node) e = absurd (true≢false (sym e))
+
+barrier_leaves : (place : Place) (node : Node EndpointLocal) (id : ℤ) (flags : ℕ)
+    → Leaves is_not_ready place node (Performs (OnBarrier (TryBarrier id flags)))
+barrier_leaves place node id flags e =
+    let behaviour = (job_at place).behaviour.messages in
+    let caller : Caller = record {
+      settings = place.settings;
+      me = place.me;
+      thread = place.thread;
+      worn = is_worn_out place.settings node;
+    } in
+    ap (with_local node)
+    (judged_leaves behaviour place.thread (behaviour.judges place.thread kinds.Barrier node.local) node.local
+    (with_barrier node.local (barrier_does caller (TryBarrier id flags) node.local.barrier))
+    (λ not_ready. ap (λ (kept : BarrierRecord). record node.local { barrier = kept })
+        (tried_leaves node.local.barrier _ not_ready)) e)
+
+-- ---- steps
+
+-- the calls of the form at whose answers it waits leave the record
+abbrev WaitsCalm : Place → Node EndpointLocal → Form EndpointLocal → Type 0
+WaitsCalm place node (Once made) = Unit {0}
+WaitsCalm place node (Again waits made) = Leaves waits place node made
+WaitsCalm place node (Until cell value) = Unit {0}
+WaitsCalm place node (Twice begin next waits says) =
+    (first : Answer) (made : ThreadCall) → next first ≡ Some made → Leaves waits place node made
+WaitsCalm place node (Looks begin ready) = Unit {0}
+
+call_calm : (place : Place) (node : Node EndpointLocal) (one : ScheduledCall)
+    → WaitsCalm place node (call_form one (meant_by node.local.core.cells one))
+call_calm place node (call.Short to handler operands) =
+    request_leaves place node to (short_asking handler (map (operand_value node.local.core.cells []) operands))
+call_calm place node (call.Medium text) =
+    request_leaves place node text.to
+    (medium_asking text.handler (map (operand_value node.local.core.cells []) text.operands) (given_from text.payload))
+call_calm place node (call.Long text) =
+    request_leaves place node text.to
+    (long_asking text.handler (map (operand_value node.local.core.cells []) text.operands) (given_from text.payload) text.offset)
+call_calm place node (call.LongAsync text) =
+    request_leaves place node text.to
+    (long_asking text.handler (map (operand_value node.local.core.cells []) text.operands) (given_from text.payload) text.offset)
+call_calm place node (call.Lock lock) = lock_leaves place node lock
+call_calm place node (call.Unlock lock) = tt
+call_calm place node call.Poll = tt
+call_calm place node (call.Attempt kind) = tt
+call_calm place node (call.Cell cell) = tt
+call_calm place node (call.SetCell cell operand) = tt
+call_calm place node (call.Show offset len) = tt
+call_calm place node (call.Set offset bytes) = tt
+call_calm place node (call.Fill offset len byte) = tt
+call_calm place node (call.Word offset) = tt
+call_calm place node (call.SetWord offset number) = tt
+call_calm place node (call.Begin register transfer) = tt
+call_calm place node (call.BeginImplicit transfer) = tt
+call_calm place node (call.IsIssued register) = tt
+call_calm place node (call.Sync register) = tt
+call_calm place node (call.SyncAll registers) = tt
+call_calm place node (call.SyncSome registers) = tt
+call_calm place node (call.SyncImplicit which) = tt
+call_calm place node call.RegionBegin = tt
+call_calm place node (call.RegionEnd register) = tt
+call_calm place node (call.Notify id flags) = tt
+call_calm place node (call.TryBarrier id flags) = tt
+
+-- the second call of a blocking transfer
+second_calm : (place : Place) (node : Node EndpointLocal) (handle : Option Handle) (made : ThreadCall)
+    → option_map (λ handle. on_transfers (SyncHandle handle)) handle ≡ Some made → Leaves is_not_ready place node made
+second_calm place node None made e = absurd (cc)
+second_calm place node (Some handle) made e =
+    subst (Leaves is_not_ready place node) (same_Some (on_transfers (SyncHandle handle)) made e)
+    (transfer_leaves place node (SyncHandle handle) (sync_handle_waits handle))
+
+waiting_calm : (place : Place) (node : Node EndpointLocal) (one : WaitingStep)
+    → WaitsCalm place node (waiting_form node.local.core.cells one)
+waiting_calm place node (waiting.Until cell operand) = tt
+waiting_calm place node (waiting.Transfer transfer) =
+    λ first made e. second_calm place node (begun_handle first) made e
+waiting_calm place node (waiting.PutBegin register put) = tt
+waiting_calm place node (waiting.PutImplicit put) = tt
+waiting_calm place node (waiting.Wait register) = transfer_leaves place node (Sync register) (sync_waits register)
+waiting_calm place node (waiting.WaitAll registers) =
+    transfer_leaves place node (SyncAll registers) (sync_all_waits registers)
+waiting_calm place node (waiting.WaitSome registers) =
+    transfer_leaves place node (SyncSome registers) (sync_some_waits registers)
+waiting_calm place node (waiting.WaitImplicit which) =
+    transfer_leaves place node (SyncImplicit (some_of which)) (sync_implicit_waits (some_of which))
+waiting_calm place node (waiting.BarrierWait id flags) = barrier_leaves place node id flags
+
+step_calm : (place : Place) (node : Node EndpointLocal) (one : ScriptStep)
+    → WaitsCalm place node (step_form one node)
+step_calm place node (step.Call made) = call_calm place node made
+step_calm place node (step.Waiting one) = waiting_calm place node one
+
+-- an answer is no end exactly where it is one to wait at
+waits_there : (waits : Bool) (answer : Answer) → unless waits answer ≡ None → waits ≡ true
+waits_there true answer e = refl
+waits_there false answer e = absurd (cc)
+
+-- a try whose step has begun now
+begun_now : (ended : Option Answer) → ended ≡ None → is_none ended ≡ false → ⊥
+begun_now None e not = true≢false not
+begun_now (Some answer) e not = cc
+
+-- a try that neither ends nor begins its step
+form_calm : (place : Place) (node : Node EndpointLocal) (form : Form EndpointLocal) (began : Option Answer)
+    (made : ThreadCall) → WaitsCalm place node form → call_of form began ≡ Some made
+    → ended_by form began (after_of place node made) (Some (answer_of place node made)) ≡ None
+    → (begins form && is_none began
+    && is_none (ended_by form began (after_of place node made) (Some (answer_of place node made)))) ≡ false
+    → after_of place node made ≡ node
+form_calm place node (Once call) began made calm is e b = absurd (cc)
+form_calm place node (Again waits call) began made calm is e b =
+    subst (Leaves waits place node) (same_Some call made is) calm (waits_there _ _ e)
+form_calm place node (Until cell value) began made calm is e b =
+    subst (λ (c : ThreadCall). after_of place node c ≡ node)
+    (same_Some (Performs (OnCore (Cell cell))) made is) refl
+form_calm place node (Twice begin next waits says) None made calm is e b = absurd (begun_now _ e b)
+form_calm place node (Twice begin next waits says) (Some first) made calm is e b =
+    calm first made is (waits_there _ _ e)
+form_calm place node (Looks begin ready) None made calm is e b = absurd (begun_now _ e b)
+form_calm place node (Looks begin ready) (Some first) made calm is e b = absurd (cc)
+
+-- of what is left of a script
+left_calm : (place : Place) (node : Node EndpointLocal) (left : List ScriptStep) (began : Option Answer)
+    (made : ThreadCall) → next_call step_form began left node ≡ Some made
+    → (tried_step step_form began left node (after_of place node made) (Some (answer_of place node made))).ended ≡ None
+    → (tried_step step_form began left node (after_of place node made) (Some (answer_of place node made))).began
+    ≡ false
+    → after_of place node made ≡ node
+left_calm place node [] began made is e b = absurd (cc)
+left_calm place node (one ∷ rest) began made is e b =
+    form_calm place node (step_form one node) began made (step_calm place node one) is e b
+
+pub waiting_is_calm : (settings : Parameters) (table : List (Option Entry)) (meaning : Meaning)
+    → IsCalm (endpoint_job settings table meaning (scripts_of step_form))
+waiting_is_calm settings table meaning = record {
+  node = λ me thread now own node made is e b sent.
+      left_calm
+      (record { settings = settings; table = table; meaning = meaning; me = me; thread = thread; now = now })
+      node (own thread).left (own thread).began made is e b;
+  left = λ thread own before after answer e b. scripts_same step_form thread own before after answer e b;
+}
