@@ -18,7 +18,10 @@ fn gives_a_child_its_words(rt: HostRuntime) -> Result<(), Fail> {
     assert_eq!(rt; spawner.finish(0, &mut output), Finished::Ended(0));
     assert_eq!(rt; output.as_slice(), b"node 0 21000\n".as_slice());
     assert_eq!(rt; spawner.finish(1, &mut output), Finished::Ended(0));
-    assert_eq!(rt; output.as_slice(), b"node 0 21000\nnode 1 21000\n".as_slice());
+    assert_eq!(rt;
+        output.as_slice(),
+        b"node 0 21000\nnode 1 21000\n".as_slice()
+    );
     assert_eq!(rt; spawner.finish(1, &mut output), Finished::Failed);
     assert_eq!(rt; output.len(), 26);
     Ok(())
@@ -31,7 +34,11 @@ fn tells_how_a_child_ends(rt: HostRuntime) -> Result<(), Fail> {
     for (program, want) in [("false", Finished::Ended(1)), ("yes", Finished::Failed)] {
         let mut spawner = spawner_of(rt, program)?;
         let mut output = Vec::new(rt.alloc());
-        let input = if program == "yes" { &[] } else { input.as_slice() };
+        let input = if program == "yes" {
+            &[]
+        } else {
+            input.as_slice()
+        };
         assert_eq!(rt; spawner.start(3, 21_000, input), Started::Started);
         assert_eq!(rt; spawner.finish(3, &mut output), want, "{program}");
         assert_eq!(rt; output.len(), 0, "{program}");
