@@ -14,11 +14,13 @@
 //! What each does with the system is tested in `real_tests`.
 #![tactic(auto)]
 
+mod link_socket;
 mod process_spawner;
 mod socket_gate;
 mod system_clock;
 mod udp_link;
 
+pub use link_socket::LinkSocket;
 pub use process_spawner::ProcessSpawner;
 pub use socket_gate::SocketGate;
 pub use system_clock::SystemClock;

@@ -1,14 +1,14 @@
 //! A gate that watches a link's socket.
 
-use crate::udp_link::UdpLink;
+use crate::link_socket::LinkSocket;
 use gas_outside::Gate;
 use mio::unix::SourceFd;
 use mio::{Events, Interest, Poll, Token};
-use std::alloc::{AllocError, Global};
+use std::alloc::Global;
 use std::io::ErrorKind;
-use std::net::{Net, UdpSocket};
+use std::net::Net;
 use std::os::fd::AsRawFd;
-use std::sync::{Arc, Mutex, OnceLock};
+use std::sync::Mutex;
 use std::time::{Clock, Duration};
 use std::{io, thread};
 
@@ -20,10 +20,10 @@ const PAUSE: u64 = 1;
 /// A turn that wasn't quiet is followed by the next at once. Where several threads pause, one of them watches the socket, and the others
 /// pause for the whole millisecond.
 #[derive(Drop)]
-pub struct SocketGate<R: Net + Clock> {
+pub struct SocketGate<'a, R: Net + Clock> {
     rt: R,
     alloc: Global,
-    socket: Arc<OnceLock<UdpSocket>>,
+    socket: &'a LinkSocket,
     watch: Mutex<Option<Watch>>,
 }
 
@@ -34,23 +34,17 @@ struct Watch {
     events: Events,
 }
 
-impl<R: Net + Clock + Drop> SocketGate<R> {
-    /// The gate that watches the socket of this link, once it is bound. An error means that memory ran out.
-    pub fn new<N: Net>(
-        rt: R,
-        alloc: Global,
-        link: &UdpLink<N>,
-    ) -> Result<SocketGate<R>, AllocError> {
-        Ok(SocketGate {
+impl<'a, R: Net + Clock> SocketGate<'a, R> {
+    /// The gate that watches this socket, once there is one.
+    pub fn new(rt: R, alloc: Global, socket: &'a LinkSocket) -> SocketGate<'a, R> {
+        SocketGate {
             rt,
             alloc,
-            socket: link.socket()?,
+            socket,
             watch: Mutex::new(None),
-        })
+        }
     }
-}
 
-impl<R: Net + Clock> SocketGate<R> {
     /// Waits until a datagram waits, and for one pause at most. An error where another thread watches, or the system can't.
     fn wait(&self) -> io::Result<()> {
         let Some(mut watch) = self.watch.try_lock() else {
@@ -79,7 +73,7 @@ impl<R: Net + Clock> SocketGate<R> {
     }
 }
 
-impl<R: Net + Clock> Gate for SocketGate<R> {
+impl<R: Net + Clock> Gate for SocketGate<'_, R> {
     /// Pauses after a quiet turn.
     fn before_turn(&self, _thread: u16, quiet: bool) {
         if quiet && self.wait().is_err() {

@@ -3,12 +3,11 @@
 ghost use Rattle.std.specs.Prelude.{◌≡◌, ◌≤◌};
 ghost use Rattle.gas_outside.specs.Faults.{Rose};
 
+use crate::link_socket::LinkSocket;
 use gas_outside::{Link, LinkAnswer, Received};
-use std::alloc::{AllocError, Global};
 use std::io;
 use std::io::ErrorKind;
 use std::net::{Ipv4Addr, Net, SocketAddr, SocketAddrV4, UdpSocket};
-use std::sync::{Arc, OnceLock};
 
 /// The system's number for want of room in its queues.
 const NO_ROOM: i32 = 105;
@@ -19,29 +18,22 @@ const NO_ROOM: i32 = 105;
 /// fault. The link can be bound once; a call before, and a second `bind`, is a fault. It tells what it was bound to, and nothing of
 /// datagrams.
 #[derive(Drop)]
-pub struct UdpLink<R: Net> {
+pub struct UdpLink<'a, R: Net> {
     rt: R,
-    socket: Arc<OnceLock<UdpSocket>>,
+    socket: &'a LinkSocket,
     bound: Option<(u16, u16, u16)>,
     faults: u64,
 }
 
-impl<R: Net + Drop> UdpLink<R> {
-    /// A link that isn't bound. An error means that memory ran out.
-    pub fn new(rt: R, alloc: Global) -> Result<UdpLink<R>, AllocError> {
-        Ok(UdpLink {
+impl<'a, R: Net> UdpLink<'a, R> {
+    /// A link that isn't bound. It keeps its socket there; that place is for this link alone.
+    pub fn new(rt: R, socket: &'a LinkSocket) -> UdpLink<'a, R> {
+        UdpLink {
             rt,
-            socket: Arc::new(alloc, OnceLock::new())?,
+            socket,
             bound: None,
             faults: 0,
-        })
-    }
-}
-
-impl<R: Net> UdpLink<R> {
-    /// Another owner of its socket, which has one once the link is bound.
-    pub(crate) fn socket(&self) -> Result<Arc<OnceLock<UdpSocket>>, AllocError> {
-        Arc::try_clone(&self.socket)
+        }
     }
 
     /// Opens the socket of a rank.
@@ -51,10 +43,10 @@ impl<R: Net> UdpLink<R> {
         }
         let socket = UdpSocket::bind(&self.rt, address(port, rank)?)?;
         socket.set_nonblocking(true)?;
-        match self.socket.try_set(socket) {
-            Ok(_) => Ok(()),
-            Err(_) => Err(io::Error::from(ErrorKind::AlreadyExists)),
+        if !self.socket.keep(socket) {
+            return Err(io::Error::from(ErrorKind::AlreadyExists));
         }
+        Ok(())
     }
 
     /// Hands a datagram to the socket.
@@ -85,7 +77,7 @@ fn is_loss(error: &io::Error) -> bool {
     ) || error.raw_os_error() == Some(NO_ROOM)
 }
 
-impl<R: Net> Link for UdpLink<R> {
+impl<R: Net> Link for UdpLink<'_, R> {
     ghost use Rattle.std.specs.Prelude.{None};
 
     ghost bound = { λ l. l.bound };

@@ -3,7 +3,7 @@ ghost use Rattle.endpoint_lock.specs.Stations.{opened, opening_of};
 
 use endpoint_lock::{End, Station, run_threads};
 use gas_outside::{Clock, Gate, Link, LinkAnswer};
-use real_outside::{SocketGate, SystemClock, UdpLink};
+use real_outside::{LinkSocket, SocketGate, SystemClock, UdpLink};
 use station_tests::TwoThreads;
 use std::alloc::Global;
 use std::test::Fail;
@@ -28,13 +28,14 @@ fn station_over<L: Link + Drop, C: Clock + Drop>(
 #[test]
 fn runs_threads_over_a_socket(rt: HostRuntime) -> Result<(), Fail> {
     let alloc = rt.alloc();
-    let mut link = UdpLink::new(rt, alloc)?;
+    let socket = LinkSocket::new();
+    let mut link = UdpLink::new(rt, &socket);
     for step in 0..400 {
         if link.bind(0, 3, 26_000 + 3 * step) == LinkAnswer::Done {
             break;
         }
     }
-    let gate = SocketGate::new(rt, alloc, &link)?;
+    let gate = SocketGate::new(rt, alloc, &socket);
     let station = station_over(alloc, link, SystemClock::new(rt))?;
     let ended = run_threads(&rt, alloc, station, 2, &gate);
     assert_eq!(rt; ended.end, End::Over);
@@ -51,8 +52,8 @@ fn runs_threads_over_a_socket(rt: HostRuntime) -> Result<(), Fail> {
 fn counts_milliseconds(rt: HostRuntime) -> Result<(), Fail> {
     let before = Instant::now(&rt)?;
     let mut clock = SystemClock::new(rt);
-    let link = UdpLink::new(rt, rt.alloc())?;
-    let gate = SocketGate::new(rt, rt.alloc(), &link)?;
+    let socket = LinkSocket::new();
+    let gate = SocketGate::new(rt, rt.alloc(), &socket);
     let first = clock.now();
     for _ in 0..3 {
         gate.before_turn(0, true);

@@ -74,11 +74,13 @@ fn run_bound<
     let threads = machine.threads();
     match Station::new(alloc, machine, link, clock, patience) {
         Ok(station) => run_threads(rt, alloc, station, threads, gate),
-        Err(Unmade {
-            machine,
-            link,
-            clock,
-        }) => Ended {
+        Err(
+            Unmade {
+                machine,
+                link,
+                clock,
+            },
+        ) => Ended {
             machine,
             link,
             clock,
@@ -181,13 +183,7 @@ pub fn run_node<
     C: Clock + Send,
     G: Gate + Sync,
     K: Sink,
->(
-    rt: &R,
-    alloc: Global,
-    node: Node<M, L, C>,
-    gate: &G,
-    sink: &mut K,
-) -> NodeRun<M, L, C>
+>(rt: &R, alloc: Global, node: Node<M, L, C>, gate: &G, sink: &mut K) -> NodeRun<M, L, C>
     requires { 1 ≤ node.patience }
     ensures runs { RunsNode M.Machine L.Link C.Clock node result.left }
     ensures written { WritesAll (K.taken sink.old) (K.taken sink.new)

@@ -21,7 +21,10 @@ impl InStep {
     // Whether both threads came at least eight times, and each time the other came too.
     pub fn held(&self) -> bool {
         self.failures.load(Ordering::SeqCst) == 0
-            && self.came.iter().all(|came| came.load(Ordering::SeqCst) >= 8)
+            && self
+                .came
+                .iter()
+                .all(|came| came.load(Ordering::SeqCst) >= 8)
     }
 }
 

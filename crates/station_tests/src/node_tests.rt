@@ -83,7 +83,13 @@ fn writes_the_trace_of_a_node(rt: HostRuntime) -> Result<(), Fail> {
     let alloc = rt.alloc();
     let gate = InStep::new();
     let mut sink = MemorySink::new(alloc, Vec::new(alloc))?;
-    let run = run_node(&rt, alloc, node_over(link_failing_at(alloc, 0)?), &gate, &mut sink);
+    let run = run_node(
+        &rt,
+        alloc,
+        node_over(link_failing_at(alloc, 0)?),
+        &gate,
+        &mut sink,
+    );
     assert_eq!(rt; (run.left.end, run.wrote), (End::Over, Wrote::Done));
     assert_eq!(rt; run.left.link.sent().len(), 2);
     assert_eq!(rt; sink.taken(), WHOLE.as_bytes());
@@ -100,11 +106,21 @@ fn writes_the_trace_before_a_fault(rt: HostRuntime) -> Result<(), Fail> {
         let mut sink = MemorySink::new(alloc, Vec::new(alloc))?;
         let node = node_over(link_failing_at(alloc, call)?);
         let run = run_node(&rt, alloc, node, &InStep::new(), &mut sink);
-        assert_eq!(rt; (run.left.end, run.wrote), (End::LinkFault, Wrote::Done), "call {call}");
+        assert_eq!(rt;
+            (run.left.end, run.wrote),
+            (End::LinkFault, Wrote::Done),
+            "call {call}"
+        );
         assert_eq!(rt; sink.taken(), EMPTY.as_bytes(), "call {call}");
     }
     let mut sink = MemorySink::new(alloc, Vec::new(alloc))?;
-    let run = run_node(&rt, alloc, node_over(Mute { bound: None }), &InStep::new(), &mut sink);
+    let run = run_node(
+        &rt,
+        alloc,
+        node_over(Mute { bound: None }),
+        &InStep::new(),
+        &mut sink,
+    );
     assert_eq!(rt; (run.left.end, run.wrote), (End::LinkFault, Wrote::Done));
     assert_eq!(rt; sink.taken(), WHOLE.as_bytes());
     Ok(())
