@@ -1,7 +1,7 @@
 use Rattle.std.proofs.Common.{Some, None, sym, ap, ◌∙◌, subst}
 use Rattle.put_get.specs.Syncs.{flag_at}
-use Rattle.put_get.specs.Stands.{IsLeast, CanNote}
-use Rattle.put_get.proofs.Oldest.{oldest_is, unissued_of, note_of, answer}
+use Rattle.put_get.specs.Stands.{CanNote}
+use Rattle.put_get.proofs.Oldest.{oldest_is, unissued_of, note_of}
 use Rattle.put_get.proofs.transfers.Transfers.next.Goals as goal
 
 pub next_of-requires : goal.next_of-requires

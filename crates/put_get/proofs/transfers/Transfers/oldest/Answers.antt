@@ -1,6 +1,5 @@
-use Rattle.std.proofs.Common.{◌≡◌, ◌+◌, ◌-◌, drop, sym, ◌∙◌, subst, arith}
+use Rattle.std.proofs.Common.{◌+◌, sym, ◌∙◌, subst, arith}
 use Rattle.put_get.specs.Syncs.{flag_at}
-use Rattle.put_get.specs.Table.{unissued_count}
 use Rattle.put_get.specs.Stands.{IsLeast}
 use Rattle.put_get.proofs.Unissued.{count_drop}
 use Rattle.put_get.proofs.Oldest.{least_more, least_all}
