@@ -5,4 +5,3 @@ pub mod Turning
 pub mod Standing
 pub mod Opening
 pub mod Merging
-pub mod Steps

@@ -1,4 +1,4 @@
 mod Trying
 mod Forming
-mod Fits
-mod Calm
+pub mod Fits
+pub mod Calm

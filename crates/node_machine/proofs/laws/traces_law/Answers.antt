@@ -1,12 +1,6 @@
 -- The law of traces.
+use Rattle.script_steps.proofs.Fits.{steps_fit}
 use Rattle.node_machine.proofs.Merging.{traces_run}
-use Rattle.node_machine.proofs.Steps.{steps_fit}
-use Rattle.node_machine.proofs.Happening.{one_happens}
-use Rattle.node_machine.proofs.Locks.{turn_keeps}
-use Rattle.node_machine.proofs.Scripting.{next_tried}
-use Rattle.node_machine.proofs.Turning.{turn_goes}
-use Rattle.node_machine.proofs.Standing.{machine_is}
-use Rattle.node_machine.proofs.Opening.{opened_is}
 use Rattle.node_machine.proofs.laws.traces_law.Goals as goal
 
 pub returns : goal.returns

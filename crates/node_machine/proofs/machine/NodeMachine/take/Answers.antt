@@ -1,11 +1,11 @@
 -- A turn of a machine.
 use Rattle.std.proofs.Common.{ap, subst, option_copied}
 use Rattle.std.specs.Prelude.{slice_set}
+use Rattle.script_steps.proofs.Calm.{waiting_is_calm}
 use Rattle.node_machine.specs.Kept.{MachineKept}
 use Rattle.node_machine.specs.Machines.{MachineTakes}
 use Rattle.node_machine.specs.Turns.{slots_of, TurnTaken}
 use Rattle.node_machine.proofs.Standing.{machine_at, reads_is, read_said, took}
-use Rattle.node_machine.proofs.Steps.{waiting_calm}
 use Rattle.node_machine.proofs.machine.NodeMachine.take.Goals as goal
 
 pub take_turn-done-requires-clause-said : goal.take_turn-done-requires-clause-said
@@ -25,7 +25,7 @@ invariant_of-self c =
     let read = reads_is c.args.self.now old.job.now old.cursors.items c.deref.result.now c.args.thread
     c.from-place.result c.cursor_at-cursor.result (ap (λ (m : MachineKept). m.job) c.self.view_is) c.requires.thread
     c.from-place.ensures c.deref.ensures.value c.cursor_at-cursor.ensures in
-    let it = took waiting_calm old.job.now old.endpoint old.cursors.items (slots_of old.outgoing) old.answer taken
+    let it = took waiting_is_calm old.job.now old.endpoint old.cursors.items (slots_of old.outgoing) old.answer taken
     c.from-place.result c.cursor_at-cursor.result c.take_turn-done.new.cursor c.handlers.result.now
     c.take_turn-done.result c.take_turn-done.new.endpoint c.self.invariant read c.from-place.ensures
     c.handlers.ensures c.take_turn-done.ensures in
@@ -39,7 +39,7 @@ returns c =
     let read = reads_is c.args.self.now old.job.now old.cursors.items c.deref.result.now c.args.thread
     c.from-place.result c.cursor_at-cursor.result (ap (λ (m : MachineKept). m.job) c.self.view_is) c.requires.thread
     c.from-place.ensures c.deref.ensures.value c.cursor_at-cursor.ensures in
-    let it = took waiting_calm old.job.now old.endpoint old.cursors.items (slots_of old.outgoing) old.answer taken
+    let it = took waiting_is_calm old.job.now old.endpoint old.cursors.items (slots_of old.outgoing) old.answer taken
     c.from-place.result c.cursor_at-cursor.result c.take_turn-done.new.cursor c.handlers.result.now
     c.take_turn-done.result c.take_turn-done.new.endpoint c.self.invariant read c.from-place.ensures
     c.handlers.ensures c.take_turn-done.ensures in

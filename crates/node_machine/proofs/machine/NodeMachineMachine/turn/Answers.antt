@@ -1,11 +1,11 @@
 -- A turn of the machine.
 use Rattle.std.proofs.Common.{◌≡◌, refl, sym, ap, ◌∙◌, subst, true, false, option_copied}
+use Rattle.script_steps.proofs.Calm.{waiting_is_calm}
 use Rattle.node_machine.specs.Kept.{MachineKept, polls_at}
 use Rattle.node_machine.specs.Machines.{with_done}
 use Rattle.node_machine.specs.States.{NodeStands, after_turn}
 use Rattle.node_machine.specs.Turns.{slots_of, TurnTaken, is_changed}
 use Rattle.node_machine.proofs.Standing.{change_is, empty_turn, quiet_ended, still_machine, told_changed, told_quiet}
-use Rattle.node_machine.proofs.Steps.{waiting_calm}
 use Rattle.node_machine.proofs.machine.NodeMachineMachine.turn.Goals as goal
 
 pub returns-then-not-is_change-clause-after : goal.returns-then-not-is_change-clause-after
@@ -40,7 +40,7 @@ returns-then-not-is_change-clause-empty c = λ none unchanged.
     c.is_change.ensures c.is_some-came.ensures c.if-not-is_change.true in (
       refl,
       refl,
-      empty_turn waiting_calm c.args.self.now taken c.take-done.result c.take-done.new.self c.take-done.ensures quiet
+      empty_turn waiting_is_calm c.args.self.now taken c.take-done.result c.take-done.new.self c.take-done.ensures quiet
           (option_copied c.args.got) refl none,
     )
 
