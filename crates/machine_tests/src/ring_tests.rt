@@ -85,7 +85,12 @@ impl Network {
     }
 
     /// The datagrams of a turn are sent.
-    fn send_all(&mut self, alloc: Global, machine: &NodeMachine<'_>, sends: u8) -> Result<(), Fail> {
+    fn send_all(
+        &mut self,
+        alloc: Global,
+        machine: &NodeMachine<'_>,
+        sends: u8,
+    ) -> Result<(), Fail> {
         for i in 0..sends {
             if let Some((to, bytes)) = machine.outgoing(i) {
                 self.send(alloc, to, bytes)?;

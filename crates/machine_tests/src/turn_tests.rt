@@ -75,7 +75,10 @@ fn ends_three_steps_and_waits(rt: HostRuntime) -> Result<(), Fail> {
     assert_eq!(rt; turn(&rt, &mut machine, 1), ENDED);
     assert_eq!(rt; machine.answer(), Some(Answer::Synced(Synced::Ok)));
     assert_eq!(rt; turn(&rt, &mut machine, 2), ENDED);
-    let shown = Some(Answer::Local(Local::Shown { offset: 100, len: 4 }));
+    let shown = Some(Answer::Local(Local::Shown {
+        offset: 100,
+        len: 4,
+    }));
     assert_eq!(rt; machine.answer(), shown);
     let there = machine.endpoint().segment().part(100, 4);
     assert_eq!(rt; there, Some([1, 2, 3, 4].as_slice()));

@@ -1,5 +1,5 @@
 -- Who holds locks changes only where a step ends: no delivery and no tick changes it, nor a call at which a step waits.
-use Rattle.std.proofs.Common.{◌≡◌, ℕ, Bool, true, false, true≢false, List, [], ◌∷◌, ◌++◌, Option, None, Some, refl, sym, ap, ◌∙◌}
+use Rattle.std.proofs.Common.{◌≡◌, ℕ, Bool, true, false, true≢false, List, [], ◌∷◌, ◌++◌, Option, None, Some, refl, sym, ◌∙◌}
 use Rattle.std.proofs.Common.{inl, inr, subst}
 use Rattle.std.specs.Prelude.{◌==◌}
 use Rattle.std.specs.Prelude.{Result, Ok, Err}
@@ -35,20 +35,19 @@ use Rattle.am_core.specs.ClientRules.{rules}
 use Rattle.am_core.specs.HandlerRuns.{handlers_of, run_reply}
 use Rattle.am_core.specs.Kept.{Local}
 use Rattle.am_core.specs.Library.{note_handler}
-use Rattle.endpoint_rules.specs.BarrierCalls.{BarrierCall, barrier_does}
+use Rattle.endpoint_rules.specs.BarrierCalls.{barrier_does}
 use Rattle.endpoint_rules.specs.Called.{Requests, Performs, node_event}
-use Rattle.endpoint_rules.specs.CoreCalls.{LocalCall, Poll, Attempt, Lock, Unlock, Cell, SetCell, OnSegment, if_allowed}
+use Rattle.endpoint_rules.specs.CoreCalls.{Poll, Attempt, Lock, Unlock, Cell, if_allowed}
 use Rattle.endpoint_rules.specs.EndpointLocal.{EndpointLocal}
-use Rattle.endpoint_rules.specs.EndpointRules.{OtherCall, OnCore, OnTransfers, OnBarrier, RecordEvent, job_of, told}
+use Rattle.endpoint_rules.specs.EndpointRules.{OnCore, OnTransfers, OnBarrier, RecordEvent, job_of, told}
 use Rattle.endpoint_rules.specs.EndpointRules.{endpoint_rules, unless_forbidden, with_barrier}
-use Rattle.endpoint_rules.specs.TransferCalls.{Caller, TransferCall, Begin, BeginImplicit, IsIssued, Sync, SyncHandle}
-use Rattle.endpoint_rules.specs.TransferCalls.{SyncAll, SyncSome, SyncImplicit, RegionBegin, RegionEnd, transfer_does}
+use Rattle.endpoint_rules.specs.TransferCalls.{Caller, TransferCall, Begin, BeginImplicit, SyncHandle}
+use Rattle.endpoint_rules.specs.TransferCalls.{SyncImplicit, RegionBegin, RegionEnd, transfer_does}
 use Rattle.endpoint_rules.specs.TransferCalls.{after_beginning, ended}
 use Rattle.endpoint_rules.specs.declared.answer.Answer.{Answer}
 use Rattle.endpoint_rules.specs.declared.answer.Answer.TheVariants as answers
 use Rattle.endpoint_rules.specs.declared.answer.Begun.{Begun}
 use Rattle.endpoint_rules.specs.declared.answer.Begun.TheVariants as begun
-use Rattle.job_text.specs.declared.job.ScheduledCall.{ScheduledCall}
 use Rattle.job_text.specs.declared.job.ScheduledCall.TheVariants as call
 use Rattle.job_text.specs.declared.job.ScriptStep.{ScriptStep}
 use Rattle.job_text.specs.declared.job.ScriptStep.TheVariants as step
@@ -56,10 +55,8 @@ use Rattle.job_text.specs.declared.job.WaitingStep.TheVariants as waiting
 use Rattle.node_runs.specs.Actions.{Form, Once, Again, Until, Twice, Looks, call_of, ended_by, FormMay, unless, next_call}
 use Rattle.node_runs.specs.Actions.{tried_step}
 use Rattle.node_runs.specs.Scripts.{ThreadCall}
-use Rattle.node_runs.specs.Turn.{node_run, comes, coming, before_try}
+use Rattle.node_runs.specs.Turn.{node_run, coming, before_try}
 use Rattle.script_steps.specs.Forms.{step_form, is_held, begun_handle, sync_of, on_transfers}
-use Rattle.script_steps.specs.Tries.{EndpointJob}
-use Rattle.node_machine.proofs.Happening.{run-append}
 
 -- the locks that are held
 abbrev pub locks_in : Node EndpointLocal → List Held
@@ -74,7 +71,7 @@ reply_keeps : (settings : Parameters) (table : List (Option Entry)) (meaning : M
     (content : Content) (local : Local)
     → (run_reply (handlers_of settings table meaning) contact content local).locks ≡ local.locks
 reply_keeps settings table meaning contact content local =
-    elim (cases_Bool (is_ack (code content.kind))) [ | inl e ↦ rw e refl | inr e ↦ rw e refl ]
+    elim (cases_Bool (is_ack (code content.kind))) [ inl e ↦ rw e refl | inr e ↦ rw e refl ]
 
 delivery_keeps : (settings : Parameters) (table : List (Option Entry)) (meaning : Meaning) (me : ℕ)
     (node : Node EndpointLocal) (message : Message) (found : Verdict)
@@ -89,7 +86,7 @@ tick_keeps : (settings : Parameters) (table : List (Option Entry)) (meaning : Me
     → locks_in (after_tick (site_of (job_of settings table meaning) me) node now choice) ≡ locks_in node
 tick_keeps settings table meaning me now node (Resends due) = refl
 tick_keeps settings table meaning me now node (Sends sending) =
-    elim (cases_Bool (sending.content.handler == note_handler)) [ | inl e ↦ rw e refl | inr e ↦ rw e refl ]
+    elim (cases_Bool (sending.content.handler == note_handler)) [ inl e ↦ rw e refl | inr e ↦ rw e refl ]
 tick_keeps settings table meaning me now node Rests = refl
 
 request_keeps : (settings : Parameters) (table : List (Option Entry)) (meaning : Meaning) (me now : ℕ)
@@ -125,9 +122,9 @@ transfer_keeps : (caller : Caller) (made : TransferCall) (local : EndpointLocal)
 transfer_keeps caller (Begin register transfer) local = begin_keeps caller transfer _ _ local
 transfer_keeps caller (BeginImplicit transfer) local = begin_keeps caller transfer _ _ local
 transfer_keeps caller (SyncImplicit some) local =
-    elim (cases_Bool (has_begun local.regions caller.thread)) [ | inl e ↦ rw e refl | inr e ↦ rw e refl ]
+    elim (cases_Bool (has_begun local.regions caller.thread)) [ inl e ↦ rw e refl | inr e ↦ rw e refl ]
 transfer_keeps caller RegionBegin local =
-    elim (cases_Bool (has_begun local.regions caller.thread)) [ | inl e ↦ rw e refl | inr e ↦ rw e refl ]
+    elim (cases_Bool (has_begun local.regions caller.thread)) [ inl e ↦ rw e refl | inr e ↦ rw e refl ]
 transfer_keeps caller (RegionEnd register) local =
     ended_keeps caller register (region_of local.regions caller.thread) local
 transfer_keeps caller _ local = refl

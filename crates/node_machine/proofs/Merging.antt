@@ -1,8 +1,6 @@
 -- The traces of the nodes of a job are a run of the world.
-use Rattle.std.proofs.Common.{◌≡◌, ℕ, List, refl}
-use Rattle.job_text.specs.JobText.{IsJob}
+use Rattle.std.proofs.Common.{refl}
 use Rattle.job_text.specs.declared.job.Job.{Job as JobState}
-use Rattle.machine.specs.declared.entry.Entry.{Entry}
 use Rattle.node_script.specs.Bodies.{script_meaning}
 use Rattle.node_script.specs.Registration.{registered}
 use Rattle.node_runs.specs.Merged.{Carries}

@@ -1,5 +1,5 @@
 -- A machine before all turns.
-use Rattle.std.proofs.Common.{◌≡◌, inl, inr, ℕ, ◌<◌, ◌≤◌, ◌≢◌, Bool, true, false, ◌&&◌, List, [], ◌∷◌, Option, None, Some}
+use Rattle.std.proofs.Common.{◌≡◌, inl, inr, ℕ, ◌<◌, ◌≤◌, ◌≢◌, Bool, true, false, List, [], ◌∷◌, None, Some}
 use Rattle.std.proofs.Common.{refl, sym, ap, ◌∙◌, subst, slice_get, arith, eqb, ne_eqb, cond, length, length-append}
 use Rattle.std.proofs.Common.{◌+◌, ◌++◌}
 use Rattle.std.specs.List.{AllByRecursion, find}
@@ -20,7 +20,7 @@ use Rattle.node_script.specs.Registration.{registered}
 use Rattle.node_runs.specs.Actions.{Progress}
 use Rattle.node_machine.specs.Cursors.{progress_of, progress_of_all}
 use Rattle.node_machine.specs.declared.cursor.Cursor.{Cursor}
-use Rattle.node_machine.specs.Kept.{MachineKept, no_steps, progress_or_none, own_scripts, CanBeSaid, IsMachine}
+use Rattle.node_machine.specs.Kept.{MachineKept, progress_or_none, CanBeSaid, IsMachine}
 use Rattle.node_machine.specs.Openings.{AreFirst}
 use Rattle.node_machine.specs.States.{NodeStands, opening_state, scripts_at, is_of, steps_or_none, steps_of_thread}
 
@@ -72,12 +72,12 @@ first_push job me count cursors more cursor first is_more is =
             slice_get_kept (progress_of_all cursors) (progress_of cursor) thread (scripts_at job me thread)
             (first.each thread there)
         | inr past ↦ (
-          let same : thread ≡ count = omega (arith, past, low) in
-          let last : thread ≡ length (progress_of_all cursors) = same ∙ sym first.threads in
-          ap (slice_get (progress_of_all cursors ++ progress_of cursor ∷ [])) last
-          ∙ (slice_get_last (progress_of_all cursors) (progress_of cursor)
-          ∙ ap (λ (p : Progress ScriptStep). Some p) (is ∙ ap (scripts_at job me) (sym same)))
-        )
+            let same : thread ≡ count = omega (arith, past, low) in
+            let last : thread ≡ length (progress_of_all cursors) = same ∙ sym first.threads in
+            ap (slice_get (progress_of_all cursors ++ progress_of cursor ∷ [])) last
+            ∙ (slice_get_last (progress_of_all cursors) (progress_of cursor)
+            ∙ ap (λ (p : Progress ScriptStep). Some p) (is ∙ ap (scripts_at job me) (sym same)))
+            )
       ];
     })
 

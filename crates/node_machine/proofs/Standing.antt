@@ -1,6 +1,6 @@
 -- What a machine stands for after a turn.
 use Rattle.std.proofs.Common.{◌≡◌, inl, inr, ℕ, ◌<◌, Bool, true, false, true≢false, cond, ◌||◌, not, List, [], ◌∷◌, map}
-use Rattle.std.proofs.Common.{length, Option, None, Some, refl, sym, ap, ap₂, ◌∙◌, subst, slice_get, arith}
+use Rattle.std.proofs.Common.{length, Option, None, Some, refl, sym, ap, ap₂, ◌∙◌, subst, slice_get}
 use Rattle.std.proofs.Common.{length-set, zero, suc, Bor, option_copied}
 use Rattle.std.specs.Option.{option_map}
 use Rattle.std.specs.Prelude.{is_some, slice_set}
@@ -20,7 +20,6 @@ use Rattle.machine.specs.declared.turns.Turned.{Turned}
 use Rattle.node_record.specs.Record.{Node}
 use Rattle.node_record.specs.SlotMessages.{message_at}
 use Rattle.node_record.specs.declared.answer.SlotRef.{SlotRef}
-use Rattle.am_core.specs.CoreContracts.{IsSameNode}
 use Rattle.endpoint_rules.specs.EndpointLocal.{EndpointLocal}
 use Rattle.endpoint_rules.specs.declared.answer.Answer.{Answer}
 use Rattle.gas_endpoint.specs.Endpoints.{EndpointState, EndpointStands}
@@ -30,9 +29,8 @@ use Rattle.job_text.specs.declared.job.ScriptStep.{ScriptStep}
 use Rattle.node_script.specs.Bodies.{script_meaning}
 use Rattle.node_script.specs.Registration.{registered}
 use Rattle.node_runs.specs.Actions.{Progress, OwnScripts, scripts_of}
-use Rattle.node_runs.specs.Order.{Ranked}
 use Rattle.node_runs.specs.Scripts.{NodeJob}
-use Rattle.node_runs.specs.Turn.{MachineState, Turn, turn, try_of, datagram, is_some_there}
+use Rattle.node_runs.specs.Turn.{MachineState, try_of, datagram, is_some_there}
 use Rattle.node_runs.specs.WorldRun.{endpoint_job}
 use Rattle.node_runs.proofs.Emptying.{empty_turns}
 use Rattle.script_steps.specs.Forms.{step_form}
@@ -40,7 +38,7 @@ use Rattle.script_steps.specs.Laws.{WaitingIsCalm}
 use Rattle.node_machine.specs.Cursors.{progress_of, progress_of_all}
 use Rattle.node_machine.specs.declared.cursor.Cursor.{Cursor}
 use Rattle.node_machine.specs.Machines.{MachineTakes}
-use Rattle.node_machine.specs.Kept.{MachineKept, no_steps, progress_or_none, own_scripts, polls_at, CanBeSaid, IsMachine}
+use Rattle.node_machine.specs.Kept.{MachineKept, progress_or_none, own_scripts, polls_at, CanBeSaid, IsMachine}
 use Rattle.node_machine.specs.States.{NodeState, state_of, script_job, after_turn, turned, datagram_at, as_there}
 use Rattle.node_machine.specs.States.{NodeStands}
 use Rattle.node_machine.specs.Turns.{slots_of, job_at, TurnTaken, turn_by, is_changed, GoesAsTurn, TakesTurn}

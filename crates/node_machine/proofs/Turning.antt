@@ -3,11 +3,10 @@ use Rattle.std.proofs.Common.{◌≡◌, ℕ, Bool, ◌||◌, not, List, [], ◌
 use Rattle.std.proofs.Common.{ap₂, ◌∙◌, subst, suc, arith, cond}
 use Rattle.std.specs.Prelude.{is_some}
 use Rattle.std.specs.List.{AllByRecursion, Contains}
-use Rattle.std.specs.Option.{option_map, option_or, option_to_list}
+use Rattle.std.specs.Option.{option_or, option_to_list}
 use Rattle.std.proofs.lemmas.List.{length-map}
 use Rattle.datagram_grammar.specs.Content.{spelling}
 use Rattle.datagram_grammar.specs.Parameters.{Parameters}
-use Rattle.handler_rules.specs.declared.table.Entry.{Entry}
 use Rattle.handler_rules.specs.Runs.{Meaning, IsLawfulMeaning}
 use Rattle.hsl_locks.specs.declared.answer.Owner.TheVariants as owner
 use Rattle.hsl_locks.specs.Locks.{holds}
@@ -20,25 +19,25 @@ use Rattle.endpoint_rules.specs.EndpointLocal.{EndpointLocal, IsEndpointKept}
 use Rattle.endpoint_rules.specs.EndpointRules.{job_of}
 use Rattle.endpoint_rules.specs.declared.answer.Answer.{Answer}
 use Rattle.endpoint_rules.proofs.Sound.{rules_sound}
-use Rattle.gas_endpoint.specs.Endpoints.{EndpointState, EndpointStands, ForItsRecord, job_here}
+use Rattle.gas_endpoint.specs.Endpoints.{EndpointState, EndpointStands, ForItsRecord}
 use Rattle.job_text.specs.Scripts.{IsStep}
 use Rattle.job_text.specs.declared.job.ScriptStep.{ScriptStep}
 use Rattle.node_runs.specs.Actions.{Progress, OwnScripts, tried_step}
 use Rattle.node_runs.specs.Laws.{GotBytes}
 use Rattle.node_runs.specs.Outgoing.{slot_of, SentStands}
 use Rattle.node_runs.specs.Scripts.{NodeJob, Tried as FormTried}
-use Rattle.node_runs.specs.Turn.{MachineState, before_try, first_events, as_tried, turn_events, tried_answer, try_of}
-use Rattle.node_runs.specs.Turn.{node_run, node_sends, is_some_there, datagram, receiver, message_of}
+use Rattle.node_runs.specs.Turn.{MachineState, before_try, first_events, as_tried, turn_events, tried_answer}
+use Rattle.node_runs.specs.Turn.{node_run, is_some_there, datagram, receiver, message_of}
 use Rattle.node_runs.proofs.Outgoings.{sent_stand, turns_come_first}
 use Rattle.script_steps.specs.Forms.{step_form}
-use Rattle.script_steps.specs.Tries.{EndpointJob, HasHappened, Happen}
+use Rattle.script_steps.specs.Tries.{HasHappened, Happen}
 use Rattle.script_steps.specs.declared.trial.Tried.{Tried}
 use Rattle.node_machine.specs.Kept.{CanBeSaid}
 use Rattle.node_machine.specs.Parts.{at_once}
 use Rattle.node_machine.specs.Scripted.{NextTrial, TriesNext, after_next, answer_of_next, events_of_next, as_said}
 use Rattle.node_machine.specs.Scripted.{progress_after}
 use Rattle.node_machine.specs.States.{datagram_at, as_there}
-use Rattle.node_machine.specs.Turns.{slots_of, job_at, TurnTaken, turn_by, is_changed, GoesAsTurn, TakesTurn}
+use Rattle.node_machine.specs.Turns.{slots_of, job_at, TurnTaken, turn_by, GoesAsTurn, TakesTurn}
 use Rattle.node_machine.specs.declared.turn.Done.{Done}
 use Rattle.node_machine.proofs.Happening.{happen_then, at_same, same_after, run-append}
 use Rattle.node_machine.proofs.Locks.{turn_keeps}

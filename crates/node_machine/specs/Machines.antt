@@ -1,6 +1,6 @@
 -- What a turn does to a machine, but for what it keeps of the turn.
 -- Origin: this project's profile.
-use Rattle.std.specs.Prelude.{ℕ, ◌≡◌, Bool, true, false, if◌then◌else◌, length, is_some}
+use Rattle.std.specs.Prelude.{ℕ, ◌≡◌, true, false, if◌then◌else◌, length, is_some}
 use Rattle.machine.specs.declared.turns.Turned.{Turned}
 use Rattle.node_machine.specs.Kept.{MachineKept, polls_at}
 use Rattle.node_machine.specs.States.{NodeState, NodeStands, after_turn, turned}

@@ -1,6 +1,6 @@
 -- The try of a thread's next step, by what is left of its script.
 -- Origin: this project's profile.
-use Rattle.std.specs.Prelude.{ℕ, ◌≡◌, Bool, if◌then◌else◌, List, [], ◌∷◌, Option, None, Some, is_some}
+use Rattle.std.specs.Prelude.{ℕ, ◌≡◌, if◌then◌else◌, List, [], ◌∷◌, Option, None, is_some}
 use Rattle.std.specs.Option.{option_map, option_or, option_to_list}
 use Rattle.handler_rules.specs.Runs.{Meaning}
 use Rattle.node_record.specs.NodeStep.{node_answer}
@@ -15,7 +15,7 @@ use Rattle.node_runs.specs.Actions.{Progress, next_call, tried_step}
 use Rattle.node_runs.specs.Scripts.{ThreadCall, Tried as FormTried}
 use Rattle.node_runs.specs.Turn.{node_run}
 use Rattle.script_steps.specs.Forms.{step_form}
-use Rattle.script_steps.specs.Tries.{EndpointJob, Happen, Happening}
+use Rattle.script_steps.specs.Tries.{EndpointJob, Happen}
 use Rattle.script_steps.specs.declared.trial.Tried.{Tried}
 
 -- a try of the next step of a thread's script, of which this is left

@@ -1,18 +1,16 @@
 -- What a turn of a thread does to the endpoint of its node, and to the thread's script.
 -- Origin: this project's profile.
-use Rattle.std.specs.Prelude.{ℕ, ◌≡◌, ◌||◌, Bool, List, [], ◌∷◌, ◌++◌, length, map, Option, None, Some, is_some}
+use Rattle.std.specs.Prelude.{ℕ, ◌≡◌, ◌||◌, Bool, List, ◌++◌, length, map, Option, None, is_some}
 use Rattle.std.specs.Option.{option_to_list}
 use Rattle.handler_rules.specs.Runs.{Meaning}
 use Rattle.lists.specs.Put.{put}
-use Rattle.machine.specs.declared.turns.Turned.{Turned}
 use Rattle.node_record.specs.declared.answer.SlotRef.{SlotRef}
 use Rattle.am_core.specs.CoreContracts.{IsSameNode}
 use Rattle.endpoint_rules.specs.EndpointLocal.{EndpointLocal}
-use Rattle.endpoint_rules.specs.declared.answer.Answer.{Answer}
 use Rattle.gas_endpoint.specs.Endpoints.{EndpointState, EndpointStands}
 use Rattle.job_text.specs.declared.job.ScriptStep.{ScriptStep}
 use Rattle.node_runs.specs.Actions.{Progress, OwnScripts, scripts_of}
-use Rattle.node_runs.specs.Scripts.{NodeJob, Tried as FormTried}
+use Rattle.node_runs.specs.Scripts.{NodeJob}
 use Rattle.node_runs.specs.Turn.{MachineState, Turn, turn, try_of, datagram, is_some_there}
 use Rattle.node_runs.specs.WorldRun.{endpoint_job}
 use Rattle.script_steps.specs.Forms.{step_form}

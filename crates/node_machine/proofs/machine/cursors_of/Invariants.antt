@@ -1,5 +1,4 @@
 -- The threads so far are at the first steps of their scripts.
-use Rattle.std.proofs.Common.{◌≡◌}
 use Rattle.node_machine.specs.Cursors.{progress_of_all}
 use Rattle.node_machine.specs.Openings.{AreFirst}
 use Rattle.node_machine.proofs.machine.cursors_of.Given as goal
