@@ -1,16 +1,23 @@
 -- The traces of the nodes of a job are a run of the world.
-use Rattle.std.proofs.Common.{refl}
+use Rattle.std.proofs.Common.{◌≡◌, ℕ, zero, suc, ◌+◌, List, [], ◌∷◌, map, Some, refl, ap, ◌∙◌, arith, slice_get}
+use Rattle.std.specs.Option.{option_map}
+use Rattle.endpoint_rules.specs.EndpointLocal.{EndpointLocal}
 use Rattle.job_text.specs.declared.job.Job.{Job as JobState}
+use Rattle.job_text.specs.declared.job.ScriptStep.{ScriptStep}
+use Rattle.machine.specs.Replay.{after_entry, replayed}
+use Rattle.machine.specs.declared.entry.Entry.{Entry}
 use Rattle.node_script.specs.Bodies.{script_meaning}
 use Rattle.node_script.specs.Registration.{registered}
-use Rattle.node_runs.specs.Merged.{Carries}
-use Rattle.node_runs.specs.Order.{job_steps}
+use Rattle.node_runs.specs.Actions.{OwnScripts}
+use Rattle.node_runs.specs.Merged.{Carries, carried, nodes_from}
+use Rattle.node_runs.specs.Order.{Ranked, job_steps}
+use Rattle.node_runs.specs.WorldRun.{opening_machines}
 use Rattle.node_runs.proofs.WorldRuns.{states_run}
 use Rattle.script_laws.proofs.Bodies.{job_fits}
 use Rattle.script_steps.specs.Forms.{step_form}
 use Rattle.script_steps.specs.Laws.{StepsFit}
-use Rattle.node_machine.specs.Laws.{AreTracesARun}
-use Rattle.node_machine.specs.States.{script_job, state_of, scripts_at, state_steps}
+use Rattle.node_machine.specs.Laws.{AreTracesARun, NodesOpen, StatesReplay, opening_node}
+use Rattle.node_machine.specs.States.{NodeState, script_job, state_of, scripts_at, state_steps}
 use Rattle.node_machine.proofs.Opening.{steps_said}
 
 -- what is known of the states is what is known of the records with the scripts
@@ -30,3 +37,35 @@ traces_run fit job traces ranks is few reaches =
     (λ node. fit (scripts_at job node)
     (λ thread. steps_said job.settings.nodes job.settings.threads job.scripts node thread is.scripts))
     few (states_carry job) reaches
+
+-- ---- the nodes before all turns, and the replays of their traces
+
+node_at : (job : JobState) (first node : ℕ) (traces : List (List Entry))
+    → slice_get (map (carried (state_of job))
+    (nodes_from (opening_machines job.settings (scripts_at job)) first traces)) node
+    ≡ option_map (opening_node job (first + node)) (slice_get traces node)
+node_at job first node [] = refl
+node_at job first zero (trace ∷ traces) =
+    let same : first ≡ first + 0 = omega arith in
+    ap (λ (me : ℕ). Some (opening_node job me trace)) same
+node_at job first (suc node) (trace ∷ traces) =
+    let same : (first + 1) + node ≡ first + suc node = omega arith in
+    node_at job (first + 1) node traces
+    ∙ ap (λ (me : ℕ). option_map (opening_node job me) (slice_get traces node)) same
+
+pub nodes_open : NodesOpen
+nodes_open job traces node =
+    let same : 0 + node ≡ node = omega arith in
+    node_at job 0 node traces ∙ ap (λ (me : ℕ). option_map (opening_node job me) (slice_get traces node)) same
+
+replay_is : (job : JobState) (ranked : Ranked EndpointLocal (OwnScripts ScriptStep)) (entries : List Entry)
+    → replayed state_steps (state_of job ranked) entries
+    ≡ state_of job (replayed (job_steps (script_job job)) ranked entries)
+replay_is job ranked [] = refl
+replay_is job ranked (entry ∷ entries) =
+    replay_is job (after_entry (job_steps (script_job job)) ranked entry) entries
+
+pub states_replay : StatesReplay
+states_replay job me entries =
+    ap (λ (state : NodeState). state.ranked.state)
+    (replay_is job (record { me = me; state = opening_machines job.settings (scripts_at job) me }) entries)

@@ -1,8 +1,10 @@
 -- The traces of the nodes of a job that was read, in an order in which they can go, are a run of the world.
 -- Origin: this project's profile.
 use Rattle.std.specs.Prelude.{ℕ, ◌≡◌, ◌≤◌, List, length, map, Some, slice_get}
+use Rattle.std.specs.Option.{option_map}
 use Rattle.machine.specs.declared.entry.Entry.{Entry}
 use Rattle.machine.specs.Fronts.{Node, start, full, Reaches}
+use Rattle.machine.specs.Replay.{replayed}
 use Rattle.plain_world.specs.World.{Timed}
 use Rattle.endpoint_rules.specs.EndpointRules.{OtherCall}
 use Rattle.job_text.specs.JobText.{IsJob}
@@ -12,14 +14,32 @@ use Rattle.node_script.specs.Registration.{registered}
 use Rattle.node_runs.specs.Actions.{scripts_of}
 use Rattle.node_runs.specs.Laws.{nodes_with}
 use Rattle.node_runs.specs.Merged.{carried, order_of}
-use Rattle.node_runs.specs.Order.{NodeEntry, own_entries}
-use Rattle.node_runs.specs.WorldRun.{IsWorldRun}
+use Rattle.node_runs.specs.Order.{NodeEntry, own_entries, replay}
+use Rattle.node_runs.specs.WorldRun.{IsWorldRun, opening_machines}
 use Rattle.script_steps.specs.Forms.{step_form}
-use Rattle.node_machine.specs.States.{NodeState, state_of, scripts_at, state_steps}
+use Rattle.node_machine.specs.States.{NodeState, state_of, script_job, scripts_at, state_steps, opening_state}
 
 -- the nodes of a job before all turns, each with its trace: the node of rank i is in its opening state
 abbrev pub nodes_of : JobState → (traces : List (List Entry)) → List (Node NodeState)
 nodes_of job traces = map (carried (state_of job)) (nodes_with job.settings (scripts_at job) traces)
+
+-- the node of this rank before all turns, with its trace
+abbrev pub opening_node : JobState → (me : ℕ) → (trace : List Entry) → Node NodeState
+opening_node job me trace = record { state = opening_state job me; entries = trace }
+
+-- so each of them is, of which there is a trace
+abbrev pub NodesOpen : Type 0
+NodesOpen =
+    (job : JobState) (traces : List (List Entry)) (node : ℕ)
+    → slice_get (nodes_of job traces) node ≡ option_map (opening_node job node) (slice_get traces node)
+
+-- the state after the entries of a trace is the replay of the node's record and scripts by `node_runs`, in which what a
+-- run of the world leaves each node is told
+abbrev pub StatesReplay : Type 0
+StatesReplay =
+    (job : JobState) (me : ℕ) (entries : List Entry)
+    → (replayed state_steps (opening_state job me) entries).ranked.state
+    ≡ replay (script_job job) me (opening_machines job.settings (scripts_at job) me) entries
 
 -- the order of the entries that a list of ranks gives
 abbrev pub order_by : JobState → (traces : List (List Entry)) → (ranks : List ℕ) → List NodeEntry

@@ -13,7 +13,8 @@
 //!   state, and what was outgoing [`empty`].
 //! - `NodeMachine::new` stands for the node's opening state [`stands`]; want of memory is its one error.
 //! - `traces_law` [`run`]: where the entries of the traces of a job's nodes can go one after another, over such states, they
-//!   are a run of the world with all that holds of one (`IsWorldRun`).
+//!   are a run of the world with all that holds of one (`IsWorldRun`); [`opens`] the nodes begin as new machines do; [`replays`]
+//!   what a machine stands for after its trace is what that run leaves its node.
 #![tactic(auto)]
 
 mod cursor;
