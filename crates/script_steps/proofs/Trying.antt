@@ -107,7 +107,7 @@ pub record Calls (old : EndpointState) (trial : FormTrial) (tried : Tried) (made
         tried.began ≡ begun_by (trial.form node) trial.began tried.ended (Some made.answer))
 
 -- of a call that a form makes
-CallOf : (meaning : Meaning) (old : EndpointState) (trial : FormTrial) (tried : Tried) (new : EndpointState)
+abbrev pub CallOf : (meaning : Meaning) (old : EndpointState) (trial : FormTrial) (tried : Tried) (new : EndpointState)
     (node : Node EndpointLocal) → Option ThreadCall → Type 0
 CallOf meaning old trial tried new node call =
     let job = job_here meaning old in
@@ -122,7 +122,7 @@ CallOf meaning old trial tried new node call =
     × (tried.began ≡ begun_by (trial.form node) trial.began tried.ended answer)
 
 -- so the try went
-goes_so : (meaning : Meaning) (old new : EndpointState) (trial : FormTrial) (tried : Tried)
+pub goes_so : (meaning : Meaning) (old new : EndpointState) (trial : FormTrial) (tried : Tried)
     → IsSameNode old.core new.core
     → ForItsRecord old (λ node. CallOf meaning old trial tried new node (trial_call trial node))
     → TriesForm meaning old trial tried new
