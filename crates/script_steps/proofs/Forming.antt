@@ -189,8 +189,8 @@ pub tries_alike : (meaning : Meaning) (old new : EndpointState) (trial : Trial)
 tries_alike meaning old new trial form other tried alike tries =
     goes_so meaning old new (read_as trial other) tried tries.happen.same
     (λ node stands.
-        let happened = tries.happen.happened node stands in
-        let went = tries.went node stands in
-        subst (λ (one : Form EndpointLocal).
-            CallOf meaning old (read_as trial (λ x. one)) tried new node (call_of one trial.began)) (sym (alike node))
-        (happened.stands, happened.slots_are, happened.well, went.ended, went.began))
+    let happened = tries.happen.happened node stands in
+    let went = tries.went node stands in
+    subst (λ (one : Form EndpointLocal).
+    CallOf meaning old (read_as trial (λ x. one)) tried new node (call_of one trial.began)) (sym (alike node))
+    (happened.stands, happened.slots_are, happened.well, went.ended, went.began))

@@ -9,13 +9,15 @@ use Rattle.script_steps.proofs.tries.attempt.Goals as goal
 pub returns-in-Call : goal.returns-in-Call
 returns-in-Call g c = record {
   tries = tries_step _ _ _ _ _
-      (subst (λ (one : ScriptStep). TriesForm _ _ (read_as c.args.trial.now (step_form one)) _ _) (sym c.in-Call.is)
-      c.try_call.ensures);
+      (subst (λ (one : ScriptStep). TriesForm (g.H.Handlers.meaning c.args.handlers.now) c.args.endpoint.now
+      (read_as c.args.trial.now (step_form one)) c.try_call.result c.try_call.new.endpoint)
+      (sym c.in-Call.is) c.try_call.ensures);
 }
 
 pub returns-in-Waiting : goal.returns-in-Waiting
 returns-in-Waiting g c = record {
   tries = tries_step _ _ _ _ _
-      (subst (λ (one : ScriptStep). TriesForm _ _ (read_as c.args.trial.now (step_form one)) _ _)
+      (subst (λ (one : ScriptStep). TriesForm (g.H.Handlers.meaning c.args.handlers.now) c.args.endpoint.now
+      (read_as c.args.trial.now (step_form one)) c.try_waiting.result c.try_waiting.new.endpoint)
       (sym c.in-Waiting.is) c.try_waiting.ensures);
 }

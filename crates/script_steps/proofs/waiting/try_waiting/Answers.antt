@@ -9,10 +9,11 @@ use Rattle.script_steps.proofs.waiting.try_waiting.Goals as goal
 
 pub returns-in-Transfer : goal.returns-in-Transfer
 returns-in-Transfer g c =
-    subst (λ (one : WaitingStep). TriesForm _ _
-        (read_as c.args.trial.now (λ node. waiting_form node.local.core.cells one)) _ _)
+    subst (λ (one : WaitingStep). TriesForm (g.H.Handlers.meaning c.args.handlers.now) c.args.endpoint.now
+    (read_as c.args.trial.now (λ node. waiting_form node.local.core.cells one)) c.try_transfer.result
+    c.try_transfer.new.endpoint)
     (ap waiting.Transfer c.text.ensures ∙ sym c.in-Transfer.is) c.try_transfer.ensures
 
 pub returns-in-PutBegin : goal.returns-in-PutBegin
 returns-in-PutBegin g c =
-    tries_alike _ _ _ _ _ _ _ (λ node. c.put_call.ensures.form node.local.core.cells) c.try_put.ensures
+    tries_alike _ _ _ c.args.trial.now _ _ _ (λ node. c.put_call.ensures.form node.local.core.cells) c.try_put.ensures
