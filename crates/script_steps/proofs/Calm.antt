@@ -116,7 +116,8 @@ held_after : (locks : List Held) (by : Owner) (lock : ℕ) → lock_answer locks
 held_after locks by lock e = go (lock_answer locks by lock 0) e
   where
     go : (says : LockAnswer) → says ≡ locking.Held
-        → (elim says [ | locking.Taken ↦ locks ++ record { lock = lock; owner = by } ∷ []
+        → (elim says [
+          | locking.Taken ↦ locks ++ record { lock = lock; owner = by } ∷ []
           | locking.Held ↦ locks
           | locking.Refused why ↦ locks
         ]) ≡ locks
@@ -132,7 +133,7 @@ lock_leaves place node lock e =
     held_is (lock_answer core.locks (owner.Thread place.thread) lock 0) e in
     ap (λ (kept : Local). with_local node (with_core node.local kept))
     (ap (λ (locks : List Held). with_locks locks
-        (with_violations place.thread (lock_refusal (lock_answer core.locks (owner.Thread place.thread) lock 0)) core))
+    (with_violations place.thread (lock_refusal (lock_answer core.locks (owner.Thread place.thread) lock 0)) core))
     (held_after core.locks (owner.Thread place.thread) lock held)
     ∙ (ap (λ (says : LockAnswer). with_violations place.thread (lock_refusal says) core) held
     ∙ ap (λ (violations : List Violation). record core { violations = violations }) (append-nil core.violations)))
@@ -233,9 +234,9 @@ sync_implicit_waits some = record {
   leaves = λ caller local e.
       implicit_leaves (has_begun local.regions caller.thread) local _
       (λ not_ready. synced_leaves local
-          (λ says. record local {
-            operations = left_by says (implicit_of caller.thread some) local.operations;
-          }) _ refl not_ready)
+      (λ says. record local {
+        operations = left_by says (implicit_of caller.thread some) local.operations;
+      }) _ refl not_ready)
       e;
 }
 
@@ -263,7 +264,7 @@ barrier_leaves place node id flags e =
     (judged_leaves behaviour place.thread (behaviour.judges place.thread kinds.Barrier node.local) node.local
     (with_barrier node.local (barrier_does caller (TryBarrier id flags) node.local.barrier))
     (λ not_ready. ap (λ (kept : BarrierRecord). record node.local { barrier = kept })
-        (tried_leaves node.local.barrier _ not_ready)) e)
+    (tried_leaves node.local.barrier _ not_ready)) e)
 
 -- ---- steps
 

@@ -4,31 +4,35 @@ use Rattle.std.specs.Prelude.{is_some, not}
 use Rattle.handler_rules.specs.Runs.{Meaning}
 use Rattle.node_record.specs.Record.{Node}
 use Rattle.put_get.specs.declared.operation.Handle.{Handle}
+use Rattle.put_get.specs.declared.operation.Transfer.{Transfer}
 use Rattle.endpoint_rules.specs.EndpointLocal.{EndpointLocal}
 use Rattle.endpoint_rules.specs.Sends.{sends}
+use Rattle.endpoint_rules.specs.TransferCalls.{Begin}
 use Rattle.endpoint_rules.specs.declared.answer.Answer.{Answer}
 use Rattle.gas_endpoint.specs.Endpoints.{EndpointState, EndpointStands, ForItsRecord}
 use Rattle.job_text.specs.declared.job.ScheduledCall.{ScheduledCall}
 use Rattle.job_text.specs.declared.job.ScheduledCall.TheVariants as call
+use Rattle.job_text.specs.declared.job.TransferText.{TransferText}
+use Rattle.job_text.specs.declared.job.WaitingStep.TheVariants as waiting
 use Rattle.node_runs.specs.Actions.{Form, Once, Again, Until, Twice, Looks, call_of, ended_by, begins, unless}
 use Rattle.node_runs.specs.Scripts.{ThreadCall}
-use Rattle.node_script.specs.ScheduledCalls.{meant_by}
-use Rattle.script_steps.specs.Forms.{call_form, waits_at, begun_handle, sync_of, is_not_ready, as_synced, is_sent}
+use Rattle.node_script.specs.ScheduledCalls.{meant_by, transfer_of}
+use Rattle.script_steps.specs.Forms.{call_form, waiting_form, waits_at, begun_handle, as_synced, on_transfers}
 use Rattle.script_steps.specs.Tries.{Made, Makes, FormTrial, TriesForm, read_as, begun_by, trial_call}
 use Rattle.script_steps.specs.declared.trial.Trial.{Trial}
 use Rattle.script_steps.specs.declared.trial.Tried.{Tried}
-use Rattle.script_steps.proofs.Trying.{Calls, tries_call, tries_nothing}
+use Rattle.script_steps.proofs.Trying.{CallOf, goes_so, tries_call}
 
 -- a call of the trial's thread
-pub made_by : Trial → ThreadCall → Answer → Made
+abbrev pub made_by : Trial → ThreadCall → Answer → Made
 made_by trial meant answer =
     record { now = trial.time; thread = trial.thread; meant = meant; answer = answer }
 
 -- what a try tells whose call was answered so
-pub ended_with : (waits : Bool) → (call step : Answer) → Tried
+abbrev pub ended_with : (waits : Bool) → (call step : Answer) → Tried
 ended_with waits call step = record { sent = sends call; ended = unless waits step; began = None }
 
-pub begun_with : Answer → Tried
+abbrev pub begun_with : Answer → Tried
 begun_with answer = record { sent = sends answer; ended = None; began = Some answer }
 
 -- ---- calls that a schedule has, too
@@ -134,43 +138,59 @@ tries_scheduled meaning old new trial one meant answer waits tried makes meant_i
 
 -- ---- blocking transfers
 
--- the form of one that begins with this call
-pub transfer_form : ThreadCall → Form EndpointLocal
-transfer_form begin = Twice begin sync_of is_not_ready as_synced
-
--- its first try, where an operation began that is under way
-pub transfer_begun : (meaning : Meaning) (old new : EndpointState) (trial : Trial) (begin : ThreadCall)
-    (answer : Answer) (handle : Handle) (tried : Tried)
-    → Makes meaning old (made_by trial begin answer) new → trial.began ≡ None
-    → begun_handle answer ≡ Some handle → tried ≡ begun_with answer
-    → TriesForm meaning old (read_as trial (λ node. Twice begin sync_of is_not_ready as_synced)) tried new
-transfer_begun meaning old new trial begin answer handle tried makes none under_way tried_is =
-    tries_call meaning old new (read_as trial (λ node. Twice begin sync_of is_not_ready as_synced)) tried
-    (made_by trial begin answer) makes
+-- its first try, where an operation is under way
+pub transfer_begun : (meaning : Meaning) (old new : EndpointState) (trial : Trial) (text : TransferText)
+    (made : Transfer) (answer : Answer) (handle : Handle) (tried : Tried)
+    → Makes meaning old (made_by trial (on_transfers (Begin None made)) answer) new → made ≡ transfer_of text
+    → trial.began ≡ None → begun_handle answer ≡ Some handle → tried ≡ begun_with answer
+    → TriesForm meaning old
+    (read_as trial (λ node. waiting_form node.local.core.cells (waiting.Transfer text))) tried new
+transfer_begun meaning old new trial text made answer handle tried makes made_is none under_way tried_is =
+    tries_call meaning old new
+    (read_as trial (λ node. waiting_form node.local.core.cells (waiting.Transfer text))) tried
+    (made_by trial (on_transfers (Begin None made)) answer) makes
     (record {
       now_is = refl;
       thread_is = refl;
-      call_is = λ node stands. rw none refl;
+      call_is = λ node stands. rw (none, made_is) refl;
       sent = ap (λ (t : Tried). t.sent) tried_is;
-      ended = λ node after stands stands_after. ap (λ (t : Tried). t.ended) tried_is ∙ rw (none, under_way) refl;
+      ended = λ node after stands stands_after. rw (none, under_way, tried_is) refl;
       began = λ node stands. rw (none, tried_is) refl;
     })
 
--- its first try, where none did
-pub transfer_not_begun : (meaning : Meaning) (old new : EndpointState) (trial : Trial) (begin : ThreadCall)
-    (answer said : Answer) (tried : Tried)
-    → Makes meaning old (made_by trial begin answer) new → trial.began ≡ None
-    → begun_handle answer ≡ None → said ≡ as_synced answer → tried ≡ ended_with false answer said
-    → TriesForm meaning old (read_as trial (λ node. Twice begin sync_of is_not_ready as_synced)) tried new
-transfer_not_begun meaning old new trial begin answer said tried makes none none_begun said_is tried_is =
-    tries_call meaning old new (read_as trial (λ node. Twice begin sync_of is_not_ready as_synced)) tried
-    (made_by trial begin answer) makes
+-- its first try, where none is
+pub transfer_not_begun : (meaning : Meaning) (old new : EndpointState) (trial : Trial) (text : TransferText)
+    (made : Transfer) (answer said : Answer) (tried : Tried)
+    → Makes meaning old (made_by trial (on_transfers (Begin None made)) answer) new → made ≡ transfer_of text
+    → trial.began ≡ None → begun_handle answer ≡ None → said ≡ as_synced answer
+    → tried ≡ ended_with false answer said
+    → TriesForm meaning old
+    (read_as trial (λ node. waiting_form node.local.core.cells (waiting.Transfer text))) tried new
+transfer_not_begun meaning old new trial text made answer said tried makes made_is none none_begun said_is tried_is =
+    tries_call meaning old new
+    (read_as trial (λ node. waiting_form node.local.core.cells (waiting.Transfer text))) tried
+    (made_by trial (on_transfers (Begin None made)) answer) makes
     (record {
       now_is = refl;
       thread_is = refl;
-      call_is = λ node stands. rw none refl;
+      call_is = λ node stands. rw (none, made_is) refl;
       sent = ap (λ (t : Tried). t.sent) tried_is;
-      ended = λ node after stands stands_after.
-          ap (λ (t : Tried). t.ended) tried_is ∙ (ap (λ (a : Answer). Some a) said_is ∙ rw (none, none_begun) refl);
+      ended = λ node after stands stands_after. rw (none, none_begun, tried_is, said_is) refl;
       began = λ node stands. rw (none, tried_is) refl;
     })
+
+-- ---- forms that are alike
+
+-- where each record gives the same form, the tries are the same
+pub tries_alike : (meaning : Meaning) (old new : EndpointState) (trial : Trial)
+    (form other : Node EndpointLocal → Form EndpointLocal) (tried : Tried)
+    → ((node : Node EndpointLocal) → other node ≡ form node)
+    → TriesForm meaning old (read_as trial form) tried new → TriesForm meaning old (read_as trial other) tried new
+tries_alike meaning old new trial form other tried alike tries =
+    goes_so meaning old new (read_as trial other) tried tries.happen.same
+    (λ node stands.
+    let happened = tries.happen.happened node stands in
+    let went = tries.went node stands in
+    subst (λ (one : Form EndpointLocal).
+    CallOf meaning old (read_as trial (λ x. one)) tried new node (call_of one trial.began)) (sym (alike node))
+    (happened.stands, happened.slots_are, happened.well, went.ended, went.began))

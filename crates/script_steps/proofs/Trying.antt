@@ -84,8 +84,8 @@ call_made meaning old new made steps sent =
               well = (
                 well_of old node stands,
                 at_same old.core new.core
-                (λ (settings : Parameters) (me : ℕ). NodeInvariant settings (IsEndpointKept settings) me after)
-                steps.same (well_of new after it.1),
+                    (λ (settings : Parameters) (me : ℕ). NodeInvariant settings (IsEndpointKept settings) me after)
+                    steps.same (well_of new after it.1),
               );
             };
       };
@@ -107,14 +107,14 @@ pub record Calls (old : EndpointState) (trial : FormTrial) (tried : Tried) (made
         tried.began ≡ begun_by (trial.form node) trial.began tried.ended (Some made.answer))
 
 -- of a call that a form makes
-CallOf : (meaning : Meaning) (old : EndpointState) (trial : FormTrial) (tried : Tried) (new : EndpointState)
+abbrev pub CallOf : (meaning : Meaning) (old : EndpointState) (trial : FormTrial) (tried : Tried) (new : EndpointState)
     (node : Node EndpointLocal) → Option ThreadCall → Type 0
 CallOf meaning old trial tried new node call =
     let job = job_here meaning old in
     let events = option_to_list (option_map (node_event trial.thread) call) in
     let after = node_run job old.core.me trial.now events node in
     let answer = option_map
-        (λ call. told (node_answer job old.core.me node trial.now (node_event trial.thread call))) call in
+    (λ call. told (node_answer job old.core.me node trial.now (node_event trial.thread call))) call in
     EndpointStands new after
     × (option_to_list tried.sent ≡ map slot_of (node_sends job old.core.me trial.now events node))
     × StaysWell job (IsEndpointKept job.settings) old.core.me trial.now events node
@@ -122,7 +122,7 @@ CallOf meaning old trial tried new node call =
     × (tried.began ≡ begun_by (trial.form node) trial.began tried.ended answer)
 
 -- so the try went
-goes_so : (meaning : Meaning) (old new : EndpointState) (trial : FormTrial) (tried : Tried)
+pub goes_so : (meaning : Meaning) (old new : EndpointState) (trial : FormTrial) (tried : Tried)
     → IsSameNode old.core new.core
     → ForItsRecord old (λ node. CallOf meaning old trial tried new node (trial_call trial node))
     → TriesForm meaning old trial tried new
@@ -156,11 +156,11 @@ tries_call meaning old new trial tried made makes calls =
           ap option_to_list calls.sent ∙ happened.slots_are,
           happened.well,
           calls.ended node _ stands happened.stands
-          ∙ ap (λ (answer : Answer). ended_by (trial.form node) trial.began
+              ∙ ap (λ (answer : Answer). ended_by (trial.form node) trial.began
               (node_after (job_here meaning old) old.core.me node made.now (node_event made.thread made.meant))
               (Some answer)) answered,
           calls.began node stands
-          ∙ ap (λ (answer : Answer). begun_by (trial.form node) trial.began tried.ended (Some answer)) answered,
+              ∙ ap (λ (answer : Answer). begun_by (trial.form node) trial.began tried.ended (Some answer)) answered,
         )))
 
 none_begun : (starts : Bool) → cond {A = Option Answer} starts None None ≡ None
@@ -216,8 +216,8 @@ went_by : (step : ScriptStep) (rest : List ScriptStep) (starts : Bool) (began en
 went_by step rest true None None answer says =
     let it = says refl refl in
     subst (λ (o : Option Answer). ◌≡◌ {A = FormTried (Progress ScriptStep)}
-        (record { left = record { left = step ∷ rest; began = o }; ended = None; began = true })
-        (record { left = record { left = step ∷ rest; began = option_or o None }; ended = None; began = is_some o }))
+    (record { left = record { left = step ∷ rest; began = o }; ended = None; began = true })
+    (record { left = record { left = step ∷ rest; began = option_or o None }; ended = None; began = is_some o }))
     (sym it.1) refl
 went_by step rest true None (Some end) answer says = refl
 went_by step rest true (Some first) None answer says = refl
@@ -236,18 +236,18 @@ told_so : (form : Form EndpointLocal) (trial : Trial) (tried : Tried) (after : N
 told_so form trial tried after answer ended began says rest =
     let step = trial.step.now in
     let by_end : Option Answer → FormTried (Progress ScriptStep) = λ end.
-        record {
-          left = progress_after form step rest trial.began end answer;
-          ended = end;
-          began = begins form && is_none trial.began && is_none end;
-        } in
+    record {
+      left = progress_after form step rest trial.began end answer;
+      ended = end;
+      began = begins form && is_none trial.began && is_none end;
+    } in
     let as_told : (end begun : Option Answer) → FormTried (Progress ScriptStep) = λ end begun.
-        record {
-          left = cond {A = Progress ScriptStep} (is_some end) (record { left = rest; began = None })
-              (record { left = step ∷ rest; began = option_or begun trial.began });
-          ended = end;
-          began = is_some begun;
-        } in
+    record {
+      left = cond {A = Progress ScriptStep} (is_some end) (record { left = rest; began = None })
+          (record { left = step ∷ rest; began = option_or begun trial.began });
+      ended = end;
+      began = is_some begun;
+    } in
     ap by_end (sym ended)
     ∙ (went_by step rest (begins form) trial.began tried.ended answer says
     ∙ ap (as_told tried.ended) (sym began))
@@ -275,5 +275,5 @@ tries_step meaning old new trial tried tries =
       told (node_answer job me node trial.time (node_event trial.thread call.0)),
       ap (λ (o : Option Answer). option_map
           (λ call. told (node_answer job me node trial.time (node_event trial.thread call))) (call_of form o)) none
-      ∙ ap (option_map (λ call. told (node_answer job me node trial.time (node_event trial.thread call)))) call.1,
+          ∙ ap (option_map (λ call. told (node_answer job me node trial.time (node_event trial.thread call)))) call.1,
     )

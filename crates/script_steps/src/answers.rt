@@ -16,10 +16,7 @@ use put_get::{Handle, Synced};
 fn is_put_off(answer: &Answer) -> bool
     ensures { result ≡ is_put_off answer.now }
 {
-    matches!(
-        answer,
-        Answer::Asked(Asked::NotYet | Asked::LockBusy(_))
-    )
+    matches!(answer, Answer::Asked(Asked::NotYet | Asked::LockBusy(_)))
 }
 
 /// Whether another one holds the lock.

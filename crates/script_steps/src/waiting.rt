@@ -31,7 +31,7 @@ pub(crate) fn try_until<H: Handlers>(
     requires { trial.now.thread < endpoint.old.core.settings.threads }
     ensures { TriesForm (H.meaning handlers.now) endpoint.old
         (read_as trial.now (λ node.
-            waiting_form node.local.core.cells (WaitingStep.Until cell operand)))
+        waiting_form node.local.core.cells (WaitingStep.Until cell operand)))
         result endpoint.new }
 {
     let value = value_of(operand, endpoint.cells(), &[]);
@@ -54,7 +54,7 @@ fn begin_transfer<H: Handlers>(
     requires first { trial.now.began ≡ None }
     ensures { TriesForm (H.meaning handlers.now) endpoint.old
         (read_as trial.now (λ node.
-            waiting_form node.local.core.cells (WaitingStep.Transfer transfer.now)))
+        waiting_form node.local.core.cells (WaitingStep.Transfer transfer.now)))
         result endpoint.new }
 {
     let call = Call::Begin {
@@ -80,7 +80,7 @@ fn sync_transfer<H: Handlers>(
     requires later { trial.now.began ≡ Some first.now }
     ensures { TriesForm (H.meaning handlers.now) endpoint.old
         (read_as trial.now (λ node.
-            waiting_form node.local.core.cells (WaitingStep.Transfer transfer.now)))
+        waiting_form node.local.core.cells (WaitingStep.Transfer transfer.now)))
         result endpoint.new }
 {
     let Some(handle) = begun_handle(first) else {
@@ -100,7 +100,7 @@ pub(crate) fn try_transfer<H: Handlers>(
     requires { trial.now.thread < endpoint.old.core.settings.threads }
     ensures { TriesForm (H.meaning handlers.now) endpoint.old
         (read_as trial.now (λ node.
-            waiting_form node.local.core.cells (WaitingStep.Transfer transfer.now)))
+        waiting_form node.local.core.cells (WaitingStep.Transfer transfer.now)))
         result endpoint.new }
 {
     match &trial.began {

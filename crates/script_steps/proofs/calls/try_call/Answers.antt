@@ -1,5 +1,5 @@
 -- The try of a call that a schedule has, too.
-use Rattle.std.proofs.Common.{sym, ap, ◌∙◌, ℤ, List}
+use Rattle.std.proofs.Common.{ap, ◌∙◌, ℤ, List}
 use Rattle.node_script.specs.ScheduledCalls.{meant_by}
 use Rattle.node_script.proofs.ScheduleNodes.{call_given}
 use Rattle.script_steps.proofs.Forming.{tries_scheduled}
@@ -10,7 +10,7 @@ call_of-made-requires g c = call_given c.args.call.now c.requires.call
 
 pub returns : goal.returns
 returns g c =
-    tries_scheduled _ _ _ _ _ _ c.make-answer.result c.waits_at.result _ c.make-answer.ensures
+    tries_scheduled _ _ _ c.args.trial.now _ _ c.make-answer.result c.waits_at.result _ c.make-answer.ensures
     (λ node stands.
     c.call_of-made.ensures.meant
     ∙ ap (λ (cells : List ℤ). meant_by cells c.args.call.now) (c.cells.ensures node stands))

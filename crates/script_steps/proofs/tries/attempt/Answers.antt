@@ -1,12 +1,23 @@
-use Rattle.std.proofs.Common.{rules, ◌<◌, ◌≡◌, ℕ, ◌+◌, ◌-◌, ◌*◌, ◌≤◌, length, ◌/◌, ◌%◌, Bool, true, false, nat_eq, nat_lt, List, [], ◌∷◌, ◌++◌, slice_index_or, slice_set, bit_and, bit_or, Fits, w8, w32, w64, Bor, MutBor}
-use Rattle.job_text.specs.Scripts.{IsStep}
-use Rattle.script_steps.specs.Tries.{Tries}
+-- The try of a step.
+use Rattle.std.proofs.Common.{sym, subst}
+use Rattle.job_text.specs.declared.job.ScriptStep.{ScriptStep}
+use Rattle.script_steps.specs.Forms.{step_form}
+use Rattle.script_steps.specs.Tries.{TriesForm, read_as}
+use Rattle.script_steps.proofs.Trying.{tries_step}
 use Rattle.script_steps.proofs.tries.attempt.Goals as goal
 
--- src/tries.rt:15:1
 pub returns-in-Call : goal.returns-in-Call
-returns-in-Call g c = ?
+returns-in-Call g c = record {
+  tries = tries_step _ _ _ _ _
+      (subst (λ (one : ScriptStep). TriesForm (g.H.Handlers.meaning c.args.handlers.now) c.args.endpoint.now
+      (read_as c.args.trial.now (step_form one)) c.try_call.result c.try_call.new.endpoint)
+      (sym c.in-Call.is) c.try_call.ensures);
+}
 
--- src/tries.rt:15:1
 pub returns-in-Waiting : goal.returns-in-Waiting
-returns-in-Waiting g c = ?
+returns-in-Waiting g c = record {
+  tries = tries_step _ _ _ _ _
+      (subst (λ (one : ScriptStep). TriesForm (g.H.Handlers.meaning c.args.handlers.now) c.args.endpoint.now
+      (read_as c.args.trial.now (step_form one)) c.try_waiting.result c.try_waiting.new.endpoint)
+      (sym c.in-Waiting.is) c.try_waiting.ensures);
+}

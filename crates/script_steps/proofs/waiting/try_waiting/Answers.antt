@@ -1,18 +1,19 @@
-use Rattle.std.proofs.Common.{rules, ◌≡◌, ◌<◌, ℤ, List, None, Some, ℕ, ◌+◌, ◌-◌, ◌*◌, ◌≤◌, length, ◌/◌, ◌%◌, Bool, true, false, nat_eq, nat_lt, [], ◌∷◌, ◌++◌, slice_index_or, slice_set, bit_and, bit_or, Fits, w8, w32, w64, Bor, MutBor}
-use Rattle.endpoint_rules.specs.Called.{meant}
-use Rattle.endpoint_rules.specs.declared.answer.Answer.{Answer}
-use Rattle.gas_endpoint.specs.Endpoints.{ForItsRecord, MayBeCalled}
+-- The try of a step that scripts alone have.
+use Rattle.std.proofs.Common.{sym, ap, ◌∙◌, subst}
 use Rattle.job_text.specs.declared.job.WaitingStep.{WaitingStep}
-use Rattle.node_runs.specs.Actions.{Again, Looks}
-use Rattle.node_script.specs.ScheduleLine.{IsCallable}
-use Rattle.script_steps.specs.Forms.{IsPut, IsSync, is_not_ready, is_sent, put_of, waiting_form}
-use Rattle.script_steps.specs.Tries.{TriesForm, read_as, looked}
+use Rattle.job_text.specs.declared.job.WaitingStep.TheVariants as waiting
+use Rattle.script_steps.specs.Forms.{waiting_form}
+use Rattle.script_steps.specs.Tries.{TriesForm, read_as}
+use Rattle.script_steps.proofs.Forming.{tries_alike}
 use Rattle.script_steps.proofs.waiting.try_waiting.Goals as goal
 
--- src/waiting.rt:235:1
 pub returns-in-Transfer : goal.returns-in-Transfer
-returns-in-Transfer g c = ?
+returns-in-Transfer g c =
+    subst (λ (one : WaitingStep). TriesForm (g.H.Handlers.meaning c.args.handlers.now) c.args.endpoint.now
+    (read_as c.args.trial.now (λ node. waiting_form node.local.core.cells one)) c.try_transfer.result
+    c.try_transfer.new.endpoint)
+    (ap waiting.Transfer c.text.ensures ∙ sym c.in-Transfer.is) c.try_transfer.ensures
 
--- src/waiting.rt:235:1
 pub returns-in-PutBegin : goal.returns-in-PutBegin
-returns-in-PutBegin g c = ?
+returns-in-PutBegin g c =
+    tries_alike _ _ _ c.args.trial.now _ _ _ (λ node. c.put_call.ensures.form node.local.core.cells) c.try_put.ensures
