@@ -19,10 +19,10 @@
 
 mod cursor;
 mod laws;
-mod machine;
+mod node;
 mod outgoing;
 mod parts;
 mod turn;
 
 pub use laws::traces_law;
-pub use machine::NodeMachine;
+pub use node::NodeMachine;

@@ -6,7 +6,7 @@ use Rattle.endpoint_rules.specs.EndpointLocal.{nothing_begun}
 use Rattle.gas_endpoint.specs.Endpoints.{EndpointStands}
 use Rattle.node_machine.specs.Cursors.{progress_of_all}
 use Rattle.node_machine.proofs.Opening.{opened_stands, opened_is}
-use Rattle.node_machine.proofs.machine.NodeMachine.new.Goals as goal
+use Rattle.node_machine.proofs.node.NodeMachine.new.Goals as goal
 
 pub invariant_of-result : goal.invariant_of-result
 invariant_of-result c =

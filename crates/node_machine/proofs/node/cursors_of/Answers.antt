@@ -5,7 +5,7 @@ use Rattle.job_text.specs.declared.job.ScriptStep.{ScriptStep}
 use Rattle.node_machine.specs.States.{steps_of_thread}
 use Rattle.node_runs.specs.Actions.{Progress}
 use Rattle.node_machine.proofs.Opening.{first_push}
-use Rattle.node_machine.proofs.machine.cursors_of.Goals as goal
+use Rattle.node_machine.proofs.node.cursors_of.Goals as goal
 
 pub loop-thread-preserved : goal.loop-thread-preserved
 loop-thread-preserved c =

@@ -6,7 +6,7 @@ use Rattle.node_machine.specs.Kept.{MachineKept}
 use Rattle.node_machine.specs.States.{NodeStands}
 use Rattle.node_machine.specs.Turns.{slots_of}
 use Rattle.node_machine.proofs.Standing.{datagram_is, none_there, one_there}
-use Rattle.node_machine.proofs.machine.NodeMachineMachine.outgoing.Goals as goal
+use Rattle.node_machine.proofs.node.NodeMachineMachine.outgoing.Goals as goal
 
 pub returns-in-None : goal.returns-in-None
 returns-in-None c = λ r stands.

@@ -5,7 +5,7 @@ use Rattle.std.proofs.lemmas.List.Folds.{list_all-map}
 use Rattle.node_machine.specs.Cursors.{progress_of}
 use Rattle.node_machine.specs.Kept.{MachineKept, is_done, are_done}
 use Rattle.node_machine.specs.declared.cursor.Cursor.{Cursor}
-use Rattle.node_machine.proofs.machine.NodeMachineMachine.over.Goals as goal
+use Rattle.node_machine.proofs.node.NodeMachineMachine.over.Goals as goal
 
 pub returns : goal.returns
 returns c =

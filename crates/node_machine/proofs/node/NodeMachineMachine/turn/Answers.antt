@@ -6,7 +6,7 @@ use Rattle.node_machine.specs.Machines.{with_done}
 use Rattle.node_machine.specs.States.{NodeStands, after_turn}
 use Rattle.node_machine.specs.Turns.{slots_of, TurnTaken}
 use Rattle.node_machine.proofs.Standing.{change_is, empty_turn, quiet_ended, still_machine, told_changed, told_quiet}
-use Rattle.node_machine.proofs.machine.NodeMachineMachine.turn.Goals as goal
+use Rattle.node_machine.proofs.node.NodeMachineMachine.turn.Goals as goal
 
 pub returns-then-not-is_change-clause-after : goal.returns-then-not-is_change-clause-after
 returns-then-not-is_change-clause-after c =

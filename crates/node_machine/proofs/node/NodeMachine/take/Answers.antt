@@ -6,7 +6,7 @@ use Rattle.node_machine.specs.Kept.{MachineKept}
 use Rattle.node_machine.specs.Machines.{MachineTakes}
 use Rattle.node_machine.specs.Turns.{slots_of, TurnTaken}
 use Rattle.node_machine.proofs.Standing.{machine_at, reads_is, read_said, took}
-use Rattle.node_machine.proofs.machine.NodeMachine.take.Goals as goal
+use Rattle.node_machine.proofs.node.NodeMachine.take.Goals as goal
 
 pub take_turn-done-requires-clause-said : goal.take_turn-done-requires-clause-said
 take_turn-done-requires-clause-said c =
