@@ -16,8 +16,8 @@ use Rattle.gasnet_trace.specs.Lines.{Word, Line}
 -- what was read, read on; a reason against it stays
 infixl 10 ◌>>=◌
 abbrev pub ◌>>=◌ : {A B E : Type 0} → Result A E → (A → Result B E) → Result B E
-(Ok x) >>= f = f x
-(Err e) >>= f = Err e
+(Ok value) >>= more = more value
+(Err why) >>= more = Err why
 
 -- a bad line, counted from 1, and the first reason that applies to it
 pub record BadLine : Type 0 where
@@ -26,7 +26,7 @@ pub record BadLine : Type 0 where
 
 -- a reason, told of a line
 abbrev pub at_line : {A : Type 0} → (line : ℕ) → Result A TraceWhy → Result A BadLine
-at_line line (Ok x) = Ok x
+at_line line (Ok value) = Ok value
 at_line line (Err why) = Err (record { line = line; why = why })
 
 -- ---- lines
@@ -41,19 +41,19 @@ is_word word = not (length word == 0) && list_all is_plain word
 
 -- the parts between spaces
 abbrev pub words_of : List ℕ → Line
-words_of line = slice_split (λ b. b == 32) line
+words_of line = slice_split (λ byte. byte == 32) line
 
 -- the first line, and the bytes after it; a line has words alone, and its ending byte
 unfoldable pub line_at : List ℕ → Result (List ℕ × List ℕ) TraceWhy
 line_at bytes =
     if length bytes == 0 then Err Early else
-    (if nat_lt (position_or_len (λ b. b == 10) bytes) (length bytes)
-    && list_all is_word (words_of (before_first (λ b. b == 10) bytes))
-    then Ok (before_first (λ b. b == 10) bytes, after_first (λ b. b == 10) bytes) else Err Text)
+    (if nat_lt (position_or_len (λ byte. byte == 10) bytes) (length bytes)
+    && list_all is_word (words_of (before_first (λ byte. byte == 10) bytes))
+    then Ok (before_first (λ byte. byte == 10) bytes, after_first (λ byte. byte == 10) bytes) else Err Text)
 
 -- the line of this number, read by f as its words say
 abbrev pub read_line : {A : Type 0} → (line : ℕ) → (Line → Result A TraceWhy) → List ℕ → Result (A × List ℕ) BadLine
-read_line line f bytes = at_line line (line_at bytes >>= λ x. f (words_of x.0) >>= λ a. Ok (a, x.1))
+read_line line says bytes = at_line line (line_at bytes >>= λ cut. says (words_of cut.0) >>= λ value. Ok (value, cut.1))
 
 -- ---- words
 
@@ -78,7 +78,7 @@ thread_of threads word = number_in 0 65535 word >>= λ n. if nat_lt n threads th
 
 -- at most 8,297 bytes, of which the word is the one text
 abbrev pub spelled_by : Word → Result (List ℕ) FromHexError → Result (List ℕ) TraceWhy
-spelled_by word (Err e) = Err Value
+spelled_by word (Err error) = Err Value
 spelled_by word (Ok bytes) =
     if bytes_eq word (encode_lower bytes) && nat_le (length bytes) 8297 then Ok bytes else Err Value
 
@@ -144,20 +144,21 @@ entry_of threads words = do
 -- an entry, or none at the line `end`
 unfoldable pub next_of : (threads : ℕ) → Line → Result (Option Entry) TraceWhy
 next_of threads words =
-    if is_end words then Ok None else (turn_of words >>= λ turn. entry_of threads turn >>= λ e. Ok (Some e))
+    if is_end words then Ok None else (turn_of words >>= λ turn. entry_of threads turn >>= λ entry. Ok (Some entry))
 
 -- ---- traces
 
 -- what was read before, and what is read on
 abbrev pub with_front : {A B E : Type 0} → List A → Result (List A × B) E → Result (List A × B) E
-with_front front read = read >>= λ x. Ok (front ++ x.0, x.1)
+with_front front read = read >>= λ more. Ok (front ++ more.0, more.1)
 
 -- the entries from this line on up to the line `end`, and the bytes after it. The room is more than the number of lines
 unfoldable pub entries_at : (room threads line : ℕ) → List ℕ → Result (List Entry × List ℕ) BadLine
 entries_at zero threads line bytes = Err (record { line = line; why = Early })
 entries_at (suc room) threads line bytes =
-    read_line line (next_of threads) bytes >>= λ x.
-    if is_none x.0 then Ok ([], x.1) else with_front (option_to_list x.0) (entries_at room threads (line + 1) x.1)
+    read_line line (next_of threads) bytes >>= λ next.
+    if is_none next.0 then Ok ([], next.1) else with_front (option_to_list next.0) (entries_at room threads (line + 1)
+        next.1)
 
 -- a trace in this version of the text, and the bytes after it
 unfoldable pub trace_at : (version threads : ℕ) → List ℕ → Result (Trace × List ℕ) BadLine

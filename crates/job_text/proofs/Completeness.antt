@@ -22,7 +22,7 @@ use Rattle.job_text.specs.Places.{Named, Other, Item, item_text, IsItem, least, 
 use Rattle.job_text.specs.Places.{pair_fits}
 use Rattle.job_text.specs.JobReading.{State, least_job, start, with_number, behind_setting, with_body, with_handler}
 use Rattle.job_text.specs.JobReading.{with_steps, with_script, total_rounds, next, has_index, has_pair, has_thread}
-use Rattle.job_text.specs.JobReading.{rounds_of, is_full, read}
+use Rattle.job_text.specs.JobReading.{rounds_of, is_full, front_with, read}
 use Rattle.job_text.specs.JobText.{Line, spell, setting_line, sieve_line, pair_line, handler_lines, timed_lines}
 use Rattle.job_text.specs.JobText.{script_lines, schedule_lines, head_lines, lines_with_pairs, lines_with_handlers}
 use Rattle.job_text.specs.JobText.{job_lines, job_text, IsHandler, IsNodeScript, AreThreads, IsScheduleOrNone}
@@ -36,7 +36,7 @@ use Rattle.job_text.specs.declared.job.TimedEvent.{TimedEvent}
 use Rattle.job_text.specs.declared.sections.Section.TheVariants as section
 use Rattle.job_text.proofs.Freshness.{AreFresh, AreNew, apart_fresh, fresh_to}
 use Rattle.job_text.proofs.LockLaws.{AreLocks, listed_locks}
-use Rattle.job_text.proofs.LineRuns.{line_again, read_on, over_good}
+use Rattle.job_text.proofs.LineRuns.{line_again, read_on, over_read}
 use Rattle.job_text.proofs.Ranges.{AreNumbers, sum_beside}
 use Rattle.job_text.proofs.StateLaws.{done_line, end_line}
 use Rattle.job_text.proofs.Threads.{threads_new}
@@ -730,8 +730,9 @@ whole_reach job is =
     (reach_join start (record { place = AtPairs; job = first }) over (lines_with_pairs job)
     (handler_part ++ (script_part ++ last)) head behind)
 
--- the text of a job is read as that job
-pub job_read : (job : Job) → IsJob job → read start 1 (job_text job) ≡ Ok job
-job_read job is =
-    ap (read start 1) (sym (append-nil (job_text job))) ∙ reach_read (job_lines job) start
-    (record { place = Over; job = job }) 1 [] (whole_reach job is) ∙ over_good job (1 + length (job_lines job))
+-- bytes that begin with the text of a job are read as that job, and those behind it are left
+pub job_read : (job : Job) → IsJob job → (rest : List ℕ) → read start 1 (job_text job ++ rest)
+    ≡ Ok (front_with job (1 + length (job_lines job)) rest)
+job_read job is rest =
+    reach_read (job_lines job) start (record { place = Over; job = job }) 1 rest (whole_reach job is)
+    ∙ over_read job (1 + length (job_lines job)) rest

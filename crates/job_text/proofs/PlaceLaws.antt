@@ -95,7 +95,8 @@ pairs_exact settings = table_exact none_at none_text none_fits (pair_row ∷ [])
 
 headers_exact : IsExact header_at header_text IsHeader
 unfolding header_at
-headers_exact = table_exact none_at none_text none_fits (header_row ∷ []) header_entry header_fits none_exact header_table
+headers_exact = table_exact none_at none_text none_fits (header_row ∷ []) header_entry header_fits none_exact
+    header_table
 
 sections_exact : (nodes threads : ℕ) → IsExact (section_at nodes threads) section_text (IsSection nodes threads)
 unfolding section_at

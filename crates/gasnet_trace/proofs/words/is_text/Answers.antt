@@ -7,5 +7,6 @@ use Rattle.gasnet_trace.proofs.words.is_text.Goals as goal
 pub returns : goal.returns
 returns c =
     all_from_yields_List is_word _ _ _ c.all.ensures.ran
-    (YieldsList-from_slice_split _ (λ b. eqb b 32) c.args.line.now c.split.ensures.rest c.split.ensures.done c.split.ensures.closure (λ x b q k. search rules))
+    (YieldsList-from_slice_split _ (λ b. eqb b 32) c.args.line.now c.split.ensures.rest c.split.ensures.done
+        c.split.ensures.closure (λ x b q k. search rules))
     (λ x b q k. search (rules, tests))

@@ -7,5 +7,6 @@ use Rattle.gasnet_trace.proofs.words.is_word.Goals as goal
 
 pub returns-then-not-is_empty : goal.returns-then-not-is_empty
 returns-then-not-is_empty c =
-    let all = all_from_yields_List is_plain _ _ c.all.result c.all.ensures.ran (YieldsList-from_slice c.args.word.now (cc)) (λ x b q k. search (rules, tests)) in
+    let all = all_from_yields_List is_plain _ _ c.all.result c.all.ensures.ran (YieldsList-from_slice c.args.word.now
+        (cc)) (λ x b q k. search (rules, tests)) in
     all ∙ ap (λ b. not b && list_all is_plain c.args.word.now) (sym (sym c.is_empty.ensures ∙ c.if-not-is_empty.true))

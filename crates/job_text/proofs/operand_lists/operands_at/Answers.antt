@@ -1,14 +1,15 @@
 use Rattle.std.proofs.Common.{◌∙◌, ◌-◌, sym, arith, length, length-append}
 use Rattle.std.proofs.lemmas.Result.{err_from_is_err_and}
-use Rattle.job_text.specs.Forms.{Value}
+use Rattle.job_text.specs.Forms.{NumberOf}
 use Rattle.job_text.proofs.Runs.{parts_more, parts_fail, parts_done, more_is, many_some, many_none}
-use Rattle.job_text.proofs.operand_lists.values_at.Goals as goal
+use Rattle.job_text.proofs.operand_lists.operands_at.Goals as goal
 
 pub returns-in_err-item : goal.returns-in_err-item
 returns-in_err-item c =
     let p = err_from_is_err_and c.from_residual.result c.from_residual.ensures.1 in
     let m = more_is c.len.result 17 c.loop-rest.rest.now (sym c.has_more.ensures ∙ c.loop-rest-test.true) in
-    rw (p.1, p.2) (many_none Value 0 17 c.args.bytes.now (sym c.loop-rest.invariant.so_far ∙ parts_fail Value
+    rw (p.1, p.2) (many_none (NumberOf c.args.place) 0 17 c.args.bytes.now (sym c.loop-rest.invariant.so_far
+        ∙ parts_fail (NumberOf c.args.place)
     (17 - length c.loop-rest.items.items) c.loop-rest.items.items c.loop-rest.rest.now (omega
     (arith, c.len.ensures, m.0)) m.1 c.in_err-item.ensures))
 
@@ -16,7 +17,7 @@ pub loop-rest-preserved : goal.loop-rest-preserved
 loop-rest-preserved c =
     let m = more_is c.len.result 17 c.loop-rest.rest.now (sym c.has_more.ensures ∙ c.loop-rest-test.true) in
     record {
-      so_far = rw c.in_ok-push.ensures.items (sym (parts_more Value
+      so_far = rw c.in_ok-push.ensures.items (sym (parts_more (NumberOf c.args.place)
           (17 - length c.loop-rest.items.items) _ c.loop-rest.items.items c.in_ok-item.item c.loop-rest.rest.now
           c.in_ok-item.after.now (simp length-append (omega (arith, c.len.ensures, m.0))) m.1 c.in_ok-item.ensures)
           ∙ c.loop-rest.invariant.so_far);
@@ -25,7 +26,7 @@ loop-rest-preserved c =
 
 pub returns : goal.returns
 returns c =
-    many_some Value 0 17 c.args.bytes.now c.loop-rest.rest.now c.loop-rest.items.items (omega arith)
-    (sym c.loop-rest.invariant.so_far ∙ parts_done Value 17 c.len.result
+    many_some (NumberOf c.args.place) 0 17 c.args.bytes.now c.loop-rest.rest.now c.loop-rest.items.items (omega arith)
+    (sym c.loop-rest.invariant.so_far ∙ parts_done (NumberOf c.args.place) 17 c.len.result
     (17 - length c.loop-rest.items.items) c.loop-rest.items.items c.loop-rest.rest.now (omega
     (arith, c.len.ensures)) (sym c.has_more.ensures ∙ c.loop-rest-test.false))
