@@ -1,8 +1,9 @@
 -- The schedule of the drill.
 use Rattle.std.specs.Prelude.{ℕ, zero, suc, ◌-◌, ◌*◌, ◌%◌, ◌^◌, max, pos, List, [], ◌∷◌, ◌++◌, map, length, Some, None}
 use Rattle.plain_world.specs.World.{run}
+use Rattle.plain_world.specs.World.{RequestComes, ReplyComes}
 use Rattle.plain_world.specs.Plain.{plain_of}
-use Rattle.endpoint_rules.specs.EndpointRules.{Records, at_the_opening}
+use Rattle.endpoint_rules.specs.EndpointRules.{Records, RecordsEvent, at_the_opening}
 use Rattle.datagram_grammar.specs.Parameters.{Parameters}
 use Rattle.handler_rules.specs.declared.rules.Role.TheVariants as role
 use Rattle.gas_world.specs.Settling.{WorldJob}
@@ -39,6 +40,16 @@ deed_events Put round number =
 deed_events Tick round number = scheduled.Tick round.from ∷ []
 deed_events Request round number = scheduled.Request round.from round.to number ∷ []
 deed_events Reply round number = scheduled.Reply round.from round.to number ∷ []
+
+-- a round that delivers a message, and the event in which it delivers the one with that number
+abbrev pub IsDelivery : Deed → Type 0
+IsDelivery Request = Unit {0}
+IsDelivery Reply = Unit {0}
+IsDelivery deed = ⊥
+
+abbrev pub delivered : Deed → Round → (number : ℕ) → RecordsEvent
+delivered Reply round number = ReplyComes round.from round.to number
+delivered deed round number = RequestComes round.from round.to number
 
 abbrev pub at_time : (time : ℕ) → ScheduledEvent → TimedEvent
 at_time time event = record { time = time; event = event }

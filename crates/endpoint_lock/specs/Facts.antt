@@ -62,7 +62,7 @@ LastWasQuiet of_machine of_clock state journal machine clock =
     (0 < quiet_tail (steps_of of_machine) state 0 journal)
     ⊎ ((thread : ℕ) × (thread < of_machine.thread_count machine)
     × ((of_machine.turned (replayed (steps_of of_machine) state journal) thread (of_clock.said clock) None).changed
-        ≡ false))
+    ≡ false))
 
 -- every thread polls
 abbrev pub AllPoll : {M : Type 0} → MachineGhosts M → M → Type 0
@@ -90,7 +90,7 @@ pub record Replays {M L C : Type 0} (of_machine : MachineGhosts M) (of_link : Li
   -- where the link tells them, the datagrams sent are those that the turns of the journal gave
   pub sent : station.kept ≢ Some LinkFault
       → WentOn (of_link.sent opening.link) (sent_in (steps_of of_machine) state station.journal)
-          (of_link.sent station.link)
+      (of_link.sent station.link)
   pub sent_short : station.kept ≡ Some LinkFault → SentShort of_machine of_link state opening.link station.journal
       station.link
   -- the quiet turns are at most the quiet entries at the journal's end and the empty turns

@@ -29,16 +29,16 @@ pub record Asks {C : Type 0} (of_clock : ClockGhosts C) (old new : C) : Type 0 w
 
 -- the link gave a datagram, or none: it was asked where the thread polls
 pub record Gives {L : Type 0} (of_link : LinkGhosts L) (polls : Bool) (got : Option (List ℕ)) (old new : L) : Type 0
-    where
-  pub cut : ForSome got (λ bytes. length bytes ≤ receive_limit)
-  pub polled : polls ≡ false → got ≡ None
-  pub received : WentOn (of_link.received old) (option_to_list got) (of_link.received new)
-  pub first : ForSome got (λ bytes. IsFirstWhereTold (of_link.waiting old) receive_limit bytes
-      × (of_link.waiting new ≡ rest_of (of_link.waiting old)))
-  pub none : polls ≡ true → got ≡ None → IsEmptyWhereTold (of_link.waiting new)
-  pub sent : of_link.sent new ≡ of_link.sent old
-  pub bound : of_link.bound new ≡ of_link.bound old
-  pub faults : of_link.faults old ≤ of_link.faults new
+  where
+    pub cut : ForSome got (λ bytes. length bytes ≤ receive_limit)
+    pub polled : polls ≡ false → got ≡ None
+    pub received : WentOn (of_link.received old) (option_to_list got) (of_link.received new)
+    pub first : ForSome got (λ bytes. IsFirstWhereTold (of_link.waiting old) receive_limit bytes
+        × (of_link.waiting new ≡ rest_of (of_link.waiting old)))
+    pub none : polls ≡ true → got ≡ None → IsEmptyWhereTold (of_link.waiting new)
+    pub sent : of_link.sent new ≡ of_link.sent old
+    pub bound : of_link.bound new ≡ of_link.bound old
+    pub faults : of_link.faults old ≤ of_link.faults new
 
 -- the link failed as it was asked
 pub record GivesNot {L : Type 0} (of_link : LinkGhosts L) (old new : L) : Type 0 where
@@ -73,13 +73,13 @@ SendsOutgoing of_machine of_link machine sends old Failed new =
 
 -- the machine took its turn: what it is then, by each state for which it stood
 pub record Turns {M : Type 0} (of_machine : MachineGhosts M) (entry : Entry) (told : Turned) (old new : M) : Type 0
-    where
-  pub threads : of_machine.thread_count new ≡ of_machine.thread_count old
-  pub polls : told.stepped ≡ false → (thread : ℕ) → of_machine.polls_at new thread ≡ of_machine.polls_at old thread
-  pub stands : (state : of_machine.State) → of_machine.stands old state → of_machine.stands new
-      (after_entry (steps_of of_machine) state entry)
-  pub told_is : (state : of_machine.State) → of_machine.stands old state → told ≡ of_machine.turned state entry.thread
-      entry.now entry.got
+  where
+    pub threads : of_machine.thread_count new ≡ of_machine.thread_count old
+    pub polls : told.stepped ≡ false → (thread : ℕ) → of_machine.polls_at new thread ≡ of_machine.polls_at old thread
+    pub stands : (state : of_machine.State) → of_machine.stands old state → of_machine.stands new
+        (after_entry (steps_of of_machine) state entry)
+    pub told_is : (state : of_machine.State) → of_machine.stands old state → told ≡ of_machine.turned state entry.thread
+        entry.now entry.got
 
 -- a turn that keeps its entry: something was got or changed; then its datagrams were sent, all unless one failed
 pub record Keeps {M L C : Type 0} (of_machine : MachineGhosts M) (of_link : LinkGhosts L) (of_clock : ClockGhosts C)
@@ -146,7 +146,7 @@ Goes of_machine of_link of_clock thread old Idle new = Rests of_machine of_link 
 Goes of_machine of_link of_clock thread old (Ended LinkFault) new =
     Fails of_link of_clock old new
     ⊎ (Keeps of_machine of_link of_clock thread old new × (new.kept ≡ Some LinkFault) × Rose (of_link.faults old.link)
-        (of_link.faults new.link))
+    (of_link.faults new.link))
 Goes of_machine of_link of_clock thread old (Ended Over) new = ⊥
 Goes of_machine of_link of_clock thread old (Ended Stuck) new = ⊥
 Goes of_machine of_link of_clock thread old (Ended JournalFull) new = ⊥

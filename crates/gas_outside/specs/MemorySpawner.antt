@@ -87,14 +87,14 @@ StartsNext rank start old started.Failed new = new ≡ call_failed old
 abbrev pub can_end : ℕ → SpawnerState → Bool
 can_end rank state =
     not (is_listed state.fail state.calls) && is_pending rank state.told.calls
-        && nat_le (length (output_of state.children rank)) 67108864
+    && nat_le (length (output_of state.children rank)) 67108864
 
 -- the end of the child of a rank, by what stands in the vector before and after: the child's output is appended;
 -- `Failed` exactly where it can't end, and `NoMemory` for want of memory
 abbrev pub EndsAs : ℕ → SpawnerState → Finished → (before after : List ℕ) → Type 0
 EndsAs rank state (finished.Ended status) before after =
     (can_end rank state ≡ true) × (status ≡ status_of state.children rank)
-        × (after ≡ before ++ output_of state.children rank)
+    × (after ≡ before ++ output_of state.children rank)
 EndsAs rank state finished.Failed before after = (can_end rank state ≡ false) × (after ≡ before)
 EndsAs rank state finished.NoMemory before after = (can_end rank state ≡ true) × (after ≡ before)
 

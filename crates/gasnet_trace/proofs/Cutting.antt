@@ -19,7 +19,7 @@ pub cut_some : (line : List ℕ) (n : ℕ) → position (λ b. eqb b 32) line �
 cut_some line n e =
     let p = cond_some _ _ _ e in
     slice_split_first (λ b. eqb b 32) line 0 (ltb-true _ _ p.0)
-        ∙ ap (λ k. take k line ∷ slice_split (λ b. eqb b 32) (drop (k + 1) line)) p.1
+    ∙ ap (λ k. take k line ∷ slice_split (λ b. eqb b 32) (drop (k + 1) line)) p.1
 
 pub cut_none : (line : List ℕ) → position (λ b. eqb b 32) line ≡ None → words_of line ≡ line ∷ []
 cut_none line e =
@@ -43,8 +43,11 @@ pub one_by : (line : List ℕ) (cut : Option (Bor (List ℕ) × Bor (List ℕ)))
 one_by line None true e some none = (sym (ap is_one none), λ _. none)
 one_by line None false e some none = absurd (cc)
 one_by line (Some x) true e some none = absurd (cc)
-one_by line (Some x) false e some none = (sym (ap is_one some ∙ not_one x.0.now x.1.now), λ is. absurd (let f : false
-    ≡ true = is in cc))
+one_by line (Some x) false e some none = (
+  sym (ap is_one some ∙ not_one x.0.now x.1.now),
+  λ is. absurd (let f : false
+      ≡ true = is in cc),
+)
 
 -- lines of more words than their form has
 pub second_many : (name w : Word) (ws : Line) → is_one ws ≡ false → second_of name (w ∷ ws) ≡ Err Form

@@ -20,7 +20,7 @@ pub merges_start : {M : Type 0} (g : Ghosts M) (rs : List g.State) (ts : List Tr
     ≡ length ms → StandFor g ms rs → Merges g (nodes_of rs ts) (replicate (length ms) 0) (Err NoMemory) ms
 merges_start {M} g rs ts ms l stand =
     subst (λ f. Merges g (nodes_of rs ts) f (Err NoMemory) ms) (start_is_front g rs ts (replicate (length ms) 0) ms l
-        stand refl)
+    stand refl)
     (record { answers = ([], refl); replays = replays_start g rs ts ms l stand })
 
 -- where memory ran out
@@ -36,7 +36,7 @@ within_full rs ts f l w k = subst (λ e. slice_index f k ≤ slice_index e k) (s
 pub merges_all : {M : Type 0} (g : Ghosts M) (rs : List g.State) (ts : List Trace) (f : List ℕ) (ms : List M)
     (kept : ℕ → List ℕ → Type 0) (placed : Vec Placed Global)
     → length ts ≡ length rs → Walk g ts f ms → Stood g (nodes_of rs ts) f ms kept placed.items
-        → ((k : ℕ) → k < length ts → IsLeftAt ts f k → ⊥) → Merges g (nodes_of rs ts) f (Ok placed) ms
+    → ((k : ℕ) → k < length ts → IsLeftAt ts f k → ⊥) → Merges g (nodes_of rs ts) f (Ok placed) ms
 merges_all g rs ts f ms kept placed l w s none =
     let len = nodes_of_length rs ts l in
     record {
@@ -54,15 +54,19 @@ merges_all g rs ts f ms kept placed l w s none =
 pub merges_stuck : {M : Type 0} (g : Ghosts M) (rs : List g.State) (ts : List Trace) (f : List ℕ) (ms : List M)
     (kept : ℕ → List ℕ → Type 0) (placed : List Placed) (node : ℕ)
     → length ts ≡ length rs → length ts ≡ length ms → Stood g (nodes_of rs ts) f ms kept placed
-        → ((n : ℕ) → n < length ms → IsBlocked g ms ts kept f n)
+    → ((n : ℕ) → n < length ms → IsBlocked g ms ts kept f n)
     → IsLeftAt ts f node → ((k : ℕ) → k < node → IsLeftAt ts f k → ⊥) → Merges g (nodes_of rs ts) f
-        (Err (NotARun node (slice_index f node + 1))) ms
+    (Err (NotARun node (slice_index f node + 1))) ms
 merges_stuck g rs ts f ms kept placed node l l' s none left first =
     let here : HasLeft (nodes_of rs ts) f node = trace_left rs ts f node l left in
     record {
       answers = (
-        record { reached = ((s.came).0, (s.came).1); left = (node, here); none = none_can g rs ts f ms kept placed l' s
-            none },
+        record {
+          reached = ((s.came).0, (s.came).1);
+          left = (node, here);
+          none = none_can g rs ts f ms kept placed l' s
+              none;
+        },
         record { left = here; first = λ k below h. first k below (left_trace rs ts f k h) },
         refl,
       );

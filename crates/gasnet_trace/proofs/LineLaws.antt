@@ -68,12 +68,12 @@ line_takes bytes x e =
     let lt = ltb-true _ _ (and_parts _ _ b.0).0 in
     let whole = split_at_first (λ b. eqb b 10) bytes 0 lt in
     let line = joined-join (words_of (before_first (λ b. eqb b 10) bytes)) ∙ join_with_byte-slice_split 32
-        (before_first (λ b. eqb b 10) bytes) in
+    (before_first (λ b. eqb b 10) bytes) in
     let made : bytes ≡ line_text (words_of (before_first (λ b. eqb b 10) bytes)) ++ after_first (λ b. eqb b 10) bytes =
-        whole ∙ ap (λ (n : ℕ). before_first (λ b. eqb b 10) bytes ++ n ∷ after_first (λ b. eqb b 10) bytes)
-        (at_first bytes lt) ∙ sym (append_assoc (before_first (λ b. eqb b 10) bytes) (10 ∷ [])
-        (after_first (λ b. eqb b 10) bytes)) ∙ ap (λ z. (z ++ 10 ∷ []) ++ after_first (λ b. eqb b 10) bytes) (sym line)
-        in
+    whole ∙ ap (λ (n : ℕ). before_first (λ b. eqb b 10) bytes ++ n ∷ after_first (λ b. eqb b 10) bytes)
+    (at_first bytes lt) ∙ sym (append_assoc (before_first (λ b. eqb b 10) bytes) (10 ∷ [])
+    (after_first (λ b. eqb b 10) bytes)) ∙ ap (λ z. (z ++ 10 ∷ []) ++ after_first (λ b. eqb b 10) bytes) (sym line)
+    in
     subst (λ (y : List ℕ × List ℕ). bytes ≡ line_text (words_of y.0) ++ y.1) (ok_is _ x b.1) made
 
 pos_front : (l r : List ℕ) → AllByRecursion (λ b. b ≢ 10) l → break_at (l ++ 10 ∷ r) ≡ length l
@@ -93,8 +93,11 @@ word_breaks word h = weaker IsPlain (λ b. b ≢ 10) (λ b p e. let l = p.0 in o
 
 spaced_breaks : (words : Line) → AllByRecursion IsWord words → AllByRecursion (λ b. b ≢ 10) (flat_map spaced words)
 spaced_breaks [] h = tt
-spaced_breaks (word ∷ words) h = (λ e. omega arith, both (λ b. b ≢ 10) word (flat_map spaced words)
-    (word_breaks word h.0) (spaced_breaks words h.1))
+spaced_breaks (word ∷ words) h = (
+  λ e. omega arith,
+  both (λ b. b ≢ 10) word (flat_map spaced words)
+      (word_breaks word h.0) (spaced_breaks words h.1),
+)
 
 no_break : (words : Line) → IsLine words → AllByRecursion (λ b. b ≢ 10) (joined words)
 no_break [] h = tt
@@ -111,7 +114,7 @@ split_joined (word ∷ []) h = ap (slice_split (λ b. eqb b 32)) (append-nil wor
     (word_spaces word h.0)
 split_joined (word ∷ next ∷ words) h =
     slice_split_at (λ b. eqb b 32) word 32 (joined (next ∷ words)) (word_spaces word h.0) refl
-        ∙ ap (λ (ws : Line). word ∷ ws) (split_joined (next ∷ words) h.1)
+    ∙ ap (λ (ws : Line). word ∷ ws) (split_joined (next ∷ words) h.1)
 
 drop_seam : (l r : List ℕ) (b : ℕ) → drop (suc (length l)) (l ++ b ∷ r) ≡ r
 drop_seam [] r b = refl
@@ -141,10 +144,10 @@ cut_again l rest h test =
     let len : length (l ++ 10 ∷ rest) ≡ length l + suc (length rest) = length-append l (10 ∷ rest) in
     let front : before_first (λ b. eqb b 10) (l ++ 10 ∷ rest) ≡ l = rw (at, take-append_seam l (10 ∷ rest)) refl in
     let back : after_first (λ b. eqb b 10) (l ++ 10 ∷ rest) ≡ rest = rw (at, add-one (length l), drop_seam l rest 10)
-        refl in
+    refl in
     cond_not _ _ _ (ne_eqb (length (l ++ 10 ∷ rest)) 0 (λ z. omega arith)) ∙
     cond_yes _ _ _ (and_from _ _ (lt-ltb (break_at (l ++ 10 ∷ rest)) (length (l ++ 10 ∷ rest)) (omega arith))
-        (ap (λ z. list_all is_word (words_of z)) front ∙ test)) ∙
+    (ap (λ z. list_all is_word (words_of z)) front ∙ test)) ∙
     ap (λ z. Ok (z, after_first (λ b. eqb b 10) (l ++ 10 ∷ rest))) front ∙ ap (λ z. Ok (l, z)) back
 
 pub line_again : (words : Line) (rest : List ℕ) → IsLine words → line_at (line_text words ++ rest)
@@ -152,7 +155,7 @@ pub line_again : (words : Line) (rest : List ℕ) → IsLine words → line_at (
 line_again words rest h =
     ap line_at (append_assoc (joined words) (10 ∷ []) rest)
     ∙ cut_again (joined words) rest (no_break words h) (ap (λ z. list_all is_word z) (split_joined words h)
-        ∙ line_test words h)
+    ∙ line_test words h)
 
 -- ---- lines, read
 
@@ -173,8 +176,11 @@ read_takes {A} line f bytes x e =
     let y = bind_ok (line_at bytes) (λ y. f (words_of y.0) >>= λ a. Ok (a, y.1)) x r in
     let a = bind_ok (f (words_of y.0.0)) (λ a. Ok (a, y.0.1)) x y.2 in
     let made : A × List ℕ = (a.0, y.0.1) in
-    subst (LineRead f bytes) (ok_is made x a.2) (record { words = words_of y.0.0; text = line_takes bytes y.0 y.1;
-        says = a.1 })
+    subst (LineRead f bytes) (ok_is made x a.2) (record {
+      words = words_of y.0.0;
+      text = line_takes bytes y.0 y.1;
+      says = a.1;
+    })
 
 pub read_again : {A : Type 0} (line : ℕ) (f : Line → Result A TraceWhy) (words : Line) (rest : List ℕ) (a : A)
     → IsLine words → f words ≡ Ok a → read_line line f (line_text words ++ rest) ≡ Ok (a, rest)

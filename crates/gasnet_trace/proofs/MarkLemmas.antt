@@ -57,12 +57,12 @@ module _ (ps : PlaceMaps) (ms : MarkLists) (fit : Fit ps ms) (to i : ℕ) (b : L
     room = λ n j c e. elim (cases_eq n to) [
       | inl s ↦
           let r = some_from (slice_get ms to) (λ w. j < length w.items)
-              (subst (λ k. IsSomeAnd (slice_get ms k) (λ w. j < length w.items)) s (fit.room n j c e)) in
+          (subst (λ k. IsSomeAnd (slice_get ms k) (λ w. j < length w.items)) s (fit.room n j c e)) in
           let l : j < length v.items = subst (λ (w : Vec Bool Global). j < length w.items)
-              (same_Some r.0 v (sym r.1 ∙ at)) r.2 in
+          (same_Some r.0 v (sym r.1 ∙ at)) r.2 in
           let same : length v'.items ≡ length v.items = ap length is ∙ length-set v.items i true in
           subst (λ k. IsSomeAnd (slice_get (slice_set ms to v') k) (λ w. j < length w.items)) (sym s)
-              (some_at (slice_get (slice_set ms to v') to) (λ w. j < length w.items) v' now (omega arith))
+          (some_at (slice_get (slice_set ms to v') to) (λ w. j < length w.items) v' now (omega arith))
       | inr d ↦ subst (λ o. IsSomeAnd o (λ (w : Vec Bool Global). j < length w.items))
           (sym (slice_get-set_other ms to n v' d)) (fit.room n j c e)
     ];
@@ -80,7 +80,7 @@ module _ (ps : PlaceMaps) (ms : MarkLists) (fit : Fit ps ms) (to i : ℕ) (b : L
                 inr (0, omega arith, d)
             | inr k ↦ inl (some_at (spot ps n c) (λ j. mark ms n j ≡ true) x.0 x.1
                 (subst (λ m. mark ms m x.0 ≡ true) (sym s) (sym (mark_else x.0 k)
-                    ∙ subst (λ m. mark (slice_set ms to v') m x.0 ≡ true) s x.2)))
+                ∙ subst (λ m. mark (slice_set ms to v') m x.0 ≡ true) s x.2)))
           ]
           | inr d ↦ inl (some_at (spot ps n c) (λ j. mark ms n j ≡ true) x.0 x.1 (sym (mark_other n x.0 d) ∙ x.2))
         ];
@@ -96,7 +96,7 @@ module _ (ps : PlaceMaps) (ms : MarkLists) (fit : Fit ps ms) (to i : ℕ) (b : L
         ]);
     noted = λ n c h _. let e : datagram to b ≡ datagram n c = one_of (datagram to b) (datagram n c) h.0 h.1 h.2 in
         subst (λ (d : ℕ × List ℕ). IsNoted ps (slice_set ms to v') d.0 d.1) e
-            (some_at (spot ps to b) (λ j. mark (slice_set ms to v') to j ≡ true) i here mark_same);
+        (some_at (spot ps to b) (λ j. mark (slice_set ms to v') to j ≡ true) i here mark_same);
   }
 
 -- none is marked
@@ -117,8 +117,12 @@ room_at ps ms to i b fit here = let r = some_from (slice_get ms to) (λ w. i < l
     slice_get_within ms to r.0 r.1
 
 pub marks_nil : (ps : PlaceMaps) (ms : MarkLists) → Marks ps ms ms []
-marks_nil ps ms = record { no_more = λ n b h. inl h; kept = λ n b h. h; noted = λ n b h _. let l = h.1 in
-    absurd (omega arith) }
+marks_nil ps ms = record {
+  no_more = λ n b h. inl h;
+  kept = λ n b h. h;
+  noted = λ n b h _. let l = h.1 in
+      absurd (omega arith);
+}
 
 -- one marking after another
 pub marks_trans : (ps : PlaceMaps) (a b c : MarkLists) (ds es : List (ℕ × List ℕ)) → Marks ps a b ds → Marks ps b c es

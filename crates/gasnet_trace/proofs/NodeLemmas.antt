@@ -91,7 +91,7 @@ next_within g ms ts f n t es takes e =
     let u = some_from (slice_get ts n) _ m.2 in
     let x = some_from (slice_get (u.0).entries (slice_index f n)) _ u.2 in
     let same : length es ≡ length (u.0).entries =
-        ap length (e ∙ ap (λ (t' : Trace). t'.entries) (get_or_from_slice_get ts n u.0 t u.1)) in
+    ap length (e ∙ ap (λ (t' : Trace). t'.entries) (get_or_from_slice_get ts n u.0 t u.1)) in
     omega (arith, slice_get_within (u.0).entries (slice_index f n) x.0 x.1)
 
 -- the next entry of a node, as the code reads it
@@ -106,7 +106,7 @@ pub record NextRead {M : Type 0} (g : Ghosts M) (ms : List M) (ts : List Trace) 
 pub next_read : {M : Type 0} (g : Ghosts M) (ms : List M) (ts : List Trace) (f : List ℕ) (n : ℕ) (d : M) (t : Trace)
     (es : List Entry) (e : Entry)
     → CanTakeNext g ms ts f n → HaveThreads g ms ts → es ≡ (get_or ts n t).entries → e ≡ get_or es (slice_index f n) e
-        → NextRead g ms ts f n (get_or ms n d) (get_or ts n t) e
+    → NextRead g ms ts f n (get_or ms n d) (get_or ts n t) e
 next_read {M} g ms ts f n d t es e takes threads e1 e2 =
     let m = some_from (slice_get ms n) _ takes in
     let u = some_from (slice_get ts n) _ m.2 in
@@ -114,11 +114,11 @@ next_read {M} g ms ts f n d t es e takes threads e1 e2 =
     let m_is : get_or ms n d ≡ m.0 = get_or_from_slice_get ms n m.0 d m.1 in
     let t_is : get_or ts n t ≡ u.0 = get_or_from_slice_get ts n u.0 t u.1 in
     let e_is : e ≡ x.0 = e2 ∙ ap (λ zs. get_or zs (slice_index f n) e) (e1 ∙ ap (λ (t' : Trace). t'.entries) t_is)
-        ∙ get_or_from_slice_get (u.0).entries (slice_index f n) x.0 e x.1 in
+    ∙ get_or_from_slice_get (u.0).entries (slice_index f n) x.0 e x.1 in
     let machine_at : slice_get ms n ≡ Some (get_or ms n d) = m.1 ∙ ap Some (sym m_is) in
     let trace_at : slice_get ts n ≡ Some (get_or ts n t) = u.1 ∙ ap Some (sym t_is) in
     let entry_at : slice_get (get_or ts n t).entries (slice_index f n) ≡ Some e =
-        ap (λ (t' : Trace). slice_get t'.entries (slice_index f n)) t_is ∙ x.1 ∙ ap Some (sym e_is) in
+    ap (λ (t' : Trace). slice_get t'.entries (slice_index f n)) t_is ∙ x.1 ∙ ap Some (sym e_is) in
     record {
       machine_at = machine_at;
       trace_at = trace_at;

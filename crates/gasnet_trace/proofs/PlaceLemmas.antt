@@ -37,9 +37,9 @@ module _ (m n : HashMap (Bor (List ℕ)) ℕ (BuildHasherDefault FoldHasher)) (b
   found_more es e at l got found =
       All-more (λ x. ForSome x.got (λ b. IsSome (place_in n b))) es i e l
       (All-weaker (λ x. ForSome x.got (λ b. IsSome (place_in m b))) (λ x. ForSome x.got (λ b. IsSome (place_in n b)))
-          (λ x f b g. found_kept b (f b g)) (take i es) found)
+      (λ x f b g. found_kept b (f b g)) (take i es) found)
       (λ b g. some_is (place_in n b) i
-          (place_here b ((bytes_eq-Decides bs b).1 (same_Some bs b (sym got ∙ ap (λ (x : Entry). x.got) at ∙ g)))))
+      (place_here b ((bytes_eq-Decides bs b).1 (same_Some bs b (sym got ∙ ap (λ (x : Entry). x.got) at ∙ g)))))
 
   pub places_more : (es : List Entry) (e : Entry) → e ≡ get_or es i e → i < length es → e.got ≡ Some bs → ArePlaces m es
       → ArePlaces n es
@@ -49,7 +49,7 @@ module _ (m n : HashMap (Bor (List ℕ)) ℕ (BuildHasherDefault FoldHasher)) (b
         let place : i ≡ j = same_Some i j (sym (place_here b t) ∙ p) in
         subst (λ k. IsSomeAnd (slice_get es k) (λ x. x.got ≡ Some b)) place
         (some_at (slice_get es i) (λ x. x.got ≡ Some b) e (slice_get_read es (length es) i e refl l at)
-            (got ∙ ap Some same))
+        (got ∙ ap Some same))
     | inr f ↦ places b j (sym (place_there b f) ∙ p)
   ]
 

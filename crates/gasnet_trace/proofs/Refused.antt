@@ -569,7 +569,7 @@ lines_to version job rank entries =
 
 entries_walked : (version threads job rank : ℕ) (entries : List Entry) → version < 2 ^ 64 → job < 2 ^ 64
     → rank < 2 ^ 16 → AllByRecursion (IsEntry threads) entries → Walked version threads
-        (lines_to version job rank entries)
+    (lines_to version job rank entries)
 entries_walked version threads job rank entries fits few small is =
     let trace = is_least threads job rank entries few small is in
     record {
@@ -616,7 +616,7 @@ entries_mean (suc room) version threads job rank line entries bytes rest bad lt 
     next_entry None more words text next e = absurd (cc)
     next_entry (Some entry) more words text next e =
         let same : lines_to version job rank (entries ++ entry ∷ [])
-            ≡ lines_to version job rank entries ++ entry_line entry ∷ [] =
+        ≡ lines_to version job rank entries ++ entry_line entry ∷ [] =
         ap (λ (ls : List Line). number_line (codes "trace") version ∷ number_line (codes "job") job
         ∷ number_line (codes "rank") rank ∷ ls) (map-append entry_line entries (entry ∷ [])) in
         let line_is = text ∙ ap (λ (ws : Line). line_text ws ++ more) next.0 in
@@ -625,7 +625,7 @@ entries_mean (suc room) version threads job rank line entries bytes rest bad lt 
         let on = reach_on version threads (lines_to version job rank entries) (entry_line entry) bytes rest more reached
         line_is (subst (Walked version threads) same walked) in
         let longer : length (lines_to version job rank (entries ++ entry ∷ []))
-            ≡ length (lines_to version job rank entries) + 1 =
+        ≡ length (lines_to version job rank entries) + 1 =
         ap (λ (ls : List Line). length ls) same ∙ length-append (lines_to version job rank entries)
         (entry_line entry ∷ []) in
         let shorter : length rest ≡ length (line_text (entry_line entry)) + length more =
@@ -634,6 +634,7 @@ entries_mean (suc room) version threads job rank line entries bytes rest bad lt 
         entries_mean room version threads job rank (line + 1) (entries ++ entry ∷ []) bytes more bad (omega arith) fits
         few small all (subst (λ (ls : List Line). Reached version threads ls bytes more) (sym same) on)
         (omega (arith, longer, count)) (front_err entry (entries_at room threads (line + 1) more) bad e)
+
     by_line : (read_line line (next_of threads) rest ≡ Err bad) ⊎ ((x : Option Entry × List ℕ)
         × ((read_line line (next_of threads) rest ≡ Ok x) × (cond (is_none x.0) (Ok ([], x.1))
         (with_front (option_to_list x.0) (entries_at room threads (line + 1) x.1)) ≡ Err bad)))
@@ -666,7 +667,7 @@ third_by version threads job bytes rest bad fits few reached (inr x) =
     entries_by : {rank : ℕ} {more : List ℕ} → (entries_at (length more + 1) threads 4 more ≡ Err bad)
         ⊎ ((y : List Entry × List ℕ) × ((entries_at (length more + 1) threads 4 more ≡ Ok y)
         × (◌≡◌ {A = Result (Trace × List ℕ) BadLine} (Ok (record { job = job; rank = rank; entries = y.0 }, y.1))
-            (Err bad))))
+        (Err bad))))
         → rank < 2 ^ 16 → Reached version threads (lines_to version job rank []) bytes more
         → Means version threads bytes bad.line bad.why
     entries_by {rank} {more} (inl e) small on =

@@ -22,8 +22,10 @@ pub slice_get_push : {A : Type 0} (xs : List A) (y z : A) (n : ℕ) → slice_ge
 slice_get_push [] y z zero e = inr (refl, same_Some y z e)
 slice_get_push [] y z (suc n) e = cc
 slice_get_push (x ∷ xs) y z zero e = inl e
-slice_get_push (x ∷ xs) y z (suc n) e = elim (slice_get_push xs y z n e) [ inl h ↦ inl h | inr h ↦ inr (ap suc h.0, h.1)
-    ]
+slice_get_push (x ∷ xs) y z (suc n) e = elim (slice_get_push xs y z n e) [
+  | inl h ↦ inl h
+  | inr h ↦ inr (ap suc h.0, h.1)
+]
 
 pub places_push : (ps : PlaceMaps) (p : PlaceMap) (ts : List Trace) (i : ℕ) (t : Trace) (es : List Entry) → length ps
     ≡ i → i < length ts → t ≡ get_or ts i t → es ≡ t.entries → AreFound p es → ArePlaces p es → HavePlaces ps ts
@@ -32,10 +34,10 @@ places_push ps p ts i t es l in' at same found places each n q e = elim (slice_g
   | inl h ↦ each n q h
   | inr h ↦
       let t_at : slice_get ts n ≡ Some t = ap (slice_get ts) (h.0 ∙ l) ∙ slice_get-get_or ts i t in'
-          ∙ ap Some (sym at) in
+      ∙ ap Some (sym at) in
       subst (λ (m : PlaceMap). IsSomeAnd (slice_get ts n) (λ t'. AreFound m t'.entries × ArePlaces m t'.entries)) h.1
       (some_at (slice_get ts n) (λ t'. AreFound p t'.entries × ArePlaces p t'.entries) t t_at
-          (subst (AreFound p) same found, subst (ArePlaces p) same places))
+      (subst (AreFound p) same found, subst (ArePlaces p) same places))
 ]
 
 -- a spot is a place in the map of a node
@@ -60,10 +62,10 @@ fit_start ps ms ts l each unmarked = record {
       elim (slice_get_cases ms n).1 [
         | inl v ↦
             let u = some_from (slice_get ts n) (λ t. (v.0).items ≡ replicate (length t.entries) false)
-                (unmarked n v.0 v.2) in
+            (unmarked n v.0 v.2) in
             let same : u.0 ≡ s.trace = same_Some u.0 s.trace (sym u.1 ∙ s.at) in
             let size : length (v.0).items ≡ length (s.trace).entries = ap length u.2
-                ∙ length-replicate (length (u.0).entries) false ∙ ap (λ (t : Trace). length t.entries) same in
+            ∙ length-replicate (length (u.0).entries) false ∙ ap (λ (t : Trace). length t.entries) same in
             some_at (slice_get ms n) (λ w. i < length w.items) v.0 v.2 (omega arith)
         | inr past ↦ absurd (omega (arith, l, past.0, slice_get_within ts n s.trace s.at))
       ];
@@ -90,9 +92,9 @@ noted_none ps ms ts unmarked n b h =
     elim (slice_get_cases ms n).1 [
       | inl v ↦
           let u = some_from (slice_get ts n) (λ t. (v.0).items ≡ replicate (length t.entries) false)
-              (unmarked n v.0 v.2) in
+          (unmarked n v.0 v.2) in
           let is : mark ms n x.0 ≡ get_or (v.0).items x.0 false =
-              ap (λ o. option_map_or (λ (w : Vec Bool Global). get_or w.items x.0 false) o false) v.2 in
+          ap (λ o. option_map_or (λ (w : Vec Bool Global). get_or w.items x.0 false) o false) v.2 in
           both_ways (mark ms n x.0) (is ∙ mark_false (v.0).items (length (u.0).entries) x.0 u.2) x.2
       | inr past ↦ both_ways (mark ms n x.0) (ap (λ o. option_map_or (λ (w : Vec Bool Global). get_or w.items x.0 false)
           o false) past.1) x.2
@@ -103,19 +105,19 @@ pub got_spot : {S : Type 0} (rs : List S) (ts : List Trace) (ps : PlaceMaps) →
     → (n : ℕ) (b : List ℕ) → IsGot (nodes_of rs ts) n b → IsSome (spot ps n b)
 got_spot rs ts ps l each n b h =
     let x = some_from (slice_get (nodes_of rs ts) n) (λ z. (i : ℕ) × IsSomeAnd (slice_get z.entries i) (λ e. e.got
-        ≡ Some b)) h in
+    ≡ Some b)) h in
     let q = node_parts rs ts n x.0 x.1 in
     let e = some_from (slice_get (x.0).entries x.2.0) (λ e'. e'.got ≡ Some b) x.2.1 in
     let at : slice_get (q.0).entries x.2.0 ≡ Some e.0 = ap (λ es. slice_get es x.2.0) (sym q.2) ∙ e.1 in
     elim (slice_get_cases ps n).1 [
       | inl p ↦
           let t = some_from (slice_get ts n) (λ t'. AreFound p.0 t'.entries × ArePlaces p.0 t'.entries) (each n p.0 p.2)
-              in
+          in
           let same : t.0 ≡ q.0 = same_Some t.0 q.0 (sym t.1 ∙ q.1) in
           let at' : slice_get (t.0).entries x.2.0 ≡ Some e.0 = ap (λ (z : Trace). slice_get z.entries x.2.0) same
-              ∙ at in
+          ∙ at in
           let found : IsSome (place_in p.0 b) = t.2.0 x.2.0 e.0 (slice_get_within (t.0).entries x.2.0 e.0 at') b
-              (ap (λ (z : Entry). z.got) (get_or_from_slice_get (t.0).entries x.2.0 e.0 e.0 at') ∙ e.2) in
+          (ap (λ (z : Entry). z.got) (get_or_from_slice_get (t.0).entries x.2.0 e.0 e.0 at') ∙ e.2) in
           subst IsSome (sym (ap (option_and_then (λ (m : PlaceMap). place_in m b)) p.2)) found
       | inr past ↦ absurd (omega (arith, l, past.0, slice_get_within ts n q.0 q.1))
     ]

@@ -26,8 +26,11 @@ pub record EntriesRead (threads : ℕ) (bytes : List ℕ) (x : List Entry × Lis
   pub entries : AllByRecursion (IsEntry threads) x.0
 
 ended : (threads : ℕ) (bytes rest : List ℕ) → bytes ≡ line_text end_line ++ rest → EntriesRead threads bytes ([], rest)
-ended threads bytes rest e = record { text = e ∙ ap (λ z. z ++ rest) (sym (append-nil (line_text end_line))); entries =
-    tt }
+ended threads bytes rest e = record {
+  text = e ∙ ap (λ z. z ++ rest) (sym (append-nil (line_text end_line)));
+  entries =
+      tt;
+}
 
 went_on : (threads : ℕ) (bytes mid : List ℕ) (e : Entry) (x : List Entry × List ℕ) → bytes ≡ line_text (entry_line e)
     ++ mid → IsEntry threads e → EntriesRead threads mid x → EntriesRead threads bytes (e ∷ x.0, x.1)
@@ -41,16 +44,16 @@ one_more : (room threads line : ℕ) (o : Option Entry) (bytes mid : List ℕ) (
     → bytes ≡ line_text words ++ mid → IsNext threads words o
     → ((y : List Entry × List ℕ) → entries_at room threads (line + 1) mid ≡ Ok y → EntriesRead threads mid y)
     → cond (is_none o) (Ok ([], mid)) (with_front (option_to_list o) (entries_at room threads (line + 1) mid)) ≡ Ok x
-        → EntriesRead threads bytes x
+    → EntriesRead threads bytes x
 one_more room threads line None bytes mid x words text n more e =
     let made : List Entry × List ℕ = ([], mid) in
     subst (EntriesRead threads bytes) (ok_is made x e)
-        (ended threads bytes mid (text ∙ ap (λ (ws : Line). line_text ws ++ mid) n))
+    (ended threads bytes mid (text ∙ ap (λ (ws : Line). line_text ws ++ mid) n))
 one_more room threads line (Some v) bytes mid x words text n more e =
     let a = bind_ok (entries_at room threads (line + 1) mid) (λ y. Ok (v ∷ y.0, y.1)) x e in
     let made : List Entry × List ℕ = (v ∷ a.0.0, a.0.1) in
     subst (EntriesRead threads bytes) (ok_is made x a.2)
-        (went_on threads bytes mid v a.0 (text ∙ ap (λ (ws : Line). line_text ws ++ mid) n.0) n.1 (more a.0 a.1))
+    (went_on threads bytes mid v a.0 (text ∙ ap (λ (ws : Line). line_text ws ++ mid) n.0) n.1 (more a.0 a.1))
 
 pub entries_take : (room threads line : ℕ) (bytes : List ℕ) (x : List Entry × List ℕ) → entries_at room threads line
     bytes ≡ Ok x → EntriesRead threads bytes x
@@ -58,10 +61,10 @@ unfolding entries_at
 entries_take zero threads line bytes x e = absurd (cc)
 entries_take (suc room) threads line bytes x e =
     let a = bind_ok (read_line line (next_of threads) bytes) (λ y. cond (is_none y.0) (Ok ([], y.1))
-        (with_front (option_to_list y.0) (entries_at room threads (line + 1) y.1))) x e in
+    (with_front (option_to_list y.0) (entries_at room threads (line + 1) y.1))) x e in
     let l = read_takes line (next_of threads) bytes a.0 a.1 in
     one_more room threads line a.0.0 bytes a.0.1 x l.words l.text (next_takes threads l.words a.0.0 l.says)
-        (λ y. entries_take room threads (line + 1) a.0.1 y) a.2
+    (λ y. entries_take room threads (line + 1) a.0.1 y) a.2
 
 only_end : (rest : List ℕ) → entries_text [] ++ rest ≡ line_text end_line ++ rest
 only_end rest = ap (λ z. z ++ rest) (append-nil (line_text end_line))
@@ -72,12 +75,15 @@ unfolding entries_at
 entries_again zero threads line es rest lt h = absurd (omega arith)
 entries_again (suc room) threads line [] rest lt h =
     ap (entries_at (suc room) threads line) (only_end rest) ∙ rw (read_again line (next_of threads) end_line rest None
-        end_is_line (next_end threads)) refl
+    end_is_line (next_end threads)) refl
 entries_again (suc room) threads line (e ∷ es) rest lt h =
     ap (entries_at (suc room) threads line) (append_assoc (line_text (entry_line e)) (entries_text es) rest)
-    ∙ rw (read_again line (next_of threads) (entry_line e) (entries_text es ++ rest) (Some e)
-        (entry_is_line threads e h.0) (next_again threads e h.0), entries_again room threads (line + 1) es rest
-        (omega arith) h.1) refl
+    ∙ rw (
+      read_again line (next_of threads) (entry_line e) (entries_text es ++ rest) (Some e)
+          (entry_is_line threads e h.0) (next_again threads e h.0),
+      entries_again room threads (line + 1) es rest
+          (omega arith) h.1,
+    ) refl
 
 -- each line has a byte
 pub line_long : (words : Line) → 0 < length (line_text words)
@@ -111,7 +117,7 @@ four a b c d rest = simp append_assoc
 -- the text of a trace, part by part
 parts : (version : ℕ) (t : Trace) (rest : List ℕ) → trace_text version t ++ rest
     ≡ line_text (number_line (codes "trace") version) ++ (line_text (number_line (codes "job") t.job)
-        ++ (line_text (number_line (codes "rank") t.rank) ++ (entries_text t.entries ++ rest)))
+    ++ (line_text (number_line (codes "rank") t.rank) ++ (entries_text t.entries ++ rest)))
 parts version t rest = four (line_text (number_line (codes "trace") version))
     (line_text (number_line (codes "job") t.job)) (line_text (number_line (codes "rank") t.rank))
     (entries_text t.entries) rest
@@ -137,11 +143,11 @@ pub trace_takes : (version threads : ℕ) (bytes : List ℕ) (x : Trace × List 
 unfolding trace_at
 trace_takes version threads bytes x e =
     let v = bind_ok (read_line 1 (setting_of (codes "trace") version version) bytes) (λ y. after_version threads y) x e
-        in
+    in
     let j = bind_ok (read_line 2 (setting_of (codes "job") 0 (2 ^ 64 - 1)) v.0.1) (λ y. after_job threads y) x v.2 in
     let r = bind_ok (read_line 3 (setting_of (codes "rank") 0 65535) j.0.1) (λ y. after_rank threads j.0.0 y) x j.2 in
     let es = bind_ok (entries_at (length r.0.1 + 1) threads 4 r.0.1)
-        (λ y. Ok (record { job = j.0.0; rank = r.0.0; entries = y.0 }, y.1)) x r.2 in
+    (λ y. Ok (record { job = j.0.0; rank = r.0.0; entries = y.0 }, y.1)) x r.2 in
     let t : Trace = record { job = j.0.0; rank = r.0.0; entries = es.0.0 } in
     let made : Trace × List ℕ = (t, es.0.1) in
     let v1 = setting_line 1 (codes "trace") version version bytes v.0 v.1 in
@@ -153,26 +159,39 @@ trace_takes version threads bytes x e =
     let t3 = r1.0 ∙ ap (λ (z : List ℕ). line_text (number_line (codes "rank") r.0.0) ++ z) e1.text in
     let t2 = j1.0 ∙ ap (λ (z : List ℕ). line_text (number_line (codes "job") j.0.0) ++ z) t3 in
     let t1 = v1.0 ∙ ap (λ (n : ℕ). line_text (number_line (codes "trace") n) ++ v.0.1) same
-        ∙ ap (λ (z : List ℕ). line_text (number_line (codes "trace") version) ++ z) t2 in
+    ∙ ap (λ (z : List ℕ). line_text (number_line (codes "trace") version) ++ z) t2 in
     subst (TraceReadAs version threads bytes) (ok_is made x es.2) (record {
       is_trace = record { job = j1.1.fits; rank = rank_fits; entries = e1.entries };
       text = t1 ∙ sym (parts version t es.0.1);
     })
 
 pub trace_word : IsWord (codes "trace")
-trace_word = record { some = omega arith; plain =
-    ((omega arith, omega arith),
-    ((omega arith, omega arith),
-    ((omega arith, omega arith), ((omega arith, omega arith), ((omega arith, omega arith), tt))))) }
+trace_word = record {
+  some = omega arith;
+  plain = (
+    (omega arith, omega arith),
+    (
+      (omega arith, omega arith),
+      ((omega arith, omega arith), ((omega arith, omega arith), ((omega arith, omega arith), tt))),
+    ),
+  );
+}
 
 pub job_word : IsWord (codes "job")
-job_word = record { some = omega arith; plain =
-    ((omega arith, omega arith), ((omega arith, omega arith), ((omega arith, omega arith), tt))) }
+job_word = record {
+  some = omega arith;
+  plain =
+      ((omega arith, omega arith), ((omega arith, omega arith), ((omega arith, omega arith), tt)));
+}
 
 pub rank_word : IsWord (codes "rank")
-rank_word = record { some = omega arith; plain =
-    ((omega arith, omega arith),
-    ((omega arith, omega arith), ((omega arith, omega arith), ((omega arith, omega arith), tt)))) }
+rank_word = record {
+  some = omega arith;
+  plain = (
+    (omega arith, omega arith),
+    ((omega arith, omega arith), ((omega arith, omega arith), ((omega arith, omega arith), tt))),
+  );
+}
 
 pub trace_again : (version threads : ℕ) (t : Trace) (rest : List ℕ) → version < 2 ^ 64 → IsTrace threads t
     → trace_at version threads (trace_text version t ++ rest) ≡ Ok (t, rest)
@@ -184,7 +203,7 @@ trace_again version threads t rest fits h =
     let version_in : IsIn version version version = record { least = omega arith; most = omega arith; fits = fits } in
     let r0 : read_line 1 (setting_of (codes "trace") version version) (trace_text version t ++ rest) ≡ Ok (version, j) =
     ap (read_line 1 (setting_of (codes "trace") version version)) (parts version t rest) ∙ setting_line_again 1
-        (codes "trace") version version version j trace_word version_in in
+    (codes "trace") version version version j trace_word version_in in
     let r1 = setting_line_again 2 (codes "job") 0 (2 ^ 64 - 1) t.job r job_word (wide t.job h.job) in
     let r2 = setting_line_again 3 (codes "rank") 0 65535 t.rank es rank_word (narrow t.rank h.rank) in
     let short = entries_short t.entries in
@@ -210,5 +229,5 @@ longer a b c d n h = simp length-append (omega arith)
 pub few_entries : (version : ℕ) (t : Trace) → length t.entries < length (trace_text version t)
 few_entries version t =
     longer (line_text (number_line (codes "trace") version)) (line_text (number_line (codes "job") t.job))
-        (line_text (number_line (codes "rank") t.rank)) (entries_text t.entries) (length t.entries)
-        (entries_short t.entries)
+    (line_text (number_line (codes "rank") t.rank)) (entries_text t.entries) (length t.entries)
+    (entries_short t.entries)

@@ -33,9 +33,9 @@ IsGot xs n b = IsSomeAnd (slice_get xs n) (λ x. (i : ℕ) × IsSomeAnd (slice_g
 
 -- what is kept was sent, and of what was sent all that the traces got is kept
 pub record SentAt {S : Type 0} (g : Steps S) (xs : List (Node S)) (f : List ℕ) (sent : ℕ → List ℕ → Type 0) : Type 0
-    where
-  pub no_more : (n : ℕ) (bytes : List ℕ) → sent n bytes → WasSent g xs f n bytes
-  pub found : (n : ℕ) (bytes : List ℕ) → IsGot xs n bytes → WasSent g xs f n bytes → sent n bytes
+  where
+    pub no_more : (n : ℕ) (bytes : List ℕ) → sent n bytes → WasSent g xs f n bytes
+    pub found : (n : ℕ) (bytes : List ℕ) → IsGot xs n bytes → WasSent g xs f n bytes → sent n bytes
 
 -- what the code knows of a front, apart from states
 pub record Walk {M : Type 0} (g : Ghosts M) (ts : List Trace) (f : List ℕ) (ms : List M) : Type 0 where
@@ -56,16 +56,16 @@ pub replay_more : {S : Type 0} (g : Steps S) (x : Node S) (i : ℕ) (e : Entry) 
     → replay g x (i + 1) ≡ g.after (replay g x i) e.thread e.now e.got
 replay_more g x i e at =
     ap (replayed g x.state) (take_more x.entries i e (slice_get_within x.entries i e at)) ∙ replayed-append g x.state
-        (take i x.entries) (get_or x.entries i e ∷ [])
+    (take i x.entries) (get_or x.entries i e ∷ [])
     ∙ ap (λ (e' : Entry). g.after (replay g x i) e'.thread e'.now e'.got) (get_or_from_slice_get x.entries i e e at)
 
 pub sent_of_more : {S : Type 0} (g : Steps S) (x : Node S) (i : ℕ) (e : Entry) → slice_get x.entries i ≡ Some e
     → sent_of g x (i + 1) ≡ sent_of g x i ++ given_by g (replay g x i) e
 sent_of_more g x i e at =
     ap (sent_in g x.state) (take_more x.entries i e (slice_get_within x.entries i e at)) ∙ sent_in-append g x.state
-        (take i x.entries) (get_or x.entries i e ∷ [])
+    (take i x.entries) (get_or x.entries i e ∷ [])
     ∙ ap (λ ds. sent_of g x i ++ ds) (append-nil (given_by g (replay g x i) (get_or x.entries i e))
-        ∙ ap (given_by g (replay g x i)) (get_or_from_slice_get x.entries i e e at))
+    ∙ ap (given_by g (replay g x i)) (get_or_from_slice_get x.entries i e e at))
 
 get_can : {S : Type 0} (g : Steps S) (xs : List (Node S)) (f : List ℕ) (sent : ℕ → List ℕ → Type 0) (n : ℕ) (m : S)
     (thread : ℕ) (got : Option (List ℕ)) → SentAt g xs f sent → MayGet g m sent n thread got → CanGet g xs f n m thread
@@ -93,10 +93,12 @@ placed_push g xs (m ∷ ns) f to n h = ap (λ ps. record { node = m; entry = sli
 pub came_push : {S : Type 0} (g : Steps S) (xs : List (Node S)) (f : List ℕ) (n : ℕ) (placed : List Placed)
     → CanGo g xs f n → Came g xs f placed
     → Came g xs (advance f n) (placed ++ record { node = n; entry = slice_index f n + 1 } ∷ [])
-came_push g xs f n placed go came =
-    (came.0 ++ n ∷ [], goes_push g xs came.0 (start xs) f n came.1 go,
-        ap (λ ps. ps ++ record { node = n; entry = slice_index f n + 1 } ∷ []) came.2
-        ∙ sym (placed_push g xs came.0 (start xs) f n came.1))
+came_push g xs f n placed go came = (
+  came.0 ++ n ∷ [],
+  goes_push g xs came.0 (start xs) f n came.1 go,
+  ap (λ ps. ps ++ record { node = n; entry = slice_index f n + 1 } ∷ []) came.2
+      ∙ sym (placed_push g xs came.0 (start xs) f n came.1),
+)
 
 within_more : (f : List ℕ) (n : ℕ) → n < length f → Within f (advance f n)
 within_more f n l k = elim (cases_eq k n) [
@@ -107,10 +109,10 @@ within_more f n l k = elim (cases_eq k n) [
 
 -- these datagrams, and no others, were kept, those of them that the traces got
 pub record Adds {S : Type 0} (xs : List (Node S)) (old new : ℕ → List ℕ → Type 0) (ds : List (ℕ × List ℕ)) : Type 0
-    where
-  pub no_more : (n : ℕ) (b : List ℕ) → new n b → old n b ⊎ Contains ds (n, b)
-  pub kept : (n : ℕ) (b : List ℕ) → old n b → new n b
-  pub noted : (n : ℕ) (b : List ℕ) → Contains ds (n, b) → IsGot xs n b → new n b
+  where
+    pub no_more : (n : ℕ) (b : List ℕ) → new n b → old n b ⊎ Contains ds (n, b)
+    pub kept : (n : ℕ) (b : List ℕ) → old n b → new n b
+    pub noted : (n : ℕ) (b : List ℕ) → Contains ds (n, b) → IsGot xs n b → new n b
 
 -- the datagrams after an entry went
 sent_step : {S : Type 0} (g : Steps S) (xs : List (Node S)) (f : List ℕ) (old new : ℕ → List ℕ → Type 0) (n : ℕ)
@@ -127,29 +129,34 @@ sent_step {S} g xs f old new n x e l at at' adds s =
           n,
           some_at (slice_get xs n) (λ x'. Contains (sent_of g x' (slice_index (advance f n) n)) (k, bytes)) x at
               (subst (λ i. Contains (sent_of g x i) (k, bytes)) (sym same) (subst (λ ds. Contains ds (k, bytes))
-                  (sym more) (Contains-append_right (sent_of g x (slice_index f n)) given (k, bytes) h'))),
+              (sym more) (Contains-append_right (sent_of g x (slice_index f n)) given (k, bytes) h'))),
         )
       ];
       found = λ k bytes got h. elim (cases_eq h.0 n) [
         | inl j ↦
             let here = some_from (slice_get xs n) (λ x'. Contains (sent_of g x' (slice_index (advance f n) n))
-                (k, bytes))
+            (k, bytes))
             (subst (λ i. IsSomeAnd (slice_get xs i) (λ x'. Contains (sent_of g x' (slice_index (advance f n) i))
-                (k, bytes))) j h.1) in
+            (k, bytes))) j h.1) in
             let c1 = subst (λ (x' : Node S). Contains (sent_of g x' (slice_index (advance f n) n)) (k, bytes))
-                (same_Some here.0 x (sym here.1 ∙ at)) here.2 in
+            (same_Some here.0 x (sym here.1 ∙ at)) here.2 in
             let c2 = subst (λ i. Contains (sent_of g x i) (k, bytes)) same c1 in
             elim (Contains-append_cases (sent_of g x (slice_index f n)) given (k, bytes)
-                (subst (λ ds. Contains ds (k, bytes)) more c2)) [
+            (subst (λ ds. Contains ds (k, bytes)) more c2)) [
               | inl h' ↦ adds.kept k bytes
-                  (s.found k bytes got (n, some_at (slice_get xs n) (λ x'. Contains (sent_of g x' (slice_index f n))
-                  (k, bytes)) x at h'))
+                  (s.found k bytes got (
+                    n,
+                    some_at (slice_get xs n) (λ x'. Contains (sent_of g x' (slice_index f n))
+                        (k, bytes)) x at h',
+                  ))
               | inr h' ↦ adds.noted k bytes h' got
             ]
         | inr j ↦ adds.kept k bytes
-            (s.found k bytes got
-            (h.0, subst (λ i. IsSomeAnd (slice_get xs h.0) (λ x'. Contains (sent_of g x' i) (k, bytes)))
-            (advance_other f n h.0 j) h.1))
+            (s.found k bytes got (
+              h.0,
+              subst (λ i. IsSomeAnd (slice_get xs h.0) (λ x'. Contains (sent_of g x' i) (k, bytes)))
+                  (advance_other f n h.0 j) h.1,
+            ))
       ];
     }
 
@@ -168,19 +175,19 @@ replays_step : {M : Type 0} (g : Ghosts M) (xs : List (Node g.State)) (f : List 
     (x : Node g.State) (e : Entry) (left : M) → n < length f → n < length ms → slice_get xs n ≡ Some x
     → slice_get x.entries (slice_index f n) ≡ Some e
     → g.stands left (g.after (replay (steps_of g) x (slice_index f n)) e.thread e.now e.got) → AreReplays g xs f ms
-        → AreReplays g xs (advance f n) (slice_set ms n left)
+    → AreReplays g xs (advance f n) (slice_set ms n left)
 replays_step {M} g xs f ms n x e left l l' at at' stands replays k m e' =
     elim (cases_eq k n) [
       | inl j ↦
           let is : left ≡ m = same_Some left m (sym (slice_get-set_same ms n left l')
-              ∙ ap (slice_get (slice_set ms n left)) (sym j) ∙ e') in
+          ∙ ap (slice_get (slice_set ms n left)) (sym j) ∙ e') in
           let now : g.stands left (replay (steps_of g) x (slice_index (advance f n) n)) =
           subst (g.stands left) (sym (replay_more (steps_of g) x (slice_index f n) e at') ∙ ap (replay (steps_of g) x)
-              (sym (advance_same f n l))) stands in
+          (sym (advance_same f n l))) stands in
           subst (λ i. IsSomeAnd (slice_get xs i)
-              (λ z. g.stands m (replay (steps_of g) z (slice_index (advance f n) i)))) (sym j)
+          (λ z. g.stands m (replay (steps_of g) z (slice_index (advance f n) i)))) (sym j)
           (some_at (slice_get xs n) (λ z. g.stands m (replay (steps_of g) z (slice_index (advance f n) n))) x at
-              (subst (λ m'. g.stands m' (replay (steps_of g) x (slice_index (advance f n) n))) is now))
+          (subst (λ m'. g.stands m' (replay (steps_of g) x (slice_index (advance f n) n))) is now))
       | inr d ↦ subst (λ i. IsSomeAnd (slice_get xs k) (λ z. g.stands m (replay (steps_of g) z i)))
           (sym (advance_other f n k d))
           (replays k m (sym (slice_get-set_other ms n k left d) ∙ e'))
@@ -204,8 +211,11 @@ pub walk_next : {M : Type 0} (g : Ghosts M) (ts : List Trace) (f : List ℕ) (ms
 walk_next {M} g ts f ms ms' ps old new n w t =
     let l : n < length f = omega (arith, slice_get_within ts n t.trace t.trace_at, w.size) in
     let l' : n < length ms = slice_get_within ms n t.machine t.machine_at in
-    let below : slice_index f n < slice_index (ends ts) n = omega (arith, ends_at ts n t.trace t.trace_at,
-        slice_get_within (t.trace).entries (slice_index f n) t.entry t.entry_at) in
+    let below : slice_index f n < slice_index (ends ts) n = omega (
+      arith,
+      ends_at ts n t.trace t.trace_at,
+      slice_get_within (t.trace).entries (slice_index f n) t.entry t.entry_at,
+    ) in
     let within = advance_within f (ends ts) n w.within below in
     let size : length (advance f n) ≡ length ts = length-set f n (slice_index f n + 1) ∙ w.size in
     let one = sum_advance f n l in
@@ -217,7 +227,7 @@ walk_next {M} g ts f ms ms' ps old new n w t =
         threads = λ k m e t' e'. elim (cases_eq k n) [
           | inl j ↦
               let is : t.left ≡ m = same_Some t.left m (sym (slice_get-set_same ms n t.left l')
-                  ∙ ap (slice_get (slice_set ms n t.left)) (sym j) ∙ sym (ap (λ zs. slice_get zs k) t.machines) ∙ e) in
+              ∙ ap (slice_get (slice_set ms n t.left)) (sym j) ∙ sym (ap (λ zs. slice_get zs k) t.machines) ∙ e) in
               let before = w.threads n t.machine t.machine_at t' (ap (slice_get ts) (sym j) ∙ e') in
               let count : g.thread_count m ≡ g.thread_count t.machine = ap g.thread_count (sym is) ∙ t.took.threads in
               λ i d h. let b = before i d h in omega arith
@@ -235,7 +245,7 @@ pub stood_next : {M : Type 0} (g : Ghosts M) (rs : List g.State) (ts : List Trac
     → ((k : ℕ) (bytes : List ℕ) → IsGot (nodes_of rs ts) k bytes → IsSome (spot ps k bytes))
     → Stood g (nodes_of rs ts) f ms (IsNoted ps old) placed
     → Stood g (nodes_of rs ts) (advance f n) ms' (IsNoted ps new)
-        (placed ++ record { node = n; entry = slice_index f n + 1 } ∷ [])
+    (placed ++ record { node = n; entry = slice_index f n + 1 } ∷ [])
 stood_next {M} g rs ts f ms ms' ps old new n b placed w judges is_true t found s =
     let xs = nodes_of rs ts in
     let l : n < length f = omega (arith, slice_get_within ts n t.trace t.trace_at, w.size) in
@@ -243,18 +253,18 @@ stood_next {M} g rs ts f ms ms' ps old new n b placed w judges is_true t found s
     let x = some_from (slice_get xs n) _ (s.replays n t.machine t.machine_at) in
     let q = node_parts rs ts n x.0 x.1 in
     let same : (x.0).entries ≡ (t.trace).entries = q.2 ∙ ap (λ (t' : Trace). t'.entries)
-        (same_Some q.0 t.trace (sym q.1 ∙ t.trace_at)) in
+    (same_Some q.0 t.trace (sym q.1 ∙ t.trace_at)) in
     let r = replay (steps_of g) x.0 (slice_index f n) in
     let may : MayGo (steps_of g) r (x.0).entries (IsNoted ps old) n (slice_index f n) =
     subst (λ es. MayGo (steps_of g) r es (IsNoted ps old) n (slice_index f n)) (sym same)
-        ((judges t.machine t.machine_at t.trace t.trace_at r x.2).0 is_true) in
+    ((judges t.machine t.machine_at t.trace t.trace_at r x.2).0 is_true) in
     let go : CanGo (steps_of g) xs f n =
     some_at (slice_get xs n) (λ z. IsSomeAnd (slice_get z.entries (slice_index f n))
-        (λ e. CanGet (steps_of g) xs f n (replay (steps_of g) z (slice_index f n)) e.thread e.got)) x.0 x.1
+    (λ e. CanGet (steps_of g) xs f n (replay (steps_of g) z (slice_index f n)) e.thread e.got)) x.0 x.1
     (some_then (slice_get (x.0).entries (slice_index f n)) _ _ (λ e _ p. get_can (steps_of g) xs f (IsNoted ps old) n r
-        e.thread e.got s.kept p) may) in
+    e.thread e.got s.kept p) may) in
     let at : slice_get (x.0).entries (slice_index f n) ≡ Some t.entry = ap (λ es. slice_get es (slice_index f n)) same
-        ∙ t.entry_at in
+    ∙ t.entry_at in
     record {
       came = came_push (steps_of g) xs f n placed go s.came;
       replays = subst (AreReplays g xs (advance f n)) (sym t.machines) (replays_step g xs f ms n x.0 t.entry t.left l l'
@@ -306,14 +316,14 @@ replays_start {M} g rs ts ms l stand n m at =
           (λ x. g.stands m (replay (steps_of g) x (slice_index (start (nodes_of rs ts)) n)))
           (record { state = r.0; entries = (t.0).entries }) (nodes_of_at rs ts n r.0 t.0 r.1 t.2)
           (subst (λ i. g.stands m (replayed (steps_of g) r.0 (take i (t.0).entries)))
-              (sym (start_at (nodes_of rs ts) n)) r.2)
+          (sym (start_at (nodes_of rs ts) n)) r.2)
       | inr past ↦ absurd (omega (arith, past.0, slice_get_within ms n m at))
     ]
 
 pub stood_start : {M : Type 0} (g : Ghosts M) (rs : List g.State) (ts : List Trace) (f : List ℕ) (ms : List M)
     (sent : ℕ → List ℕ → Type 0) (placed : List Placed)
     → length ts ≡ length ms → StandFor g ms rs → f ≡ replicate (length ms) 0 → placed ≡ []
-        → ((n : ℕ) (b : List ℕ) → sent n b → ⊥) → Stood g (nodes_of rs ts) f ms sent placed
+    → ((n : ℕ) (b : List ℕ) → sent n b → ⊥) → Stood g (nodes_of rs ts) f ms sent placed
 stood_start {M} g rs ts f ms sent placed l stand e e2 none =
     subst (λ f'. Stood g (nodes_of rs ts) f' ms sent placed) (start_is_front g rs ts f ms l stand e) (record {
       came = ([], refl, e2);
@@ -361,7 +371,7 @@ judged_blocked g ms ts kept f n b judges is_false m at t at' r stands may = both
 pub none_can : {M : Type 0} (g : Ghosts M) (rs : List g.State) (ts : List Trace) (f : List ℕ) (ms : List M)
     (kept : ℕ → List ℕ → Type 0) (placed : List Placed)
     → length ts ≡ length ms → Stood g (nodes_of rs ts) f ms kept placed
-        → ((n : ℕ) → n < length ms → IsBlocked g ms ts kept f n) → (n : ℕ) → CanGo (steps_of g) (nodes_of rs ts) f n → ⊥
+    → ((n : ℕ) → n < length ms → IsBlocked g ms ts kept f n) → (n : ℕ) → CanGo (steps_of g) (nodes_of rs ts) f n → ⊥
 none_can {M} g rs ts f ms kept placed l s none n go =
     let xs = nodes_of rs ts in
     let x = some_from (slice_get xs n) _ go in
@@ -370,19 +380,19 @@ none_can {M} g rs ts f ms kept placed l s none n go =
       | inl m ↦
           let y = some_from (slice_get xs n) _ (s.replays n m.0 m.2) in
           let stands : g.stands m.0 (replay (steps_of g) x.0 (slice_index f n)) =
-              subst (λ (z : Node g.State). g.stands m.0 (replay (steps_of g) z (slice_index f n)))
-              (same_Some y.0 x.0 (sym y.1 ∙ x.1)) y.2 in
+          subst (λ (z : Node g.State). g.stands m.0 (replay (steps_of g) z (slice_index f n)))
+          (same_Some y.0 x.0 (sym y.1 ∙ x.1)) y.2 in
           let may : MayGo (steps_of g) (replay (steps_of g) x.0 (slice_index f n)) (x.0).entries kept n
-              (slice_index f n) =
+          (slice_index f n) =
           some_then (slice_get (x.0).entries (slice_index f n)) _ _ (λ e at p. get_may (steps_of g) xs f kept n
-              (replay (steps_of g) x.0 (slice_index f n)) e.thread e.got s.kept
+          (replay (steps_of g) x.0 (slice_index f n)) e.thread e.got s.kept
           (λ b got. some_at (slice_get xs n) (λ z. (i : ℕ) × IsSomeAnd (slice_get z.entries i) (λ e'. e'.got ≡ Some b))
-              x.0 x.1
+          x.0 x.1
           (slice_index f n, some_at (slice_get (x.0).entries (slice_index f n)) (λ e'. e'.got ≡ Some b) e at got)) p)
-              x.2 in
+          x.2 in
           none n (slice_get_within ms n m.0 m.2) m.0 m.2 q.0 q.1 (replay (steps_of g) x.0 (slice_index f n)) stands
           (subst (λ es. MayGo (steps_of g) (replay (steps_of g) x.0 (slice_index f n)) es kept n (slice_index f n)) q.2
-              may)
+          may)
       | inr past ↦ absurd (omega (arith, l, past.0, slice_get_within ts n q.0 q.1))
     ]
 
@@ -397,4 +407,4 @@ pub round_smaller : {M : Type 0} (g : Ghosts M) (ts : List Trace) (f : List ℕ)
 round_smaller g ts f ms a was is w e h l =
     let top = sum_within f (ends ts) (w.size ∙ sym (length-map ts (λ x. length x.entries))) w.within in
     subst (λ b. 2 * (sum (ends ts) - sum f) + cond is 1 0 < 2 * (sum (ends ts) - a) + cond b 1 0) (sym e)
-        (round_less (sum (ends ts)) a (sum f) is h l top)
+    (round_less (sum (ends ts)) a (sum f) is h l top)

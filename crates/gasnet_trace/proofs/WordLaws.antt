@@ -30,8 +30,11 @@ digits_plain [] h = tt
 digits_plain (d ∷ ds) h = (let r = digit_from_value d h.0 in (omega arith, omega arith), digits_plain ds h.1)
 
 pub decimal_word : (n : ℕ) → n < 2 ^ 64 → IsWord (decimal n)
-decimal_word n h = record { some = decimal_nonempty n h; plain = digits_plain (decimal n)
-    (digits_decimal (numerals_by_value (AllDigits 10) tells_digits) n h) }
+decimal_word n h = record {
+  some = decimal_nonempty n h;
+  plain = digits_plain (decimal n)
+      (digits_decimal (numerals_by_value (AllDigits 10) tells_digits) n h);
+}
 
 hex_plain : (c v : ℕ) → hex_digit_value c ≡ Some v → IsPlain c
 hex_plain c v h = (grind (arith), grind (arith))
@@ -44,8 +47,11 @@ hex_bytes_plain (b ∷ bytes) h =
     let high : b / 16 < 16 = omega arith in
     let low : b % 16 < 16 = omega arith in (
       hex_plain (slice_index lower_digits (b / 16)) (b / 16) (IsDigits-lower_digits (b / 16) high),
-      (hex_plain (slice_index lower_digits (b % 16)) (b % 16) (IsDigits-lower_digits (b % 16) low), hex_bytes_plain
-          bytes (λ k. h (suc k))),
+      (
+        hex_plain (slice_index lower_digits (b % 16)) (b % 16) (IsDigits-lower_digits (b % 16) low),
+        hex_bytes_plain
+            bytes (λ k. h (suc k)),
+      ),
     )
 
 -- what a turn got can be told
@@ -54,8 +60,11 @@ IsGot got = ForSome got (λ bytes. (length bytes ≤ 8297) × IsBytes bytes)
 
 pub got_is_word : (got : Option (List ℕ)) → IsGot got → IsWord (got_word got)
 got_is_word None h = record { some = omega arith; plain = ((omega arith, omega arith), tt) }
-got_is_word (Some bytes) h = record { some = omega arith; plain =
-    ((omega arith, omega arith), hex_bytes_plain bytes (h bytes refl).1) }
+got_is_word (Some bytes) h = record {
+  some = omega arith;
+  plain =
+      ((omega arith, omega arith), hex_bytes_plain bytes (h bytes refl).1);
+}
 
 -- ---- words that are read
 
@@ -91,7 +100,7 @@ pub number_again : (low high n : ℕ) → IsIn low high n → number_in low high
 unfolding number_in
 number_again low high n h =
     ap (within low high) (number_of-decimal n h.fits)
-        ∙ cond_yes _ _ _ (and_from _ _ (le-leb low n h.least) (le-leb n high h.most))
+    ∙ cond_yes _ _ _ (and_from _ _ (le-leb low n h.least) (le-leb n high h.most))
 
 pub wide : (n : ℕ) → n < 2 ^ 64 → IsIn 0 (2 ^ 64 - 1) n
 wide n h = record { least = omega arith; most = omega arith; fits = h }
@@ -121,9 +130,12 @@ spelled_takes word (Err e) bytes h = absurd (cc)
 spelled_takes word (Ok b) bytes h =
     let g = guard_ok (bytes_eq word (encode_lower b) && leb (length b) 8297) Value (Ok b) bytes h in
     let both = and_parts _ _ g.0 in
-    let same : b ≡ bytes = ok_is b bytes g.1 in
-    (same_word word (encode_lower b) both.0 ∙ ap encode_lower same, ap Ok same, rw (← same)
-        (leb-true (length b) 8297 both.1))
+    let same : b ≡ bytes = ok_is b bytes g.1 in (
+      same_word word (encode_lower b) both.0 ∙ ap encode_lower same,
+      ap Ok same,
+      rw (← same)
+          (leb-true (length b) 8297 both.1),
+    )
 
 bytes_takes : (word : Word) (bytes : List ℕ) → bytes_of word ≡ Ok bytes → (word ≡ encode_lower bytes)
     × (length bytes ≤ 8297) × IsBytes bytes
@@ -137,7 +149,7 @@ bytes_again : (bytes : List ℕ) → length bytes ≤ 8297 → IsBytes bytes →
 unfolding bytes_of
 bytes_again bytes few h =
     ap (spelled_by (encode_lower bytes)) (decode_of-encode_lower bytes h)
-        ∙ cond_yes _ _ _ (and_from _ _ (equal_word (encode_lower bytes)) (le-leb (length bytes) 8297 few))
+    ∙ cond_yes _ _ _ (and_from _ _ (equal_word (encode_lower bytes)) (le-leb (length bytes) 8297 few))
 
 first_is : (word : Word) → eqb (slice_index word 0) 120 ≡ true → word ≡ 120 ∷ drop 1 word
 first_is [] h = absurd (cc)
@@ -145,7 +157,7 @@ first_is (b ∷ word) h = ap (λ c. c ∷ word) (eqb-true b 120 h)
 
 got_by : (dash : Bool) (word : Word) (got : Option (List ℕ)) → (dash ≡ true → word ≡ codes "-")
     → cond dash (Ok None) (cond (eqb (slice_index word 0) 120) (bytes_of (drop 1 word) >>= λ bytes. Ok (Some bytes))
-        (Err Value)) ≡ Ok got → (word ≡ got_word got) × IsGot got
+    (Err Value)) ≡ Ok got → (word ≡ got_word got) × IsGot got
 got_by true word got is e =
     let same : None ≡ got = ok_is None got e in
     subst (λ (g : Option (List ℕ)). (word ≡ got_word g) × IsGot g) same (is refl, λ bytes h. absurd (cc))
@@ -154,9 +166,11 @@ got_by false word got is e =
     let b = bind_ok (bytes_of (drop 1 word)) (λ bytes. Ok (Some bytes)) got g.1 in
     let t = bytes_takes (drop 1 word) b.0 b.1 in
     let same : Some b.0 ≡ got = ok_is (Some b.0) got b.2 in
-    subst (λ (o : Option (List ℕ)). (word ≡ got_word o) × IsGot o) same
-    (first_is word g.0 ∙ ap (λ w. 120 ∷ w) t.0, λ bytes h. let s : b.0 ≡ bytes = cc in
-        subst (λ (z : List ℕ). (length z ≤ 8297) × IsBytes z) s (t.1, t.2))
+    subst (λ (o : Option (List ℕ)). (word ≡ got_word o) × IsGot o) same (
+      first_is word g.0 ∙ ap (λ w. 120 ∷ w) t.0,
+      λ bytes h. let s : b.0 ≡ bytes = cc in
+          subst (λ (z : List ℕ). (length z ≤ 8297) × IsBytes z) s (t.1, t.2),
+    )
 
 got_takes : (word : Word) (got : Option (List ℕ)) → got_of word ≡ Ok got → (word ≡ got_word got) × IsGot got
 unfolding got_of
@@ -226,23 +240,27 @@ entry_takes : (threads : ℕ) (t : TurnWords) (e : Entry) → entry_of threads t
 unfolding entry_of
 entry_takes threads t e h =
     let a = bind_ok (thread_of threads t.thread) (λ n. number_in 0 (2 ^ 64 - 1) t.time >>= λ m. got_of t.got
-        >>= λ g. Ok (record { thread = n; now = m; got = g })) e h in
+    >>= λ g. Ok (record { thread = n; now = m; got = g })) e h in
     let b = bind_ok (number_in 0 (2 ^ 64 - 1) t.time) (λ m. got_of t.got
-        >>= λ g. Ok (record { thread = a.0; now = m; got = g })) e a.2 in
+    >>= λ g. Ok (record { thread = a.0; now = m; got = g })) e a.2 in
     let c = bind_ok (got_of t.got) (λ g. Ok (record { thread = a.0; now = b.0; got = g })) e b.2 in
     let made : Entry = record { thread = a.0; now = b.0; got = c.0 } in
     let p = thread_takes threads a.0 t.thread a.1 in
     let q = number_takes 0 (2 ^ 64 - 1) b.0 t.time b.1 in
     let r = got_takes t.got c.0 c.1 in
     subst (λ (x : Entry). (codes "turn" ∷ t.thread ∷ t.time ∷ t.got ∷ [] ≡ entry_line x) × IsEntry threads x)
-        (ok_is made e c.2)
+    (ok_is made e c.2)
     (three _ _ _ _ _ _ p.0 q.0 r.0, record { thread = p.1; narrow = p.2; now = q.1.fits; got = r.1 })
 
 entry_again : (threads : ℕ) (e : Entry) → IsEntry threads e
     → entry_of threads (record { thread = decimal e.thread; time = decimal e.now; got = got_word e.got }) ≡ Ok e
 unfolding entry_of
-entry_again threads e h = rw (thread_again threads e.thread h.thread h.narrow, number_again 0 (2 ^ 64 - 1) e.now
-    (wide e.now h.now), got_again e.got h.got) refl
+entry_again threads e h = rw (
+  thread_again threads e.thread h.thread h.narrow,
+  number_again 0 (2 ^ 64 - 1) e.now
+      (wide e.now h.now),
+  got_again e.got h.got,
+) refl
 
 pub turn_again : (a b c : Word) → turn_of (codes "turn" ∷ a ∷ b ∷ c ∷ [])
     ≡ Ok (record { thread = a; time = b; got = c })
@@ -286,14 +304,23 @@ next_again threads e h =
 -- ---- lines that are written
 
 pub turn_word : IsWord (codes "turn")
-turn_word = record { some = omega arith; plain =
-    ((omega arith, omega arith),
-    ((omega arith, omega arith), ((omega arith, omega arith), ((omega arith, omega arith), tt)))) }
+turn_word = record {
+  some = omega arith;
+  plain = (
+    (omega arith, omega arith),
+    ((omega arith, omega arith), ((omega arith, omega arith), ((omega arith, omega arith), tt))),
+  );
+}
 
 pub end_is_line : IsLine end_line
-end_is_line =
-    (record { some = omega arith; plain =
-    ((omega arith, omega arith), ((omega arith, omega arith), ((omega arith, omega arith), tt))) }, tt)
+end_is_line = (
+  record {
+    some = omega arith;
+    plain =
+        ((omega arith, omega arith), ((omega arith, omega arith), ((omega arith, omega arith), tt)));
+  },
+  tt,
+)
 
 pub entry_is_line : (threads : ℕ) (e : Entry) → IsEntry threads e → IsLine (entry_line e)
 entry_is_line threads e h =

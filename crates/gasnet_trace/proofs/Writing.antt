@@ -94,7 +94,7 @@ pub cut_digits : (rest front back : List ℕ) (n : ℕ) → front ≡ take n res
 cut_digits rest front back n e e' =
     ap encode_lower (sym (take-append-drop n rest)) ∙ encode_parts lower_digits (take n rest) (drop n rest)
     ∙ ap (λ z. encode_lower z ++ encode_lower (drop n rest)) (sym e) ∙ ap (λ z. encode_lower front ++ encode_lower z)
-        (sym e')
+    (sym e')
 
 pub no_digits : (rest : List ℕ) → length rest ≡ 0 → encode_lower rest ≡ []
 no_digits [] h = encode_nil lower_digits
@@ -124,7 +124,7 @@ pub entry_parts : (e : Entry) (thread now : Word) → thread ≡ decimal e.threa
     → line_text (entry_line e) ≡ joined (codes "turn" ∷ thread ∷ now ∷ []) ++ ((32 ∷ []) ++ (got_word e.got ++ 10 ∷ []))
 entry_parts e thread now t n =
     ap (λ w. line_text (codes "turn" ∷ w ∷ decimal e.now ∷ got_word e.got ∷ [])) (sym t)
-        ∙ ap (λ w. line_text (codes "turn" ∷ thread ∷ w ∷ got_word e.got ∷ [])) (sym n)
+    ∙ ap (λ w. line_text (codes "turn" ∷ thread ∷ w ∷ got_word e.got ∷ [])) (sym n)
     ∙ four_words (codes "turn") thread now (got_word e.got)
 
 -- a line after the others
@@ -132,21 +132,21 @@ pub next_line : (es : List Entry) (i : ℕ) (e : Entry) → i < length es → e 
     → spell (map entry_line (drop i es)) ≡ line_text (entry_line e) ++ spell (map entry_line (drop (i + 1) es))
 next_line es i e lt is =
     ap (λ xs. spell (map entry_line xs)) (drop_more es i e lt) ∙ ap (λ x. line_text (entry_line x)
-        ++ spell (map entry_line (drop (i + 1) es))) (sym is)
+    ++ spell (map entry_line (drop (i + 1) es))) (sym is)
 
 -- a trace, as it is written
 pub trace_parts : (version v : ℕ) (t : Trace) (r : ℕ) (es : List Entry) → v ≡ version → r ≡ t.rank → es ≡ t.entries
     → trace_text version t ≡ line_text (number_line (codes "trace") v) ++ (line_text (number_line (codes "job") t.job)
-        ++ (line_text (number_line (codes "rank") r) ++ (spell (map entry_line es) ++ line_text end_line)))
+    ++ (line_text (number_line (codes "rank") r) ++ (spell (map entry_line es) ++ line_text end_line)))
 trace_parts version v t r es p q s =
     let last : spell (entry_lines t.entries) ≡ spell (map entry_line t.entries) ++ line_text end_line =
     flat_map-append line_text (map entry_line t.entries) (end_line ∷ []) ∙ ap (λ z. spell (map entry_line t.entries)
-        ++ z) (append-nil (line_text end_line)) in
+    ++ z) (append-nil (line_text end_line)) in
     ap (λ z. line_text (number_line (codes "trace") version) ++ (line_text (number_line (codes "job") t.job)
-        ++ (line_text (number_line (codes "rank") t.rank) ++ z))) (last ∙ ap (λ xs. spell (map entry_line xs)
-        ++ line_text end_line) (sym s))
+    ++ (line_text (number_line (codes "rank") t.rank) ++ z))) (last ∙ ap (λ xs. spell (map entry_line xs)
+    ++ line_text end_line) (sym s))
     ∙ ap (λ k. line_text (number_line (codes "trace") k) ++ (line_text (number_line (codes "job") t.job)
-        ++ (line_text (number_line (codes "rank") t.rank) ++ (spell (map entry_line es) ++ line_text end_line)))) (sym
-        p)
+    ++ (line_text (number_line (codes "rank") t.rank) ++ (spell (map entry_line es) ++ line_text end_line)))) (sym
+    p)
     ∙ ap (λ k. line_text (number_line (codes "trace") v) ++ (line_text (number_line (codes "job") t.job)
-        ++ (line_text (number_line (codes "rank") k) ++ (spell (map entry_line es) ++ line_text end_line)))) (sym q)
+    ++ (line_text (number_line (codes "rank") k) ++ (spell (map entry_line es) ++ line_text end_line)))) (sym q)

@@ -27,7 +27,7 @@ CanTake ghosts machine entry = IfSome entry.got (λ bytes. ghosts.polls_at machi
 abbrev pub CanTakeNext : {M : Type 0} → Ghosts M → List M → List Trace → List ℕ → ℕ → Type 0
 CanTakeNext ghosts machines traces front n =
     IsSomeAnd (slice_get machines n) (λ machine. IsSomeAnd (slice_get traces n)
-        (λ trace. IsSomeAnd (slice_get trace.entries (slice_index front n))
+    (λ trace. IsSomeAnd (slice_get trace.entries (slice_index front n))
     (CanTake ghosts machine)))
 
 -- the answer is whether the node's next entry may go, in whatever state its machine stands for
@@ -35,7 +35,7 @@ abbrev pub Judges : {M : Type 0} → (ghosts : Ghosts M) → List M → List Tra
     → Type 0
 Judges ghosts machines traces kept front n answer =
     ForSome (slice_get machines n) (λ machine. ForSome (slice_get traces n) (λ trace. (state : ghosts.State)
-        → ghosts.stands machine state
+    → ghosts.stands machine state
     → IsTrue answer ↔ MayGo (steps_of ghosts) state trace.entries kept n (slice_index front n)))
 
 -- the node's next entry may not go
@@ -43,7 +43,7 @@ abbrev pub IsBlocked : {M : Type 0} → (ghosts : Ghosts M) → List M → List 
     → Type 0
 IsBlocked ghosts machines traces kept front n =
     ForSome (slice_get machines n) (λ machine. ForSome (slice_get traces n) (λ trace. (state : ghosts.State)
-        → ghosts.stands machine state
+    → ghosts.stands machine state
     → MayGo (steps_of ghosts) state trace.entries kept n (slice_index front n) → ⊥))
 
 -- the node's trace has an entry that hasn't gone

@@ -96,7 +96,7 @@ pub handler_full : (job : Job) (line : ℕ) (bytes rest : List ℕ) (header : Ha
     → read (record { place = AtHandlers; job = job }) line bytes ≡ Err (record { line = line; why = why })
 handler_full job line bytes rest header why b h w =
     read_full AtHandlers job line bytes rest (Named header) why (header_line job.settings bytes b ∙ rw h refl)
-        (rw w refl)
+    (rw w refl)
 
 -- it isn't read
 pub handler_bad : (job : Job) (line : ℕ) (bytes : List ℕ) → bytes_eq (front bytes) (codes "handler") ≡ true

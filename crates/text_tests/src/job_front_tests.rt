@@ -5,7 +5,8 @@ use std::alloc::Global;
 use std::test::Fail;
 
 /// The text of a small job but for its last line.
-const HEAD: &str = "gasnet 1\njob 7\nnodes 2\ncredits 1\nthreads 1\nsegment 4096\nlast 9\nresend 5\npatience 1\nsieve 0 0 0\n";
+const HEAD: &str =
+    "gasnet 1\njob 7\nnodes 2\ncredits 1\nthreads 1\nsegment 4096\nlast 9\nresend 5\npatience 1\nsieve 0 0 0\n";
 /// Its last line.
 const DONE: &str = "done\n";
 

@@ -28,8 +28,11 @@ returns-then-len-ge-ACTIONS-clause-value c = λ plain job.
     sym (c.loop-read.invariant.so_far plain job) ∙ read_full (AtBody handler) job c.loop-read.line
     c.loop-read.rest.now c.in-Ok.read.1.now c.in-Ok.read.0 Count
     (told_ok c.loop-read.line _ _ (c.in-Ok.read.0, c.in-Ok.read.1.now) c.in-Ok.ensures)
-    (rw (c.in-Some.is, le-leb 64 (length c.loop-read.actions.items) (omega
-    (arith, c.len.ensures, c.if-len-ge-ACTIONS.true))) refl)
+    (rw (
+      c.in-Some.is,
+      le-leb 64 (length c.loop-read.actions.items) (omega
+          (arith, c.len.ensures, c.if-len-ge-ACTIONS.true)),
+    ) refl)
 
 pub loop-read-preserved : goal.loop-read-preserved
 loop-read-preserved c =
@@ -43,8 +46,11 @@ loop-read-preserved c =
           ∙ sym (read_on (AtBody handler) job c.loop-read.line c.loop-read.rest.now c.in-Ok.read.1.now
           c.in-Ok.read.0 (record { place = AtBody (with_action c.in-Some.action handler); job = job })
           (told_ok c.loop-read.line _ _ (c.in-Ok.read.0, c.in-Ok.read.1.now) c.in-Ok.ensures)
-          (rw (c.in-Some.is, lt-leb 64 (length c.loop-read.actions.items) (omega
-          (arith, c.len.ensures, c.if-len-ge-ACTIONS.false))) refl))
+          (rw (
+            c.in-Some.is,
+            lt-leb 64 (length c.loop-read.actions.items) (omega
+                (arith, c.len.ensures, c.if-len-ge-ACTIONS.false)),
+          ) refl))
           ∙ c.loop-read.invariant.so_far plain job;
       line = rw c.in_ok-push.ensures.items (simp length-append (omega (arith, c.loop-read.invariant.line)));
       few = rw c.in_ok-push.ensures.items (simp length-append (omega

@@ -9,7 +9,7 @@ returns-in_err-item c =
     let p = err_from_is_err_and c.from_residual.result c.from_residual.ensures.1 in
     let m = more_is c.len.result 17 c.loop-rest.rest.now (sym c.has_more.ensures ∙ c.loop-rest-test.true) in
     rw (p.1, p.2) (many_none (NumberOf c.args.place) 0 17 c.args.bytes.now (sym c.loop-rest.invariant.so_far
-        ∙ parts_fail (NumberOf c.args.place)
+    ∙ parts_fail (NumberOf c.args.place)
     (17 - length c.loop-rest.items.items) c.loop-rest.items.items c.loop-rest.rest.now (omega
     (arith, c.len.ensures, m.0)) m.1 c.in_err-item.ensures))
 

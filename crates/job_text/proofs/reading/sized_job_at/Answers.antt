@@ -9,7 +9,7 @@ use Rattle.job_text.proofs.reading.sized_job_at.Goals as goal
 pub overflow_sub-size : goal.overflow_sub-size
 overflow_sub-size c =
     let size = rest_size c.args.bytes.now (front_with c.in-Ok.read.0 c.in-Ok.read.1 c.in-Ok.read.2.now) c.in-Ok.ensures
-        in
+    in
     omega (arith, size)
 
 pub returns-in-Err : goal.returns-in-Err

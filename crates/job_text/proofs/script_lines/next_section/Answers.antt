@@ -10,7 +10,7 @@ pub returns-in-Err-clause-value : goal.returns-in-Err-clause-value
 returns-in-Err-clause-value c = λ job same before.
     let none = rw (c.nodes.ensures.nodes, c.threads.ensures) at c.in-Err.ensures in
     told_by _ c.args.line _ c.reason_of-why.result (line_bad AtScripts tt job c.args.line c.args.bytes.now
-        (rw same none))
+    (rw same none))
     (reason_by section_form c.args.bytes.now c.section_form.result c.reason_of-why.result c.section_form.ensures
     c.reason_of-why.ensures)
 

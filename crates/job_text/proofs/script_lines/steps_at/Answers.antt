@@ -28,8 +28,11 @@ returns-then-len-ge-STEPS-clause-value c = λ plain job.
     sym (c.loop-read.invariant.so_far plain job) ∙ read_full (AtSteps script) job c.loop-read.line
     c.loop-read.rest.now c.in-Ok.read.1.now c.in-Ok.read.0 Count
     (told_ok c.loop-read.line _ _ (c.in-Ok.read.0, c.in-Ok.read.1.now) c.in-Ok.ensures)
-    (rw (c.in-Some.is, le-leb 4096 (length c.loop-read.steps.items) (omega
-    (arith, c.len.ensures, c.if-len-ge-STEPS.true))) refl)
+    (rw (
+      c.in-Some.is,
+      le-leb 4096 (length c.loop-read.steps.items) (omega
+          (arith, c.len.ensures, c.if-len-ge-STEPS.true)),
+    ) refl)
 
 pub loop-read-preserved : goal.loop-read-preserved
 loop-read-preserved c =
@@ -43,8 +46,11 @@ loop-read-preserved c =
           ∙ sym (read_on (AtSteps script) job c.loop-read.line c.loop-read.rest.now c.in-Ok.read.1.now
           c.in-Ok.read.0 (record { place = AtSteps (with_step c.in-Some.step script); job = job })
           (told_ok c.loop-read.line _ _ (c.in-Ok.read.0, c.in-Ok.read.1.now) c.in-Ok.ensures)
-          (rw (c.in-Some.is, lt-leb 4096 (length c.loop-read.steps.items) (omega
-          (arith, c.len.ensures, c.if-len-ge-STEPS.false))) refl))
+          (rw (
+            c.in-Some.is,
+            lt-leb 4096 (length c.loop-read.steps.items) (omega
+                (arith, c.len.ensures, c.if-len-ge-STEPS.false)),
+          ) refl))
           ∙ c.loop-read.invariant.so_far plain job;
       line = rw c.in_ok-push.ensures.items (simp length-append (omega (arith, c.loop-read.invariant.line)));
       few = rw c.in_ok-push.ensures.items (simp length-append (omega
