@@ -73,7 +73,7 @@ plain_of (b ∷ word) h =
     let test = and_parts (ltb 32 b) (ltb b 127) parts.0 in
     ((ltb-true 32 b test.0, ltb-true b 127 test.1), plain_of word parts.1)
 
-word_by : (word : Word) (none : Bool) → eqb (length word) 0 ≡ none → not none && list_all is_plain word ≡ true
+word_by : (word : Word) (none : Bool) → eqb (length word) 0 ≡ none → (not none && list_all is_plain word) ≡ true
     → IsWord word
 word_by [] true e h = absurd (cc)
 word_by [] false e h = absurd (cc)
@@ -500,7 +500,7 @@ wrong_by : (version threads : ℕ) (lines : List Line) (bytes rest : List ℕ) (
     → Reached version threads lines bytes rest → line ≡ suc (length lines) → (words : Line) (more : List ℕ)
     (why : TraceWhy) → IsLine words → rest ≡ line_text words ++ more
     → Wrongly version threads (place_behind lines) words why → Means version threads bytes line why
-wrong_by version threads lines bytes rest line fits reached count words more why is text (NoForm form none) =
+wrong_by version threads lines bytes rest line fits reached count words more why is text (NoForm form unlike) =
     let wrong : IsWrong version threads bytes line Form = record {
       before = before_of version threads lines bytes rest line reached count;
       front = front_of version threads lines reached.walked;
@@ -508,12 +508,13 @@ wrong_by version threads lines bytes rest line fits reached count words more why
       are = is;
       more = more;
       text = text;
-      none = none_with version threads lines words fits reached.walked.are is (λ may. none
+      none = none_with version threads lines words fits reached.walked.are is (λ may. unlike
           (form_of version threads (place_behind lines) words may));
-      fault = none;
+      fault = unlike;
     } in
     subst (Means version threads bytes line) (sym form) wrong
-wrong_by version threads lines bytes rest line fits reached count words more why is text (NoValue value form none) =
+wrong_by version threads lines bytes rest line fits reached count words more why is text
+    (NoValue value form unlike) =
     let wrong : IsWrong version threads bytes line Value = record {
       before = before_of version threads lines bytes rest line reached count;
       front = front_of version threads lines reached.walked;
@@ -521,8 +522,8 @@ wrong_by version threads lines bytes rest line fits reached count words more why
       are = is;
       more = more;
       text = text;
-      none = none_with version threads lines words fits reached.walked.are is none;
-      fault = (form, none);
+      none = none_with version threads lines words fits reached.walked.are is unlike;
+      fault = (form, unlike);
     } in
     subst (Means version threads bytes line) (sym value) wrong
 
@@ -531,10 +532,10 @@ fails_behind : {A : Type 0} (version threads : ℕ) (lines : List Line) (bytes r
     (read : Line → Result A TraceWhy) (bad : BadLine) → version < 2 ^ 64 → Reached version threads lines bytes rest
     → line ≡ suc (length lines) → Refuses version threads (place_behind lines) read → LineFails read line rest bad
     → Means version threads bytes bad.line bad.why
-fails_behind version threads lines bytes rest line read bad fits reached count refuses (AtEnd none e) =
+fails_behind version threads lines bytes rest line read bad fits reached count refuses (AtEnd empty e) =
     let early : EndsEarly version threads bytes line = record {
       before = before_of version threads lines bytes rest line reached count;
-      none = none;
+      none = empty;
       front = front_of version threads lines reached.walked;
       proper = no_text reached.walked.next (spell reached.walked.others);
     } in
@@ -598,6 +599,66 @@ front_err : (entry : Entry) (r : Result (List Entry × List ℕ) BadLine) (bad :
 front_err entry (Ok x) bad h = absurd (cc)
 front_err entry (Err b) bad h = ap (λ (y : BadLine). Err y) (err_is {A = List Entry × List ℕ} h)
 
+-- reading goes on behind an entry
+abbrev ReadOn : (room version threads job rank line : ℕ) → List Entry → (bytes rest more : List ℕ) → BadLine → Type 0
+ReadOn room version threads job rank line entries bytes rest more bad =
+    (entry : Entry) → AllByRecursion (IsEntry threads) (entries ++ entry ∷ []) → length more < length rest
+    → Reached version threads (lines_to version job rank (entries ++ entry ∷ [])) bytes more
+    → line + 1 ≡ suc (length (lines_to version job rank (entries ++ entry ∷ [])))
+    → entries_at room threads (line + 1) more ≡ Err bad → Means version threads bytes bad.line bad.why
+
+next_means : (room version threads job rank line : ℕ) (entries : List Entry) (bytes rest more : List ℕ) (bad : BadLine)
+    (next : Option Entry) (words : Line) → version < 2 ^ 64 → job < 2 ^ 64 → rank < 2 ^ 16
+    → AllByRecursion (IsEntry threads) entries
+    → Reached version threads (lines_to version job rank entries) bytes rest
+    → line ≡ suc (length (lines_to version job rank entries)) → rest ≡ line_text words ++ more
+    → IsNext threads words next → ReadOn room version threads job rank line entries bytes rest more bad
+    → cond (is_none next) (Ok ([], more)) (with_front (option_to_list next) (entries_at room threads (line + 1) more))
+    ≡ Err bad → Means version threads bytes bad.line bad.why
+next_means room version threads job rank line entries bytes rest more bad None words fits few small is reached count
+    text
+    said on e =
+    absurd (cc)
+next_means room version threads job rank line entries bytes rest more bad (Some entry) words fits few small is reached
+    count text said on e =
+    let same : lines_to version job rank (entries ++ entry ∷ [])
+        ≡ lines_to version job rank entries ++ entry_line entry ∷ [] =
+    ap (λ (ls : List Line). number_line (codes "trace") version ∷ number_line (codes "job") job
+    ∷ number_line (codes "rank") rank ∷ ls) (map-append entry_line entries (entry ∷ [])) in
+    let line_is : rest ≡ line_text (entry_line entry) ++ more =
+    text ∙ ap (λ (ws : Line). line_text ws ++ more) said.0 in
+    let all = all_more (IsEntry threads) entries entry is said.1 in
+    let walked = entries_walked version threads job rank (entries ++ entry ∷ []) fits few small all in
+    let behind = reach_on version threads (lines_to version job rank entries) (entry_line entry) bytes rest more reached
+    line_is (subst (Walked version threads) same walked) in
+    let longer : length (lines_to version job rank (entries ++ entry ∷ []))
+        ≡ length (lines_to version job rank entries) + 1 =
+    ap (λ (ls : List Line). length ls) same ∙ length-append (lines_to version job rank entries)
+    (entry_line entry ∷ []) in
+    let shorter : length rest ≡ length (line_text (entry_line entry)) + length more =
+    ap length line_is ∙ length-append (line_text (entry_line entry)) more in
+    let some = line_long (entry_line entry) in
+    on entry all (omega (arith, shorter, some))
+    (subst (λ (ls : List Line). Reached version threads ls bytes more) (sym same) behind)
+    (omega (arith, longer, count)) (front_err entry (entries_at room threads (line + 1) more) bad e)
+
+line_means : (room version threads job rank line : ℕ) (entries : List Entry) (bytes rest : List ℕ) (bad : BadLine)
+    → version < 2 ^ 64 → job < 2 ^ 64 → rank < 2 ^ 16 → AllByRecursion (IsEntry threads) entries
+    → Reached version threads (lines_to version job rank entries) bytes rest
+    → line ≡ suc (length (lines_to version job rank entries))
+    → ((more : List ℕ) → ReadOn room version threads job rank line entries bytes rest more bad)
+    → (read_line line (next_of threads) rest ≡ Err bad) ⊎ ((x : Option Entry × List ℕ)
+    × ((read_line line (next_of threads) rest ≡ Ok x) × (cond (is_none x.0) (Ok ([], x.1))
+    (with_front (option_to_list x.0) (entries_at room threads (line + 1) x.1)) ≡ Err bad)))
+    → Means version threads bytes bad.line bad.why
+line_means room version threads job rank line entries bytes rest bad fits few small is reached count on (inl e) =
+    fails_behind version threads (lines_to version job rank entries) bytes rest line (next_of threads) bad fits
+    reached count (entry_wrong version threads) (line_err line (next_of threads) rest bad e)
+line_means room version threads job rank line entries bytes rest bad fits few small is reached count on (inr x) =
+    let l = read_takes line (next_of threads) rest x.0 x.1.0 in
+    next_means room version threads job rank line entries bytes rest (x.0).1 bad (x.0).0 l.words fits few small is
+    reached count l.text (next_takes threads l.words (x.0).0 l.says) (on (x.0).1) x.1.1
+
 entries_mean : (room version threads job rank line : ℕ) (entries : List Entry) (bytes rest : List ℕ) (bad : BadLine)
     → length rest < room → version < 2 ^ 64 → job < 2 ^ 64 → rank < 2 ^ 16 → AllByRecursion (IsEntry threads) entries
     → Reached version threads (lines_to version job rank entries) bytes rest
@@ -607,46 +668,24 @@ unfolding entries_at
 entries_mean zero version threads job rank line entries bytes rest bad lt fits few small is reached count h =
     absurd (omega arith)
 entries_mean (suc room) version threads job rank line entries bytes rest bad lt fits few small is reached count h =
-    by_line (bind_err (read_line line (next_of threads) rest) _ bad h)
-  where
-    next_entry : (next : Option Entry) (more : List ℕ) (words : Line) → rest ≡ line_text words ++ more
-        → IsNext threads words next → cond (is_none next) (Ok ([], more))
-        (with_front (option_to_list next) (entries_at room threads (line + 1) more)) ≡ Err bad
-        → Means version threads bytes bad.line bad.why
-    next_entry None more words text next e = absurd (cc)
-    next_entry (Some entry) more words text next e =
-        let same : lines_to version job rank (entries ++ entry ∷ [])
-        ≡ lines_to version job rank entries ++ entry_line entry ∷ [] =
-        ap (λ (ls : List Line). number_line (codes "trace") version ∷ number_line (codes "job") job
-        ∷ number_line (codes "rank") rank ∷ ls) (map-append entry_line entries (entry ∷ [])) in
-        let line_is = text ∙ ap (λ (ws : Line). line_text ws ++ more) next.0 in
-        let all = all_more (IsEntry threads) entries entry is next.1 in
-        let walked = entries_walked version threads job rank (entries ++ entry ∷ []) fits few small all in
-        let on = reach_on version threads (lines_to version job rank entries) (entry_line entry) bytes rest more reached
-        line_is (subst (Walked version threads) same walked) in
-        let longer : length (lines_to version job rank (entries ++ entry ∷ []))
-        ≡ length (lines_to version job rank entries) + 1 =
-        ap (λ (ls : List Line). length ls) same ∙ length-append (lines_to version job rank entries)
-        (entry_line entry ∷ []) in
-        let shorter : length rest ≡ length (line_text (entry_line entry)) + length more =
-        ap length line_is ∙ length-append (line_text (entry_line entry)) more in
-        let some = line_long (entry_line entry) in
-        entries_mean room version threads job rank (line + 1) (entries ++ entry ∷ []) bytes more bad (omega arith) fits
-        few small all (subst (λ (ls : List Line). Reached version threads ls bytes more) (sym same) on)
-        (omega (arith, longer, count)) (front_err entry (entries_at room threads (line + 1) more) bad e)
-
-    by_line : (read_line line (next_of threads) rest ≡ Err bad) ⊎ ((x : Option Entry × List ℕ)
-        × ((read_line line (next_of threads) rest ≡ Ok x) × (cond (is_none x.0) (Ok ([], x.1))
-        (with_front (option_to_list x.0) (entries_at room threads (line + 1) x.1)) ≡ Err bad)))
-        → Means version threads bytes bad.line bad.why
-    by_line (inl e) =
-        fails_behind version threads (lines_to version job rank entries) bytes rest line (next_of threads) bad fits
-        reached count (entry_wrong version threads) (line_err line (next_of threads) rest bad e)
-    by_line (inr x) =
-        let l = read_takes line (next_of threads) rest x.0 x.1.0 in
-        next_entry x.0.0 x.0.1 l.words l.text (next_takes threads l.words x.0.0 l.says) x.1.1
+    line_means room version threads job rank line entries bytes rest bad fits few small is reached count
+    (λ more entry all shorter on next e. entries_mean room version threads job rank (line + 1) (entries ++ entry ∷ [])
+    bytes more bad (omega (arith, lt, shorter)) fits few small all on next e)
+    (bind_err (read_line line (next_of threads) rest) (λ x. cond (is_none x.0) (Ok ([], x.1))
+    (with_front (option_to_list x.0) (entries_at room threads (line + 1) x.1))) bad h)
 
 -- the line of the rank, and the entries
+entries_by : (version threads job rank : ℕ) (bytes rest : List ℕ) (bad : BadLine) → version < 2 ^ 64 → job < 2 ^ 64
+    → rank < 2 ^ 16 → Reached version threads (lines_to version job rank []) bytes rest
+    → (entries_at (length rest + 1) threads 4 rest ≡ Err bad) ⊎ ((y : List Entry × List ℕ)
+    × ((entries_at (length rest + 1) threads 4 rest ≡ Ok y) × (◌≡◌ {A = Result (Trace × List ℕ) BadLine}
+    (Ok (record { job = job; rank = rank; entries = y.0 }, y.1)) (Err bad))))
+    → Means version threads bytes bad.line bad.why
+entries_by version threads job rank bytes rest bad fits few small reached (inl e) =
+    entries_mean (length rest + 1) version threads job rank 4 [] bytes rest bad (omega arith) fits few small tt reached
+    refl e
+entries_by version threads job rank bytes rest bad fits few small reached (inr y) = absurd (ok_err refl y.1.1)
+
 third_by : (version threads job : ℕ) (bytes rest : List ℕ) (bad : BadLine) → version < 2 ^ 64 → job < 2 ^ 64
     → Reached version threads (number_line (codes "trace") version ∷ number_line (codes "job") job ∷ []) bytes rest
     → (read_line 3 (setting_of (codes "rank") 0 65535) rest ≡ Err bad) ⊎ ((x : ℕ × List ℕ)
@@ -662,18 +701,12 @@ third_by version threads job bytes rest bad fits few reached (inr x) =
     let walked = entries_walked version threads job (x.0).0 [] fits few small tt in
     let on = reach_on version threads (number_line (codes "trace") version ∷ number_line (codes "job") job ∷ [])
     (number_line (codes "rank") (x.0).0) bytes rest (x.0).1 reached s.0 walked in
-    entries_by (bind_err (entries_at (length (x.0).1 + 1) threads 4 (x.0).1) _ bad x.1.1) small on
-  where
-    entries_by : {rank : ℕ} {more : List ℕ} → (entries_at (length more + 1) threads 4 more ≡ Err bad)
-        ⊎ ((y : List Entry × List ℕ) × ((entries_at (length more + 1) threads 4 more ≡ Ok y)
-        × (◌≡◌ {A = Result (Trace × List ℕ) BadLine} (Ok (record { job = job; rank = rank; entries = y.0 }, y.1))
-        (Err bad))))
-        → rank < 2 ^ 16 → Reached version threads (lines_to version job rank []) bytes more
-        → Means version threads bytes bad.line bad.why
-    entries_by {rank} {more} (inl e) small on =
-        entries_mean (length more + 1) version threads job rank 4 [] bytes more bad (omega arith) fits few small tt on
-        refl e
-    entries_by (inr y) small on = absurd (ok_err refl y.1.1)
+    entries_by version threads job (x.0).0 bytes (x.0).1 bad fits few small on
+    (bind_err (entries_at (length (x.0).1 + 1) threads 4 (x.0).1) (λ es. Ok (record {
+      job = job;
+      rank = (x.0).0;
+      entries = es.0;
+    }, es.1)) bad x.1.1)
 
 -- the line of the job
 second_by : (version threads : ℕ) (bytes rest : List ℕ) (bad : BadLine) → version < 2 ^ 64
