@@ -9,8 +9,8 @@ use Rattle.endpoint_lock.specs.Turns.{Gives, GivesNot}
 
 -- by the answer; where nothing was got, the buffer is given back
 abbrev pub AsksFor : {L : Type 0} → LinkGhosts L → (polls : Bool) → L → Asked → L → Type 0
-AsksFor of_link polls old (Nothing room) new =
-    Gives of_link polls None old new
+AsksFor l polls old (Nothing room) new =
+    Gives l polls None old new
     × ForSome room (λ buffer. vec_len buffer ≡ receive_limit)
-AsksFor of_link polls old (Datagram bytes) new = Gives of_link polls (Some bytes.items) old new
-AsksFor of_link polls old Fault new = GivesNot of_link old new
+AsksFor l polls old (Datagram bytes) new = Gives l polls (Some bytes.items) old new
+AsksFor l polls old Fault new = GivesNot l old new

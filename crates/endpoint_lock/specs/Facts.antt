@@ -47,84 +47,72 @@ WentOn before more now = now ≡ and_all before more
 
 -- where they are told, the datagrams sent are those that the turns gave, without the one that failed and those after it
 -- in the last entry
-abbrev pub SentShort : {M L : Type 0} → (of_machine : MachineGhosts M) → LinkGhosts L → of_machine.State → L
-    → List Entry → L → Type 0
-SentShort of_machine of_link state first journal link =
+abbrev pub SentShort : {M L : Type 0} → (m : MachineGhosts M) → LinkGhosts L → m.State → L → List Entry → L → Type 0
+SentShort m l state first journal link =
     (front last : List Entry) × (count : ℕ)
     × (journal ≡ front ++ last) × (length last ≤ 1)
-    × (length (sent_in (steps_of of_machine) state front) ≤ count)
-    × WentOn (of_link.sent first) (take count (sent_in (steps_of of_machine) state journal)) (of_link.sent link)
+    × (length (sent_in (steps_of m) state front) ≤ count)
+    × WentOn (l.sent first) (take count (sent_in (steps_of m) state journal)) (l.sent link)
 
 -- the last entry is quiet; or a turn of some thread, at what the clock said last and with nothing got, is empty
-abbrev pub LastWasQuiet : {M C : Type 0} → (of_machine : MachineGhosts M) → ClockGhosts C → of_machine.State
-    → List Entry → M → C → Type 0
-LastWasQuiet of_machine of_clock state journal machine clock =
-    (0 < quiet_tail (steps_of of_machine) state 0 journal)
-    ⊎ ((thread : ℕ) × (thread < of_machine.thread_count machine)
-    × ((of_machine.turned (replayed (steps_of of_machine) state journal) thread (of_clock.said clock) None).changed
-    ≡ false))
+abbrev pub LastWasQuiet : {M C : Type 0} → (m : MachineGhosts M) → ClockGhosts C → m.State → List Entry → M → C → Type 0
+LastWasQuiet m c state journal machine clock =
+    (0 < quiet_tail (steps_of m) state 0 journal)
+    ⊎ ((thread : ℕ) × (thread < m.thread_count machine)
+    × ((m.turned (replayed (steps_of m) state journal) thread (c.said clock) None).changed ≡ false))
 
 -- every thread polls
 abbrev pub AllPoll : {M : Type 0} → MachineGhosts M → M → Type 0
-AllPoll of_machine machine = (thread : ℕ) → thread < of_machine.thread_count machine → of_machine.polls_at machine
-    thread ≡ true
+AllPoll m machine = (thread : ℕ) → thread < m.thread_count machine → m.polls_at machine thread ≡ true
 
 -- what a kept end says
 abbrev pub EndIs : {M L C : Type 0} → MachineGhosts M → LinkGhosts L → Opening M L C → StationState M L C → Option End
     → Type 0
-EndIs of_machine of_link opening station None = Unit {0}
-EndIs of_machine of_link opening station (Some Over) = (station.quiet ≡ station.patience)
-    × (of_machine.is_over station.machine ≡ true)
-EndIs of_machine of_link opening station (Some Stuck) = (station.quiet ≡ station.patience)
-    × (of_machine.is_over station.machine ≡ false)
-EndIs of_machine of_link opening station (Some LinkFault) = Rose (of_link.faults opening.link)
-    (of_link.faults station.link)
-EndIs of_machine of_link opening station (Some JournalFull) = IsFull station.journal
-EndIs of_machine of_link opening station (Some NoMemory) = Unit {0}
+EndIs m l opening station None = Unit {0}
+EndIs m l opening station (Some Over) = (station.quiet ≡ station.patience) × (m.is_over station.machine ≡ true)
+EndIs m l opening station (Some Stuck) = (station.quiet ≡ station.patience) × (m.is_over station.machine ≡ false)
+EndIs m l opening station (Some LinkFault) = Rose (l.faults opening.link) (l.faults station.link)
+EndIs m l opening station (Some JournalFull) = IsFull station.journal
+EndIs m l opening station (Some NoMemory) = Unit {0}
 
 -- machine and datagrams of a station, by the replay of its journal from a state for which the machine stood at first
-pub record Replays {M L C : Type 0} (of_machine : MachineGhosts M) (of_link : LinkGhosts L) (of_clock : ClockGhosts C)
-    (opening : Opening M L C) (state : of_machine.State) (station : StationState M L C) : Type 0 where
+pub record Replays {M L C : Type 0} (m : MachineGhosts M) (l : LinkGhosts L) (c : ClockGhosts C)
+    (opening : Opening M L C) (state : m.State) (station : StationState M L C) : Type 0 where
   -- the machine stands for the replay
-  pub machine : of_machine.stands station.machine (replayed (steps_of of_machine) state station.journal)
+  pub machine : m.stands station.machine (replayed (steps_of m) state station.journal)
   -- where the link tells them, the datagrams sent are those that the turns of the journal gave
   pub sent : station.kept ≢ Some LinkFault
-      → WentOn (of_link.sent opening.link) (sent_in (steps_of of_machine) state station.journal)
-      (of_link.sent station.link)
-  pub sent_short : station.kept ≡ Some LinkFault → SentShort of_machine of_link state opening.link station.journal
-      station.link
+      → WentOn (l.sent opening.link) (sent_in (steps_of m) state station.journal) (l.sent station.link)
+  pub sent_short : station.kept ≡ Some LinkFault → SentShort m l state opening.link station.journal station.link
   -- the quiet turns are at most the quiet entries at the journal's end and the empty turns
   pub quiet : station.kept ≢ Some LinkFault
-      → station.quiet ≤ quiet_tail (steps_of of_machine) state 0 station.journal + station.idle
+      → station.quiet ≤ quiet_tail (steps_of m) state 0 station.journal + station.idle
   -- where a turn was quiet, the last entry is, or a turn would be empty
   pub last : station.kept ≢ Some LinkFault → 0 < station.quiet
-      → LastWasQuiet of_machine of_clock state station.journal station.machine station.clock
+      → LastWasQuiet m c state station.journal station.machine station.clock
 
 -- what holds of a station that was opened so
-pub record Facts {M L C : Type 0} (of_machine : MachineGhosts M) (of_link : LinkGhosts L) (of_clock : ClockGhosts C)
-    (opening : Opening M L C)
+pub record Facts {M L C : Type 0} (m : MachineGhosts M) (l : LinkGhosts L) (c : ClockGhosts C) (opening : Opening M L C)
     (station : StationState M L C) : Type 0 where
   -- the machine has as many threads, and patience stays
-  pub threads : of_machine.thread_count station.machine ≡ of_machine.thread_count opening.machine
+  pub threads : m.thread_count station.machine ≡ m.thread_count opening.machine
   pub patience : station.patience ≡ opening.patience
   -- the bounds of the journal and of its entries
   pub within : length station.journal ≤ entry_limit
-  pub entries : All (IsEntry (of_machine.thread_count opening.machine)) station.journal
+  pub entries : All (IsEntry (m.thread_count opening.machine)) station.journal
   -- for each state for which the machine stood, machine and journal are its replay
-  pub replay : (state : of_machine.State) → of_machine.stands opening.machine state → Replays of_machine of_link
-      of_clock opening state station
+  pub replay : (state : m.State) → m.stands opening.machine state → Replays m l c opening state station
   -- where the link tells them, the datagrams received are the journal's; its place stays, its faults never fall
-  pub received : WentOn (of_link.received opening.link) (got_in station.journal) (of_link.received station.link)
-  pub bound : of_link.bound station.link ≡ of_link.bound opening.link
-  pub faults : of_link.faults opening.link ≤ of_link.faults station.link
+  pub received : WentOn (l.received opening.link) (got_in station.journal) (l.received station.link)
+  pub bound : l.bound station.link ≡ l.bound opening.link
+  pub faults : l.faults opening.link ≤ l.faults station.link
   -- where the clock always says one value, each entry has that time
-  pub fixed : of_clock.fixed station.clock ≡ of_clock.fixed opening.clock
-  pub times : ForSome (of_clock.fixed opening.clock) (λ value. All (λ entry. entry.now ≡ value) station.journal)
+  pub fixed : c.fixed station.clock ≡ c.fixed opening.clock
+  pub times : ForSome (c.fixed opening.clock) (λ value. All (λ entry. entry.now ≡ value) station.journal)
   -- the clock was asked at least once for each entry and each empty turn, or its counter stands at its last value
-  pub asked : min (of_clock.asked opening.clock + (length station.journal + station.idle)) last_count ≤ of_clock.asked
-      station.clock
+  pub asked : min (c.asked opening.clock + (length station.journal + station.idle)) last_count ≤ c.asked station.clock
   -- where the last turn was quiet and every thread polls, nothing waits, where the link tells what waits
-  pub waiting : station.kept ≢ Some LinkFault → 0 < station.quiet → AllPoll of_machine station.machine
-      → IsEmptyWhereTold (of_link.waiting station.link)
+  pub waiting : station.kept ≢ Some LinkFault → 0 < station.quiet → AllPoll m station.machine
+      → IsEmptyWhereTold (l.waiting station.link)
   -- the cause of the kept end
-  pub end : EndIs of_machine of_link opening station station.kept
+  pub end : EndIs m l opening station station.kept

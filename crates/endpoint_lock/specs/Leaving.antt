@@ -20,48 +20,45 @@ IsSpent end = (end ≡ Over) ⊎ (end ≡ Stuck)
 
 -- the quiet entries at the journal's end, with the times that the clock was asked without an entry, are at least
 -- `patience`; or the clock's counter stands at its last value
-abbrev pub PatienceIsSpent : {M L C : Type 0} → (of_machine : MachineGhosts M) → ClockGhosts C → Opening M L C
-    → of_machine.State
+abbrev pub PatienceIsSpent : {M L C : Type 0} → (m : MachineGhosts M) → ClockGhosts C → Opening M L C → m.State
     → Ended M L C → Type 0
-PatienceIsSpent of_machine of_clock opening state left =
-    (opening.patience + (length left.journal + of_clock.asked opening.clock)
-    ≤ quiet_tail (steps_of of_machine) state 0 left.journal + of_clock.asked left.clock)
-    ⊎ (last_count ≤ of_clock.asked left.clock)
+PatienceIsSpent m c opening state left =
+    (opening.patience + (length left.journal + c.asked opening.clock)
+    ≤ quiet_tail (steps_of m) state 0 left.journal + c.asked left.clock)
+    ⊎ (last_count ≤ c.asked left.clock)
 
 -- what is left, by the replay of the journal from a state for which the machine stood at the opening
-pub record LeavesReplay {M L C : Type 0} (of_machine : MachineGhosts M) (of_link : LinkGhosts L)
-    (of_clock : ClockGhosts C)
-    (opening : Opening M L C) (state : of_machine.State) (left : Ended M L C) : Type 0 where
+pub record LeavesReplay {M L C : Type 0} (m : MachineGhosts M) (l : LinkGhosts L) (c : ClockGhosts C)
+    (opening : Opening M L C) (state : m.State) (left : Ended M L C) : Type 0 where
   -- the machine stands for the replay
-  pub machine : of_machine.stands left.machine (replayed (steps_of of_machine) state left.journal)
+  pub machine : m.stands left.machine (replayed (steps_of m) state left.journal)
   -- where the link tells them, the datagrams sent are those that the turns of the journal gave
   pub sent : left.end ≢ LinkFault
-      → WentOn (of_link.sent opening.link) (sent_in (steps_of of_machine) state left.journal) (of_link.sent left.link)
-  pub sent_short : left.end ≡ LinkFault → SentShort of_machine of_link state opening.link left.journal left.link
+      → WentOn (l.sent opening.link) (sent_in (steps_of m) state left.journal) (l.sent left.link)
+  pub sent_short : left.end ≡ LinkFault → SentShort m l state opening.link left.journal left.link
   -- at `Over` and `Stuck`
-  pub spent : IsSpent left.end → PatienceIsSpent of_machine of_clock opening state left
-  pub last : IsSpent left.end → LastWasQuiet of_machine of_clock state left.journal left.machine left.clock
+  pub spent : IsSpent left.end → PatienceIsSpent m c opening state left
+  pub last : IsSpent left.end → LastWasQuiet m c state left.journal left.machine left.clock
 
 -- what the threads of a station that was opened so leave
-pub record Leaves {M L C : Type 0} (of_machine : MachineGhosts M) (of_link : LinkGhosts L) (of_clock : ClockGhosts C)
+pub record Leaves {M L C : Type 0} (m : MachineGhosts M) (l : LinkGhosts L) (c : ClockGhosts C)
     (opening : Opening M L C) (left : Ended M L C) : Type 0 where
-  pub threads : of_machine.thread_count left.machine ≡ of_machine.thread_count opening.machine
+  pub threads : m.thread_count left.machine ≡ m.thread_count opening.machine
   -- the bounds of the journal and of its entries
   pub within : length left.journal ≤ entry_limit
-  pub entries : All (IsEntry (of_machine.thread_count opening.machine)) left.journal
+  pub entries : All (IsEntry (m.thread_count opening.machine)) left.journal
   -- for each state for which the machine stood, machine and journal are its replay
-  pub replay : (state : of_machine.State) → of_machine.stands opening.machine state → LeavesReplay of_machine of_link
-      of_clock opening state left
+  pub replay : (state : m.State) → m.stands opening.machine state → LeavesReplay m l c opening state left
   -- where the link tells them, the datagrams received are the journal's; what it was bound to stays
-  pub received : WentOn (of_link.received opening.link) (got_in left.journal) (of_link.received left.link)
-  pub bound : of_link.bound left.link ≡ of_link.bound opening.link
+  pub received : WentOn (l.received opening.link) (got_in left.journal) (l.received left.link)
+  pub bound : l.bound left.link ≡ l.bound opening.link
   -- where the clock always says one value, each entry has that time
-  pub times : ForSome (of_clock.fixed opening.clock) (λ value. All (λ entry. entry.now ≡ value) left.journal)
+  pub times : ForSome (c.fixed opening.clock) (λ value. All (λ entry. entry.now ≡ value) left.journal)
   -- the causes of the ends
-  pub over : left.end ≡ Over → of_machine.is_over left.machine ≡ true
-  pub stuck : left.end ≡ Stuck → of_machine.is_over left.machine ≡ false
-  pub waiting : IsSpent left.end → AllPoll of_machine left.machine → IsEmptyWhereTold (of_link.waiting left.link)
-  pub fault : left.end ≡ LinkFault → Rose (of_link.faults opening.link) (of_link.faults left.link)
+  pub over : left.end ≡ Over → m.is_over left.machine ≡ true
+  pub stuck : left.end ≡ Stuck → m.is_over left.machine ≡ false
+  pub waiting : IsSpent left.end → AllPoll m left.machine → IsEmptyWhereTold (l.waiting left.link)
+  pub fault : left.end ≡ LinkFault → Rose (l.faults opening.link) (l.faults left.link)
   pub full : left.end ≡ JournalFull → IsFull left.journal
 
 -- what a station leaves: its end, or want of memory where it keeps none

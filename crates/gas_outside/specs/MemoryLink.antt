@@ -1,6 +1,5 @@
 -- What the link in memory is, and what each of its calls does, exactly.
-use Rattle.std.specs.Prelude.{◌≡◌, ℕ, true, false, List, [], ◌∷◌, ◌++◌, length, take, drop, min, Option, Some}
-use Rattle.std.specs.Prelude.{slice_index_or, slice_set}
+use Rattle.std.specs.Prelude.{◌≡◌, ℕ, true, false, List, [], ◌∷◌, ◌++◌, length, take, drop, min, Option, Some, slice_index_or, slice_set}
 use Rattle.gas_outside.specs.Faults.{one_more}
 use Rattle.gas_outside.specs.Memory.{is_listed}
 use Rattle.gas_outside.specs.declared.link.LinkAnswer.{LinkAnswer}
