@@ -17,6 +17,7 @@ resend-all  32 requests of 2 nodes with 32 credits are out, and each tick sends 
 resend-many the same with 45 nodes.
 longs       node 0 sends Longs of 8,192 bytes from a place of its segment to the same place of that of node 1; each is delivered, and its reply.
             LINES is a multiple of 3.
+mediums     the same with Mediums, whose payload the handler finds where it was delivered.
 shorts      the same with Shorts, which have no payload.
 puts        node 0 puts 1 MiB of its segment to the same place of that of node 1, in 128 chunks by 8 credits: 128 rounds of `settle` bring them there
             and their replies back, and then the put is synchronised; at most 32 puts, since a schedule has at most 4,096 rounds. LINES is a multiple of 3.
@@ -263,6 +264,11 @@ def long_request(number):
     return f"long 1 128 {offset}+{PAYLOAD} {offset}"
 
 
+def medium_request(number):
+    """A Medium out of the own segment."""
+    return f"medium 1 128 {number % PLACES * PAYLOAD}+{PAYLOAD}"
+
+
 KINDS = {
     "exchanges": exchanges,
     "settled": settled,
@@ -273,6 +279,7 @@ KINDS = {
     "resend-all": lambda lines: resend(2, 32, lines),
     "resend-many": lambda lines: resend(45, 32, lines),
     "longs": lambda lines: answered(lines, long_request),
+    "mediums": lambda lines: answered(lines, medium_request),
     "shorts": lambda lines: answered(lines, lambda number: "short 1 128"),
     "puts": puts,
     "segments": segments,
