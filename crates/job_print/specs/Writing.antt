@@ -17,7 +17,7 @@ word_bytes (word.U16 number) = decimal number
 word_bytes (word.U32 number) = decimal number
 word_bytes (word.U64 number) = decimal number
 word_bytes (word.Integer number) = signed_decimal number
-word_bytes (word.Operand operand) = operand_word operand
+word_bytes (word.Value operand) = operand_word operand
 word_bytes (word.Kind kind) = kind_word kind
 word_bytes (word.Role role) = role_word role
 word_bytes (word.Implicit which) = implicit_word which
@@ -42,4 +42,4 @@ words_then (word ∷ words) bytes = 32 ∷ (word_bytes word ++ words_then words 
 
 -- a line of a name and a number
 abbrev pub number_line : NumberLine → List ℕ
-number_line line = line.name.now ++ words_then (line.number ∷ []) []
+number_line line = line.0.now ++ words_then (line.1 ∷ []) []

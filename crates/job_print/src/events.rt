@@ -6,7 +6,7 @@ ghost use Rattle.job_text.specs.Events.{event_text, timed_text};
 ghost use Rattle.job_text.specs.declared.job.ScheduledEvent.TheVariants as events;
 
 use crate::calls::write_call;
-use crate::forms::write_words;
+use crate::forms::write;
 use crate::numbers::write_number;
 use crate::words::Word;
 use gas_outside::{BufferedSink, Sink, Wrote};
@@ -23,7 +23,7 @@ fn write_thread_call<K: Sink>(
         (outbox K.taken K.faults sink.new)
         (event_text nodes threads (events.Call node thread call.now)) result }
 {
-    if let Wrote::Fault = write_words(b"call", &[Word::U16(node), Word::U16(thread)], sink) {
+    if let Wrote::Fault = write(b"call", &[Word::U16(node), Word::U16(thread)], sink) {
         return Wrote::Fault;
     }
     if let Wrote::Fault = sink.write_all(b" ") {
@@ -39,15 +39,17 @@ fn write_event<K: Sink>(event: &ScheduledEvent, sink: &mut BufferedSink<K>) -> W
 {
     use Word::{U16, U32, U64};
     match event {
-        ScheduledEvent::Call { node, thread, call } => write_thread_call(*node, *thread, call, sink),
+        ScheduledEvent::Call { node, thread, call } => write_thread_call(
+            *node, *thread, call, sink,
+        ),
         ScheduledEvent::Request { from, to, number } => {
-            write_words(b"request", &[U16(*from), U16(*to), U64(*number)], sink)
+            write(b"request", &[U16(*from), U16(*to), U64(*number)], sink)
         }
         ScheduledEvent::Reply { from, to, number } => {
-            write_words(b"reply", &[U16(*from), U16(*to), U64(*number)], sink)
+            write(b"reply", &[U16(*from), U16(*to), U64(*number)], sink)
         }
-        ScheduledEvent::Tick { node } => write_words(b"tick", &[U16(*node)], sink),
-        ScheduledEvent::Settle { rounds } => write_words(b"settle", &[U32(*rounds)], sink),
+        ScheduledEvent::Tick { node } => write(b"tick", &[U16(*node)], sink),
+        ScheduledEvent::Settle { rounds } => write(b"settle", &[U32(*rounds)], sink),
     }
 }
 

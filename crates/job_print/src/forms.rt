@@ -89,13 +89,21 @@ pub(crate) fn write_form<K: Sink>(
 }
 
 /// Writes a name, and a space and a word for each of the words.
-pub(crate) fn write_words<K: Sink>(
-    name: &[u8],
-    words: &[Word<'_>],
-    sink: &mut BufferedSink<K>,
-) -> Wrote
+pub(crate) fn write<K: Sink>(name: &[u8], words: &[Word<'_>], sink: &mut BufferedSink<K>) -> Wrote
     ensures { GathersAll (outbox K.taken K.faults sink.old) (outbox K.taken K.faults sink.new)
         (name.now ++ words_then words.now []) result }
 {
     write_form(name, words, Last::Nothing, sink)
+}
+
+/// Writes a name, and a space and a word for each of the registers.
+pub(crate) fn write_list<K: Sink>(
+    name: &[u8],
+    registers: &Registers,
+    sink: &mut BufferedSink<K>,
+) -> Wrote
+    ensures { GathersAll (outbox K.taken K.faults sink.old) (outbox K.taken K.faults sink.new)
+        (name.now ++ flat_map (λ register. 32 ∷ decimal register) registers.now) result }
+{
+    write_form(name, &[], Last::Registers(registers), sink)
 }

@@ -55,10 +55,7 @@ fn write_handler<K: Sink>(handler: &HandlerText, sink: &mut BufferedSink<K>) -> 
 }
 
 /// Writes the lines of handlers, in their order.
-pub(crate) fn write_handlers<K: Sink>(
-    handlers: &[HandlerText],
-    sink: &mut BufferedSink<K>,
-) -> Wrote
+pub(crate) fn write_handlers<K: Sink>(handlers: &[HandlerText], sink: &mut BufferedSink<K>) -> Wrote
     ensures { GathersAll (outbox K.taken K.faults sink.old) (outbox K.taken K.faults sink.new)
         (spell (flat_map handler_lines handlers.now)) result }
 {

@@ -6,7 +6,7 @@ ghost use Rattle.job_text.specs.JobText.{all_settings, head_lines, pair_line, se
 ghost use Rattle.job_text.specs.JobText.{sieve_line, spell};
 ghost use Rattle.job_print.specs.Writing.{number_line};
 
-use crate::forms::write_words;
+use crate::forms::write;
 use crate::words::Word;
 use datagram_grammar::PairCredits;
 use gas_outside::{BufferedSink, Sink, Wrote};
@@ -14,12 +14,7 @@ use job_text::{Job, SieveRule};
 
 /// A line of a name and a number.
 #[derive(Clone, Copy)]
-pub(crate) struct NumberLine<'a> {
-    /// The name.
-    pub name: &'a [u8],
-    /// The number.
-    pub number: Word<'a>,
-}
+pub(crate) struct NumberLine<'a>(&'a [u8], Word<'a>);
 
 /// Writes lines of a name and a number.
 fn write_number_lines<K: Sink>(lines: &[NumberLine<'_>], sink: &mut BufferedSink<K>) -> Wrote
@@ -27,7 +22,7 @@ fn write_number_lines<K: Sink>(lines: &[NumberLine<'_>], sink: &mut BufferedSink
         (spell (map number_line lines.now)) result }
 {
     for line in lines {
-        if let Wrote::Fault = write_words(line.name, &[line.number], sink) {
+        if let Wrote::Fault = write(line.0, &[line.1], sink) {
             return Wrote::Fault;
         }
         if let Wrote::Fault = sink.write_all(b"\n") {
@@ -44,15 +39,15 @@ fn write_settings<K: Sink>(job: &Job, sink: &mut BufferedSink<K>) -> Wrote
 {
     let settings = &job.settings;
     let lines = [
-        NumberLine { name: b"gasnet", number: Word::U8(settings.version()) },
-        NumberLine { name: b"job", number: Word::U64(settings.job()) },
-        NumberLine { name: b"nodes", number: Word::U16(settings.nodes()) },
-        NumberLine { name: b"credits", number: Word::U16(settings.base_credits()) },
-        NumberLine { name: b"threads", number: Word::U16(settings.threads()) },
-        NumberLine { name: b"segment", number: Word::U64(settings.segment()) },
-        NumberLine { name: b"last", number: Word::U64(settings.last()) },
-        NumberLine { name: b"resend", number: Word::U64(settings.resend()) },
-        NumberLine { name: b"patience", number: Word::U32(job.patience) },
+        NumberLine(b"gasnet", Word::U8(settings.version())),
+        NumberLine(b"job", Word::U64(settings.job())),
+        NumberLine(b"nodes", Word::U16(settings.nodes())),
+        NumberLine(b"credits", Word::U16(settings.base_credits())),
+        NumberLine(b"threads", Word::U16(settings.threads())),
+        NumberLine(b"segment", Word::U64(settings.segment())),
+        NumberLine(b"last", Word::U64(settings.last())),
+        NumberLine(b"resend", Word::U64(settings.resend())),
+        NumberLine(b"patience", Word::U32(job.patience)),
     ];
     write_number_lines(&lines, sink)
 }
@@ -62,8 +57,12 @@ fn write_sieve<K: Sink>(sieve: SieveRule, sink: &mut BufferedSink<K>) -> Wrote
     ensures { GathersAll (outbox K.taken K.faults sink.old) (outbox K.taken K.faults sink.new)
         (sieve_line sieve ++ 10 ∷ []) result }
 {
-    let words = [Word::U32(sieve.lose), Word::U32(sieve.repeat), Word::U32(sieve.swap)];
-    if let Wrote::Fault = write_words(b"sieve", &words, sink) {
+    let words = [
+        Word::U32(sieve.lose),
+        Word::U32(sieve.repeat),
+        Word::U32(sieve.swap),
+    ];
+    if let Wrote::Fault = write(b"sieve", &words, sink) {
         return Wrote::Fault;
     }
     sink.write_all(b"\n")
@@ -86,8 +85,12 @@ pub(crate) fn write_pairs<K: Sink>(pairs: &[PairCredits], sink: &mut BufferedSin
         (spell (map pair_line pairs.now)) result }
 {
     for pair in pairs {
-        let words = [Word::U16(pair.from), Word::U16(pair.to), Word::U16(pair.credits)];
-        if let Wrote::Fault = write_words(b"pair", &words, sink) {
+        let words = [
+            Word::U16(pair.from),
+            Word::U16(pair.to),
+            Word::U16(pair.credits),
+        ];
+        if let Wrote::Fault = write(b"pair", &words, sink) {
             return Wrote::Fault;
         }
         if let Wrote::Fault = sink.write_all(b"\n") {

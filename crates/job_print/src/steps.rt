@@ -5,28 +5,44 @@ ghost use Rattle.job_text.specs.Forms.{entry_text, none_text};
 ghost use Rattle.job_text.specs.Scripts.{step_text, transfer_entry, waiting_text};
 
 use crate::calls::write_call;
-use crate::forms::{Last, write_form, write_words};
+use crate::forms::{write, write_list};
 use crate::words::Word;
 use gas_outside::{BufferedSink, Sink, Wrote};
-use job_text::{ScriptStep, TransferText, WaitingStep};
+use job_text::{PutText, ScriptStep, TransferText, WaitingStep};
 
 /// Writes a transfer that is waited for.
 fn write_transfer<K: Sink>(transfer: &TransferText, sink: &mut BufferedSink<K>) -> Wrote
     ensures { GathersAll (outbox K.taken K.faults sink.old) (outbox K.taken K.faults sink.new)
         (entry_text none_text (transfer_entry transfer.now)) result }
 {
+    use Word::{U8, U16, U64};
     match *transfer {
-        TransferText::Put { to, remote, local, len } => {
-            let words = [Word::U16(to), Word::U64(remote), Word::U64(local), Word::U64(len)];
-            write_words(b"put", &words, sink)
+        TransferText::Put {
+            to,
+            remote,
+            local,
+            len,
+        } => {
+            let words = [U16(to), U64(remote), U64(local), U64(len)];
+            write(b"put", &words, sink)
         }
-        TransferText::Get { to, remote, local, len } => {
-            let words = [Word::U16(to), Word::U64(remote), Word::U64(local), Word::U64(len)];
-            write_words(b"get", &words, sink)
+        TransferText::Get {
+            to,
+            remote,
+            local,
+            len,
+        } => {
+            let words = [U16(to), U64(remote), U64(local), U64(len)];
+            write(b"get", &words, sink)
         }
-        TransferText::Memset { to, remote, len, byte } => {
-            let words = [Word::U16(to), Word::U64(remote), Word::U64(len), Word::U8(byte)];
-            write_words(b"memset", &words, sink)
+        TransferText::Memset {
+            to,
+            remote,
+            len,
+            byte,
+        } => {
+            let words = [U16(to), U64(remote), U64(len), U8(byte)];
+            write(b"memset", &words, sink)
         }
     }
 }
@@ -37,23 +53,33 @@ fn write_waiting<K: Sink>(step: &WaitingStep, sink: &mut BufferedSink<K>) -> Wro
         (waiting_text step.now) result }
 {
     use WaitingStep as Step;
-    use Word::{Implicit, Integer, Operand, U8, U16, U64};
+    use Word::{Implicit, Integer, U8, U16, U64, Value};
     match step {
-        Step::Until { cell, operand } => write_words(b"until", &[U8(*cell), Operand(*operand)], sink),
+        Step::Until { cell, operand } => write(b"until", &[U8(*cell), Value(*operand)], sink),
         Step::Transfer { transfer } => write_transfer(transfer.text(), sink),
         Step::PutBegin { register, put } => {
-            let words = [U8(*register), U16(put.to), U64(put.remote), U64(put.local), U64(put.len)];
-            write_words(b"put-nb", &words, sink)
+            let PutText {
+                to,
+                remote,
+                local,
+                len,
+            } = *put;
+            let words = [U8(*register), U16(to), U64(remote), U64(local), U64(len)];
+            write(b"put-nb", &words, sink)
         }
         Step::PutImplicit { put } => {
             let words = [U16(put.to), U64(put.remote), U64(put.local), U64(put.len)];
-            write_words(b"put-nbi", &words, sink)
+            write(b"put-nbi", &words, sink)
         }
-        Step::Wait { register } => write_words(b"wait", &[U8(*register)], sink),
-        Step::WaitAll { registers } => write_form(b"wait-all", &[], Last::Registers(registers), sink),
-        Step::WaitSome { registers } => write_form(b"wait-some", &[], Last::Registers(registers), sink),
-        Step::WaitImplicit { which } => write_words(b"wait-nbi", &[Implicit(*which)], sink),
-        Step::BarrierWait { id, flags } => write_words(b"barrier-wait", &[Integer(*id), U8(*flags)], sink),
+        Step::Wait { register } => write(b"wait", &[U8(*register)], sink),
+        Step::WaitAll { registers } => write_list(b"wait-all", registers, sink),
+        Step::WaitSome { registers } => write_list(b"wait-some", registers, sink),
+        Step::WaitImplicit { which } => write(b"wait-nbi", &[Implicit(*which)], sink),
+        Step::BarrierWait { id, flags } => write(
+            b"barrier-wait",
+            &[Integer(*id), U8(*flags)],
+            sink,
+        ),
     }
 }
 

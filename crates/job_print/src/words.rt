@@ -25,7 +25,7 @@ pub(crate) enum Word<'a> {
     /// A number of 32 bits that may be negative.
     Integer(i32),
     /// A number as an action has it.
-    Operand(Operand),
+    Value(Operand),
     /// A kind of calls.
     Kind(CallKind),
     /// A handler's role.
@@ -49,7 +49,7 @@ pub(crate) fn write_word<K: Sink>(word: Word<'_>, sink: &mut BufferedSink<K>) ->
         Word::U32(number) => write_number(u64::from(number), sink),
         Word::U64(number) => write_number(number, sink),
         Word::Integer(number) => write_integer(number, sink),
-        Word::Operand(operand) => write_operand(operand, sink),
+        Word::Value(operand) => write_operand(operand, sink),
         Word::Kind(kind) => sink.write_all(kind_word(kind)),
         Word::Role(role) => sink.write_all(role_word(role)),
         Word::Implicit(which) => sink.write_all(implicit_word(which)),

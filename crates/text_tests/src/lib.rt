@@ -2,7 +2,7 @@
 //!
 //! A module has rows and refused inputs as tables, and the values that it expects come from the definitions or from outside.
 //! `world_run` is tested by the top call; `extended_tests` has the rows of transfers and barriers, and
-//! `script_text_tests` the scripts of a job's text.
+//! `script_text_tests` the scripts of a job's text, `print_tests` the text that is printed of a job.
 #![tactic(auto)]
 
 #[cfg(test)]
@@ -11,6 +11,8 @@ mod extended_tests;
 mod job_text_tests;
 #[cfg(test)]
 mod node_script_tests;
+#[cfg(test)]
+mod print_tests;
 #[cfg(test)]
 mod script_text_tests;
 #[cfg(test)]

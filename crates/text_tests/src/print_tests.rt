@@ -157,7 +157,11 @@ fn each_form_in_version_2(rt: HostRuntime) -> Result<(), Fail> {
 
 #[test]
 fn parts_that_are_not_there(rt: HostRuntime) -> Result<(), Fail> {
-    for rest in ["done\n", "schedule\nend\ndone\n", "script 255 15\nend\ndone\n"] {
+    for rest in [
+        "done\n",
+        "schedule\nend\ndone\n",
+        "script 255 15\nend\ndone\n",
+    ] {
         let mut wanted = String::from_str(rt.alloc(), HEAD)?;
         wanted.push_str(rest)?;
         let job = read_job(rt.alloc(), wanted.as_bytes())?;
