@@ -1,10 +1,14 @@
 //! Tests of the public calls of the crates that read and write texts, a module a crate, named after it.
 //!
 //! A module has rows and refused inputs as tables, and the values that it expects come from the definitions or from outside.
-//! `world_run` is tested by the top call; `extended_tests` has the rows of transfers and barriers, and
+//! `calls` has the call of the program that they share. `world_run` is tested by the top call, `drill_run` by it in `drill_tests`; `extended_tests` has the rows of transfers and barriers, and
 //! `script_text_tests` the scripts of a job's text.
 #![tactic(auto)]
 
+#[cfg(test)]
+mod calls;
+#[cfg(test)]
+mod drill_tests;
 #[cfg(test)]
 mod extended_tests;
 #[cfg(test)]
