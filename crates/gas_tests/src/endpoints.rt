@@ -1,8 +1,8 @@
 //! An endpoint of a job with two threads, and two of them that hand each other what they send.
 
-ghost use Rattle.std.specs.Prelude.{◌≡◌, ◌<◌, IsTrue};
+ghost use Rattle.std.specs.Prelude.{◌≡◌, ◌<◌, ℕ, IsTrue, false};
 ghost use Rattle.datagram_grammar.specs.Parameters.{Parameters};
-ghost use Rattle.gas_endpoint.specs.Endpoints.{MayHappen};
+ghost use Rattle.gas_endpoint.specs.Endpoints.{MayBeCalled, MayHappen};
 
 use crate::handlers::{Adds, registered};
 use am_core::SlotRef;
@@ -32,16 +32,22 @@ impl Model for Node {
     ghost invariant = { λ node. node.endpoint.core.settings.threads ≡ 2 };
 }
 
+/// Whether the call has a list of registers.
+pub fn has_registers(call: &Call<'_>) -> bool
+    ensures { (settings : Parameters) (thread : ℕ) → result ≡ false → thread < settings.threads
+        → MayBeCalled settings thread call.now }
+{
+    matches!(call, Call::SyncAll { .. } | Call::SyncSome { .. })
+}
+
 /// Whether the event is a delivery, a tick, or a call of thread 0 or 1 without a list of registers.
-pub fn is_plain(event: &Event<'_>) -> bool
+fn is_plain(event: &Event<'_>) -> bool
     ensures { (settings : Parameters) → settings.threads ≡ 2 → IsTrue result
         → MayHappen settings event.now }
 {
     match event {
-        Event::Call { thread, call } => {
-            *thread < 2 && !matches!(call, Call::SyncAll { .. } | Call::SyncSome { .. })
-        }
-        _ => true,
+        Event::Call { thread, call } => *thread < 2 && !has_registers(call),
+        Event::Deliver { .. } | Event::Tick => true,
     }
 }
 

@@ -6,9 +6,9 @@ ghost use Rattle.gas_world.specs.Aims.{MayFall};
 ghost use Rattle.gas_world.specs.Events.{event_of};
 ghost use Rattle.plain_world.specs.World.{IsAmong};
 
+use crate::endpoints::has_registers;
 use crate::handlers::registered;
 use datagram_grammar::Settings;
-use endpoint_rules::Call;
 use gas_world::{World, WorldAnswer, WorldEvent};
 use handler_rules::Handlers;
 use std::alloc::Global;
@@ -42,9 +42,7 @@ fn is_plain(nodes: u16, event: &WorldEvent<'_>) -> bool
 {
     match event {
         WorldEvent::Call { node, thread, call } => {
-            *node < nodes
-                && *thread == 0
-                && !matches!(call, Call::SyncAll { .. } | Call::SyncSome { .. })
+            *node < nodes && *thread == 0 && !has_registers(call)
         }
         WorldEvent::Request { from, to, .. } | WorldEvent::Reply { from, to, .. } => {
             *from < nodes && *to < nodes
