@@ -398,7 +398,7 @@ struct Handled {
 }
 
 /// Runs a handler that may take the listed locks; it does this, and is told so.
-fn handled(
+fn run_handler(
     alloc: Global,
     listed: u64,
     asked: Incoming<'_>,
@@ -437,7 +437,7 @@ fn a_request_has_one_reply(rt: HostRuntime) -> Result<(), Fail> {
         Deed::Short(130, &[7], Replied::Sent),
         Deed::Short(130, &[8], second),
     ];
-    let it = handled(rt.alloc(), 0, message(Role::Request, 0, &[5]), &deeds)?;
+    let it = run_handler(rt.alloc(), 0, message(Role::Request, 0, &[5]), &deeds)?;
     let log = &it.node.log;
     assert_eq!(rt;
         (log.count(), log.back(0)),
@@ -459,7 +459,7 @@ fn a_request_has_one_reply(rt: HostRuntime) -> Result<(), Fail> {
 fn a_reply_has_none(rt: HostRuntime) -> Result<(), Fail> {
     let none = Replied::Forbidden(Forbidden::ReplyInReply);
     let deeds = [Deed::Short(130, &[7], none), Deed::Short(130, &[8], none)];
-    let it = handled(rt.alloc(), 0, message(Role::Reply, 0, &[5]), &deeds)?;
+    let it = run_handler(rt.alloc(), 0, message(Role::Reply, 0, &[5]), &deeds)?;
     assert_eq!(rt; it.node.log.count(), 2);
     assert!(rt; it.reply.is_none());
     Ok(())
@@ -471,7 +471,7 @@ fn a_medium_reply(rt: HostRuntime) -> Result<(), Fail> {
         payload: &[9, 8],
         ..message(Role::Request, 0, &[5])
     };
-    let it = handled(
+    let it = run_handler(
         rt.alloc(),
         0,
         asked,
@@ -496,7 +496,7 @@ fn a_long_reply(rt: HostRuntime) -> Result<(), Fail> {
         place: Some((16, 2)),
         ..message(Role::Request, 0, &[5])
     };
-    let it = handled(rt.alloc(), 0, asked, &LONG)?;
+    let it = run_handler(rt.alloc(), 0, asked, &LONG)?;
     let reply = it.reply.ok_or("no reply")?;
     assert_eq!(rt;
         (reply.kind, reply.offset, reply.len),
@@ -508,7 +508,7 @@ fn a_long_reply(rt: HostRuntime) -> Result<(), Fail> {
 
 #[test]
 fn a_reply_to_the_own_node_is_its_payload(rt: HostRuntime) -> Result<(), Fail> {
-    let it = handled(rt.alloc(), 0, message(Role::Request, 1, &[5]), &LONG)?;
+    let it = run_handler(rt.alloc(), 0, message(Role::Request, 1, &[5]), &LONG)?;
     let reply = it.reply.ok_or("no reply")?;
     assert_eq!(rt; (reply.handler, reply.count, reply.args[0]), (130, 1, 7));
     assert_eq!(rt; (reply.offset, reply.len), (258, 2));
@@ -546,7 +546,7 @@ const WRONGLY: [Deed<'static>; 6] = [
 
 #[test]
 fn wrong_parts_of_a_reply(rt: HostRuntime) -> Result<(), Fail> {
-    let it = handled(rt.alloc(), 0, message(Role::Request, 0, &[5]), &WRONGLY)?;
+    let it = run_handler(rt.alloc(), 0, message(Role::Request, 0, &[5]), &WRONGLY)?;
     assert!(rt; it.reply.is_none());
     assert_eq!(rt; it.node.log.count(), 0);
     Ok(())
@@ -557,7 +557,7 @@ const LONGEST: [Deed<'static>; 1] = [Deed::Medium(130, &[0; 16], &[3; 8192], Rep
 
 #[test]
 fn the_longest_reply(rt: HostRuntime) -> Result<(), Fail> {
-    let it = handled(rt.alloc(), 0, message(Role::Request, 0, &[5]), &LONGEST)?;
+    let it = run_handler(rt.alloc(), 0, message(Role::Request, 0, &[5]), &LONGEST)?;
     let reply = it.reply.ok_or("no reply")?;
     assert_eq!(rt; (reply.count, reply.len), (16, 8296));
     Ok(())
@@ -606,7 +606,7 @@ const ATTEMPTS: [Deed<'static>; 3] = [
 
 #[test]
 fn a_desk_answers(rt: HostRuntime) -> Result<(), Fail> {
-    let it = handled(rt.alloc(), 0, message(Role::Request, 0, &[5]), &ATTEMPTS)?;
+    let it = run_handler(rt.alloc(), 0, message(Role::Request, 0, &[5]), &ATTEMPTS)?;
     assert!(rt; it.reply.is_some());
     let log = &it.node.log;
     assert_eq!(rt;
@@ -627,7 +627,7 @@ const UNDER_LOCK: [Deed<'static>; 5] = [
 
 #[test]
 fn a_reply_under_a_lock(rt: HostRuntime) -> Result<(), Fail> {
-    let it = handled(rt.alloc(), 8, message(Role::Request, 0, &[]), &UNDER_LOCK)?;
+    let it = run_handler(rt.alloc(), 8, message(Role::Request, 0, &[]), &UNDER_LOCK)?;
     assert!(rt; it.reply.is_some());
     let log = &it.node.log;
     assert_eq!(rt; log.count(), 2);
@@ -649,7 +649,7 @@ const KEEPS_LOCKS: [Deed<'static>; 3] = [
 #[test]
 fn a_return_under_a_lock(rt: HostRuntime) -> Result<(), Fail> {
     let asked = message(Role::Reply, 0, &[]);
-    let it = handled(rt.alloc(), 0x8000_0000_0000_0001, asked, &KEEPS_LOCKS)?;
+    let it = run_handler(rt.alloc(), 0x8000_0000_0000_0001, asked, &KEEPS_LOCKS)?;
     assert!(rt; it.reply.is_none());
     assert!(rt; !it.node.locks.holds(Owner::Handler));
     let log = &it.node.log;
