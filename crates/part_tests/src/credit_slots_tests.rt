@@ -2,8 +2,6 @@ ghost use Rattle.std.specs.Prelude.{◌≡◌, ℕ, ◌<◌, ◌≤◌, ◌+◌,
 ghost use Rattle.credit_slots.specs.State.{CanClaim, Refuses, slot_count, with_request};
 
 use credit_slots::{BUFFER_BYTES, CreditSlots, NoClaim};
-use std::alloc::{AllocError, Global};
-use std::marker::Model;
 use std::process::Abort;
 use std::test::Fail;
 
@@ -35,87 +33,80 @@ fn send(table: &mut CreditSlots, to: u16, now: u64, message: &[u8]) -> Result<(u
     Ok((slot, number))
 }
 
-/// The table of a node that has two slots towards node 1.
-#[derive(Drop)]
-struct TwoSlots {
-    table: CreditSlots,
+// The slot and number of a claim that is dropped unsealed.
+fn claim(table: &mut CreditSlots) -> Result<(u16, u64), NoClaim>
+    requires peer { slot_count table.old 1 ≡ 2 }
+    ensures peer { slot_count table.new 1 ≡ 2 }
+{
+    let claimed = table.claim(1, 5)?;
+    Ok((claimed.slot, claimed.number))
 }
 
-impl Model for TwoSlots {
-    ghost use Rattle.std.specs.Prelude.{◌≡◌};
-    ghost use Rattle.credit_slots.specs.State.{SlotsState, slot_count};
-
-    ghost Value = { SlotsState };
-
-    ghost view = { λ it. it.table };
-
-    ghost invariant = { λ it. slot_count it.table 1 ≡ 2 };
+fn take_back(table: &mut CreditSlots, slot: u16, number: u64) -> bool
+    requires peer { slot_count table.old 1 ≡ 2 }
+    requires slot { slot < 2 }
+    ensures peer { slot_count table.new 1 ≡ 2 }
+{
+    table.take_back(1, slot, number)
 }
 
-/// What happens to such a table, and its answer.
+// Sends two bytes to node 1.
+fn send_two_bytes(table: &mut CreditSlots) -> Result<(u16, u64), NoClaim>
+    requires peer { slot_count table.old 1 ≡ 2 }
+    ensures peer { slot_count table.new 1 ≡ 2 }
+{
+    send(table, 1, 5, &[7, 8])
+}
+
+// Whether a slot of node 1 has this message with this number, or none.
+fn has(table: &CreditSlots, slot: u16, number: Option<u64>, message: Option<&[u8]>) -> bool
+    requires peer { slot_count table.now 1 ≡ 2 }
+    requires slot { slot < 2 }
+{
+    table.number(1, slot) == number && table.bytes(1, slot) == message
+}
+
+/// What happens to a table with two slots towards node 1, and its answer.
 #[derive(Clone, Copy)]
 enum Deed<'a> {
-    /// Two bytes are sent to node 1, at time 5.
+    /// Two bytes are sent to node 1.
     Sends(Result<(u16, u64), NoClaim>),
     /// A slot and a number are claimed, and dropped unsealed.
     Claims(Result<(u16, u64), NoClaim>),
-    /// A request of this slot and number is back.
+    /// The request of this slot, 0 or 1, and this number is back.
     TakesBack(u16, u64, bool),
-    /// A slot has this number and message, or none.
+    /// A slot, 0 or 1, has this number and message, or none.
     Has(u16, Option<u64>, Option<&'a [u8]>),
     /// So many buffers are in use.
     Holds(usize),
-    /// So many slots are vacant.
-    Free(u16),
-    /// What is sent again at time 100.
-    Resends(Option<(u16, u16)>),
 }
 
-impl TwoSlots {
-    /// With numbers up to `last`.
-    fn new(alloc: Global, last: u64) -> Result<TwoSlots, AllocError> {
-        let table = CreditSlots::new(alloc, &[2, 2], 0, last)?;
-        Ok(TwoSlots { table })
-    }
-
-    /// The slot and the number of a claim that is dropped unsealed.
-    fn claim(&mut self) -> Result<(u16, u64), NoClaim> {
-        let claimed = self.table.claim(1, 5)?;
-        Ok((claimed.slot, claimed.number))
-    }
-
-    /// Whether a slot has this message with this number, or none.
-    fn has(&self, slot: u16, number: Option<u64>, message: Option<&[u8]>) -> bool {
-        slot < 2 && self.table.number(1, slot) == number && self.table.bytes(1, slot) == message
-    }
-
-    fn take_back(&mut self, slot: u16, number: u64) -> bool {
-        slot < 2 && self.table.take_back(1, slot, number)
-    }
-
-    /// Whether it is answered so.
-    fn answers(&mut self, deed: Deed<'_>) -> bool {
-        match deed {
-            Deed::Sends(want) => send(&mut self.table, 1, 5, &[7, 8]) == want,
-            Deed::Claims(want) => self.claim() == want,
-            Deed::TakesBack(slot, number, want) => self.take_back(slot, number) == want,
-            Deed::Has(slot, number, message) => self.has(slot, number, message),
-            Deed::Holds(count) => self.table.held() == count,
-            Deed::Free(count) => self.table.free(1) == count,
-            Deed::Resends(want) => self.table.due(100, 10) == want,
+/// Whether it is answered so.
+fn is_answered(table: &mut CreditSlots, deed: Deed<'_>) -> bool
+    requires peer { slot_count table.old 1 ≡ 2 }
+    ensures peer { slot_count table.new 1 ≡ 2 }
+{
+    match deed {
+        Deed::Sends(want) => send_two_bytes(table) == want,
+        Deed::Claims(want) => claim(table) == want,
+        Deed::TakesBack(slot, number, want) => {
+            slot < 2 && take_back(table, slot, number) == want
         }
-    }
-
-    /// Checks that each deed is answered so.
-    fn check(&mut self, rt: &impl Abort, deeds: &[Deed<'_>]) {
-        for (row, deed) in deeds.iter().enumerate() {
-            assert!(rt; self.answers(*deed), "row {row}");
-        }
+        Deed::Has(slot, number, message) => slot < 2 && has(table, slot, number, message),
+        Deed::Holds(count) => table.held() == count,
     }
 }
 
-const SENT_AND_TAKEN_BACK: [Deed<'static>; 8] = [
-    Deed::Free(2),
+/// Checks that each deed is answered so.
+fn check_deeds(rt: &impl Abort, table: &mut CreditSlots, deeds: &[Deed<'_>])
+    requires peer { slot_count table.old 1 ≡ 2 }
+{
+    for (row, deed) in deeds.iter().enumerate() {
+        assert!(rt; is_answered(table, *deed), "row {row}");
+    }
+}
+
+const SENT_AND_TAKEN_BACK: [Deed<'static>; 7] = [
     Deed::Sends(Ok((0, 1))),
     Deed::Has(0, Some(1), Some(&[7, 8])),
     Deed::Has(1, None, None),
@@ -127,10 +118,21 @@ const SENT_AND_TAKEN_BACK: [Deed<'static>; 8] = [
 
 #[test]
 fn sends_and_takes_back(rt: HostRuntime) -> Result<(), Fail> {
-    let table = CreditSlots::new(rt.alloc(), &[2, 2], 0, 9)?;
+    let mut table = CreditSlots::new(rt.alloc(), &[2, 2], 0, 9)?;
     assert_eq!(rt; table.free(0), 0);
-    let mut slots = TwoSlots::new(rt.alloc(), 9)?;
-    slots.check(&rt, &SENT_AND_TAKEN_BACK);
+    assert_eq!(rt; table.free(1), 2);
+    check_deeds(&rt, &mut table, &SENT_AND_TAKEN_BACK);
+    Ok(())
+}
+
+#[test]
+fn lends_whole_buffers(rt: HostRuntime) -> Result<(), Fail> {
+    let mut table = CreditSlots::new(rt.alloc(), &[1, 1], 0, 9)?;
+    let Ok(mut claimed) = table.claim(1, 5) else {
+        return Err(Fail::new("refused"));
+    };
+    assert_eq!(rt; claimed.buffer().len(), BUFFER_BYTES);
+    claimed.seal(BUFFER_BYTES);
     Ok(())
 }
 
@@ -150,167 +152,139 @@ const CREDITS_AND_NUMBERS: [Deed<'static>; 10] = [
 
 #[test]
 fn credits_and_numbers(rt: HostRuntime) -> Result<(), Fail> {
-    let mut slots = TwoSlots::new(rt.alloc(), 4)?;
-    slots.check(&rt, &CREDITS_AND_NUMBERS);
+    let mut table = CreditSlots::new(rt.alloc(), &[2, 2], 0, 4)?;
+    check_deeds(&rt, &mut table, &CREDITS_AND_NUMBERS);
     Ok(())
 }
 
 // Of a claim that was never sealed there is nothing to send.
 #[test]
 fn resends_no_unsealed_claim(rt: HostRuntime) -> Result<(), Fail> {
-    let mut slots = TwoSlots::new(rt.alloc(), 9)?;
-    slots.check(&rt, &[Deed::Claims(Ok((0, 1))), Deed::Resends(None)]);
+    let mut table = CreditSlots::new(rt.alloc(), &[2, 2], 0, 9)?;
+    assert!(rt; matches!(claim(&mut table), Ok((0, 1))));
+    assert_eq!(rt; table.due(100, 10), None);
     Ok(())
 }
 
-#[test]
-fn lends_whole_buffers(rt: HostRuntime) -> Result<(), Fail> {
-    let mut table = CreditSlots::new(rt.alloc(), &[1, 1], 0, 9)?;
-    let Ok(mut claimed) = table.claim(1, 5) else {
-        return Err(Fail::new("refused"));
-    };
-    assert_eq!(rt; claimed.buffer().len(), BUFFER_BYTES);
-    claimed.seal(BUFFER_BYTES);
-    Ok(())
-}
-
-/// The table of a node among so many.
-#[derive(Drop)]
-struct Peers {
-    table: CreditSlots,
-    nodes: usize,
-    ghost counted: { length table.peers ≡ nodes },
-}
-
-/// What happens to such a table, and its answer.
-#[derive(Clone, Copy)]
-enum Event {
-    /// One byte is sent to a node, at a time.
-    Sends(u16, u64, Result<(u16, u64), NoClaim>),
-    /// What is sent again at a time, where so much must have passed since it was last sent.
-    Resends(u64, u64, Option<(u16, u16)>),
-    /// So many slots towards a node are vacant.
-    Free(u16, u16),
-    /// So many buffers are in use.
-    Holds(usize),
-}
-
-impl Peers {
-    /// Whether it is answered so.
-    fn answers(&mut self, event: Event) -> bool {
-        match event {
-            Event::Sends(to, now, want) => {
-                usize::from(to) < self.nodes && send(&mut self.table, to, now, &[7]) == want
-            }
-            Event::Resends(now, resend, want) => self.table.due(now, resend) == want,
-            Event::Free(node, count) => {
-                usize::from(node) < self.nodes && self.table.free(node) == count
-            }
-            Event::Holds(count) => self.table.held() == count,
-        }
+/// Sends one byte to one of so many nodes; none where it isn't among them.
+fn send_one(
+    table: &mut CreditSlots,
+    nodes: u16,
+    to: u16,
+    now: u64,
+) -> Option<Result<(u16, u64), NoClaim>>
+    requires nodes { length table.old.peers ≡ nodes }
+    ensures nodes { length table.new.peers ≡ nodes }
+{
+    if to >= nodes {
+        return None;
     }
+    Some(send(table, to, now, &[7]))
+}
 
-    /// Checks that each event is answered so.
-    fn check(&mut self, rt: &impl Abort, events: &[Event]) {
-        for (row, event) in events.iter().enumerate() {
-            assert!(rt; self.answers(*event), "row {row}");
-        }
+/// Checks what it is answered where one byte is sent to these nodes at these times.
+fn check_sends(
+    rt: &impl Abort,
+    table: &mut CreditSlots,
+    nodes: u16,
+    rows: &[(u16, u64, Result<(u16, u64), NoClaim>)],
+)
+    requires nodes { length table.old.peers ≡ nodes }
+{
+    for (row, (to, now, want)) in rows.iter().enumerate() {
+        assert_eq!(rt; send_one(table, nodes, *to, *now), Some(*want), "row {row}");
     }
 }
 
-/// Node 0 of three, with two slots towards each other node.
-fn of_three(alloc: Global) -> Result<Peers, AllocError> {
-    let table = CreditSlots::new(alloc, &[2, 2, 2], 0, 9)?;
-    Ok(Peers { table, nodes: 3 })
+/// Checks what is sent again at these times, where so much must have passed since it was last sent.
+fn check_dues(rt: &impl Abort, table: &mut CreditSlots, rows: &[(u64, u64, Option<(u16, u16)>)]) {
+    for (row, (now, resend, want)) in rows.iter().enumerate() {
+        assert_eq!(rt; table.due(*now, *resend), *want, "row {row}");
+    }
 }
 
 /// The earliest first, then the lower node, then the lower slot; 10 must have passed since the last sending.
-const IN_ORDER: [Event; 14] = [
-    Event::Resends(100, 10, None),
-    Event::Sends(2, 3, Ok((0, 1))),
-    Event::Sends(2, 1, Ok((1, 2))),
-    Event::Sends(1, 3, Ok((0, 1))),
-    Event::Sends(1, 3, Ok((1, 2))),
-    Event::Resends(0, 0, None),
-    Event::Resends(10, 10, None),
-    Event::Resends(11, 10, Some((2, 1))),
-    Event::Resends(11, 10, None),
-    Event::Resends(20, 10, Some((1, 0))),
-    Event::Resends(20, 10, Some((1, 1))),
-    Event::Resends(20, 10, Some((2, 0))),
-    Event::Resends(20, 10, None),
-    Event::Holds(4),
-];
-
 #[test]
 fn resends_in_order(rt: HostRuntime) -> Result<(), Fail> {
-    let mut it = of_three(rt.alloc())?;
-    it.check(&rt, &IN_ORDER);
-    let Some((to, slot)) = it.table.due(21, 10) else {
+    let mut table = CreditSlots::new(rt.alloc(), &[2, 2, 2], 0, 9)?;
+    assert_eq!(rt; table.due(100, 10), None);
+    let sends = [
+        (2, 3, Ok((0, 1))),
+        (2, 1, Ok((1, 2))),
+        (1, 3, Ok((0, 1))),
+        (1, 3, Ok((1, 2))),
+    ];
+    check_sends(&rt, &mut table, 3, &sends);
+    let dues = [
+        (0, 0, None),
+        (10, 10, None),
+        (11, 10, Some((2, 1))),
+        (11, 10, None),
+        (20, 10, Some((1, 0))),
+        (20, 10, Some((1, 1))),
+        (20, 10, Some((2, 0))),
+        (20, 10, None),
+    ];
+    check_dues(&rt, &mut table, &dues);
+    let Some((to, slot)) = table.due(21, 10) else {
         return Err(Fail::new("none is due"));
     };
     assert_eq!(rt; (to, slot), (2, 1));
-    assert_eq!(rt; it.table.bytes(to, slot), Some([7].as_slice()));
+    assert_eq!(rt; table.bytes(to, slot), Some([7].as_slice()));
     Ok(())
 }
 
-/// Times that fall and rise: a slot goes to its place in the order, and back among the others when it is sent again.
-const FALLING_AND_RISING: [Event; 9] = [
-    Event::Sends(1, 9, Ok((0, 1))),
-    Event::Sends(1, 4, Ok((1, 2))),
-    Event::Sends(2, 6, Ok((0, 1))),
-    Event::Resends(9, 0, Some((1, 1))),
-    Event::Resends(5, 0, None),
-    Event::Resends(8, 0, Some((2, 0))),
-    Event::Resends(8, 0, Some((2, 0))),
-    Event::Resends(9, 1, Some((2, 0))),
-    Event::Resends(9, 0, Some((1, 0))),
-];
-
+// Times that fall and rise: a slot goes to its place in the order, and back among the others when it is sent again.
 #[test]
 fn times_fall_and_rise(rt: HostRuntime) -> Result<(), Fail> {
-    let mut it = of_three(rt.alloc())?;
-    it.check(&rt, &FALLING_AND_RISING);
+    let mut table = CreditSlots::new(rt.alloc(), &[2, 2, 2], 0, 9)?;
+    let sends = [(1, 9, Ok((0, 1))), (1, 4, Ok((1, 2))), (2, 6, Ok((0, 1)))];
+    check_sends(&rt, &mut table, 3, &sends);
+    let dues = [
+        (9, 0, Some((1, 1))),
+        (5, 0, None),
+        (8, 0, Some((2, 0))),
+        (8, 0, Some((2, 0))),
+        (9, 1, Some((2, 0))),
+        (9, 0, Some((1, 0))),
+    ];
+    check_dues(&rt, &mut table, &dues);
     Ok(())
 }
-
-/// One slot towards each of 255 other nodes.
-const MANY_PEERS: [Event; 10] = [
-    Event::Sends(255, 3, Ok((0, 1))),
-    Event::Sends(1, 3, Ok((0, 1))),
-    Event::Sends(128, 2, Ok((0, 1))),
-    Event::Sends(128, 2, Err(NoClaim::NotYet)),
-    Event::Sends(0, 2, Err(NoClaim::NotYet)),
-    Event::Holds(3),
-    Event::Resends(10, 5, Some((128, 0))),
-    Event::Resends(10, 5, Some((1, 0))),
-    Event::Resends(10, 5, Some((255, 0))),
-    Event::Resends(10, 5, None),
-];
 
 #[test]
 fn a_slot_for_each_of_many_peers(rt: HostRuntime) -> Result<(), Fail> {
-    let table = CreditSlots::new(rt.alloc(), &[1; 256], 0, 9)?;
-    let mut it = Peers { table, nodes: 256 };
-    it.check(&rt, &MANY_PEERS);
+    let mut table = CreditSlots::new(rt.alloc(), &[1; 256], 0, 9)?;
+    let sends = [
+        (255, 3, Ok((0, 1))),
+        (1, 3, Ok((0, 1))),
+        (128, 2, Ok((0, 1))),
+        (128, 2, Err(NoClaim::NotYet)),
+        (0, 2, Err(NoClaim::NotYet)),
+    ];
+    check_sends(&rt, &mut table, 256, &sends);
+    assert_eq!(rt; table.held(), 3);
+    let dues = [
+        (10, 5, Some((128, 0))),
+        (10, 5, Some((1, 0))),
+        (10, 5, Some((255, 0))),
+        (10, 5, None),
+    ];
+    check_dues(&rt, &mut table, &dues);
     Ok(())
 }
 
-/// One credit towards node 0, and three towards node 2.
-const NARROW: [Event; 7] = [
-    Event::Free(0, 1),
-    Event::Free(1, 0),
-    Event::Free(2, 3),
-    Event::Sends(0, 5, Ok((0, 1))),
-    Event::Sends(0, 5, Err(NoClaim::NotYet)),
-    Event::Sends(2, 5, Ok((0, 1))),
-    Event::Sends(2, 5, Ok((1, 2))),
-];
-
+// The node 1 of three has one credit towards node 0 and three towards node 2.
 #[test]
 fn a_narrow_pair(rt: HostRuntime) -> Result<(), Fail> {
-    let table = CreditSlots::new(rt.alloc(), &[1, 9, 3], 1, 9)?;
-    let mut it = Peers { table, nodes: 3 };
-    it.check(&rt, &NARROW);
+    let mut table = CreditSlots::new(rt.alloc(), &[1, 9, 3], 1, 9)?;
+    assert_eq!(rt; (table.free(0), table.free(1), table.free(2)), (1, 0, 3));
+    let sends = [
+        (0, 5, Ok((0, 1))),
+        (0, 5, Err(NoClaim::NotYet)),
+        (2, 5, Ok((0, 1))),
+        (2, 5, Ok((1, 2))),
+    ];
+    check_sends(&rt, &mut table, 3, &sends);
     Ok(())
 }
