@@ -544,39 +544,33 @@ impl Read for Broken {
     }
 }
 
-// What `run_streams` ends with, and what its writer holds.
-#[test]
-fn the_exit_status_is_the_code(rt: HostRuntime) -> Result<(), Fail> {
-    let words = vec![in rt.alloc(); String::from_str(rt.alloc(), "world")?]?;
-    let job = long_job(rt.alloc())?;
-    let mut written = Vec::new(rt.alloc());
-    let (status, _) = run_streams(rt.alloc(), &words, job.as_slice(), &mut written);
-    assert_eq!(rt;
-        status_of(rt.alloc(), status)?.as_str(),
-        "ExitCode(unix_exit_status(0))"
-    );
-    assert!(rt; written.ends_with(b"violations 0\nstatus 0 ok\n"));
-    let mut written = Vec::new(rt.alloc());
-    let (status, _) = run_streams(rt.alloc(), &words, b"gasnet 3\n".as_slice(), &mut written);
-    assert_eq!(rt;
-        status_of(rt.alloc(), status)?.as_str(),
-        "ExitCode(unix_exit_status(3))"
-    );
-    assert_eq!(rt;
-        written.as_slice(),
-        b"status 3 bad-job 1 value\n".as_slice()
-    );
-    let mut written = Vec::new(rt.alloc());
-    let (status, _) = run_streams(rt.alloc(), &words, Broken { gave: false }, &mut written);
-    assert_eq!(rt;
-        status_of(rt.alloc(), status)?.as_str(),
-        "ExitCode(unix_exit_status(4))"
-    );
-    assert_eq!(rt; written.as_slice(), b"status 4 read-fault\n".as_slice());
-    Ok(())
+/// What `run_streams` ends with over a reader, as text, and what its writer holds.
+fn streamed<R: Read + Drop>(alloc: Global, reader: R) -> Result<(String, Vec<u8>), Fail> {
+    let words = vec![in alloc; String::from_str(alloc, "world")?]?;
+    let mut written = Vec::new(alloc);
+    let (status, _) = run_streams(alloc, &words, reader, &mut written);
+    Ok((status_of(alloc, status)?, written))
 }
 
 /// An exit status as text.
 fn status_of(alloc: Global, status: ExitCode) -> Result<String, Fail> {
     Ok(format!(in alloc; "{status:?}")?)
+}
+
+#[test]
+fn the_exit_status_is_the_code(rt: HostRuntime) -> Result<(), Fail> {
+    let job = long_job(rt.alloc())?;
+    let (status, written) = streamed(rt.alloc(), job.as_slice())?;
+    assert_eq!(rt; status.as_str(), "ExitCode(unix_exit_status(0))");
+    assert!(rt; written.ends_with(b"violations 0\nstatus 0 ok\n"));
+    let (status, written) = streamed(rt.alloc(), b"gasnet 3\n".as_slice())?;
+    assert_eq!(rt; status.as_str(), "ExitCode(unix_exit_status(3))");
+    assert_eq!(rt;
+        written.as_slice(),
+        b"status 3 bad-job 1 value\n".as_slice()
+    );
+    let (status, written) = streamed(rt.alloc(), Broken { gave: false })?;
+    assert_eq!(rt; status.as_str(), "ExitCode(unix_exit_status(4))");
+    assert_eq!(rt; written.as_slice(), b"status 4 read-fault\n".as_slice());
+    Ok(())
 }
