@@ -3,7 +3,7 @@ use Rattle.std.proofs.Common.{◌≡◌, ◌⊎◌, inl, inr, ℕ, zero, suc, �
 use Rattle.std.proofs.Common.{Some, None, Bool, true, false, not, ◌&&◌, eqb, ltb, cond, Result, Ok, Err, is_none}
 use Rattle.std.proofs.Common.{option_to_list, refl, sym, ap, subst, ◌∙◌, append_assoc, append-nil, arith, codes}
 use Rattle.std.proofs.Common.{◌-◌, decimal, drop, length-append}
-use Rattle.std.specs.List.{AllByRecursion, flat_map, onto_first, list_all, before_first}
+use Rattle.std.specs.List.{AllByRecursion, onto_first, list_all, before_first}
 use Rattle.std.proofs.lemmas.Bool.{and_parts, ltb-true, eqb-true, eqb-false}
 use Rattle.std.proofs.lemmas.List.{map-append}
 use Rattle.std.proofs.lemmas.List.Concat.{flat_map-append}
@@ -17,14 +17,14 @@ use Rattle.gasnet_trace.specs.declared.fault.TraceWhy.TheVariants.{Early, Text, 
 use Rattle.gasnet_trace.specs.declared.trace.Trace.{Trace}
 use Rattle.gasnet_trace.specs.Lines.{Word, Line, IsPlain, IsWord, IsLine, joined, line_text, spell}
 use Rattle.gasnet_trace.specs.TraceText.{IsEntry, IsTrace, end_line, entry_line, entry_lines, number_line, trace_lines}
-use Rattle.gasnet_trace.specs.TraceText.{got_word, trace_text}
+use Rattle.gasnet_trace.specs.TraceText.{got_word}
 use Rattle.gasnet_trace.specs.TraceReading.{BadLine, ◌>>=◌, at_line, bytes_of, entries_at, entry_of, got_of, is_end}
 use Rattle.gasnet_trace.specs.TraceReading.{is_plain, is_word, line_at, next_of, number_in, number_of, read_line}
 use Rattle.gasnet_trace.specs.TraceReading.{second_of, setting_of, spelled_by, thread_of, trace_at, turn_of, TurnWords}
 use Rattle.gasnet_trace.specs.TraceReading.{with_front, within, words_of}
 use Rattle.gasnet_trace.specs.TraceRead.{FailsAt}
-use Rattle.gasnet_trace.specs.TraceRefusals.{Before, EndsEarly, HasForm, HasNoText, IsAtFault, IsFront, IsMeant}
-use Rattle.gasnet_trace.specs.TraceRefusals.{IsNamed, IsNoFront, IsTurn, IsWrong, MayStand, Means, TracePlace}
+use Rattle.gasnet_trace.specs.TraceRefusals.{Before, EndsEarly, HasForm, HasNoText, IsFront, IsMeant}
+use Rattle.gasnet_trace.specs.TraceRefusals.{IsNamed, IsNoFront, IsWrong, MayStand, Means, TracePlace}
 use Rattle.gasnet_trace.specs.TraceRefusals.{AtVersion, AtJob, AtRank, AtEntries, place_behind}
 use Rattle.gasnet_trace.proofs.LineLaws.{guard_err, guard_ok, line_again, line_takes, ok_is, read_takes, split_joined}
 use Rattle.gasnet_trace.proofs.WordLaws.{IsIn, IsNext, end_is_line, entry_is_line, narrow, next_again, next_end}
@@ -55,7 +55,8 @@ line_at_by : (bytes : List ℕ) (none test : Bool) (found : List ℕ × List ℕ
     ≡ none → cond none (Err Early) (cond test (Ok found) (Err Text)) ≡ Err why
     → ((why ≡ Early) × (bytes ≡ [])) ⊎ ((why ≡ Text) × (bytes ≡ [] → ⊥))
 line_at_by [] true test found why e h = inl (sym (err_is {A = List ℕ × List ℕ} h), refl)
-line_at_by (b ∷ bytes) true test found why e h = absurd (cc)
+line_at_by (b ∷ bytes) true test found why e h =
+    let none = eqb-true (length (b ∷ bytes)) 0 e in absurd (omega (arith, none))
 line_at_by bytes false true found why e h = absurd (cc)
 line_at_by bytes false false found why e h =
     inr (sym (err_is {A = List ℕ × List ℕ} h), λ none. eqb-false (length bytes) 0 e (ap length none))
@@ -143,20 +144,24 @@ by_words read line bytes bad why x h e (inl r) =
     Refused (words_of x.0) x.1 why (words_read bytes x h) (line_takes bytes x h) r e
 by_words read line bytes bad why x h e (inr a) = absurd (ok_err refl a.1.1)
 
+-- what the words of a line say, and the bytes after it
+abbrev saying : {A : Type 0} → (Line → Result A TraceWhy) → List ℕ × List ℕ → Result (A × List ℕ) TraceWhy
+saying {A} read x = ◌>>=◌ {B = A × List ℕ} (read (words_of x.0)) (λ a. Ok (a, x.1))
+
 by_parts : {A : Type 0} (read : Line → Result A TraceWhy) (line : ℕ) (bytes : List ℕ) (bad : BadLine)
     (why : TraceWhy) → bad ≡ record { line = line; why = why } → (line_at bytes ≡ Err why)
-    ⊎ ((x : List ℕ × List ℕ) × ((line_at bytes ≡ Ok x) × ((read (words_of x.0) >>= λ a. Ok (a, x.1)) ≡ Err why)))
-    → LineFails read line bytes bad
+    ⊎ ((x : List ℕ × List ℕ) × ((line_at bytes ≡ Ok x) × (saying read x ≡ Err why))) → LineFails read line bytes bad
 by_parts read line bytes bad why e (inl h) = by_reason read line bytes bad why h e (line_at_err bytes why h)
-by_parts read line bytes bad why e (inr x) =
-    by_words read line bytes bad why x.0 x.1.0 e (bind_err (read (words_of x.0.0)) (λ a. Ok (a, x.0.1)) why x.1.1)
+by_parts {A} read line bytes bad why e (inr x) =
+    by_words read line bytes bad why x.0 x.1.0 e (bind_err {B = A × List ℕ} (read (words_of x.0.0))
+    (λ a. Ok (a, x.0.1)) why x.1.1)
 
 line_err : {A : Type 0} (line : ℕ) (read : Line → Result A TraceWhy) (bytes : List ℕ) (bad : BadLine)
     → read_line line read bytes ≡ Err bad → LineFails read line bytes bad
-line_err line read bytes bad h =
-    let told = at_err line (line_at bytes >>= λ x. read (words_of x.0) >>= λ a. Ok (a, x.1)) bad h in
-    by_parts read line bytes bad told.0 told.1.1 (bind_err (line_at bytes) (λ x. read (words_of x.0)
-    >>= λ a. Ok (a, x.1)) told.0 told.1.0)
+line_err {A} line read bytes bad h =
+    let told = at_err line (◌>>=◌ {B = A × List ℕ} (line_at bytes) (saying read)) bad h in
+    by_parts read line bytes bad told.0 told.1.1 (bind_err {B = A × List ℕ} (line_at bytes) (saying read) told.0
+    told.1.0)
 
 -- ---- words that are refused
 
@@ -413,7 +418,9 @@ all_more P (y ∷ xs) x all one = (all.0, all_more P xs x all.1 one)
 
 -- a text has its lines in one way
 pair_is : {a b x y : List ℕ} → ◌≡◌ {A = Result (List ℕ × List ℕ) TraceWhy} (Ok (a, x)) (Ok (b, y)) → (a ≡ b) × (x ≡ y)
-pair_is e = (cc, cc)
+pair_is {a} {b} {x} {y} e =
+    let same : ◌≡◌ {A = List ℕ × List ℕ} (a, x) (b, y) = ok_is (a, x) (b, y) e in
+    (ap (λ (p : List ℕ × List ℕ). p.0) same, ap (λ (p : List ℕ × List ℕ). p.1) same)
 
 line_same : (a b : Line) (x y : List ℕ) → IsLine a → IsLine b → line_text a ++ x ≡ line_text b ++ y → (a ≡ b) × (x ≡ y)
 line_same a b x y first second e =
@@ -467,7 +474,7 @@ reach_on version threads lines line bytes rest more reached e walked = record {
   text = reached.text ∙ ap (λ (t : List ℕ). spell lines ++ t) e ∙ sym (spelled_more lines line more);
 }
 
-front_of : (version threads : ℕ) (lines : List Line) → Walked version threads lines
+abbrev front_of : (version threads : ℕ) (lines : List Line) → Walked version threads lines
     → IsFront version threads (spell lines)
 front_of version threads lines walked = record {
   trace = walked.trace;
@@ -476,7 +483,7 @@ front_of version threads lines walked = record {
   text = ap spell walked.all ∙ flat_map-append line_text lines (walked.next ∷ walked.others);
 }
 
-before_of : (version threads : ℕ) (lines : List Line) (bytes rest : List ℕ) (line : ℕ)
+abbrev before_of : (version threads : ℕ) (lines : List Line) (bytes rest : List ℕ) (line : ℕ)
     → Reached version threads lines bytes rest → line ≡ suc (length lines) → Before bytes line
 before_of version threads lines bytes rest line reached count = record {
   lines = lines;
@@ -622,7 +629,7 @@ next_means room version threads job rank line entries bytes rest more bad None w
 next_means room version threads job rank line entries bytes rest more bad (Some entry) words fits few small is reached
     count text said on e =
     let same : lines_to version job rank (entries ++ entry ∷ [])
-        ≡ lines_to version job rank entries ++ entry_line entry ∷ [] =
+    ≡ lines_to version job rank entries ++ entry_line entry ∷ [] =
     ap (λ (ls : List Line). number_line (codes "trace") version ∷ number_line (codes "job") job
     ∷ number_line (codes "rank") rank ∷ ls) (map-append entry_line entries (entry ∷ [])) in
     let line_is : rest ≡ line_text (entry_line entry) ++ more =
@@ -632,7 +639,7 @@ next_means room version threads job rank line entries bytes rest more bad (Some 
     let behind = reach_on version threads (lines_to version job rank entries) (entry_line entry) bytes rest more reached
     line_is (subst (Walked version threads) same walked) in
     let longer : length (lines_to version job rank (entries ++ entry ∷ []))
-        ≡ length (lines_to version job rank entries) + 1 =
+    ≡ length (lines_to version job rank entries) + 1 =
     ap (λ (ls : List Line). length ls) same ∙ length-append (lines_to version job rank entries)
     (entry_line entry ∷ []) in
     let shorter : length rest ≡ length (line_text (entry_line entry)) + length more =
@@ -702,11 +709,14 @@ third_by version threads job bytes rest bad fits few reached (inr x) =
     let on = reach_on version threads (number_line (codes "trace") version ∷ number_line (codes "job") job ∷ [])
     (number_line (codes "rank") (x.0).0) bytes rest (x.0).1 reached s.0 walked in
     entries_by version threads job (x.0).0 bytes (x.0).1 bad fits few small on
-    (bind_err (entries_at (length (x.0).1 + 1) threads 4 (x.0).1) (λ es. Ok (record {
-      job = job;
-      rank = (x.0).0;
-      entries = es.0;
-    }, es.1)) bad x.1.1)
+    (bind_err (entries_at (length (x.0).1 + 1) threads 4 (x.0).1) (λ es. Ok (
+      record {
+        job = job;
+        rank = (x.0).0;
+        entries = es.0;
+      },
+      es.1,
+    )) bad x.1.1)
 
 -- the line of the job
 second_by : (version threads : ℕ) (bytes rest : List ℕ) (bad : BadLine) → version < 2 ^ 64
