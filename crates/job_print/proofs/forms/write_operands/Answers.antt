@@ -6,15 +6,18 @@ use Rattle.job_print.proofs.forms.write_operands.Goals as goal
 
 pub returns-in-Fault : goal.returns-in-Fault
 returns-in-Fault g c =
-    past_fault _ _ _ _ _ _ _ (next_spaced operand_word c.args.operands.now c.loop-operand.operand-index _ c.loop-operand-test.true)
+    past_fault _ _ _ _ _ _ _ (next_spaced operand_word c.args.operands.now c.loop-operand.operand-index _
+    c.loop-operand-test.true)
     c.loop-operand.invariant c.in-Fault.ensures
 
 pub returns-in-Fault-write_operand : goal.returns-in-Fault-write_operand
 returns-in-Fault-write_operand g c =
     past_fault _ _ _ _ _ _ _ refl
-    (past_done _ _ _ _ _ _ _ (next_spaced operand_word c.args.operands.now c.loop-operand.operand-index _ c.loop-operand-test.true) c.loop-operand.invariant c.in_default.ensures) c.in-Fault-write_operand.ensures
+    (past_done _ _ _ _ _ _ _ (next_spaced operand_word c.args.operands.now c.loop-operand.operand-index _
+    c.loop-operand-test.true) c.loop-operand.invariant c.in_default.ensures) c.in-Fault-write_operand.ensures
 
 pub loop-operand-preserved : goal.loop-operand-preserved
 loop-operand-preserved g c =
     past_done _ _ _ _ _ _ _ refl
-    (past_done _ _ _ _ _ _ _ (next_spaced operand_word c.args.operands.now c.loop-operand.operand-index _ c.loop-operand-test.true) c.loop-operand.invariant c.in_default.ensures) c.in_default-write_operand.ensures
+    (past_done _ _ _ _ _ _ _ (next_spaced operand_word c.args.operands.now c.loop-operand.operand-index _
+    c.loop-operand-test.true) c.loop-operand.invariant c.in_default.ensures) c.in_default-write_operand.ensures

@@ -6,15 +6,18 @@ use Rattle.job_print.proofs.words.write_spaced.Goals as goal
 
 pub returns-in-Fault : goal.returns-in-Fault
 returns-in-Fault g c =
-    past_fault _ _ _ _ _ _ _ (next_spaced word_bytes c.args.words.now c.loop-word.word-index _ c.loop-word-test.true)
+    past_fault _ _ _ _ _ _ _ (next_spaced word_bytes c.args.words.now c.loop-word.word-index _
+    c.loop-word-test.true)
     c.loop-word.invariant c.in-Fault.ensures
 
 pub returns-in-Fault-write_word : goal.returns-in-Fault-write_word
 returns-in-Fault-write_word g c =
     past_fault _ _ _ _ _ _ _ refl
-    (past_done _ _ _ _ _ _ _ (next_spaced word_bytes c.args.words.now c.loop-word.word-index _ c.loop-word-test.true) c.loop-word.invariant c.in_default.ensures) c.in-Fault-write_word.ensures
+    (past_done _ _ _ _ _ _ _ (next_spaced word_bytes c.args.words.now c.loop-word.word-index _
+    c.loop-word-test.true) c.loop-word.invariant c.in_default.ensures) c.in-Fault-write_word.ensures
 
 pub loop-word-preserved : goal.loop-word-preserved
 loop-word-preserved g c =
     past_done _ _ _ _ _ _ _ refl
-    (past_done _ _ _ _ _ _ _ (next_spaced word_bytes c.args.words.now c.loop-word.word-index _ c.loop-word-test.true) c.loop-word.invariant c.in_default.ensures) c.in_default-write_word.ensures
+    (past_done _ _ _ _ _ _ _ (next_spaced word_bytes c.args.words.now c.loop-word.word-index _
+    c.loop-word-test.true) c.loop-word.invariant c.in_default.ensures) c.in_default-write_word.ensures
