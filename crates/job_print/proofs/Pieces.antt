@@ -24,13 +24,27 @@ pub next_spaced : {A : Type 0} (text : A → List ℕ) (words : List A) (i : ℕ
 next_spaced {A} text words i d low =
     ap (λ (left : List A). flat_map (λ word. 32 ∷ text word) left) (drop_more words i d low)
 
+pub next_spaced_item : {A : Type 0} (text : A → List ℕ) (words : List A) (i : ℕ) (item : A) → i < length words
+    → item ≡ get_or words i item
+    → flat_map (λ word. 32 ∷ text word) (drop i words)
+    ≡ (32 ∷ []) ++ (text item ++ flat_map (λ word. 32 ∷ text word) (drop (i + 1) words))
+next_spaced_item {A} text words i item low is =
+    next_spaced text words i item low
+    ∙ ap (λ (x : A). (32 ∷ []) ++ (text x ++ flat_map (λ word. 32 ∷ text word) (drop (i + 1) words))) (sym is)
+
 -- the next line, and byte 10
+pub next_line_at : {A : Type 0} (text : A → Line) (items : List A) (i : ℕ) (d : A) → i < length items
+    → spell (map text (drop i items))
+    ≡ text (get_or items i d) ++ ((10 ∷ []) ++ spell (map text (drop (i + 1) items)))
+next_line_at {A} text items i d low =
+    ap (λ (left : List A). spell (map text left)) (drop_more items i d low)
+    ∙ append_assoc (text (get_or items i d)) (10 ∷ []) (spell (map text (drop (i + 1) items)))
+
 pub next_line : {A : Type 0} (text : A → Line) (items : List A) (i : ℕ) (item : A) → i < length items
     → item ≡ get_or items i item
     → spell (map text (drop i items)) ≡ text item ++ ((10 ∷ []) ++ spell (map text (drop (i + 1) items)))
 next_line {A} text items i item low is =
-    ap (λ (left : List A). spell (map text left)) (drop_more items i item low)
-    ∙ append_assoc (text (get_or items i item)) (10 ∷ []) (spell (map text (drop (i + 1) items)))
+    next_line_at text items i item low
     ∙ ap (λ (x : A). text x ++ ((10 ∷ []) ++ spell (map text (drop (i + 1) items)))) (sym is)
 
 -- the next lines

@@ -1,0 +1,25 @@
+use Rattle.job_print.proofs.steps.write_waiting.Goals as goal
+
+pub returns-in-Until : goal.returns-in-Until
+returns-in-Until g c = rw c.in-Until.is c.write.ensures
+
+pub returns-in-PutBegin : goal.returns-in-PutBegin
+returns-in-PutBegin g c = rw c.in-PutBegin.is c.write-in-PutBegin.ensures
+
+pub returns-in-PutImplicit : goal.returns-in-PutImplicit
+returns-in-PutImplicit g c = rw c.in-PutImplicit.is c.write-in-PutImplicit.ensures
+
+pub returns-in-Wait : goal.returns-in-Wait
+returns-in-Wait g c = rw c.in-Wait.is c.write-in-Wait.ensures
+
+pub returns-in-WaitAll : goal.returns-in-WaitAll
+returns-in-WaitAll g c = rw c.in-WaitAll.is c.write_list.ensures
+
+pub returns-in-WaitSome : goal.returns-in-WaitSome
+returns-in-WaitSome g c = rw c.in-WaitSome.is c.write_list-in-WaitSome.ensures
+
+pub returns-in-WaitImplicit : goal.returns-in-WaitImplicit
+returns-in-WaitImplicit g c = rw c.in-WaitImplicit.is c.write-in-WaitImplicit.ensures
+
+pub returns-in-BarrierWait : goal.returns-in-BarrierWait
+returns-in-BarrierWait g c = rw c.in-BarrierWait.is c.write-in-BarrierWait.ensures
