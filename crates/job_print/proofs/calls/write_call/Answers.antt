@@ -1,3 +1,10 @@
+use Rattle.std.proofs.Common.{ℤ, ◌++◌, codes, rules, subst}
+use Rattle.std.specs.Int.{w32}
+use Rattle.std.specs.Int.RustNames.{FitsSigned}
+use Rattle.std.proofs.lemmas.Int.{to_z-of_z}
+use Rattle.gas_outside.specs.Buffered.{GathersAll, outbox}
+use Rattle.job_text.specs.Calls.{notify_row}
+use Rattle.job_text.specs.Forms.{none_text, values_text}
 use Rattle.job_print.proofs.calls.write_call.Goals as goal
 
 pub returns-in-Short : goal.returns-in-Short
@@ -61,7 +68,21 @@ pub returns-in-RegionEnd : goal.returns-in-RegionEnd
 returns-in-RegionEnd g c = rw c.in-RegionEnd.is c.write-in-RegionEnd.ensures
 
 pub returns-in-Notify : goal.returns-in-Notify
-returns-in-Notify g c = rw c.in-Notify.is c.write-in-Notify.ensures
+returns-in-Notify g c =
+    let fits : FitsSigned w32 c.in-Notify.id = search rules in
+    let old = outbox g.K.Sink.taken g.K.Sink.faults c.args.sink.now in
+    let new = outbox g.K.Sink.taken g.K.Sink.faults c.write_barrier.new.sink in
+    let Written = λ (id : ℤ). GathersAll old new
+    (codes "notify" ++ values_text none_text notify_row.shape (id, (c.in-Notify.flags, tt)))
+    c.write_barrier.result in
+    rw c.in-Notify.is (subst Written (to_z-of_z w32 c.in-Notify.id fits) c.write_barrier.ensures)
 
 pub returns-in-TryBarrier : goal.returns-in-TryBarrier
-returns-in-TryBarrier g c = rw c.in-TryBarrier.is c.write-in-TryBarrier.ensures
+returns-in-TryBarrier g c =
+    let fits : FitsSigned w32 c.in-TryBarrier.id = search rules in
+    let old = outbox g.K.Sink.taken g.K.Sink.faults c.args.sink.now in
+    let new = outbox g.K.Sink.taken g.K.Sink.faults c.write_barrier-in-TryBarrier.new.sink in
+    let Written = λ (id : ℤ). GathersAll old new
+    (codes "try-barrier" ++ values_text none_text notify_row.shape (id, (c.in-TryBarrier.flags, tt)))
+    c.write_barrier-in-TryBarrier.result in
+    rw c.in-TryBarrier.is (subst Written (to_z-of_z w32 c.in-TryBarrier.id fits) c.write_barrier-in-TryBarrier.ensures)

@@ -1,3 +1,10 @@
+use Rattle.std.proofs.Common.{ℤ, ◌++◌, codes, rules, subst}
+use Rattle.std.specs.Int.{w32}
+use Rattle.std.specs.Int.RustNames.{FitsSigned}
+use Rattle.std.proofs.lemmas.Int.{to_z-of_z}
+use Rattle.gas_outside.specs.Buffered.{GathersAll, outbox}
+use Rattle.job_text.specs.Calls.{notify_row}
+use Rattle.job_text.specs.Forms.{none_text, values_text}
 use Rattle.job_print.proofs.steps.write_waiting.Goals as goal
 
 pub returns-in-Until : goal.returns-in-Until
@@ -22,4 +29,11 @@ pub returns-in-WaitImplicit : goal.returns-in-WaitImplicit
 returns-in-WaitImplicit g c = rw c.in-WaitImplicit.is c.write-in-WaitImplicit.ensures
 
 pub returns-in-BarrierWait : goal.returns-in-BarrierWait
-returns-in-BarrierWait g c = rw c.in-BarrierWait.is c.write-in-BarrierWait.ensures
+returns-in-BarrierWait g c =
+    let fits : FitsSigned w32 c.in-BarrierWait.id = search rules in
+    let old = outbox g.K.Sink.taken g.K.Sink.faults c.args.sink.now in
+    let new = outbox g.K.Sink.taken g.K.Sink.faults c.write_barrier.new.sink in
+    let Written = λ (id : ℤ). GathersAll old new
+    (codes "barrier-wait" ++ values_text none_text notify_row.shape (id, (c.in-BarrierWait.flags, tt)))
+    c.write_barrier.result in
+    rw c.in-BarrierWait.is (subst Written (to_z-of_z w32 c.in-BarrierWait.id fits) c.write_barrier.ensures)
