@@ -2,7 +2,7 @@
 
 ghost use Rattle.std.specs.Prelude.{◌++◌};
 ghost use Rattle.gas_outside.specs.Buffered.{GathersAll, outbox};
-ghost use Rattle.job_text.specs.Calls.{begin_entry, call_text, implicit_entry, long_row};
+ghost use Rattle.job_text.specs.Calls.{begin_entry, call_text, implicit_entry, long_row, notify_row};
 ghost use Rattle.job_text.specs.Forms.{entry_text, none_text, values_text};
 ghost use Rattle.job_text.specs.declared.job.ScheduledCall.TheVariants as calls;
 
@@ -141,13 +141,26 @@ fn write_implicit<K: Sink>(transfer: &TransferText, sink: &mut BufferedSink<K>) 
     }
 }
 
+/// Writes a call on the barrier of this name, by the identifier and the flags.
+pub(crate) fn write_barrier<K: Sink>(
+    name: &[u8],
+    id: i32,
+    flags: u8,
+    sink: &mut BufferedSink<K>,
+) -> Wrote
+    ensures { GathersAll (outbox K.taken K.faults sink.old) (outbox K.taken K.faults sink.new)
+        (name.now ++ values_text none_text notify_row.shape (id, (flags, tt))) result }
+{
+    write(name, &[Word::Integer(id), Word::U8(flags)], sink)
+}
+
 /// Writes a call.
 pub(crate) fn write_call<K: Sink>(call: &ScheduledCall, sink: &mut BufferedSink<K>) -> Wrote
     ensures { GathersAll (outbox K.taken K.faults sink.old) (outbox K.taken K.faults sink.new)
         (call_text call.now) result }
 {
     use ScheduledCall as Call;
-    use Word::{Bytes, Implicit, Integer, Kind, U8, U16, U64, Value};
+    use Word::{Bytes, Implicit, Kind, U8, U16, U64, Value};
     match call {
         Call::Short {
             to,
@@ -177,7 +190,7 @@ pub(crate) fn write_call<K: Sink>(call: &ScheduledCall, sink: &mut BufferedSink<
         Call::SyncImplicit { which } => write(b"try-nbi", &[Implicit(*which)], sink),
         Call::RegionBegin => write(b"region-begin", &[], sink),
         Call::RegionEnd { register } => write(b"region-end", &[U8(*register)], sink),
-        Call::Notify { id, flags } => write(b"notify", &[Integer(*id), U8(*flags)], sink),
-        Call::TryBarrier { id, flags } => write(b"try-barrier", &[Integer(*id), U8(*flags)], sink),
+        Call::Notify { id, flags } => write_barrier(b"notify", *id, *flags, sink),
+        Call::TryBarrier { id, flags } => write_barrier(b"try-barrier", *id, *flags, sink),
     }
 }

@@ -10,8 +10,8 @@ use crate::scripts::write_scripts;
 use gas_outside::{BufferedSink, Sink, Wrote};
 use job_text::Job;
 
-/// Writes the text of a job: the one text that is read as it, where its words are in range. Handlers, scripts and pairs come in
-/// the order in which they stood in the text that was read, and a schedule's section exactly where one was there.
+/// Writes the text of a job: the one text that is read as it, where its words are in range. Pairs, handlers and scripts
+/// come in the order in which they stood in the text that was read, and a schedule's section exactly where one was.
 ///
 /// `Fault` comes only where the sink failed; a front of the text went in then. It takes no memory.
 pub fn print_job<K: Sink>(job: &Job, sink: &mut BufferedSink<K>) -> Wrote

@@ -4,7 +4,7 @@ ghost use Rattle.gas_outside.specs.Buffered.{GathersAll, outbox};
 ghost use Rattle.job_text.specs.Forms.{entry_text, none_text};
 ghost use Rattle.job_text.specs.Scripts.{step_text, transfer_entry, waiting_text};
 
-use crate::calls::write_call;
+use crate::calls::{write_barrier, write_call};
 use crate::forms::{write, write_list};
 use crate::words::Word;
 use gas_outside::{BufferedSink, Sink, Wrote};
@@ -53,7 +53,7 @@ fn write_waiting<K: Sink>(step: &WaitingStep, sink: &mut BufferedSink<K>) -> Wro
         (waiting_text step.now) result }
 {
     use WaitingStep as Step;
-    use Word::{Implicit, Integer, U8, U16, U64, Value};
+    use Word::{Implicit, U8, U16, U64, Value};
     match step {
         Step::Until { cell, operand } => write(b"until", &[U8(*cell), Value(*operand)], sink),
         Step::Transfer { transfer } => write_transfer(transfer.text(), sink),
@@ -75,11 +75,7 @@ fn write_waiting<K: Sink>(step: &WaitingStep, sink: &mut BufferedSink<K>) -> Wro
         Step::WaitAll { registers } => write_list(b"wait-all", registers, sink),
         Step::WaitSome { registers } => write_list(b"wait-some", registers, sink),
         Step::WaitImplicit { which } => write(b"wait-nbi", &[Implicit(*which)], sink),
-        Step::BarrierWait { id, flags } => write(
-            b"barrier-wait",
-            &[Integer(*id), U8(*flags)],
-            sink,
-        ),
+        Step::BarrierWait { id, flags } => write_barrier(b"barrier-wait", *id, *flags, sink),
     }
 }
 

@@ -17,5 +17,6 @@ pub returns : goal.returns
 returns g c =
     λ nodes threads.
     past_last _ _ _ _ _ _
-    (past_done _ _ _ _ _ _ _ refl (past_done _ _ _ _ _ _ _ refl (nothing_yet _ _) c.in_default.ensures) c.in_default-write_all.ensures)
+    (past_done _ _ _ _ _ _ _ refl (past_done _ _ _ _ _ _ _ refl (nothing_yet _ _) c.in_default.ensures)
+    c.in_default-write_all.ensures)
     (c.write_event.ensures nodes threads)

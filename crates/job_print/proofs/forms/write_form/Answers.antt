@@ -11,11 +11,14 @@ returns-in-Fault g c =
 pub returns-in-Fault-write_spaced : goal.returns-in-Fault-write_spaced
 returns-in-Fault-write_spaced g c =
     past_fault _ _ _ _ _ _ _ refl
-    (past_done _ _ _ _ _ _ _ (ap (λ (rest : List ℕ). c.args.name.now ++ rest) (words_parts c.args.words.now (last_text c.args.last))) (nothing_yet _ _) c.in_default.ensures)
+    (past_done _ _ _ _ _ _ _ (ap (λ (rest : List ℕ). c.args.name.now ++ rest) (words_parts c.args.words.now
+    (last_text c.args.last))) (nothing_yet _ _) c.in_default.ensures)
     c.in-Fault-write_spaced.ensures
 
 pub returns : goal.returns
 returns g c =
     past_last _ _ _ _ _ _
-    (past_done _ _ _ _ _ _ _ refl (past_done _ _ _ _ _ _ _ (ap (λ (rest : List ℕ). c.args.name.now ++ rest) (words_parts c.args.words.now (last_text c.args.last))) (nothing_yet _ _) c.in_default.ensures) c.in_default-write_spaced.ensures)
+    (past_done _ _ _ _ _ _ _ refl (past_done _ _ _ _ _ _ _ (ap (λ (rest : List ℕ). c.args.name.now ++ rest)
+    (words_parts c.args.words.now (last_text c.args.last))) (nothing_yet _ _) c.in_default.ensures)
+    c.in_default-write_spaced.ensures)
     c.write_last.ensures

@@ -7,5 +7,6 @@ use Rattle.job_print.proofs.handlers.write_handlers.Given as goal
 -- the lines so far went in
 abbrev pub invariant-loop-handler : goal.invariant-loop-handler
 invariant-loop-handler g l =
-    GathersUpTo (outbox g.K.Sink.taken g.K.Sink.faults l.initial.sink) (outbox g.K.Sink.taken g.K.Sink.faults l.sink)
+    GathersUpTo (outbox g.K.Sink.taken g.K.Sink.faults l.initial.sink)
+    (outbox g.K.Sink.taken g.K.Sink.faults l.sink)
     (spell (flat_map handler_lines l.handlers)) (spell (flat_map handler_lines (drop l.handler-index l.handlers)))

@@ -7,5 +7,6 @@ use Rattle.job_print.proofs.payloads.write_digits.Given as goal
 -- the digits of the bytes so far went in
 abbrev pub invariant-loop-byte : goal.invariant-loop-byte
 invariant-loop-byte g l =
-    GathersUpTo (outbox g.K.Sink.taken g.K.Sink.faults l.initial.sink) (outbox g.K.Sink.taken g.K.Sink.faults l.sink)
+    GathersUpTo (outbox g.K.Sink.taken g.K.Sink.faults l.initial.sink)
+    (outbox g.K.Sink.taken g.K.Sink.faults l.sink)
     (flat_map hex_byte l.bytes) (flat_map hex_byte (drop l.byte-index l.bytes))

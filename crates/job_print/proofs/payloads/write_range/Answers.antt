@@ -14,4 +14,5 @@ returns-in-Fault-write_all g c =
 pub returns : goal.returns
 returns g c =
     past_last _ _ _ _ _ _
-    (past_done _ _ _ _ _ _ _ refl (past_done _ _ _ _ _ _ _ refl (nothing_yet _ _) c.in_default.ensures) c.in_default-write_all.ensures) c.write_number-2.ensures
+    (past_done _ _ _ _ _ _ _ refl (past_done _ _ _ _ _ _ _ refl (nothing_yet _ _) c.in_default.ensures)
+    c.in_default-write_all.ensures) c.write_number-2.ensures

@@ -1,22 +1,18 @@
-use Rattle.std.proofs.Common.{refl, map}
+use Rattle.std.proofs.Common.{refl}
 use Rattle.gas_outside.proofs.Outboxes.{nothing_yet, past_done, past_fault, past_last}
-use Rattle.std.specs.List.{flat_map}
-use Rattle.job_text.specs.JobText.{handler_lines, head_lines, pair_line, schedule_lines, script_lines}
-use Rattle.job_print.proofs.Pieces.{job_parts}
+use Rattle.job_print.proofs.Pieces.{text_parts}
 use Rattle.job_print.proofs.printing.print_job.Goals as goal
 
 pub returns-in-Fault : goal.returns-in-Fault
 returns-in-Fault g c =
-    past_fault _ _ _ _ _ _ _ (job_parts (head_lines c.args.job.now) (map pair_line (c.args.job.now).settings.pairs) (flat_map handler_lines (c.args.job.now).handlers)
-    (flat_map script_lines (c.args.job.now).scripts) (schedule_lines (c.args.job.now).settings (c.args.job.now).schedule))
+    past_fault _ _ _ _ _ _ _ (text_parts c.args.job.now)
     (nothing_yet _ _)
     c.in-Fault.ensures
 
 pub returns-in-Fault-write_pairs : goal.returns-in-Fault-write_pairs
 returns-in-Fault-write_pairs g c =
     past_fault _ _ _ _ _ _ _ refl
-    (past_done _ _ _ _ _ _ _ (job_parts (head_lines c.args.job.now) (map pair_line (c.args.job.now).settings.pairs) (flat_map handler_lines (c.args.job.now).handlers)
-    (flat_map script_lines (c.args.job.now).scripts) (schedule_lines (c.args.job.now).settings (c.args.job.now).schedule))
+    (past_done _ _ _ _ _ _ _ (text_parts c.args.job.now)
     (nothing_yet _ _)
     c.in_default.ensures)
     (rw c.pairs.ensures at c.in-Fault-write_pairs.ensures)
@@ -25,8 +21,7 @@ pub returns-in-Fault-write_handlers : goal.returns-in-Fault-write_handlers
 returns-in-Fault-write_handlers g c =
     past_fault _ _ _ _ _ _ _ refl
     (past_done _ _ _ _ _ _ _ refl
-    (past_done _ _ _ _ _ _ _ (job_parts (head_lines c.args.job.now) (map pair_line (c.args.job.now).settings.pairs) (flat_map handler_lines (c.args.job.now).handlers)
-    (flat_map script_lines (c.args.job.now).scripts) (schedule_lines (c.args.job.now).settings (c.args.job.now).schedule))
+    (past_done _ _ _ _ _ _ _ (text_parts c.args.job.now)
     (nothing_yet _ _)
     c.in_default.ensures)
     (rw c.pairs.ensures at c.in_default-write_pairs.ensures))
@@ -37,8 +32,7 @@ returns-in-Fault-write_scripts g c =
     past_fault _ _ _ _ _ _ _ refl
     (past_done _ _ _ _ _ _ _ refl
     (past_done _ _ _ _ _ _ _ refl
-    (past_done _ _ _ _ _ _ _ (job_parts (head_lines c.args.job.now) (map pair_line (c.args.job.now).settings.pairs) (flat_map handler_lines (c.args.job.now).handlers)
-    (flat_map script_lines (c.args.job.now).scripts) (schedule_lines (c.args.job.now).settings (c.args.job.now).schedule))
+    (past_done _ _ _ _ _ _ _ (text_parts c.args.job.now)
     (nothing_yet _ _)
     c.in_default.ensures)
     (rw c.pairs.ensures at c.in_default-write_pairs.ensures))
@@ -51,8 +45,7 @@ returns-in-Fault-write_schedule g c =
     (past_done _ _ _ _ _ _ _ refl
     (past_done _ _ _ _ _ _ _ refl
     (past_done _ _ _ _ _ _ _ refl
-    (past_done _ _ _ _ _ _ _ (job_parts (head_lines c.args.job.now) (map pair_line (c.args.job.now).settings.pairs) (flat_map handler_lines (c.args.job.now).handlers)
-    (flat_map script_lines (c.args.job.now).scripts) (schedule_lines (c.args.job.now).settings (c.args.job.now).schedule))
+    (past_done _ _ _ _ _ _ _ (text_parts c.args.job.now)
     (nothing_yet _ _)
     c.in_default.ensures)
     (rw c.pairs.ensures at c.in_default-write_pairs.ensures))
@@ -67,8 +60,7 @@ returns g c =
     (past_done _ _ _ _ _ _ _ refl
     (past_done _ _ _ _ _ _ _ refl
     (past_done _ _ _ _ _ _ _ refl
-    (past_done _ _ _ _ _ _ _ (job_parts (head_lines c.args.job.now) (map pair_line (c.args.job.now).settings.pairs) (flat_map handler_lines (c.args.job.now).handlers)
-    (flat_map script_lines (c.args.job.now).scripts) (schedule_lines (c.args.job.now).settings (c.args.job.now).schedule))
+    (past_done _ _ _ _ _ _ _ (text_parts c.args.job.now)
     (nothing_yet _ _)
     c.in_default.ensures)
     (rw c.pairs.ensures at c.in_default-write_pairs.ensures))

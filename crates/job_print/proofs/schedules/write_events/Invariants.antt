@@ -8,5 +8,7 @@ use Rattle.job_print.proofs.schedules.write_events.Given as goal
 -- the lines so far went in
 abbrev pub invariant-loop-event : goal.invariant-loop-event
 invariant-loop-event g l =
-    (settings : Parameters) → GathersUpTo (outbox g.K.Sink.taken g.K.Sink.faults l.initial.sink) (outbox g.K.Sink.taken g.K.Sink.faults l.sink)
-    (spell (map (timed_text settings.nodes settings.threads) l.events)) (spell (map (timed_text settings.nodes settings.threads) (drop l.event-index l.events)))
+    (settings : Parameters) → GathersUpTo (outbox g.K.Sink.taken g.K.Sink.faults l.initial.sink)
+    (outbox g.K.Sink.taken g.K.Sink.faults l.sink)
+    (spell (map (timed_text settings.nodes settings.threads) l.events))
+    (spell (map (timed_text settings.nodes settings.threads) (drop l.event-index l.events)))

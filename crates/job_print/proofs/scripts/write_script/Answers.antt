@@ -7,16 +7,20 @@ use Rattle.job_print.proofs.scripts.write_script.Goals as goal
 
 pub returns-in-Fault : goal.returns-in-Fault
 returns-in-Fault g c =
-    past_fault _ _ _ _ _ _ _ (section_parts (script_line c.args.script.now) (map step_text (c.args.script.now).steps)) (nothing_yet _ _) c.in-Fault.ensures
+    past_fault _ _ _ _ _ _ _ (section_parts (script_line c.args.script.now) (map step_text
+    (c.args.script.now).steps)) (nothing_yet _ _) c.in-Fault.ensures
 
 pub returns-in-Fault-write_steps : goal.returns-in-Fault-write_steps
 returns-in-Fault-write_steps g c =
     past_fault _ _ _ _ _ _ _ refl
-    (past_done _ _ _ _ _ _ _ (section_parts (script_line c.args.script.now) (map step_text (c.args.script.now).steps)) (nothing_yet _ _) c.in_default.ensures)
+    (past_done _ _ _ _ _ _ _ (section_parts (script_line c.args.script.now) (map step_text
+    (c.args.script.now).steps)) (nothing_yet _ _) c.in_default.ensures)
     (rw c.steps.ensures at c.in-Fault-write_steps.ensures)
 
 pub returns : goal.returns
 returns g c =
     past_last _ _ _ _ _ _
-    (past_done _ _ _ _ _ _ _ refl (past_done _ _ _ _ _ _ _ (section_parts (script_line c.args.script.now) (map step_text (c.args.script.now).steps)) (nothing_yet _ _) c.in_default.ensures) (rw c.steps.ensures at c.in_default-write_steps.ensures))
+    (past_done _ _ _ _ _ _ _ refl (past_done _ _ _ _ _ _ _ (section_parts (script_line c.args.script.now) (map
+    step_text (c.args.script.now).steps)) (nothing_yet _ _) c.in_default.ensures) (rw c.steps.ensures at
+    c.in_default-write_steps.ensures))
     c.write_all.ensures
