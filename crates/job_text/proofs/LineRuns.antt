@@ -1,12 +1,12 @@
 -- A text, line by line.
-use Rattle.std.proofs.Common.{◌≡◌, ◌⊎◌, inl, inr, ℕ, ◌+◌, List, [], ◌∷◌, ◌++◌, Option, Some, None, Result, Ok, Err}
+use Rattle.std.proofs.Common.{◌≡◌, ◌⊎◌, inl, inr, ℕ, ◌+◌, List, [], ◌∷◌, ◌++◌, Option, Some, None, Ok, Err}
 use Rattle.std.proofs.Common.{refl, ap, sym, ◌∙◌}
 use Rattle.datagram_grammar.specs.Parameters.{Parameters}
 use Rattle.job_text.specs.Reasons.{reason}
 use Rattle.job_text.specs.HeadReading.{told}
 use Rattle.job_text.specs.Places.{Place, AtSetting, AtSieve, AtPairs, AtHandlers, AtBody, AtScripts, AtSteps}
 use Rattle.job_text.specs.Places.{AtSchedule, AtDone, Over, Item, item_form, item_text, IsItem}
-use Rattle.job_text.specs.JobReading.{State, BadLine, Front, front_with, line_at, next, step, from_later_lines}
+use Rattle.job_text.specs.JobReading.{State, BadLine, front_with, line_at, next, step, from_later_lines}
 use Rattle.job_text.specs.JobReading.{from_lines, over_or, run, read}
 use Rattle.job_text.specs.Reading.{FailsAt}
 use Rattle.job_text.specs.declared.fault.JobFault.{JobFault}

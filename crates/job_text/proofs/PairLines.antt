@@ -13,7 +13,6 @@ use Rattle.job_text.specs.JobReading.{State, lined, line_at, next, begun, handle
 use Rattle.job_text.specs.declared.fault.JobWhy.{JobWhy}
 use Rattle.job_text.specs.declared.job.Job.{Job}
 use Rattle.job_text.specs.declared.sections.HandlerHeader.{HandlerHeader}
-use Rattle.job_text.specs.declared.sections.Section.{Section}
 use Rattle.job_text.proofs.LineRuns.{Refuses, read_on, read_full, line_bad}
 
 -- what was read, in other words

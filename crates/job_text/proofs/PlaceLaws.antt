@@ -9,7 +9,7 @@ use Rattle.std.proofs.lemmas.Bool.{ne_eqb}
 use Rattle.datagram_grammar.specs.Parameters.{Parameters}
 use Rattle.datagram_grammar.specs.declared.pairs.PairCredits.{PairCredits}
 use Rattle.job_text.specs.Lines.{◌>>=◌, is_stop, front, back}
-use Rattle.job_text.specs.Forms.{none_at, none_text, none_fits, entry_text, IsOf}
+use Rattle.job_text.specs.Forms.{none_at, none_text, none_fits}
 use Rattle.job_text.specs.Bodies.{action_at, action_text, IsAction}
 use Rattle.job_text.specs.Events.{timed_at, timed_text, IsTimed, event_text}
 use Rattle.job_text.specs.Scripts.{step_at, step_text, IsStep}

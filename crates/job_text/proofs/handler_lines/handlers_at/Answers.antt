@@ -1,4 +1,4 @@
-use Rattle.std.proofs.Common.{◌∙◌, ◌+◌, ◌<◌, ◌∷◌, [], ◌++◌, sym, ap, subst, arith, length, length-append, List, Result}
+use Rattle.std.proofs.Common.{◌∙◌, ◌<◌, ◌∷◌, [], ◌++◌, sym, ap, subst, arith, length, length-append, List, Result}
 use Rattle.job_text.specs.Places.{AtHandlers}
 use Rattle.job_text.specs.JobReading.{BadLine, Front, begun, read}
 use Rattle.job_text.specs.Reading.{FailsAt}

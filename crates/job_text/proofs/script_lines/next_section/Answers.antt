@@ -1,4 +1,4 @@
-use Rattle.std.proofs.Common.{◌≡◌, ◌∙◌, refl, sym, ap, List, Option, Some, None}
+use Rattle.std.proofs.Common.{◌∙◌, refl, sym, ap, List}
 use Rattle.job_text.specs.Places.{AtScripts, section_form}
 use Rattle.job_text.specs.JobReading.{behind_section, section_why}
 use Rattle.job_text.specs.declared.job.NodeScript.{NodeScript}

@@ -1,4 +1,4 @@
-use Rattle.std.proofs.Common.{◌≡◌, ◌∙◌, ◌+◌, ◌∷◌, [], ◌++◌, sym, ap, subst, arith, length, length-append, List, Result}
+use Rattle.std.proofs.Common.{◌≡◌, ◌∙◌, ◌+◌, ◌∷◌, [], ◌++◌, sym, ap, subst, arith, length-append, List, Result}
 use Rattle.std.proofs.Common.{Bool, true}
 use Rattle.job_text.specs.Places.{AtScripts, section_fits}
 use Rattle.job_text.specs.JobReading.{BadLine, Front, begun_script, behind_scripts, behind_section, section_why}
