@@ -158,7 +158,7 @@ impl<R: Processes> Spawner for ProcessSpawner<R> {
 
     ghost faults = { λ s. s.faults };
 
-    /// Starts the program with the words `node RANK PORT`, and writes its input.
+    /// Starts the program with the words `node RANK PORT`, and waits until it has read its input or has ended.
     fn start(&mut self, rank: u16, port: u16, input: &[u8]) -> Started {
         if self.try_start(rank, port, input).is_err() {
             self.faults = self.faults.saturating_add(1);
