@@ -155,14 +155,12 @@ const ONE_NODE: [(WorldEvent<'static>, WorldAnswer); 2] = [
 fn one_node(rt: HostRuntime) -> Result<(), Fail> {
     let mut it = TestWorld::new(rt.alloc(), 1, 1, 1)?;
     it.check(&rt, &Adds, 0, &ONE_NODE);
-    let world = &it.world;
-    assert_eq!(rt;
-        (world.endpoint(0).cells().get(0), world.most_held(0)),
-        (9, 0)
-    );
-    assert_eq!(rt; (world.accepted(0, 0), world.returned(0, 0, 1)), (0, false));
+    assert_eq!(rt; (it.cell(0), it.most_held(0)), (Some(9), Some(0)));
+    assert_eq!(rt; it.pair(0, 0, 1), Some((0, false, 1)));
     Ok(())
 }
+
+const IS_ACCEPTED: [(WorldEvent<'static>, WorldAnswer); 1] = [(ASKS, ACCEPTED_1)];
 
 const BEFORE_IT_IS_BACK: [(WorldEvent<'static>, WorldAnswer); 4] = [
     (BACK_1, WorldAnswer::Unsent),
@@ -183,18 +181,12 @@ const AFTER_IT_IS_BACK: [(WorldEvent<'static>, WorldAnswer); 5] = [
 fn stale(rt: HostRuntime) -> Result<(), Fail> {
     let mut it = TestWorld::new(rt.alloc(), 1, 2, 1)?;
     it.check(&rt, &Adds, 0, &BEFORE_IT_IS_BACK);
-    assert_eq!(rt;
-        (it.world.accepted(0, 1), it.world.returned(0, 1, 1)),
-        (1, false)
-    );
+    assert_eq!(rt; it.pair(0, 1, 1), Some((1, false, 1)));
     it.check(&rt, &Adds, 0, &AFTER_IT_IS_BACK);
-    let world = &it.world;
-    assert_eq!(rt;
-        (world.returned(0, 1, 1), world.returned(0, 1, 2)),
-        (true, false)
-    );
-    assert_eq!(rt; (world.most_held(0), world.most_held(1)), (1, 1));
-    assert_eq!(rt; world.endpoint(1).cells().get(0), 10);
+    assert_eq!(rt; it.pair(0, 1, 1), Some((2, true, 2)));
+    assert_eq!(rt; it.pair(0, 1, 2), Some((2, false, 2)));
+    assert_eq!(rt; (it.most_held(0), it.most_held(1)), (Some(1), Some(1)));
+    assert_eq!(rt; it.cell(1), Some(10));
     Ok(())
 }
 
@@ -223,24 +215,29 @@ const LATER_ONES: [(WorldEvent<'static>, WorldAnswer); 4] = [
     ),
 ];
 
+const FIRST_IS_BACK: [(WorldEvent<'static>, WorldAnswer); 2] = [
+    (COMES_1, RAN),
+    (BACK_1, RETURNED_1),
+];
+
+const SECOND_IS_BACK: [(WorldEvent<'static>, WorldAnswer); 2] = [
+    (COMES_2, RAN),
+    (BACK_2, RETURNED_2),
+];
+
 #[test]
 fn the_first_that_is_out(rt: HostRuntime) -> Result<(), Fail> {
     let mut it = TestWorld::new(rt.alloc(), 1, 2, 2)?;
-    assert_eq!(rt; it.world.first_out(0, 1), 1);
-    it.check(&rt, &Adds, 0, &[(ASKS, ACCEPTED_1)]);
-    assert_eq!(rt;
-        (it.world.first_out(0, 1), it.world.first_out(1, 0)),
-        (1, 1)
-    );
-    it.check(&rt, &Adds, 0, &[(COMES_1, RAN), (BACK_1, RETURNED_1)]);
-    assert_eq!(rt; it.world.first_out(0, 1), 2);
+    assert_eq!(rt; it.pair(0, 1, 1), Some((0, false, 1)));
+    it.check(&rt, &Adds, 0, &IS_ACCEPTED);
+    assert_eq!(rt; it.pair(0, 1, 1), Some((1, false, 1)));
+    assert_eq!(rt; it.pair(1, 0, 1), Some((0, false, 1)));
+    it.check(&rt, &Adds, 0, &FIRST_IS_BACK);
+    assert_eq!(rt; it.pair(0, 1, 1), Some((1, true, 2)));
     it.check(&rt, &Adds, 0, &LATER_ONES);
-    assert_eq!(rt;
-        (it.world.first_out(0, 1), it.world.returned(0, 1, 3)),
-        (2, true)
-    );
-    it.check(&rt, &Adds, 0, &[(COMES_2, RAN), (BACK_2, RETURNED_2)]);
-    assert_eq!(rt; (it.world.first_out(0, 1), it.world.accepted(0, 1)), (4, 3));
+    assert_eq!(rt; it.pair(0, 1, 3), Some((3, true, 2)));
+    it.check(&rt, &Adds, 0, &SECOND_IS_BACK);
+    assert_eq!(rt; it.pair(0, 1, 2), Some((3, true, 4)));
     Ok(())
 }
 
@@ -274,7 +271,8 @@ fn ask_and_run(it: &mut TestWorld, from: u16, to: u16, number: u64)
 /// Each pair of three nodes.
 const PAIRS: [(u16, u16); 6] = [(0, 1), (0, 2), (1, 0), (1, 2), (2, 0), (2, 1)];
 
-/// Every credit of every pair is out, and every slot has a reply. Of the pair with one credit the second request isn't accepted.
+/// Every credit of every pair is out, and every slot has a reply. Of the pair with one credit the second request isn't
+/// accepted.
 #[test]
 fn most_buffers(rt: HostRuntime) -> Result<(), Fail> {
     let mut it = with_a_narrow_pair(rt.alloc())?;
@@ -282,13 +280,11 @@ fn most_buffers(rt: HostRuntime) -> Result<(), Fail> {
         ask_and_run(&mut it, from, to, 1);
         ask_and_run(&mut it, from, to, 2);
     }
-    assert_eq!(rt; it.world.nodes(), 3);
-    let world = &it.world;
-    assert_eq!(rt; (world.accepted(0, 1), world.accepted(1, 0)), (1, 2));
-    assert_eq!(rt;
-        (world.most_held(0), world.most_held(1), world.most_held(2)),
-        (7, 7, 8)
-    );
+    assert_eq!(rt; it.pair(0, 1, 1), Some((1, false, 1)));
+    assert_eq!(rt; it.pair(1, 0, 1), Some((2, false, 1)));
+    for (node, most) in [(0, 7), (1, 7), (2, 8)] {
+        assert_eq!(rt; it.most_held(node), Some(most));
+    }
     Ok(())
 }
 
@@ -337,10 +333,9 @@ fn settling(rt: HostRuntime) -> Result<(), Fail> {
     let mut it = TestWorld::new(rt.alloc(), 1, 2, 2)?;
     let _ = it.step(&Adds, 0, &ASKS);
     let _ = it.step(&Adds, 0, &ASKS);
-    it.world.settle(&Adds, 1, 1)?;
-    let world = &it.world;
-    assert_eq!(rt; (world.first_out(0, 1), world.accepted(0, 1)), (3, 2));
-    assert_eq!(rt; world.endpoint(1).cells().get(0), 10);
+    it.settle(1)?;
+    assert_eq!(rt; it.pair(0, 1, 1), Some((2, true, 3)));
+    assert_eq!(rt; it.cell(1), Some(10));
     Ok(())
 }
 
@@ -357,14 +352,7 @@ const REPEATS: [(WorldEvent<'static>, WorldAnswer); 6] = [
 fn repeats(rt: HostRuntime) -> Result<(), Fail> {
     let mut it = TestWorld::new(rt.alloc(), 1, 2, 1)?;
     it.check(&rt, &AddsAndReplies, 0, &REPEATS);
-    let world = &it.world;
-    assert_eq!(rt;
-        (
-            world.endpoint(0).cells().get(0),
-            world.endpoint(1).cells().get(0)
-        ),
-        (5, 5)
-    );
+    assert_eq!(rt; (it.cell(0), it.cell(1)), (Some(5), Some(5)));
     Ok(())
 }
 
@@ -402,24 +390,28 @@ const RESENDS: WorldAnswer = WorldAnswer::Node(Answer::Ticked(Ticked::Resend(Slo
     slot: 0,
 })));
 
+const NOTHING_IS_DUE: [(WorldEvent<'static>, WorldAnswer); 1] = [(TICKS, NOTHING)];
+
+const ONE_IS_DUE: [(WorldEvent<'static>, WorldAnswer); 2] = [(TICKS, RESENDS), (TICKS, NOTHING)];
+
 #[test]
 fn resending(rt: HostRuntime) -> Result<(), Fail> {
     let mut it = TestWorld::new(rt.alloc(), 1, 2, 1)?;
-    it.check(&rt, &Adds, 0, &[(ASKS, ACCEPTED_1)]);
-    it.check(&rt, &Adds, 9, &[(TICKS, NOTHING)]);
-    it.check(&rt, &Adds, 10, &[(TICKS, RESENDS), (TICKS, NOTHING)]);
+    it.check(&rt, &Adds, 0, &IS_ACCEPTED);
+    it.check(&rt, &Adds, 9, &NOTHING_IS_DUE);
+    it.check(&rt, &Adds, 10, &ONE_IS_DUE);
     Ok(())
 }
+
+const FORBIDDEN: [(WorldEvent<'static>, WorldAnswer); 2] = [
+    (ASKS_FOR_133, ACCEPTED_1),
+    (COMES_1, RAN),
+];
 
 #[test]
 fn forbidden_calls(rt: HostRuntime) -> Result<(), Fail> {
     let mut it = TestWorld::new(rt.alloc(), 1, 2, 1)?;
-    it.check(
-        &rt,
-        &Forbids,
-        0,
-        &[(ASKS_FOR_133, ACCEPTED_1), (COMES_1, RAN)],
-    );
+    it.check(&rt, &Forbids, 0, &FORBIDDEN);
     let log = it.world.endpoint(1).log();
     let first = Violation {
         context: Context::RequestHandler,
@@ -466,57 +458,78 @@ const MEDIUM: [(WorldEvent<'static>, WorldAnswer); 3] = [
 fn a_medium_request(rt: HostRuntime) -> Result<(), Fail> {
     let mut it = TestWorld::new(rt.alloc(), 1, 2, 1)?;
     it.check(&rt, &Notes, 0, &MEDIUM);
-    assert_eq!(rt; it.world.endpoint(1).cells().get(0), 10);
+    assert_eq!(rt; it.cell(1), Some(10));
     Ok(())
 }
 
-/// Two bytes of the own segment from `own` on go to a place of node 1.
-fn long_from(own: u64, offset: u64) -> WorldEvent<'static> {
-    let payload = Payload::Own {
-        offset: own,
-        len: 2,
-    };
-    WorldEvent::Call {
-        node: 0,
-        thread: 0,
-        call: Call::LongAsync {
-            to: 1,
-            handler: 128,
-            args: &[5],
-            payload,
-            offset,
+/// Two bytes of the own segment go to a place of node 1: first past the end of one of them, then inside both.
+const LONG_FROM: [(WorldEvent<'static>, WorldAnswer); 5] = [
+    (
+        WorldEvent::Call {
+            node: 0,
+            thread: 0,
+            call: Call::Set {
+                offset: 4094,
+                bytes: &[1, 2],
+            },
         },
-    }
-}
-
-/// The last two bytes of the segment of node 0 become 1 and 2.
-const SETS: WorldEvent<'static> = WorldEvent::Call {
-    node: 0,
-    thread: 0,
-    call: Call::Set {
-        offset: 4094,
-        bytes: &[1, 2],
-    },
-};
+        WorldAnswer::Node(Answer::Local(Local::Done)),
+    ),
+    (
+        WorldEvent::Call {
+            node: 0,
+            thread: 0,
+            call: Call::LongAsync {
+                to: 1,
+                handler: 128,
+                args: &[5],
+                payload: Payload::Own {
+                    offset: 4095,
+                    len: 2,
+                },
+                offset: 0,
+            },
+        },
+        WorldAnswer::Node(Answer::Asked(Asked::BadArg(Which::Source))),
+    ),
+    (
+        WorldEvent::Call {
+            node: 0,
+            thread: 0,
+            call: Call::LongAsync {
+                to: 1,
+                handler: 128,
+                args: &[5],
+                payload: Payload::Own { offset: 0, len: 2 },
+                offset: 4095,
+            },
+        },
+        WorldAnswer::Node(Answer::Asked(Asked::BadArg(Which::Offset))),
+    ),
+    (
+        WorldEvent::Call {
+            node: 0,
+            thread: 0,
+            call: Call::LongAsync {
+                to: 1,
+                handler: 128,
+                args: &[5],
+                payload: Payload::Own {
+                    offset: 4094,
+                    len: 2,
+                },
+                offset: 8,
+            },
+        },
+        ACCEPTED_1,
+    ),
+    (COMES_1, RAN),
+];
 
 #[test]
 fn a_long_request_out_of_the_own_segment(rt: HostRuntime) -> Result<(), Fail> {
     let mut it = TestWorld::new(rt.alloc(), 1, 2, 1)?;
-    let done = WorldAnswer::Node(Answer::Local(Local::Done));
-    let bad_source = WorldAnswer::Node(Answer::Asked(Asked::BadArg(Which::Source)));
-    let bad_offset = WorldAnswer::Node(Answer::Asked(Asked::BadArg(Which::Offset)));
-    it.check(
-        &rt,
-        &Adds,
-        0,
-        &[
-            (SETS, done),
-            (long_from(4095, 0), bad_source),
-            (long_from(0, 4095), bad_offset),
-            (long_from(4094, 8), ACCEPTED_1),
-            (COMES_1, RAN),
-        ],
-    );
+    it.check(&rt, &Adds, 0, &LONG_FROM);
     assert!(rt; it.shows(1, 7, &[0, 1, 2, 0]));
     Ok(())
 }
@@ -546,7 +559,7 @@ fn a_long_request(rt: HostRuntime) -> Result<(), Fail> {
     let mut it = TestWorld::new(rt.alloc(), 1, 2, 1)?;
     it.check(&rt, &Looks, 0, &LONG_REQUEST);
     assert!(rt; it.shows(1, 7, &[0, 3, 4, 0]));
-    assert_eq!(rt; it.world.endpoint(1).cells().get(0), 3);
+    assert_eq!(rt; it.cell(1), Some(3));
     Ok(())
 }
 
@@ -586,7 +599,7 @@ const DEFERRED: [(WorldEvent<'static>, WorldAnswer); 5] = [
 fn a_lock_defers(rt: HostRuntime) -> Result<(), Fail> {
     let mut it = TestWorld::new(rt.alloc(), 1, 2, 1)?;
     it.check(&rt, &Adds, 0, &LOCKED);
-    assert!(rt; !it.world.endpoint(1).polls(0));
+    assert!(rt; !it.polls(1));
     it.check(&rt, &Adds, 0, &DEFERRED);
     Ok(())
 }
@@ -678,7 +691,7 @@ fn notes_among_256_nodes(rt: HostRuntime) -> Result<(), Fail> {
 fn check_settled(rt: &(impl Abort + AllocGlobal), nodes: u16, rounds: u32) -> Result<(), Fail> {
     let mut it = TestWorld::new(rt.alloc(), 2, nodes, 1)?;
     check_each(rt, &mut it, nodes, NOTIFY, NOTIFIED);
-    it.world.settle(&Adds, 0, rounds)?;
+    it.settle(rounds)?;
     check_each(rt, &mut it, nodes, TRY, PASSED);
     Ok(())
 }

@@ -7,11 +7,11 @@ ghost use Rattle.gas_world.specs.Events.{event_of};
 ghost use Rattle.plain_world.specs.World.{IsAmong};
 
 use crate::endpoints::has_registers;
-use crate::handlers::registered;
+use crate::handlers::{Adds, registered};
 use datagram_grammar::Settings;
 use gas_world::{World, WorldAnswer, WorldEvent};
 use handler_rules::Handlers;
-use std::alloc::Global;
+use std::alloc::{AllocError, Global};
 use std::marker::Model;
 use std::process::Abort;
 use std::test::Fail;
@@ -116,5 +116,44 @@ impl TestWorld {
             Some(there) => there == bytes,
             None => false,
         }
+    }
+
+    /// Rounds of ticks and deliveries, by `Adds`, at time 0.
+    pub fn settle(&mut self, rounds: u32) -> Result<(), AllocError>
+        ensures { self.new.settings ≡ self.old.settings }
+    {
+        self.world.settle(&Adds, 0, rounds)
+    }
+
+    /// What cell 0 of a node has; none where there is no such node.
+    pub fn cell(&self, node: u16) -> Option<i32> {
+        if node >= self.world.nodes() {
+            return None;
+        }
+        Some(self.world.endpoint(node).cells().get(0))
+    }
+
+    /// Whether thread 0 of a node may poll; not where there is no such node.
+    pub fn polls(&self, node: u16) -> bool {
+        node < self.world.nodes() && self.world.endpoint(node).polls(0)
+    }
+
+    /// How many requests of a pair of nodes were accepted, whether the one of a number is back, and the first that isn't; none
+    /// where there is no such pair.
+    pub fn pair(&self, from: u16, to: u16, number: u64) -> Option<(u64, bool, u64)> {
+        if from >= self.world.nodes() || to >= self.world.nodes() {
+            return None;
+        }
+        let accepted = self.world.accepted(from, to);
+        let returned = self.world.returned(from, to, number);
+        Some((accepted, returned, self.world.first_out(from, to)))
+    }
+
+    /// The most buffers that a node held; none where there is no such node.
+    pub fn most_held(&self, node: u16) -> Option<usize> {
+        if node >= self.world.nodes() {
+            return None;
+        }
+        Some(self.world.most_held(node))
     }
 }
