@@ -26,6 +26,9 @@ barriers    64 nodes notify a phase of the barrier, 6 rounds of `settle` bring i
             LINES is a multiple of 129.
 notes       as many Shorts from each node to each other one as `barriers` has notes: 64 of them and a round of `settle`, six times for each phase.
             LINES is a multiple of 390.
+steps       a script of 4,096 steps for each of up to 16 threads of node 0, each step a Short with 4 arguments, and no schedule. It is for reading alone.
+            LINES is a multiple of 4,096.
+calls       the same calls as lines of a schedule. It is for reading alone.
 """
 import sys
 from dataclasses import dataclass
@@ -44,6 +47,8 @@ CHUNK_CREDITS = 8
 PUTS = 4096 // CHUNKS  # a schedule has at most 4,096 rounds
 BARRIER_NODES = 64
 ROUNDS = 6  # 2^6 nodes
+STEPS = 4096  # of a script
+THREADS = 16
 
 
 @dataclass
@@ -56,6 +61,8 @@ class Job:
     most: list
     requests: int = 0
     segment: int = 4096
+    threads: int = 1
+    scripts: str = ""
 
     def text(self):
         """The text of the job."""
@@ -64,7 +71,7 @@ gasnet 1
 job 7
 nodes {len(self.held)}
 credits {self.credits}
-threads 1
+threads {self.threads}
 segment {self.segment}
 last 18446744073709551615
 resend {RESEND}
@@ -74,7 +81,7 @@ handler 128 request
 end
 """
         schedule = "".join(f"{event}\n" for event, _ in self.events)
-        return (head + (f"schedule\n{schedule}end\n" if schedule else "") + "done\n").encode()
+        return (head + self.scripts + (f"schedule\n{schedule}end\n" if schedule else "") + "done\n").encode()
 
     def output(self):
         """The text that a run of it writes."""
@@ -220,6 +227,30 @@ def notes(lines):
     return among_all(events, phases)
 
 
+def asked(lines):
+    """A thread of node 0 and a Short that it asks for, for each of so many numbers."""
+    threads, rest = divmod(lines, STEPS)
+    if rest or not 1 <= threads <= THREADS:
+        sys.exit(f"{lines} is no multiple of {STEPS} up to {STEPS * THREADS}")
+    return [(number // STEPS, f"short 1 128 {number} {-number} 2147483647 0") for number in range(1, lines + 1)]
+
+
+def in_scripts(lines):
+    """The calls as steps of scripts."""
+    actions = [action for _, action in asked(lines)]
+    scripts = "".join(
+        f"script 0 {thread}\n" + "".join(f"{action}\n" for action in actions[thread * STEPS :][:STEPS]) + "end\n"
+        for thread in range(lines // STEPS)
+    )
+    return Job(CREDITS, [], [0, 0], [0, 0], threads=THREADS, scripts=scripts)
+
+
+def in_schedule(lines):
+    """The calls as lines of a schedule."""
+    events = [(f"{number} call 0 {thread % THREADS} {action}", "") for number, (thread, action) in enumerate(asked(lines))]
+    return Job(CREDITS, events, [0, 0], [0, 0], threads=THREADS)
+
+
 def among_all(events, phases):
     """The job of 64 nodes with these events: in each phase each node asks six others, one after the other, and keeps a reply for each of the six that ask it."""
     if phases < 2:
@@ -254,6 +285,8 @@ KINDS = {
     "segments": segments,
     "barriers": barriers,
     "notes": notes,
+    "steps": in_scripts,
+    "calls": in_schedule,
 }
 
 if __name__ == "__main__":
