@@ -1,5 +1,5 @@
 -- What the calls of steps that a text can say say and write fits its places.
-use Rattle.std.proofs.Common.{◌≡◌, ℕ, ℤ, List, [], ◌∷◌, Option, None, Some, subst}
+use Rattle.std.proofs.Common.{◌≡◌, ℕ, ℤ, Bool, List, [], ◌∷◌, Option, None, Some, subst}
 use Rattle.std.specs.List.{AllByRecursion}
 use Rattle.std.specs.Option.{option_map}
 use Rattle.std.proofs.lemmas.Option.{same_Some}
@@ -9,8 +9,6 @@ use Rattle.endpoint_rules.specs.EndpointLocal.{EndpointLocal}
 use Rattle.endpoint_rules.specs.TransferCalls.{SyncHandle}
 use Rattle.endpoint_rules.specs.declared.answer.Answer.{Answer}
 use Rattle.job_text.specs.Scripts.{IsStep}
-use Rattle.job_text.specs.declared.job.ScheduledCall.{ScheduledCall}
-use Rattle.job_text.specs.declared.job.ScheduledCall.TheVariants as call
 use Rattle.job_text.specs.declared.job.ScriptStep.{ScriptStep}
 use Rattle.job_text.specs.declared.job.ScriptStep.TheVariants as step
 use Rattle.job_text.specs.declared.job.WaitingStep.{WaitingStep}
@@ -19,36 +17,13 @@ use Rattle.node_runs.specs.Actions.{FormMay, OwnScripts, ActionsMay}
 use Rattle.node_runs.specs.Fitting.{KeptFits, CallFits}
 use Rattle.node_runs.specs.Scripts.{ThreadCall}
 use Rattle.script_laws.proofs.Calls.{calls_fit}
-use Rattle.script_steps.specs.Forms.{call_form, waiting_form, step_form, begun_handle, on_transfers, sync_of}
+use Rattle.script_steps.specs.Forms.{tried_while, waits_of, waiting_form, step_form, begun_handle, on_transfers, sync_of}
 
 -- a call that a schedule has, too
-call_may : (one : ScheduledCall) (meant : ThreadCall) → CallFits meant → FormMay CallFits (call_form one meant)
-call_may (call.Short to handler operands) meant fits = fits
-call_may (call.Medium text) meant fits = fits
-call_may (call.Long text) meant fits = fits
-call_may (call.LongAsync text) meant fits = fits
-call_may (call.Lock lock) meant fits = fits
-call_may (call.Unlock lock) meant fits = fits
-call_may call.Poll meant fits = fits
-call_may (call.Attempt kind) meant fits = fits
-call_may (call.Cell cell) meant fits = fits
-call_may (call.SetCell cell operand) meant fits = fits
-call_may (call.Show offset len) meant fits = fits
-call_may (call.Set offset bytes) meant fits = fits
-call_may (call.Fill offset len byte) meant fits = fits
-call_may (call.Word offset) meant fits = fits
-call_may (call.SetWord offset number) meant fits = fits
-call_may (call.Begin register transfer) meant fits = fits
-call_may (call.BeginImplicit transfer) meant fits = fits
-call_may (call.IsIssued register) meant fits = fits
-call_may (call.Sync register) meant fits = fits
-call_may (call.SyncAll registers) meant fits = fits
-call_may (call.SyncSome registers) meant fits = fits
-call_may (call.SyncImplicit which) meant fits = fits
-call_may call.RegionBegin meant fits = fits
-call_may (call.RegionEnd register) meant fits = fits
-call_may (call.Notify id flags) meant fits = fits
-call_may (call.TryBarrier id flags) meant fits = fits
+call_may : (waits : Option (Answer → Bool)) (meant : ThreadCall) → CallFits meant
+    → FormMay CallFits (tried_while waits meant)
+call_may None meant fits = fits
+call_may (Some waits) meant fits = fits
 
 -- the second call of a blocking transfer
 sync_may : (handle : Option Handle) (made : ThreadCall)
@@ -71,7 +46,7 @@ waiting_may cells (waiting.BarrierWait id flags) = tt
 step_may : (one : ScriptStep) → IsStep one → (node : Node EndpointLocal) → KeptFits node.local
     → FormMay CallFits (step_form one node)
 step_may (step.Call made) is node fits =
-    call_may made _ (calls_fit node.local.core.cells made fits.cells is)
+    call_may (waits_of made) _ (calls_fit node.local.core.cells made fits.cells is)
 step_may (step.Waiting one) is node fits = waiting_may node.local.core.cells one
 
 all_may : (steps : List ScriptStep) → AllByRecursion IsStep steps

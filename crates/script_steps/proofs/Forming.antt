@@ -17,7 +17,7 @@ use Rattle.job_text.specs.declared.job.WaitingStep.TheVariants as waiting
 use Rattle.node_runs.specs.Actions.{Form, Once, Again, Until, Twice, Looks, call_of, ended_by, begins, unless}
 use Rattle.node_runs.specs.Scripts.{ThreadCall}
 use Rattle.node_script.specs.ScheduledCalls.{meant_by, transfer_of}
-use Rattle.script_steps.specs.Forms.{call_form, waiting_form, waits_at, begun_handle, as_synced, on_transfers}
+use Rattle.script_steps.specs.Forms.{call_form, tried_while, waits_of, waiting_form, waits_at, begun_handle, as_synced, on_transfers}
 use Rattle.script_steps.specs.Tries.{Made, Makes, FormTrial, TriesForm, read_as, begun_by, trial_call}
 use Rattle.script_steps.specs.declared.trial.Trial.{Trial}
 use Rattle.script_steps.specs.declared.trial.Tried.{Tried}
@@ -38,77 +38,30 @@ begun_with answer = record { sent = sends answer; ended = None; began = Some ans
 -- ---- calls that a schedule has, too
 
 -- the call of such a form
-call_made_once : (one : ScheduledCall) (meant : ThreadCall) (began : Option Answer)
-    → call_of (call_form one meant) began ≡ Some meant
-call_made_once (call.Short to handler operands) meant began = refl
-call_made_once (call.Medium text) meant began = refl
-call_made_once (call.Long text) meant began = refl
-call_made_once (call.LongAsync text) meant began = refl
-call_made_once (call.Lock lock) meant began = refl
-call_made_once (call.Unlock lock) meant began = refl
-call_made_once call.Poll meant began = refl
-call_made_once (call.Attempt kind) meant began = refl
-call_made_once (call.Cell cell) meant began = refl
-call_made_once (call.SetCell cell operand) meant began = refl
-call_made_once (call.Show offset len) meant began = refl
-call_made_once (call.Set offset bytes) meant began = refl
-call_made_once (call.Fill offset len byte) meant began = refl
-call_made_once (call.Word offset) meant began = refl
-call_made_once (call.SetWord offset number) meant began = refl
-call_made_once (call.Begin register transfer) meant began = refl
-call_made_once (call.BeginImplicit transfer) meant began = refl
-call_made_once (call.IsIssued register) meant began = refl
-call_made_once (call.Sync register) meant began = refl
-call_made_once (call.SyncAll registers) meant began = refl
-call_made_once (call.SyncSome registers) meant began = refl
-call_made_once (call.SyncImplicit which) meant began = refl
-call_made_once call.RegionBegin meant began = refl
-call_made_once (call.RegionEnd register) meant began = refl
-call_made_once (call.Notify id flags) meant began = refl
-call_made_once (call.TryBarrier id flags) meant began = refl
+call_made_once : (waits : Option (Answer → Bool)) (meant : ThreadCall) (began : Option Answer)
+    → call_of (tried_while waits meant) began ≡ Some meant
+call_made_once None meant began = refl
+call_made_once (Some waits) meant began = refl
 
--- how it ends, and that it begins nothing
-record EndsSo (one : ScheduledCall) (meant : ThreadCall) : Type 0 where
-  pub ended : (began : Option Answer) (after : Node EndpointLocal) (answer : Answer)
-      → unless (waits_at one answer) answer ≡ ended_by (call_form one meant) began after (Some answer)
-  pub begins_not : begins (call_form one meant) ≡ false
+-- the answer at which it waits, or ends
+abbrev waits_by : Option (Answer → Bool) → Answer → Bool
+waits_by waits answer = elim waits [
+  | None ↦ false
+  | Some at ↦ at answer
+]
 
-ends_so : (one : ScheduledCall) (meant : ThreadCall) → EndsSo one meant
-ends_so (call.Short to handler operands) meant = record { ended = λ began after answer. refl; begins_not = refl }
-ends_so (call.Medium text) meant = record { ended = λ began after answer. refl; begins_not = refl }
-ends_so (call.Long text) meant = record { ended = λ began after answer. refl; begins_not = refl }
-ends_so (call.LongAsync text) meant = record { ended = λ began after answer. refl; begins_not = refl }
-ends_so (call.Lock lock) meant = record { ended = λ began after answer. refl; begins_not = refl }
-ends_so (call.Unlock lock) meant = record { ended = λ began after answer. refl; begins_not = refl }
-ends_so call.Poll meant = record { ended = λ began after answer. refl; begins_not = refl }
-ends_so (call.Attempt kind) meant = record { ended = λ began after answer. refl; begins_not = refl }
-ends_so (call.Cell cell) meant = record { ended = λ began after answer. refl; begins_not = refl }
-ends_so (call.SetCell cell operand) meant = record { ended = λ began after answer. refl; begins_not = refl }
-ends_so (call.Show offset len) meant = record { ended = λ began after answer. refl; begins_not = refl }
-ends_so (call.Set offset bytes) meant = record { ended = λ began after answer. refl; begins_not = refl }
-ends_so (call.Fill offset len byte) meant = record { ended = λ began after answer. refl; begins_not = refl }
-ends_so (call.Word offset) meant = record { ended = λ began after answer. refl; begins_not = refl }
-ends_so (call.SetWord offset number) meant = record { ended = λ began after answer. refl; begins_not = refl }
-ends_so (call.Begin register transfer) meant = record { ended = λ began after answer. refl; begins_not = refl }
-ends_so (call.BeginImplicit transfer) meant = record { ended = λ began after answer. refl; begins_not = refl }
-ends_so (call.IsIssued register) meant = record { ended = λ began after answer. refl; begins_not = refl }
-ends_so (call.Sync register) meant = record { ended = λ began after answer. refl; begins_not = refl }
-ends_so (call.SyncAll registers) meant = record { ended = λ began after answer. refl; begins_not = refl }
-ends_so (call.SyncSome registers) meant = record { ended = λ began after answer. refl; begins_not = refl }
-ends_so (call.SyncImplicit which) meant = record { ended = λ began after answer. refl; begins_not = refl }
-ends_so call.RegionBegin meant = record { ended = λ began after answer. refl; begins_not = refl }
-ends_so (call.RegionEnd register) meant = record { ended = λ began after answer. refl; begins_not = refl }
-ends_so (call.Notify id flags) meant = record { ended = λ began after answer. refl; begins_not = refl }
-ends_so (call.TryBarrier id flags) meant = record { ended = λ began after answer. refl; begins_not = refl }
+-- how it ends
+ends_so : (waits : Option (Answer → Bool)) (meant : ThreadCall) (began : Option Answer) (after : Node EndpointLocal)
+    (answer : Answer)
+    → unless (waits_by waits answer) answer ≡ ended_by (tried_while waits meant) began after (Some answer)
+ends_so None meant began after answer = refl
+ends_so (Some waits) meant began after answer = refl
 
--- a form that begins nothing
-not_begun : (form : Form EndpointLocal) (began ended answer : Option Answer) → begins form ≡ false
-    → None ≡ begun_by form began ended answer
-not_begun (Once made) began ended answer e = refl
-not_begun (Again waits made) began ended answer e = refl
-not_begun (Until cell value) began ended answer e = refl
-not_begun (Twice begin next waits says) began ended answer e = absurd (cc)
-not_begun (Looks begin ready) began ended answer e = absurd (cc)
+-- it begins nothing
+not_begun : (waits : Option (Answer → Bool)) (meant : ThreadCall) (began ended answer : Option Answer)
+    → None ≡ begun_by (tried_while waits meant) began ended answer
+not_begun None meant began ended answer = refl
+not_begun (Some waits) meant began ended answer = refl
 
 pub tries_scheduled : (meaning : Meaning) (old new : EndpointState) (trial : Trial) (one : ScheduledCall)
     (meant : ThreadCall) (answer : Answer) (waits : Bool) (tried : Tried)
@@ -123,17 +76,16 @@ tries_scheduled meaning old new trial one meant answer waits tried makes meant_i
       now_is = refl;
       thread_is = refl;
       call_is = λ node stands.
-          call_made_once one (meant_by node.local.core.cells one) trial.began
+          call_made_once (waits_of one) (meant_by node.local.core.cells one) trial.began
           ∙ ap (λ (made : ThreadCall). Some made) (sym (meant_is node stands));
       sent = ap (λ (t : Tried). t.sent) tried_is;
       ended = λ node after stands stands_after.
           ap (λ (t : Tried). t.ended) tried_is
           ∙ (ap (λ (b : Bool). unless b answer) waits_is
-          ∙ (ends_so one (meant_by node.local.core.cells one)).ended trial.began after answer);
+          ∙ ends_so (waits_of one) (meant_by node.local.core.cells one) trial.began after answer);
       began = λ node stands.
           ap (λ (t : Tried). t.began) tried_is
-          ∙ not_begun (call_form one (meant_by node.local.core.cells one)) trial.began tried.ended (Some answer)
-          (ends_so one (meant_by node.local.core.cells one)).begins_not;
+          ∙ not_begun (waits_of one) (meant_by node.local.core.cells one) trial.began tried.ended (Some answer);
     })
 
 -- ---- blocking transfers

@@ -53,23 +53,29 @@ is_not_ready _ = false
 
 -- ---- calls that a schedule has, too
 
--- a request and a lock are waited for; each other call is made once
+-- at which answers the step of such a call waits: that of a request and of a lock; the others never wait
+abbrev pub waits_of : ScheduledCall → Option (Answer → Bool)
+waits_of (call.Short to handler operands) = Some is_put_off
+waits_of (call.Medium text) = Some is_put_off
+waits_of (call.Long text) = Some is_put_off
+waits_of (call.LongAsync text) = Some is_put_off
+waits_of (call.Lock lock) = Some is_held
+waits_of _ = None
+
+-- the call once, or again while it is answered so
+abbrev pub tried_while : Option (Answer → Bool) → (meant : ThreadCall) → Form EndpointLocal
+tried_while None meant = Once meant
+tried_while (Some waits) meant = Again waits meant
+
 abbrev pub call_form : ScheduledCall → (meant : ThreadCall) → Form EndpointLocal
-call_form (call.Short to handler operands) meant = Again is_put_off meant
-call_form (call.Medium text) meant = Again is_put_off meant
-call_form (call.Long text) meant = Again is_put_off meant
-call_form (call.LongAsync text) meant = Again is_put_off meant
-call_form (call.Lock lock) meant = Again is_held meant
-call_form _ meant = Once meant
+call_form call meant = tried_while (waits_of call) meant
 
 -- the step of such a call waits at this answer of the call
 abbrev pub waits_at : ScheduledCall → Answer → Bool
-waits_at (call.Short to handler operands) answer = is_put_off answer
-waits_at (call.Medium text) answer = is_put_off answer
-waits_at (call.Long text) answer = is_put_off answer
-waits_at (call.LongAsync text) answer = is_put_off answer
-waits_at (call.Lock lock) answer = is_held answer
-waits_at _ answer = false
+waits_at call answer = elim (waits_of call) [
+  | None ↦ false
+  | Some waits ↦ waits answer
+]
 
 -- ---- transfers
 
