@@ -77,19 +77,22 @@ impl Node {
     }
 
     // Thread 3 asks node 1 for a Medium request, at time 5.
-    fn ask_medium(&mut self, payload: Payload<'_>) -> Asked {
+    fn ask_medium(&mut self, payload: &[u8]) -> Asked {
+        let payload = Payload::Lent(payload);
         self.core
             .request_medium(&Sevens, 5, 3, 1, 128, &[], payload)
     }
 
     // It asks for a Long request with place 8.
-    fn ask_long(&mut self, payload: Payload<'_>) -> Asked {
+    fn ask_long(&mut self, payload: &[u8]) -> Asked {
+        let payload = Payload::Lent(payload);
         self.core
             .request_long(&Sevens, 5, 3, 1, 128, &[], payload, 8)
     }
 
     // The same by the call whose payload may be read later, where `Looks` is the handler.
-    fn ask_long_async(&mut self, payload: Payload<'_>) -> Asked {
+    fn ask_long_async(&mut self, payload: &[u8]) -> Asked {
+        let payload = Payload::Lent(payload);
         self.core
             .request_long_async(&Looks, 5, 3, 1, 128, &[], payload, 8)
     }
@@ -266,7 +269,7 @@ fn calls_of_threads(rt: HostRuntime) -> Result<(), Fail> {
 #[test]
 fn a_medium_request(rt: HostRuntime) -> Result<(), Fail> {
     let mut node = opened(rt.alloc(), 0)?;
-    assert_eq!(rt; node.ask_medium(Payload::Lent(&[10, 11])), accepted(0, 1));
+    assert_eq!(rt; node.ask_medium(&[10, 11]), accepted(0, 1));
     assert!(rt; node.keeps(slot(Side::Request, 1), &MEDIUM));
     Ok(())
 }
@@ -274,7 +277,7 @@ fn a_medium_request(rt: HostRuntime) -> Result<(), Fail> {
 #[test]
 fn a_long_request(rt: HostRuntime) -> Result<(), Fail> {
     let mut node = opened(rt.alloc(), 0)?;
-    assert_eq!(rt; node.ask_long(Payload::Lent(&[1, 2])), accepted(0, 1));
+    assert_eq!(rt; node.ask_long(&[1, 2]), accepted(0, 1));
     assert!(rt; node.keeps(slot(Side::Request, 1), &LONG));
     Ok(())
 }
@@ -282,7 +285,7 @@ fn a_long_request(rt: HostRuntime) -> Result<(), Fail> {
 #[test]
 fn a_long_request_to_the_own_node(rt: HostRuntime) -> Result<(), Fail> {
     let mut node = opened(rt.alloc(), 1)?;
-    assert_eq!(rt; node.ask_long_async(Payload::Lent(&[6])), Asked::Ran);
+    assert_eq!(rt; node.ask_long_async(&[6]), Asked::Ran);
     assert_eq!(rt; node.core.cells().get(0), 6);
     let overlapping = Asking {
         payload: Payload::Own { offset: 7, len: 2 },

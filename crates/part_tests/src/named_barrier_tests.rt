@@ -131,7 +131,7 @@ impl Nodes {
     /// Each of five nodes, the last one first, hands over its note to the node that is so many further.
     fn pass_by(&mut self, further: u16) {
         for from in [4u16, 3, 2, 1, 0] {
-            self.pass(from, (from + further % 5) % 5);
+            self.pass(from, (from % 5 + further % 5) % 5);
         }
     }
 
