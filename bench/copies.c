@@ -1,11 +1,13 @@
-/* Makes the copies that the payloads of `longs` or the chunks of `puts` need: each from its place of one segment into a slot, and from there to the same place of
- * another segment. Its one argument is the number of payloads; it prints the CPU time of the copies in milliseconds, the least of some runs. */
+/* Makes the copies that payloads need: each from its place of one segment into a slot, and, as those of `longs` and the chunks of `puts`, from there to the same
+ * place of another segment. Its arguments are the number of payloads and of the copies of each, 1 or 2; it prints the CPU time of the copies in milliseconds, the
+ * least of some runs. Both segments are written first, as those of a world are: the pages of an array that nothing wrote are all one page of zeros, which never
+ * leaves the cache. */
 #include <stdio.h>
 #include <stdlib.h>
 #include <string.h>
 #include <time.h>
 
-enum { PAYLOAD = 8192, PLACES = 8192, RUNS = 15 };
+enum { PAYLOAD = 8192, PLACES = 8192, SEGMENT = PAYLOAD * PLACES, RUNS = 15 };
 
 static double milliseconds(void)
 {
@@ -16,10 +18,13 @@ static double milliseconds(void)
 
 int main(int count, char **words)
 {
-    long payloads = count == 2 ? atol(words[1]) : 0;
-    char *source = calloc(PLACES, PAYLOAD), *target = calloc(PLACES, PAYLOAD), *slot = calloc(1, PAYLOAD);
+    long payloads = count == 3 ? atol(words[1]) : 0;
+    int lands = count == 3 && atol(words[2]) == 2;
+    char *source = malloc(SEGMENT), *target = malloc(SEGMENT), *slot = calloc(1, PAYLOAD);
     if (payloads <= 0 || !source || !target || !slot)
         return 1;
+    memset(source, 1, SEGMENT);
+    memset(target, 1, SEGMENT);
     double least = 1e300;
     for (int run = 0; run < RUNS; run++) {
         double begin = milliseconds();
@@ -27,7 +32,8 @@ int main(int count, char **words)
             long offset = number % PLACES * PAYLOAD;
             memcpy(slot, source + offset, PAYLOAD);
             __asm__ volatile("" : : "r"(slot) : "memory"); /* both copies are made */
-            memcpy(target + offset, slot, PAYLOAD);
+            if (lands)
+                memcpy(target + offset, slot, PAYLOAD);
             __asm__ volatile("" : : "r"(target) : "memory");
         }
         double taken = milliseconds() - begin;

@@ -17,6 +17,7 @@ resend-all  32 requests of 2 nodes with 32 credits are out, and each tick sends 
 resend-many the same with 45 nodes.
 longs       node 0 sends Longs of 8,192 bytes from a place of its segment to the same place of that of node 1; each is delivered, and its reply.
             LINES is a multiple of 3.
+mediums     the same with Mediums, whose payload the handler finds where it was delivered.
 shorts      the same with Shorts, which have no payload.
 puts        node 0 puts 1 MiB of its segment to the same place of that of node 1, in 128 chunks by 8 credits: 128 rounds of `settle` bring them there
             and their replies back, and then the put is synchronised; at most 32 puts, since a schedule has at most 4,096 rounds. LINES is a multiple of 3.
@@ -25,6 +26,9 @@ barriers    64 nodes notify a phase of the barrier, 6 rounds of `settle` bring i
             LINES is a multiple of 129.
 notes       as many Shorts from each node to each other one as `barriers` has notes: 64 of them and a round of `settle`, six times for each phase.
             LINES is a multiple of 390.
+steps       a script of 4,096 steps for each of up to 16 threads of node 0, each step a Short with 4 arguments, and no schedule. It is for reading alone.
+            LINES is a multiple of 4,096.
+calls       the same calls as lines of a schedule. It is for reading alone.
 """
 import sys
 from dataclasses import dataclass
@@ -43,6 +47,8 @@ CHUNK_CREDITS = 8
 PUTS = 4096 // CHUNKS  # a schedule has at most 4,096 rounds
 BARRIER_NODES = 64
 ROUNDS = 6  # 2^6 nodes
+STEPS = 4096  # of a script
+THREADS = 16
 
 
 @dataclass
@@ -55,6 +61,8 @@ class Job:
     most: list
     requests: int = 0
     segment: int = 4096
+    threads: int = 1
+    scripts: str = ""
 
     def text(self):
         """The text of the job."""
@@ -63,7 +71,7 @@ gasnet 1
 job 7
 nodes {len(self.held)}
 credits {self.credits}
-threads 1
+threads {self.threads}
 segment {self.segment}
 last 18446744073709551615
 resend {RESEND}
@@ -73,7 +81,7 @@ handler 128 request
 end
 """
         schedule = "".join(f"{event}\n" for event, _ in self.events)
-        return (head + (f"schedule\n{schedule}end\n" if schedule else "") + "done\n").encode()
+        return (head + self.scripts + (f"schedule\n{schedule}end\n" if schedule else "") + "done\n").encode()
 
     def output(self):
         """The text that a run of it writes."""
@@ -219,6 +227,30 @@ def notes(lines):
     return among_all(events, phases)
 
 
+def asked(lines):
+    """A thread of node 0 and a Short that it asks for, for each of so many numbers."""
+    threads, rest = divmod(lines, STEPS)
+    if rest or not 1 <= threads <= THREADS:
+        sys.exit(f"{lines} is no multiple of {STEPS} up to {STEPS * THREADS}")
+    return [(number // STEPS, f"short 1 128 {number} {-number} 2147483647 0") for number in range(1, lines + 1)]
+
+
+def in_scripts(lines):
+    """The calls as steps of scripts."""
+    actions = [action for _, action in asked(lines)]
+    scripts = "".join(
+        f"script 0 {thread}\n" + "".join(f"{action}\n" for action in actions[thread * STEPS :][:STEPS]) + "end\n"
+        for thread in range(lines // STEPS)
+    )
+    return Job(CREDITS, [], [0, 0], [0, 0], threads=THREADS, scripts=scripts)
+
+
+def in_schedule(lines):
+    """The calls as lines of a schedule."""
+    events = [(f"{number} call 0 {thread % THREADS} {action}", "") for number, (thread, action) in enumerate(asked(lines))]
+    return Job(CREDITS, events, [0, 0], [0, 0], threads=THREADS)
+
+
 def among_all(events, phases):
     """The job of 64 nodes with these events: in each phase each node asks six others, one after the other, and keeps a reply for each of the six that ask it."""
     if phases < 2:
@@ -232,6 +264,11 @@ def long_request(number):
     return f"long 1 128 {offset}+{PAYLOAD} {offset}"
 
 
+def medium_request(number):
+    """A Medium out of the own segment."""
+    return f"medium 1 128 {number % PLACES * PAYLOAD}+{PAYLOAD}"
+
+
 KINDS = {
     "exchanges": exchanges,
     "settled": settled,
@@ -242,11 +279,14 @@ KINDS = {
     "resend-all": lambda lines: resend(2, 32, lines),
     "resend-many": lambda lines: resend(45, 32, lines),
     "longs": lambda lines: answered(lines, long_request),
+    "mediums": lambda lines: answered(lines, medium_request),
     "shorts": lambda lines: answered(lines, lambda number: "short 1 128"),
     "puts": puts,
     "segments": segments,
     "barriers": barriers,
     "notes": notes,
+    "steps": in_scripts,
+    "calls": in_schedule,
 }
 
 if __name__ == "__main__":

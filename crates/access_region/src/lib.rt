@@ -36,12 +36,14 @@ pub struct Regions {
 }
 
 impl Model for Regions {
-    ghost use Rattle.std.specs.Prelude.{List, Option};
+    ghost use Rattle.std.specs.Prelude.{List, Option, ◌≤◌, length};
     ghost use Rattle.access_region.specs.declared.Region.{Region};
 
     ghost Value = { List (Option Region) };
 
     ghost view = { λ regions. regions.threads.items };
+
+    ghost invariant = { λ regions. length regions.threads.items ≤ 65535 };
 }
 
 impl Regions {
@@ -56,6 +58,13 @@ impl Regions {
         Ok(Regions {
             threads: vec![in alloc; None; threads as usize]?,
         })
+    }
+
+    /// How many threads there are.
+    pub fn threads(&self) -> u16
+        ensures { result ≡ length self.now }
+    {
+        self.threads.len() as u16
     }
 
     /// The thread begins a region, which is empty.

@@ -38,8 +38,7 @@ use Rattle.node_record.specs.Record.{Node}
 use Rattle.node_record.specs.Behaviour.{Behaviour, Ask, Asking, Contact, Category, Short, Medium, Long}
 use Rattle.node_record.specs.Transition.{Transition}
 use Rattle.node_record.specs.NodeStep.{NodeAnswer, OfRequest, OfCall, Asks, Does}
-use Rattle.node_record.specs.Step.{Site, after_request}
-use Rattle.node_record.specs.Step.{with_itself, with_local, request_answer}
+use Rattle.node_record.specs.Step.{Site, after_request, with_itself, with_local, request_answer}
 use Rattle.node_record.specs.Step.{unless_forbidden, unless_bad, claim_answer, own_answer, judged_local, ran_here}
 use Rattle.node_record.specs.Step.{with_request}
 use Rattle.node_record.specs.Credits.{limits_of}
@@ -257,7 +256,8 @@ run_fits : (meaning : Meaning) (e : CoreState) (which : Role) (contact : Contact
 run_fits meaning e which contact c lawful sized stays = elim (cases_Bool (is_library c.handler)) [
   | inl own ↦ rw own stays.written
   | inr client ↦ rw client
-      (subst (λ (len : ℕ). AllFit len (client_outcome (handlers_at meaning e) which contact c (start_at e)).writes) sized
+      (subst (λ (len : ℕ). AllFit len (client_outcome (handlers_at meaning e) which contact c (start_at e)).writes)
+      sized
       (lawful c.handler (frame_of_run (handlers_at meaning e) which contact c) (start_at e)).writes)
 ]
 
@@ -373,7 +373,7 @@ own_run_stands meaning e r c lawful S client fits =
     (own_sendable meaning e c lawful client))
 
 -- the locks of the handler of what a request says
-said_handler : (category : Category) (asking : Asking) (payload : List ℕ)
+pub said_handler : (category : Category) (asking : Asking) (payload : List ℕ)
     → (content_by category asking payload).handler ≡ asking.handler
 said_handler Short asking payload = refl
 said_handler Medium asking payload = refl
@@ -387,7 +387,8 @@ passed_answer e r ask =
     else claim_answer (limits_of e.settings e.me ask.to) ask.to (r.asked ask.to)
 
 -- a request that the table allows
-allowed_answer : (meaning : Meaning) (e : CoreState) (r : Node Local) (ask : Ask) (judgement : Result (Unit {0}) Forbidden)
+allowed_answer : (meaning : Meaning) (e : CoreState) (r : Node Local) (ask : Ask)
+    (judgement : Result (Unit {0}) Forbidden)
     → Stands e r → judged_at e ask.thread call.Request ≡ judgement
     → request_answer (site_at meaning e) r ask
     ≡ unless_forbidden judgement (unless_bad (asked_fault e ask) (passed_answer e r ask))

@@ -12,9 +12,11 @@ ghost use Rattle.am_core.specs.AskedFor.{ask_of, asking_of, content_asked, conte
 ghost use Rattle.raw_segment.specs.Bytes.{part};
 ghost use Rattle.handler_rules.specs.Runs.{IsPlaced, passes_end};
 ghost use Rattle.am_core.specs.ClientRules.{IsFine, busy_lock, content_refusal, is_handled};
-ghost use Rattle.am_core.specs.CoreStep.{AsksFor, Claims, DeliversMessage, IsOurRequest, IsOurReply, IsOurs};
+ghost use Rattle.am_core.specs.CoreStep.{AsksFor, Claims, DeliversMessage, IsOurRequest};
+ghost use Rattle.am_core.specs.CoreStep.{IsOurReply, IsOurs};
 ghost use Rattle.am_core.specs.CoreStep.{IsNewRequest, RunsBy, Resends, after_judgement, judged_at};
-ghost use Rattle.am_core.specs.CoreStep.{CanRunReply, asked_fault, claim_of, lock_at, message_refusal, with_own_run};
+ghost use Rattle.am_core.specs.CoreStep.{CanRunReply, asked_fault, claim_of, lock_at};
+ghost use Rattle.am_core.specs.CoreStep.{message_refusal, with_own_run};
 ghost use Rattle.am_core.specs.CoreStep.{client_delivered, with_reply_ran, with_client_reply_ran};
 ghost use Rattle.am_core.specs.HandlerRuns.{arrival_in, place_of};
 ghost use Rattle.am_core.specs.Sizes.{HasSegment};
@@ -137,7 +139,7 @@ impl Core {
             payload: &self.lent.part(0)[..shown],
             place: place_asked(asking),
         };
-        let floor = Floor {
+        let mut floor = Floor {
             cells: &mut self.cells,
             segment: &mut self.segment,
             locks: &mut self.locks,
@@ -199,7 +201,8 @@ impl Core {
         }
     }
 
-    /// A request to another node with a range of the own segment as its payload, which is written straight into its slot.
+    /// A request to another node with a range of the own segment as its payload, which is written straight into its
+    /// slot.
     pub(crate) fn claim_own(
         &mut self,
         now: u64,
@@ -361,7 +364,8 @@ impl Core {
         self.locks.blocked(listed_for(&self.table, message.handler))
     }
 
-    /// A request that was delivered: unless it ran before, or waits for a lock, its handler runs, and its reply is kept.
+    /// A request that was delivered: unless it ran before, or waits for a lock, its handler runs, and its reply is
+    /// kept.
     fn run<H: Handlers>(&mut self, handlers: &H, message: &View<'_>) -> Delivered
         requires segment { HasSegment self.old }
         requires ours { IsOurRequest self.old (viewed_message message.now) }
@@ -390,7 +394,8 @@ impl Core {
         }
     }
 
-    /// Runs a request for a client's handler whose number is greater than the last one of its slot, and keeps its reply there.
+    /// Runs a request for a client's handler whose number is greater than the last one of its slot, and keeps its reply
+    /// there.
     fn run_new<H: Handlers>(&mut self, handlers: &H, message: &View<'_>)
         requires segment { HasSegment self.old }
         requires new { IsNewRequest self.old (viewed_message message.now) }
@@ -403,7 +408,7 @@ impl Core {
         let listed = listed_for(&self.table, message.handler);
         let incoming = self.received(Role::Request, message, &args[..count], message.payload);
         land(&mut self.segment, message);
-        let floor = Floor {
+        let mut floor = Floor {
             cells: &mut self.cells,
             segment: &mut self.segment,
             locks: &mut self.locks,
@@ -415,8 +420,8 @@ impl Core {
         floor.answer(handlers, message.handler, incoming, &mut self.replies);
     }
 
-    /// A message of another node, with these as its arguments. Its payload, where it isn't a Long's, is lent out of the bytes that
-    /// were delivered.
+    /// A message of another node, with these as its arguments. Its payload, where it isn't a Long's, is lent out of the
+    /// bytes that were delivered.
     fn received<'a>(
         &self,
         role: Role,
@@ -449,8 +454,8 @@ impl Core {
         }
     }
 
-    /// A reply that was delivered: where its request isn't back, and it waits for no lock, its handler runs, and the credit is
-    /// back.
+    /// A reply that was delivered: where its request isn't back, and it waits for no lock, its handler runs, and the
+    /// credit is back.
     fn take<H: Handlers>(&mut self, handlers: &H, message: &View<'_>) -> Delivered
         requires segment { HasSegment self.old }
         requires ours { IsOurReply self.old (viewed_message message.now) }
@@ -478,7 +483,8 @@ impl Core {
         }
     }
 
-    /// Runs the handler of a reply. The library's own has nothing to do but to put the bytes that a get asked for in their place.
+    /// Runs the handler of a reply. The library's own has nothing to do but to put the bytes that a get asked for in
+    /// their place.
     fn run_reply<H: Handlers>(&mut self, handlers: &H, reply: &View<'_>)
         requires segment { HasSegment self.old }
         requires reply { CanRunReply self.old (viewed_message reply.now) }
@@ -505,7 +511,7 @@ impl Core {
         let listed = listed_for(&self.table, reply.handler);
         let incoming = self.received(Role::Reply, reply, &args[..count], reply.payload);
         land(&mut self.segment, reply);
-        let floor = Floor {
+        let mut floor = Floor {
             cells: &mut self.cells,
             segment: &mut self.segment,
             locks: &mut self.locks,

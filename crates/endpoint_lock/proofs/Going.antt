@@ -14,7 +14,7 @@ use Rattle.endpoint_lock.specs.declared.ends.End.TheVariants.{Over, Stuck, LinkF
 use Rattle.endpoint_lock.specs.declared.ends.TurnEnd.TheVariants.{Went, Idle, Ended}
 use Rattle.endpoint_lock.specs.Stations.{StationState}
 use Rattle.endpoint_lock.specs.Turns.{Asks, Gives, Sends, Turns, Keeps, Goes, Finishes, AreOutgoing, made_entry}
-use Rattle.endpoint_lock.proofs.Sending.{Rose-after}
+use Rattle.gas_outside.proofs.Outboxes.{rose_later}
 
 -- what is known before the datagrams are sent
 pub record Before {M L C : Type 0} (m : MachineGhosts M) (l : LinkGhosts L) (c : ClockGhosts C) (thread : ℕ)
@@ -72,21 +72,22 @@ module _ {M L C : Type 0} (m : MachineGhosts M) (l : LinkGhosts L) (c : ClockGho
     rest = ap {A = StationState M L C} (λ w. record w { link = link'; kept = kept' }) b.rest;
   }
 
-  pub goes : (result : TurnEnd) (new : StationState M L C) → Finishes m l told.sends middle result new
-      → Goes m l c thread old result new
+  pub goes : (result : TurnEnd) (new : StationState M L C)
+      → Finishes m l (record { sends = told.sends; before = middle; end = result; after = new })
+      → Goes m l c (record { thread = thread; before = old; end = result; after = new })
   goes Went new f =
       let none : middle.kept ≡ None = ap (λ w. w.kept) b.rest ∙ b.begun in
       let new' : new ≡ record middle { link = new.link; kept = None } = f.1
       ∙ ap (λ k. record middle { link = new.link; kept = k }) none in
-      subst (λ w. Goes m l c thread old Went w) (sym new') (
+      subst (λ w. Goes m l c (record { thread = thread; before = old; end = Went; after = w })) (sym new') (
         keeps_at told.sends f.0.0 new.link None (omega arith) f.0.1 f.0.2 (λ _. refl)
             (λ some. absurd (some refl)),
         refl,
       )
   goes Idle new f = absurd f
   goes (Ended LinkFault) new f =
-      let rose = Rose-after (l.faults old.link) (l.faults middle.link) (l.faults new.link) b.gives.faults f.0.5 in
-      subst (λ w. Goes m l c thread old (Ended LinkFault) w) (sym f.1)
+      let rose = rose_later (l.faults old.link) (l.faults middle.link) (l.faults new.link) b.gives.faults f.0.5 in
+      subst (λ w. Goes m l c (record { thread = thread; before = old; end = Ended LinkFault; after = w })) (sym f.1)
       (inr (
         keeps_at f.0.1 f.0.0 new.link (Some LinkFault) (let below = f.0.2 in omega (arith, below)) f.0.3 f.0.4
             (λ none. absurd (cc none)) (λ _. f.0.2),

@@ -23,7 +23,8 @@ use Rattle.endpoint_lock.specs.declared.ends.TurnEnd.TheVariants.{Went, Idle, En
 use Rattle.endpoint_lock.specs.Stations.{StationState, Opening, ended}
 use Rattle.endpoint_lock.specs.Facts.{entry_limit, IsFull, IsEntry, WentOn, EndIs, Replays, Facts}
 use Rattle.endpoint_lock.specs.Turns.{Keeps, Rests, Fails, Goes, AppendsAtMostOne, made_entry}
-use Rattle.endpoint_lock.proofs.Sending.{Rose-after, WentOn-twice, WentOn-none}
+use Rattle.endpoint_lock.proofs.Sending.{WentOn-twice, WentOn-none}
+use Rattle.gas_outside.proofs.Outboxes.{rose_later}
 
 WentOn-along : {A : Type 0} (first last last' : Option (List A)) (xs xs' : List A) → WentOn first xs last → xs' ≡ xs
     → last' ≡ last → WentOn first xs' last'
@@ -172,7 +173,7 @@ module _ {M L C : Type 0} (m : MachineGhosts M) (l : LinkGhosts L) (c : ClockGho
           times = h.times;
           asked = omega (arith, h.asked, k.asks.asked);
           waiting = λ other. absurd (other refl);
-          end = Rose-after (l.faults opening.link) (l.faults old.link) (l.faults new.link) h.faults k.gives.rose;
+          end = rose_later (l.faults opening.link) (l.faults old.link) (l.faults new.link) h.faults k.gives.rose;
         })
 
     module _ (k : Keeps m l c thread old new) where
@@ -286,12 +287,13 @@ module _ {M L C : Type 0} (m : MachineGhosts M) (l : LinkGhosts L) (c : ClockGho
             end = elim kept [
               | inl none ↦ subst (EndIs m l opening kept_station) (sym none) tt
               | inr f ↦ subst (EndIs m l opening kept_station) (sym f.0)
-                  (Rose-after (l.faults opening.link) (l.faults old.link) (l.faults new.link) h.faults f.1)
+                  (rose_later (l.faults opening.link) (l.faults old.link) (l.faults new.link) h.faults f.1)
             ];
           })
 
     -- a turn that is begun
-    pub goes_keeps : (result : TurnEnd) → ¬ IsFull old.journal → Goes m l c thread old result new
+    pub goes_keeps : (result : TurnEnd) → ¬ IsFull old.journal
+        → Goes m l c (record { thread = thread; before = old; end = result; after = new })
         → Facts m l c opening new
     goes_keeps Went room k = keeps_keeps k.0 room (inl k.1)
     goes_keeps Idle room k = rests_keeps k
@@ -309,7 +311,8 @@ module _ {M L C : Type 0} (m : MachineGhosts M) (l : LinkGhosts L) (c : ClockGho
 -- a turn that is begun keeps the journal, or adds one entry of its thread
 pub goes_appends : {M L C : Type 0} (m : MachineGhosts M) (l : LinkGhosts L) (c : ClockGhosts C) (thread : ℕ)
     (old new : StationState M L C) (result : TurnEnd)
-    → Goes m l c thread old result new → AppendsAtMostOne thread old.journal new.journal
+    → Goes m l c (record { thread = thread; before = old; end = result; after = new })
+    → AppendsAtMostOne thread old.journal new.journal
 goes_appends m l c thread old new Went k = inr (k.0.now, k.0.got, ap (λ b. b.journal) k.0.rest)
 goes_appends m l c thread old new Idle k = inl (ap (λ b. b.journal) k.rest)
 goes_appends m l c thread old new (Ended LinkFault) k = elim k
@@ -322,7 +325,8 @@ goes_appends m l c thread old new (Ended NoMemory) k = inl (ap (λ b. b.journal)
 -- and the machine's threads
 pub goes_threads : {M L C : Type 0} (m : MachineGhosts M) (l : LinkGhosts L) (c : ClockGhosts C) (thread : ℕ)
     (old new : StationState M L C) (result : TurnEnd)
-    → Goes m l c thread old result new → m.thread_count new.machine ≡ m.thread_count old.machine
+    → Goes m l c (record { thread = thread; before = old; end = result; after = new })
+    → m.thread_count new.machine ≡ m.thread_count old.machine
 goes_threads m l c thread old new Went k = k.0.turns.threads
 goes_threads m l c thread old new Idle k = k.threads
 goes_threads m l c thread old new (Ended LinkFault) k = elim k

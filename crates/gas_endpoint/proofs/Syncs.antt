@@ -21,12 +21,12 @@ use Rattle.std.proofs.Common.{false}
 use Rattle.am_core.specs.CoreState.{CoreState}
 use Rattle.am_core.specs.CoreContracts.{IsSameNode}
 use Rattle.endpoint_rules.specs.EndpointLocal.{EndpointLocal}
-use Rattle.endpoint_rules.specs.TransferCalls.{SyncHandle, SyncAll, SyncSome, SyncImplicit, transfer_does, handle_in}
+use Rattle.endpoint_rules.specs.TransferCalls.{SyncHandle, SyncImplicit, transfer_does, handle_in}
 use Rattle.endpoint_rules.specs.TransferCalls.{emptied_by, whole_registers}
 use Rattle.endpoint_rules.specs.declared.answer.Answer.TheVariants as answers
 use Rattle.gas_endpoint.specs.declared.extended.Extended.{Extended}
 use Rattle.gas_endpoint.specs.Endpoints.{EndpointStands, ForItsRecord}
-use Rattle.gas_endpoint.specs.Parts.{PartDoes, endpoint_of}
+use Rattle.gas_endpoint.specs.Parts.{Outcome, PartDoes, endpoint_of}
 
 -- the next chunk, by the nodes that can be asked
 pub next_alike : (can other : ℕ → Bool) (number : ℕ) (operations : List Operation)
@@ -85,7 +85,7 @@ handle_alike worn other thread handle operations all =
     ap (λ s. if handle == 0 then synced.Ok else unless_fault (fault_here thread its) s)
     (sync_alike worn other its (chosen_all (Agree worn other) (members handle operations) 1 operations all))
 
-all_alike : (worn other : ℕ → Bool) (thread : ℕ) (handles : List Handle) (operations : List Operation)
+pub all_alike : (worn other : ℕ → Bool) (thread : ℕ) (handles : List Handle) (operations : List Operation)
     → AllByRecursion (Agree worn other) operations
     → all_answer worn thread handles operations ≡ all_answer other thread handles operations
 all_alike worn other thread handles operations all =
@@ -93,7 +93,7 @@ all_alike worn other thread handles operations all =
     (sync_alike worn other (chosen (members_of handles operations) 1 operations)
     (chosen_all (Agree worn other) (members_of handles operations) 1 operations all))
 
-some_alike : (worn other : ℕ → Bool) (thread : ℕ) (handles : List Handle) (operations : List Operation)
+pub some_alike : (worn other : ℕ → Bool) (thread : ℕ) (handles : List Handle) (operations : List Operation)
     → AllByRecursion (Agree worn other) operations
     → some_answer worn thread handles operations ≡ some_answer other thread handles operations
 some_alike worn other thread handles operations all =
@@ -184,85 +184,86 @@ pub emptied_unless : (says : Synced) (which : List ℕ) (registers : List Handle
 emptied_unless synced.Ok which registers never = absurd (never refl)
 emptied_unless _ which registers never = refl
 
--- all of some registers
-pub all_does : (core : CoreState) (extended : Extended) (transfers : Transfers) (flags : List Bool) (thread : ℕ)
-    (regs : List ℕ) (handles : List Handle) (says : Synced) (registers : List Handle) → AreWorn core extended flags
-    → handles ≡ map (handle_in extended.registers) regs
-    → registers ≡ emptied_by says regs extended.registers
-    → ((operations : List Operation) → TransfersStand extended.transfers operations
-    → says ≡ all_answer (flag_at flags) thread handles operations)
-    → ((operations : List Operation) → TransfersStand extended.transfers operations
-    → TransfersStand transfers (left_by says (members_of handles operations) operations))
-    → room_of transfers ≡ room_of extended.transfers
-    → PartDoes (record { core = core; extended = extended }) thread
-    (λ caller kept. transfer_does caller (SyncAll regs) kept) (answers.Synced says)
-    (record { core = core; extended = record extended { transfers = transfers; registers = registers } })
-all_does core extended transfers flags thread regs handles says registers are those emptied_so answer stands room =
-    record {
-      same = same_core core;
-      frame = record { nodes = refl; me_is = refl; threads = refl; room = room };
-      steps = λ node S.
-          let operations = node.local.operations in
-          let its : handles ≡ map (handle_in node.local.registers) regs =
-          those ∙ ap (λ rs. map (handle_in rs) regs) S.registers_are in
-          let is = answer operations S.transfers
-          ∙ all_alike (flag_at flags) (is_worn_out core.settings node) thread handles operations
-          (agreed core extended flags are node S)
-          ∙ ap (λ hs. all_answer (is_worn_out core.settings node) thread hs operations) its in (
-            ap (λ (s : Synced). answers.Synced s) is,
-            record {
-              core = S.core;
-              transfers = subst (λ (s : Synced). TransfersStand transfers
-                  (left_by s (members_of (map (handle_in node.local.registers) regs) operations) operations)) is
-                  (subst (λ hs. TransfersStand transfers (left_by says (members_of hs operations) operations)) its
-                  (stands operations S.transfers));
-              regions_are = S.regions_are;
-              registers_are = emptied_so ∙ ap (emptied_by says regs) S.registers_are
-                  ∙ ap (λ (s : Synced). emptied_by s regs node.local.registers) is;
-              barrier = S.barrier;
-            },
-          );
-    }
+-- a sync of some registers: its answer, which operations it then synchronises, and which registers it empties
+pub record Group : Type 0 where
+  pub regs : List ℕ
+  pub answer : (worn : ℕ → Bool) → (thread : ℕ) → List Handle → List Operation → Synced
+  pub choice : List Handle → List Operation → Choice
+  pub empties : List Operation → List Handle → List ℕ
+  -- of the nodes that are worn out it asks for targets alone
+  pub alike : (worn other : ℕ → Bool) (thread : ℕ) (handles : List Handle) (operations : List Operation)
+      → AllByRecursion (Agree worn other) operations
+      → answer worn thread handles operations ≡ answer other thread handles operations
+
+-- all of them
+abbrev pub all_of : List ℕ → Group
+all_of regs = record {
+  regs = regs;
+  answer = all_answer;
+  choice = members_of;
+  empties = λ operations registers. regs;
+  alike = all_alike;
+}
 
 -- some of them
-pub some_does : (core : CoreState) (extended : Extended) (transfers : Transfers) (flags : List Bool) (thread : ℕ)
-    (regs : List ℕ) (handles : List Handle) (whole : List ℕ) (says : Synced) (registers : List Handle)
-    → AreWorn core extended flags → handles ≡ map (handle_in extended.registers) regs
+abbrev pub some_of : List ℕ → Group
+some_of regs = record {
+  regs = regs;
+  answer = some_answer;
+  choice = whole_of;
+  empties = λ operations registers. whole_registers operations registers regs;
+  alike = some_alike;
+}
+
+-- the call
+abbrev pub group_outcome : Group → Outcome
+group_outcome group caller local =
+    let handles = map (handle_in local.registers) group.regs in
+    let says = group.answer caller.worn caller.thread handles local.operations in (
+      answers.Synced says,
+      record local {
+        operations = left_by says (group.choice handles local.operations) local.operations;
+        registers = emptied_by says (group.empties local.operations local.registers) local.registers;
+      },
+    )
+
+pub group_does : (group : Group) (core : CoreState) (extended : Extended) (transfers : Transfers) (flags : List Bool)
+    (thread : ℕ) (handles : List Handle) (whole : List ℕ) (says : Synced) (registers : List Handle)
+    → AreWorn core extended flags → handles ≡ map (handle_in extended.registers) group.regs
     → ((operations : List Operation) → TransfersStand extended.transfers operations
-    → whole ≡ whole_registers operations extended.registers regs)
+    → whole ≡ group.empties operations extended.registers)
     → registers ≡ emptied_by says whole extended.registers
     → ((operations : List Operation) → TransfersStand extended.transfers operations
-    → says ≡ some_answer (flag_at flags) thread handles operations)
+    → says ≡ group.answer (flag_at flags) thread handles operations)
     → ((operations : List Operation) → TransfersStand extended.transfers operations
-    → TransfersStand transfers (left_by says (whole_of handles operations) operations))
+    → TransfersStand transfers (left_by says (group.choice handles operations) operations))
     → room_of transfers ≡ room_of extended.transfers
-    → PartDoes (record { core = core; extended = extended }) thread
-    (λ caller kept. transfer_does caller (SyncSome regs) kept) (answers.Synced says)
+    → PartDoes (record { core = core; extended = extended }) thread (group_outcome group) (answers.Synced says)
     (record { core = core; extended = record extended { transfers = transfers; registers = registers } })
-some_does core extended transfers flags thread regs handles whole says registers are those wholes emptied_so answer stands room =
+group_does group core extended transfers flags thread handles whole says registers are those wholes emptied_so answer stands room =
     record {
       same = same_core core;
       frame = record { nodes = refl; me_is = refl; threads = refl; room = room };
       steps = λ node S.
           let operations = node.local.operations in
-          let its : handles ≡ map (handle_in node.local.registers) regs =
-          those ∙ ap (λ rs. map (handle_in rs) regs) S.registers_are in
+          let worn = is_worn_out core.settings node in
+          let its : handles ≡ map (handle_in node.local.registers) group.regs =
+          those ∙ ap (λ rs. map (handle_in rs) group.regs) S.registers_are in
           let is = answer operations S.transfers
-          ∙ some_alike (flag_at flags) (is_worn_out core.settings node) thread handles operations
-          (agreed core extended flags are node S)
-          ∙ ap (λ hs. some_answer (is_worn_out core.settings node) thread hs operations) its in (
+          ∙ group.alike (flag_at flags) worn thread handles operations (agreed core extended flags are node S)
+          ∙ ap (λ hs. group.answer worn thread hs operations) its in (
             ap (λ (s : Synced). answers.Synced s) is,
             record {
               core = S.core;
               transfers = subst (λ (s : Synced). TransfersStand transfers
-                  (left_by s (whole_of (map (handle_in node.local.registers) regs) operations) operations)) is
-                  (subst (λ hs. TransfersStand transfers (left_by says (whole_of hs operations) operations)) its
+                  (left_by s (group.choice (map (handle_in node.local.registers) group.regs) operations) operations)) is
+                  (subst (λ hs. TransfersStand transfers (left_by says (group.choice hs operations) operations)) its
                   (stands operations S.transfers));
               regions_are = S.regions_are;
               registers_are = emptied_so
                   ∙ ap (λ w. emptied_by says w extended.registers) (wholes operations S.transfers)
-                  ∙ ap (λ rs. emptied_by says (whole_registers operations rs regs) rs) S.registers_are
-                  ∙ ap (λ (s : Synced). emptied_by s (whole_registers operations node.local.registers regs)
+                  ∙ ap (λ rs. emptied_by says (group.empties operations rs) rs) S.registers_are
+                  ∙ ap (λ (s : Synced). emptied_by s (group.empties operations node.local.registers)
                   node.local.registers) is;
               barrier = S.barrier;
             },

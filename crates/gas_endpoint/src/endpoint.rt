@@ -9,6 +9,7 @@ ghost use Rattle.node_record.specs.Held.{held};
 ghost use Rattle.node_record.specs.NodeStep.{Ticks};
 ghost use Rattle.node_record.specs.Record.{opening_node};
 ghost use Rattle.node_record.specs.SlotMessages.{message_at, number_at};
+ghost use Rattle.put_get.specs.Operation.{has_unissued};
 ghost use Rattle.put_get.specs.Syncs.{issued_answer};
 ghost use Rattle.am_core.specs.Kept.{segment_of};
 ghost use Rattle.am_core.specs.Known.{IsLastRun};
@@ -167,11 +168,28 @@ impl Endpoint {
         self.extended.transfers.issued(handle)
     }
 
+    /// Whether some chunk of the operation with the handle's number is unissued: of that one alone, also where it is in an
+    /// access region. False where no operation has the number, as it is for the invalid handle. gasnet_put_nb and
+    /// gasnet_put_nbi wait while it is true of what they began.
+    pub fn has_unissued(&self, handle: Handle) -> bool
+        ensures { ForItsRecord self.now (λ node.
+            result ≡ has_unissued handle.serial node.local.operations) }
+    {
+        self.extended.transfers.has_unissued(handle)
+    }
+
     /// The handle in a register.
     pub fn register(&self, reg: u8) -> Handle
         ensures { ForItsRecord self.now (λ node. result ≡ handle_in node.local.registers reg) }
     {
         self.extended.register(reg)
+    }
+
+    /// The threads of the node, which are those of the job's settings.
+    pub fn threads(&self) -> u16
+        ensures { result ≡ self.now.core.settings.threads }
+    {
+        self.extended.regions.threads()
     }
 
     /// The segment.

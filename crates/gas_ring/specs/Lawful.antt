@@ -13,5 +13,6 @@ chosen true frame start =
     (lawful-cells frame start (untouched start) _ (lawful-untouched frame start))
 chosen false frame start = lawful-cells frame start (untouched start) _ (lawful-untouched frame start)
 
-pub ring_lawful : (handler : ℕ) (frame : Frame) (start : Start) → IsLawfulRun frame start (ring_meaning handler frame start)
+pub ring_lawful : (handler : ℕ) (frame : Frame) (start : Start) → IsLawfulRun frame start
+    (ring_meaning handler frame start)
 ring_lawful handler frame start = chosen (handler == 128) frame start

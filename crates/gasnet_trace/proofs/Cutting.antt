@@ -1,5 +1,6 @@
 -- A line is cut at its first space.
-use Rattle.std.proofs.Common.{◌≡◌, ℕ, ◌+◌, List, [], ◌∷◌, take, drop, Option, Some, None, Bool, true, false, cond, eqb, Err, not, is_some, IfSome, IfNone, Bor, refl, sym, ap, ◌∙◌, arith}
+use Rattle.std.proofs.Common.{◌≡◌, ℕ, ◌+◌, List, [], ◌∷◌, take, drop, Option, Some, None, Bool, true, false, cond, eqb}
+use Rattle.std.proofs.Common.{Err, not, is_some, IfSome, IfNone, Bor, refl, sym, ap, ◌∙◌, arith}
 use Rattle.std.specs.List.{slice_split, onto_first, position}
 use Rattle.std.proofs.lemmas.Option.{cond_some}
 use Rattle.std.proofs.lemmas.Bool.{ltb-true, ltb-false}
@@ -13,10 +14,12 @@ none_is : (b : Bool) (x : ℕ) → cond b (Some x) None ≡ None → b ≡ false
 none_is true x h = absurd (cc)
 none_is false x h = refl
 
-pub cut_some : (line : List ℕ) (n : ℕ) → position (λ b. eqb b 32) line ≡ Some n → words_of line ≡ take n line ∷ words_of (drop (n + 1) line)
+pub cut_some : (line : List ℕ) (n : ℕ) → position (λ b. eqb b 32) line ≡ Some n → words_of line ≡ take n line
+    ∷ words_of (drop (n + 1) line)
 cut_some line n e =
     let p = cond_some _ _ _ e in
-    slice_split_first (λ b. eqb b 32) line 0 (ltb-true _ _ p.0) ∙ ap (λ k. take k line ∷ slice_split (λ b. eqb b 32) (drop (k + 1) line)) p.1
+    slice_split_first (λ b. eqb b 32) line 0 (ltb-true _ _ p.0)
+    ∙ ap (λ k. take k line ∷ slice_split (λ b. eqb b 32) (drop (k + 1) line)) p.1
 
 pub cut_none : (line : List ℕ) → position (λ b. eqb b 32) line ≡ None → words_of line ≡ line ∷ []
 cut_none line e =
@@ -34,12 +37,17 @@ not_one w [] = refl
 not_one w (b ∷ line) = many_by (eqb b 32) b w (words_of line)
 
 -- a line that isn't cut is one word
-pub one_by : (line : List ℕ) (cut : Option (Bor (List ℕ) × Bor (List ℕ))) (b : Bool) → is_some cut ≡ not b → IfSome cut (λ x. words_of line ≡ x.0.now ∷ words_of x.1.now) → IfNone cut (words_of line ≡ line ∷ [])
+pub one_by : (line : List ℕ) (cut : Option (Bor (List ℕ) × Bor (List ℕ))) (b : Bool) → is_some cut ≡ not b
+    → IfSome cut (λ x. words_of line ≡ x.0.now ∷ words_of x.1.now) → IfNone cut (words_of line ≡ line ∷ [])
     → (b ≡ is_one (words_of line)) × (b ≡ true → words_of line ≡ line ∷ [])
 one_by line None true e some none = (sym (ap is_one none), λ _. none)
 one_by line None false e some none = absurd (cc)
 one_by line (Some x) true e some none = absurd (cc)
-one_by line (Some x) false e some none = (sym (ap is_one some ∙ not_one x.0.now x.1.now), λ is. absurd (let f : false ≡ true = is in cc))
+one_by line (Some x) false e some none = (
+  sym (ap is_one some ∙ not_one x.0.now x.1.now),
+  λ is. absurd (let f : false
+      ≡ true = is in cc),
+)
 
 -- lines of more words than their form has
 pub second_many : (name w : Word) (ws : Line) → is_one ws ≡ false → second_of name (w ∷ ws) ≡ Err Form

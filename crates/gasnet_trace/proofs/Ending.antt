@@ -1,5 +1,6 @@
 -- What a merge answers where it ends.
-use Rattle.std.proofs.Common.{◌≡◌, ℕ, ◌+◌, ◌<◌, ◌≤◌, Bool, true, List, [], length, refl, sym, ◌∙◌, subst, ◌⊎◌, inl, inr, arith, slice_index, replicate, Ok, Err, Vec}
+use Rattle.std.proofs.Common.{◌≡◌, ℕ, ◌+◌, ◌<◌, ◌≤◌, Bool, true, List, [], length, refl, sym, ◌∙◌, subst, ◌⊎◌, inl, inr}
+use Rattle.std.proofs.Common.{arith, slice_index, replicate, Ok, Err, Vec}
 use Rattle.std.specs.Global.{Global}
 use Rattle.std.proofs.lemmas.Bool.{cases_eq}
 use Rattle.machine.specs.declared.turns.Machine.{Ghosts}
@@ -15,42 +16,57 @@ use Rattle.gasnet_trace.proofs.NodeLemmas.{ends, ends_full, nodes_of_length}
 use Rattle.gasnet_trace.proofs.Walking.{Walk, Stood, start_is_front, replays_start, left_trace, trace_left, none_can}
 
 -- before any entry went
-pub merges_start : {M : Type 0} (g : Ghosts M) (rs : List g.State) (ts : List Trace) (ms : List M) → length ts ≡ length ms → StandFor g ms rs → Merges g (nodes_of rs ts) (replicate (length ms) 0) (Err NoMemory) ms
+pub merges_start : {M : Type 0} (g : Ghosts M) (rs : List g.State) (ts : List Trace) (ms : List M) → length ts
+    ≡ length ms → StandFor g ms rs → Merges g (nodes_of rs ts) (replicate (length ms) 0) (Err NoMemory) ms
 merges_start {M} g rs ts ms l stand =
-    subst (λ f. Merges g (nodes_of rs ts) f (Err NoMemory) ms) (start_is_front g rs ts (replicate (length ms) 0) ms l stand refl)
+    subst (λ f. Merges g (nodes_of rs ts) f (Err NoMemory) ms) (start_is_front g rs ts (replicate (length ms) 0) ms l
+    stand refl)
     (record { answers = ([], refl); replays = replays_start g rs ts ms l stand })
 
 -- where memory ran out
-pub merges_cut : {M : Type 0} (g : Ghosts M) (xs : List (Node g.State)) (f : List ℕ) (ms : List M) (kept : ℕ → List ℕ → Type 0) (placed : List Placed) → Stood g xs f ms kept placed → Merges g xs f (Err NoMemory) ms
+pub merges_cut : {M : Type 0} (g : Ghosts M) (xs : List (Node g.State)) (f : List ℕ) (ms : List M) (kept : ℕ → List ℕ
+    → Type 0) (placed : List Placed) → Stood g xs f ms kept placed → Merges g xs f (Err NoMemory) ms
 merges_cut g xs f ms kept placed s = record { answers = ((s.came).0, (s.came).1); replays = s.replays }
 
-within_full : {S : Type 0} (rs : List S) (ts : List Trace) (f : List ℕ) → length ts ≡ length rs → Within f (ends ts) → Within f (full (nodes_of rs ts))
+within_full : {S : Type 0} (rs : List S) (ts : List Trace) (f : List ℕ) → length ts ≡ length rs → Within f (ends ts)
+    → Within f (full (nodes_of rs ts))
 within_full rs ts f l w k = subst (λ e. slice_index f k ≤ slice_index e k) (sym (ends_full rs ts l)) (w k)
 
 -- where nothing is left
-pub merges_all : {M : Type 0} (g : Ghosts M) (rs : List g.State) (ts : List Trace) (f : List ℕ) (ms : List M) (kept : ℕ → List ℕ → Type 0) (placed : Vec Placed Global)
-    → length ts ≡ length rs → Walk g ts f ms → Stood g (nodes_of rs ts) f ms kept placed.items → ((k : ℕ) → k < length ts → IsLeftAt ts f k → ⊥) → Merges g (nodes_of rs ts) f (Ok placed) ms
+pub merges_all : {M : Type 0} (g : Ghosts M) (rs : List g.State) (ts : List Trace) (f : List ℕ) (ms : List M)
+    (kept : ℕ → List ℕ → Type 0) (placed : Vec Placed Global)
+    → length ts ≡ length rs → Walk g ts f ms → Stood g (nodes_of rs ts) f ms kept placed.items
+    → ((k : ℕ) → k < length ts → IsLeftAt ts f k → ⊥) → Merges g (nodes_of rs ts) f (Ok placed) ms
 merges_all g rs ts f ms kept placed l w s none =
     let len = nodes_of_length rs ts l in
     record {
       answers = record {
         nodes = (s.came).0;
         reached = (s.came).1;
-        all = all_gone (nodes_of rs ts) f (w.size ∙ sym len) (within_full rs ts f l w.within) (λ k k_in left. none k (omega arith) (left_trace rs ts f k left));
+        all = all_gone (nodes_of rs ts) f (w.size ∙ sym len) (within_full rs ts f l w.within)
+            (λ k k_in left. none k (omega arith) (left_trace rs ts f k left));
         numbers = (s.came).2;
       };
       replays = s.replays;
     }
 
 -- where nothing can go, and the node is the smallest with an entry left
-pub merges_stuck : {M : Type 0} (g : Ghosts M) (rs : List g.State) (ts : List Trace) (f : List ℕ) (ms : List M) (kept : ℕ → List ℕ → Type 0) (placed : List Placed) (node : ℕ)
-    → length ts ≡ length rs → length ts ≡ length ms → Stood g (nodes_of rs ts) f ms kept placed → ((n : ℕ) → n < length ms → IsBlocked g ms ts kept f n)
-    → IsLeftAt ts f node → ((k : ℕ) → k < node → IsLeftAt ts f k → ⊥) → Merges g (nodes_of rs ts) f (Err (NotARun node (slice_index f node + 1))) ms
+pub merges_stuck : {M : Type 0} (g : Ghosts M) (rs : List g.State) (ts : List Trace) (f : List ℕ) (ms : List M)
+    (kept : ℕ → List ℕ → Type 0) (placed : List Placed) (node : ℕ)
+    → length ts ≡ length rs → length ts ≡ length ms → Stood g (nodes_of rs ts) f ms kept placed
+    → ((n : ℕ) → n < length ms → IsBlocked g ms ts kept f n)
+    → IsLeftAt ts f node → ((k : ℕ) → k < node → IsLeftAt ts f k → ⊥) → Merges g (nodes_of rs ts) f
+    (Err (NotARun node (slice_index f node + 1))) ms
 merges_stuck g rs ts f ms kept placed node l l' s none left first =
     let here : HasLeft (nodes_of rs ts) f node = trace_left rs ts f node l left in
     record {
       answers = (
-        record { reached = ((s.came).0, (s.came).1); left = (node, here); none = none_can g rs ts f ms kept placed l' s none },
+        record {
+          reached = ((s.came).0, (s.came).1);
+          left = (node, here);
+          none = none_can g rs ts f ms kept placed l' s
+              none;
+        },
         record { left = here; first = λ k below h. first k below (left_trace rs ts f k h) },
         refl,
       );
@@ -58,14 +74,17 @@ merges_stuck g rs ts f ms kept placed node l l' s none left first =
     }
 
 -- one more node where nothing can go
-pub blocked_more : {M : Type 0} (g : Ghosts M) (ms : List M) (ts : List Trace) (kept : ℕ → List ℕ → Type 0) (f : List ℕ) (n : ℕ) → ((k : ℕ) → k < n → IsBlocked g ms ts kept f k) → IsBlocked g ms ts kept f n → (k : ℕ) → k < n + 1 → IsBlocked g ms ts kept f k
+pub blocked_more : {M : Type 0} (g : Ghosts M) (ms : List M) (ts : List Trace) (kept : ℕ → List ℕ → Type 0) (f : List ℕ)
+    (n : ℕ) → ((k : ℕ) → k < n → IsBlocked g ms ts kept f k) → IsBlocked g ms ts kept f n → (k : ℕ) → k < n + 1
+    → IsBlocked g ms ts kept f k
 blocked_more g ms ts kept f n below here k l = elim (cases_eq k n) [
   | inl e ↦ subst (IsBlocked g ms ts kept f) (sym e) here
   | inr d ↦ below k (omega arith)
 ]
 
 -- a round that let entries go, by the entries of its last node
-pub less_then : (was now : Bool) (a b c : ℕ) → (was ≡ true → a < b) → b ≤ c → (now ≡ true → (was ≡ true) ⊎ (b < c)) → a ≤ b → now ≡ true → a < c
+pub less_then : (was now : Bool) (a b c : ℕ) → (was ≡ true → a < b) → b ≤ c → (now ≡ true → (was ≡ true) ⊎ (b < c))
+    → a ≤ b → now ≡ true → a < c
 less_then was now a b c before rose more le is = elim (more is) [
   | inl w ↦ let l = before w in omega arith
   | inr l ↦ omega arith

@@ -14,3 +14,4 @@ pub mod LineLaws
 pub mod WordLaws
 pub mod TraceLaws
 pub mod Writing
+pub mod Refused

@@ -1,44 +1,36 @@
 -- Reading a line is the inverse of its text.
-use Rattle.std.proofs.Common.{◌≡◌, ◌≢◌, ℕ, suc, ◌+◌, ◌<◌, List, [], ◌∷◌, ◌++◌, length, drop, get_or, Bool, true, false, not, cond, eqb, All, Result, Ok, Err, refl, sym, ap, subst, ◌∙◌, append_assoc, append-nil, arith, length-append, add-one}
-use Rattle.std.specs.List.{flat_map, AllByRecursion, slice_split, join_with_byte, position_or_len, before_first, after_first, list_all}
+use Rattle.std.proofs.Common.{◌≡◌, ◌≢◌, ℕ, suc, ◌+◌, ◌<◌, List, [], ◌∷◌, ◌++◌, length, drop, get_or, Bool, true, false}
+use Rattle.std.proofs.Common.{not, cond, eqb, All, Result, Ok, Err, refl, sym, ap, subst, ◌∙◌, append_assoc, append-nil}
+use Rattle.std.proofs.Common.{arith, length-append, add-one}
+use Rattle.std.specs.List.{flat_map, AllByRecursion, slice_split, join_with_byte, position_or_len, before_first}
+use Rattle.std.specs.List.{after_first, list_all}
 use Rattle.std.proofs.Math.Seq.{take-append_seam}
 use Rattle.std.proofs.lemmas.List.Elements.{All-from_recursion}
 use Rattle.std.proofs.lemmas.List.Splits.{slice_split_none, slice_split_at, join_with_byte-slice_split}
 use Rattle.std.proofs.lemmas.List.Sums.{split_at_first}
 use Rattle.std.proofs.lemmas.Bool.{ltb-true, lt-ltb, ne_eqb, eqb-true, and_parts, and_from}
 use Rattle.gasnet_trace.specs.declared.fault.TraceWhy.{TraceWhy}
-use Rattle.gasnet_trace.specs.Lines.{Word, Line, spaced, joined, line_text}
+use Rattle.gasnet_trace.specs.Lines.{Word, Line, IsPlain, IsWord, IsLine, spaced, joined, line_text}
 use Rattle.gasnet_trace.specs.TraceReading.{◌>>=◌, at_line, is_plain, is_word, words_of, line_at, read_line}
 use Rattle.gasnet_trace.proofs.Numbers.{cond_yes}
-
--- a byte that stands in a word
-abbrev pub IsPlain : ℕ → Type 0
-IsPlain b = (32 < b) × (b < 127)
-
--- such bytes, at least one
-pub record IsWord (word : Word) : Type 0 where
-  pub some : 0 < length word
-  pub plain : AllByRecursion IsPlain word
-
--- words, at least one
-abbrev pub IsLine : Line → Type 0
-IsLine [] = ⊥
-IsLine (word ∷ words) = IsWord word × AllByRecursion IsWord words
 
 -- ---- results
 
 pub ok_is : {A E : Type 0} (x y : A) → ◌≡◌ {A = Result A E} (Ok x) (Ok y) → x ≡ y
 ok_is x y e = cc
 
-pub bind_ok : {A B E : Type 0} (r : Result A E) (f : A → Result B E) (y : B) → (r >>= f) ≡ Ok y → (x : A) × (r ≡ Ok x) × (f x ≡ Ok y)
+pub bind_ok : {A B E : Type 0} (r : Result A E) (f : A → Result B E) (y : B) → (r >>= f) ≡ Ok y → (x : A) × (r ≡ Ok x)
+    × (f x ≡ Ok y)
 bind_ok (Ok x) f y e = (x, refl, e)
 bind_ok (Err w) f y e = absurd (cc)
 
-pub guard_err : {A E : Type 0} (b : Bool) (w : E) (r : Result A E) (y : A) → cond b (Err w) r ≡ Ok y → (b ≡ false) × (r ≡ Ok y)
+pub guard_err : {A E : Type 0} (b : Bool) (w : E) (r : Result A E) (y : A) → cond b (Err w) r ≡ Ok y → (b ≡ false)
+    × (r ≡ Ok y)
 guard_err true w r y e = absurd (cc)
 guard_err false w r y e = (refl, e)
 
-pub guard_ok : {A E : Type 0} (b : Bool) (w : E) (r : Result A E) (y : A) → cond b r (Err w) ≡ Ok y → (b ≡ true) × (r ≡ Ok y)
+pub guard_ok : {A E : Type 0} (b : Bool) (w : E) (r : Result A E) (y : A) → cond b r (Err w) ≡ Ok y → (b ≡ true)
+    × (r ≡ Ok y)
 guard_ok true w r y e = (refl, e)
 guard_ok false w r y e = absurd (cc)
 
@@ -56,7 +48,8 @@ joined-join (word ∷ next ∷ words) = ap (λ z. word ++ (32 ∷ z)) (joined-jo
 abbrev break_at : List ℕ → ℕ
 break_at xs = position_or_len (λ b. eqb b 10) xs
 
-at_cons : (t : Bool) (b : ℕ) (xs : List ℕ) → eqb b 10 ≡ t → (break_at xs < length xs → get_or xs (break_at xs) 0 ≡ 10) → cond (not t) (1 + break_at xs) 0 < suc (length xs) → get_or (b ∷ xs) (cond (not t) (1 + break_at xs) 0) 0 ≡ 10
+at_cons : (t : Bool) (b : ℕ) (xs : List ℕ) → eqb b 10 ≡ t → (break_at xs < length xs → get_or xs (break_at xs) 0 ≡ 10)
+    → cond (not t) (1 + break_at xs) 0 < suc (length xs) → get_or (b ∷ xs) (cond (not t) (1 + break_at xs) 0) 0 ≡ 10
 at_cons true b xs e more h = eqb-true b 10 e
 at_cons false b xs e more h =
     let k : 1 + break_at xs ≡ suc (break_at xs) = omega arith in
@@ -74,8 +67,13 @@ line_takes bytes x e =
     let b = guard_ok _ _ _ x a.1 in
     let lt = ltb-true _ _ (and_parts _ _ b.0).0 in
     let whole = split_at_first (λ b. eqb b 10) bytes 0 lt in
-    let line = joined-join (words_of (before_first (λ b. eqb b 10) bytes)) ∙ join_with_byte-slice_split 32 (before_first (λ b. eqb b 10) bytes) in
-    let made : bytes ≡ line_text (words_of (before_first (λ b. eqb b 10) bytes)) ++ after_first (λ b. eqb b 10) bytes = whole ∙ ap (λ (n : ℕ). before_first (λ b. eqb b 10) bytes ++ n ∷ after_first (λ b. eqb b 10) bytes) (at_first bytes lt) ∙ sym (append_assoc (before_first (λ b. eqb b 10) bytes) (10 ∷ []) (after_first (λ b. eqb b 10) bytes)) ∙ ap (λ z. (z ++ 10 ∷ []) ++ after_first (λ b. eqb b 10) bytes) (sym line) in
+    let line = joined-join (words_of (before_first (λ b. eqb b 10) bytes)) ∙ join_with_byte-slice_split 32
+    (before_first (λ b. eqb b 10) bytes) in
+    let made : bytes ≡ line_text (words_of (before_first (λ b. eqb b 10) bytes)) ++ after_first (λ b. eqb b 10) bytes =
+    whole ∙ ap (λ (n : ℕ). before_first (λ b. eqb b 10) bytes ++ n ∷ after_first (λ b. eqb b 10) bytes)
+    (at_first bytes lt) ∙ sym (append_assoc (before_first (λ b. eqb b 10) bytes) (10 ∷ [])
+    (after_first (λ b. eqb b 10) bytes)) ∙ ap (λ z. (z ++ 10 ∷ []) ++ after_first (λ b. eqb b 10) bytes) (sym line)
+    in
     subst (λ (y : List ℕ × List ℕ). bytes ≡ line_text (words_of y.0) ++ y.1) (ok_is _ x b.1) made
 
 pos_front : (l r : List ℕ) → AllByRecursion (λ b. b ≢ 10) l → break_at (l ++ 10 ∷ r) ≡ length l
@@ -95,20 +93,28 @@ word_breaks word h = weaker IsPlain (λ b. b ≢ 10) (λ b p e. let l = p.0 in o
 
 spaced_breaks : (words : Line) → AllByRecursion IsWord words → AllByRecursion (λ b. b ≢ 10) (flat_map spaced words)
 spaced_breaks [] h = tt
-spaced_breaks (word ∷ words) h = (λ e. omega arith, both (λ b. b ≢ 10) word (flat_map spaced words) (word_breaks word h.0) (spaced_breaks words h.1))
+spaced_breaks (word ∷ words) h = (
+  λ e. omega arith,
+  both (λ b. b ≢ 10) word (flat_map spaced words)
+      (word_breaks word h.0) (spaced_breaks words h.1),
+)
 
 no_break : (words : Line) → IsLine words → AllByRecursion (λ b. b ≢ 10) (joined words)
 no_break [] h = tt
-no_break (word ∷ words) h = both (λ b. b ≢ 10) word (flat_map spaced words) (word_breaks word h.0) (spaced_breaks words h.1)
+no_break (word ∷ words) h = both (λ b. b ≢ 10) word (flat_map spaced words) (word_breaks word h.0)
+    (spaced_breaks words h.1)
 
 word_spaces : (word : Word) → IsWord word → All (λ b. eqb b 32 ≡ false) word
-word_spaces word h = All-from_recursion (λ b. eqb b 32 ≡ false) word (weaker IsPlain (λ b. eqb b 32 ≡ false) (λ b p. let l = p.0 in ne_eqb b 32 (λ e. omega arith)) word h.plain)
+word_spaces word h = All-from_recursion (λ b. eqb b 32 ≡ false) word (weaker IsPlain (λ b. eqb b 32 ≡ false)
+    (λ b p. let l = p.0 in ne_eqb b 32 (λ e. omega arith)) word h.plain)
 
 pub split_joined : (words : Line) → IsLine words → slice_split (λ b. eqb b 32) (joined words) ≡ words
 split_joined [] h = absurd h
-split_joined (word ∷ []) h = ap (slice_split (λ b. eqb b 32)) (append-nil word) ∙ slice_split_none (λ b. eqb b 32) word (word_spaces word h.0)
+split_joined (word ∷ []) h = ap (slice_split (λ b. eqb b 32)) (append-nil word) ∙ slice_split_none (λ b. eqb b 32) word
+    (word_spaces word h.0)
 split_joined (word ∷ next ∷ words) h =
-    slice_split_at (λ b. eqb b 32) word 32 (joined (next ∷ words)) (word_spaces word h.0) refl ∙ ap (λ (ws : Line). word ∷ ws) (split_joined (next ∷ words) h.1)
+    slice_split_at (λ b. eqb b 32) word 32 (joined (next ∷ words)) (word_spaces word h.0) refl
+    ∙ ap (λ (ws : Line). word ∷ ws) (split_joined (next ∷ words) h.1)
 
 drop_seam : (l r : List ℕ) (b : ℕ) → drop (suc (length l)) (l ++ b ∷ r) ≡ r
 drop_seam [] r b = refl
@@ -119,7 +125,8 @@ plain_test [] h = refl
 plain_test (b ∷ word) h = and_from _ _ (and_from _ _ (lt-ltb 32 b h.0.0) (lt-ltb b 127 h.0.1)) (plain_test word h.1)
 
 word_test : (word : Word) → IsWord word → is_word word ≡ true
-word_test word h = let s = h.some in and_from _ _ (ap not (ne_eqb (length word) 0 (λ z. omega arith))) (plain_test word h.plain)
+word_test word h = let s = h.some in and_from _ _ (ap not (ne_eqb (length word) 0 (λ z. omega arith)))
+    (plain_test word h.plain)
 
 words_test : (words : Line) → AllByRecursion IsWord words → list_all is_word words ≡ true
 words_test [] h = refl
@@ -129,21 +136,26 @@ line_test : (words : Line) → IsLine words → list_all is_word words ≡ true
 line_test [] h = absurd h
 line_test (word ∷ words) h = words_test (word ∷ words) h
 
-cut_again : (l rest : List ℕ) → AllByRecursion (λ b. b ≢ 10) l → list_all is_word (words_of l) ≡ true → line_at (l ++ 10 ∷ rest) ≡ Ok (l, rest)
+cut_again : (l rest : List ℕ) → AllByRecursion (λ b. b ≢ 10) l → list_all is_word (words_of l) ≡ true
+    → line_at (l ++ 10 ∷ rest) ≡ Ok (l, rest)
 unfolding line_at
 cut_again l rest h test =
     let at = pos_front l rest h in
     let len : length (l ++ 10 ∷ rest) ≡ length l + suc (length rest) = length-append l (10 ∷ rest) in
     let front : before_first (λ b. eqb b 10) (l ++ 10 ∷ rest) ≡ l = rw (at, take-append_seam l (10 ∷ rest)) refl in
-    let back : after_first (λ b. eqb b 10) (l ++ 10 ∷ rest) ≡ rest = rw (at, add-one (length l), drop_seam l rest 10) refl in
+    let back : after_first (λ b. eqb b 10) (l ++ 10 ∷ rest) ≡ rest = rw (at, add-one (length l), drop_seam l rest 10)
+    refl in
     cond_not _ _ _ (ne_eqb (length (l ++ 10 ∷ rest)) 0 (λ z. omega arith)) ∙
-    cond_yes _ _ _ (and_from _ _ (lt-ltb (break_at (l ++ 10 ∷ rest)) (length (l ++ 10 ∷ rest)) (omega arith)) (ap (λ z. list_all is_word (words_of z)) front ∙ test)) ∙
+    cond_yes _ _ _ (and_from _ _ (lt-ltb (break_at (l ++ 10 ∷ rest)) (length (l ++ 10 ∷ rest)) (omega arith))
+    (ap (λ z. list_all is_word (words_of z)) front ∙ test)) ∙
     ap (λ z. Ok (z, after_first (λ b. eqb b 10) (l ++ 10 ∷ rest))) front ∙ ap (λ z. Ok (l, z)) back
 
-pub line_again : (words : Line) (rest : List ℕ) → IsLine words → line_at (line_text words ++ rest) ≡ Ok (joined words, rest)
+pub line_again : (words : Line) (rest : List ℕ) → IsLine words → line_at (line_text words ++ rest)
+    ≡ Ok (joined words, rest)
 line_again words rest h =
     ap line_at (append_assoc (joined words) (10 ∷ []) rest)
-    ∙ cut_again (joined words) rest (no_break words h) (ap (λ z. list_all is_word z) (split_joined words h) ∙ line_test words h)
+    ∙ cut_again (joined words) rest (no_break words h) (ap (λ z. list_all is_word z) (split_joined words h)
+    ∙ line_test words h)
 
 -- ---- lines, read
 
@@ -157,15 +169,21 @@ pub record LineRead {A : Type 0} (f : Line → Result A TraceWhy) (bytes : List 
   pub text : bytes ≡ line_text words ++ x.1
   pub says : f words ≡ Ok x.0
 
-pub read_takes : {A : Type 0} (line : ℕ) (f : Line → Result A TraceWhy) (bytes : List ℕ) (x : A × List ℕ) → read_line line f bytes ≡ Ok x → LineRead f bytes x
+pub read_takes : {A : Type 0} (line : ℕ) (f : Line → Result A TraceWhy) (bytes : List ℕ) (x : A × List ℕ)
+    → read_line line f bytes ≡ Ok x → LineRead f bytes x
 read_takes {A} line f bytes x e =
     let r = at_ok line (line_at bytes >>= λ y. f (words_of y.0) >>= λ a. Ok (a, y.1)) x e in
     let y = bind_ok (line_at bytes) (λ y. f (words_of y.0) >>= λ a. Ok (a, y.1)) x r in
     let a = bind_ok (f (words_of y.0.0)) (λ a. Ok (a, y.0.1)) x y.2 in
     let made : A × List ℕ = (a.0, y.0.1) in
-    subst (LineRead f bytes) (ok_is made x a.2) (record { words = words_of y.0.0; text = line_takes bytes y.0 y.1; says = a.1 })
+    subst (LineRead f bytes) (ok_is made x a.2) (record {
+      words = words_of y.0.0;
+      text = line_takes bytes y.0 y.1;
+      says = a.1;
+    })
 
-pub read_again : {A : Type 0} (line : ℕ) (f : Line → Result A TraceWhy) (words : Line) (rest : List ℕ) (a : A) → IsLine words → f words ≡ Ok a → read_line line f (line_text words ++ rest) ≡ Ok (a, rest)
+pub read_again : {A : Type 0} (line : ℕ) (f : Line → Result A TraceWhy) (words : Line) (rest : List ℕ) (a : A)
+    → IsLine words → f words ≡ Ok a → read_line line f (line_text words ++ rest) ≡ Ok (a, rest)
 read_again line f words rest a h says =
     ap (λ r. at_line line (r >>= λ y. f (words_of y.0) >>= λ b. Ok (b, y.1))) (line_again words rest h)
     ∙ ap (λ z. at_line line (f z >>= λ b. Ok (b, rest))) (split_joined words h)

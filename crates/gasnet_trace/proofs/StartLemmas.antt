@@ -1,31 +1,43 @@
 -- Places and marks as a merge begins.
-use Rattle.std.proofs.Common.{◌≡◌, ℕ, zero, suc, ◌<◌, Bool, true, false, List, [], ◌∷◌, ◌++◌, Some, refl, sym, ap, subst, ◌∙◌, ◌⊎◌, inl, inr, IsSome, IsSomeAnd, length, get_or, replicate, slice_get, Vec, arith}
+use Rattle.std.proofs.Common.{◌≡◌, ℕ, zero, suc, ◌<◌, Bool, true, false, List, [], ◌∷◌, ◌++◌, Some, refl, sym, ap}
+use Rattle.std.proofs.Common.{subst, ◌∙◌, ◌⊎◌, inl, inr, IsSome, IsSomeAnd, length, get_or, replicate, slice_get, Vec}
+use Rattle.std.proofs.Common.{arith}
 use Rattle.std.specs.Option.{option_map_or, option_and_then}
 use Rattle.std.specs.Global.{Global}
 use Rattle.std.proofs.lemmas.Bool.{cases_lt, both_ways}
-use Rattle.std.proofs.lemmas.Option.{same_Some, slice_get_within, slice_get-get_or, get_or_from_slice_get, slice_get_cases, option_and_then_some}
+use Rattle.std.proofs.lemmas.Option.{same_Some, slice_get_within, slice_get-get_or, get_or_from_slice_get}
+use Rattle.std.proofs.lemmas.Option.{slice_get_cases, option_and_then_some}
 use Rattle.std.proofs.lemmas.List.{length-replicate, get_or-replicate, get_or_past}
 use Rattle.machine.specs.declared.entry.Entry.{Entry}
 use Rattle.gasnet_trace.specs.declared.trace.Trace.{Trace}
 use Rattle.gasnet_trace.specs.Merged.{nodes_of}
-use Rattle.gasnet_trace.specs.Noted.{PlaceMap, PlaceMaps, MarkLists, place_in, AreFound, ArePlaces, spot, mark, IsNoted, Fit, HavePlaces, AreUnmarked}
+use Rattle.gasnet_trace.specs.Noted.{PlaceMap, PlaceMaps, MarkLists, place_in, AreFound, ArePlaces, spot, mark, IsNoted}
+use Rattle.gasnet_trace.specs.Noted.{Fit, HavePlaces, AreUnmarked}
 use Rattle.gasnet_trace.proofs.FrontLemmas.{some_from, some_at}
 use Rattle.gasnet_trace.proofs.NodeLemmas.{node_parts}
 use Rattle.gasnet_trace.proofs.Walking.{IsGot}
 
-pub slice_get_push : {A : Type 0} (xs : List A) (y z : A) (n : ℕ) → slice_get (xs ++ y ∷ []) n ≡ Some z → (slice_get xs n ≡ Some z) ⊎ ((n ≡ length xs) × (y ≡ z))
+pub slice_get_push : {A : Type 0} (xs : List A) (y z : A) (n : ℕ) → slice_get (xs ++ y ∷ []) n ≡ Some z
+    → (slice_get xs n ≡ Some z) ⊎ ((n ≡ length xs) × (y ≡ z))
 slice_get_push [] y z zero e = inr (refl, same_Some y z e)
 slice_get_push [] y z (suc n) e = cc
 slice_get_push (x ∷ xs) y z zero e = inl e
-slice_get_push (x ∷ xs) y z (suc n) e = elim (slice_get_push xs y z n e) [ inl h ↦ inl h | inr h ↦ inr (ap suc h.0, h.1) ]
+slice_get_push (x ∷ xs) y z (suc n) e = elim (slice_get_push xs y z n e) [
+  | inl h ↦ inl h
+  | inr h ↦ inr (ap suc h.0, h.1)
+]
 
-pub places_push : (ps : PlaceMaps) (p : PlaceMap) (ts : List Trace) (i : ℕ) (t : Trace) (es : List Entry) → length ps ≡ i → i < length ts → t ≡ get_or ts i t → es ≡ t.entries → AreFound p es → ArePlaces p es → HavePlaces ps ts → HavePlaces (ps ++ p ∷ []) ts
+pub places_push : (ps : PlaceMaps) (p : PlaceMap) (ts : List Trace) (i : ℕ) (t : Trace) (es : List Entry) → length ps
+    ≡ i → i < length ts → t ≡ get_or ts i t → es ≡ t.entries → AreFound p es → ArePlaces p es → HavePlaces ps ts
+    → HavePlaces (ps ++ p ∷ []) ts
 places_push ps p ts i t es l in' at same found places each n q e = elim (slice_get_push ps p q n e) [
   | inl h ↦ each n q h
   | inr h ↦
-      let t_at : slice_get ts n ≡ Some t = ap (slice_get ts) (h.0 ∙ l) ∙ slice_get-get_or ts i t in' ∙ ap Some (sym at) in
+      let t_at : slice_get ts n ≡ Some t = ap (slice_get ts) (h.0 ∙ l) ∙ slice_get-get_or ts i t in'
+      ∙ ap Some (sym at) in
       subst (λ (m : PlaceMap). IsSomeAnd (slice_get ts n) (λ t'. AreFound m t'.entries × ArePlaces m t'.entries)) h.1
-      (some_at (slice_get ts n) (λ t'. AreFound p t'.entries × ArePlaces p t'.entries) t t_at (subst (AreFound p) same found, subst (ArePlaces p) same places))
+      (some_at (slice_get ts n) (λ t'. AreFound p t'.entries × ArePlaces p t'.entries) t t_at
+      (subst (AreFound p) same found, subst (ArePlaces p) same places))
 ]
 
 -- a spot is a place in the map of a node
@@ -34,12 +46,14 @@ pub record Spot (ps : PlaceMaps) (ts : List Trace) (n i : ℕ) (b : List ℕ) : 
   pub at : slice_get ts n ≡ Some trace
   pub entry : IsSomeAnd (slice_get trace.entries i) (λ e. e.got ≡ Some b)
 
-spot_parts : (ps : PlaceMaps) (ts : List Trace) (n i : ℕ) (b : List ℕ) → HavePlaces ps ts → spot ps n b ≡ Some i → Spot ps ts n i b
+spot_parts : (ps : PlaceMaps) (ts : List Trace) (n i : ℕ) (b : List ℕ) → HavePlaces ps ts → spot ps n b ≡ Some i
+    → Spot ps ts n i b
 spot_parts ps ts n i b each e = option_and_then_some (λ p. place_in p b) (slice_get ps n) i e (λ p at here.
     let t = some_from (slice_get ts n) (λ t'. AreFound p t'.entries × ArePlaces p t'.entries) (each n p at) in
     record { trace = t.0; at = t.1; entry = t.2.1 b i here })
 
-pub fit_start : (ps : PlaceMaps) (ms : MarkLists) (ts : List Trace) → length ms ≡ length ts → HavePlaces ps ts → AreUnmarked ms ts → Fit ps ms
+pub fit_start : (ps : PlaceMaps) (ms : MarkLists) (ts : List Trace) → length ms ≡ length ts → HavePlaces ps ts
+    → AreUnmarked ms ts → Fit ps ms
 fit_start ps ms ts l each unmarked = record {
   room = λ n i b e.
       let s = spot_parts ps ts n i b each e in
@@ -47,9 +61,11 @@ fit_start ps ms ts l each unmarked = record {
       let in' = slice_get_within (s.trace).entries i x.0 x.1 in
       elim (slice_get_cases ms n).1 [
         | inl v ↦
-            let u = some_from (slice_get ts n) (λ t. (v.0).items ≡ replicate (length t.entries) false) (unmarked n v.0 v.2) in
+            let u = some_from (slice_get ts n) (λ t. (v.0).items ≡ replicate (length t.entries) false)
+            (unmarked n v.0 v.2) in
             let same : u.0 ≡ s.trace = same_Some u.0 s.trace (sym u.1 ∙ s.at) in
-            let size : length (v.0).items ≡ length (s.trace).entries = ap length u.2 ∙ length-replicate (length (u.0).entries) false ∙ ap (λ (t : Trace). length t.entries) same in
+            let size : length (v.0).items ≡ length (s.trace).entries = ap length u.2
+            ∙ length-replicate (length (u.0).entries) false ∙ ap (λ (t : Trace). length t.entries) same in
             some_at (slice_get ms n) (λ w. i < length w.items) v.0 v.2 (omega arith)
         | inr past ↦ absurd (omega (arith, l, past.0, slice_get_within ts n s.trace s.at))
       ];
@@ -69,30 +85,39 @@ mark_false v k i e = ap (λ xs. get_or xs i false) e ∙ elim (cases_lt i k) [
   | inr l ↦ get_or_past (replicate k false) i false (let s = length-replicate k false in omega arith)
 ]
 
-pub noted_none : (ps : PlaceMaps) (ms : MarkLists) (ts : List Trace) → AreUnmarked ms ts → (n : ℕ) (b : List ℕ) → IsNoted ps ms n b → ⊥
+pub noted_none : (ps : PlaceMaps) (ms : MarkLists) (ts : List Trace) → AreUnmarked ms ts → (n : ℕ) (b : List ℕ)
+    → IsNoted ps ms n b → ⊥
 noted_none ps ms ts unmarked n b h =
     let x = some_from (spot ps n b) (λ i. mark ms n i ≡ true) h in
     elim (slice_get_cases ms n).1 [
       | inl v ↦
-          let u = some_from (slice_get ts n) (λ t. (v.0).items ≡ replicate (length t.entries) false) (unmarked n v.0 v.2) in
-          let is : mark ms n x.0 ≡ get_or (v.0).items x.0 false = ap (λ o. option_map_or (λ (w : Vec Bool Global). get_or w.items x.0 false) o false) v.2 in
+          let u = some_from (slice_get ts n) (λ t. (v.0).items ≡ replicate (length t.entries) false)
+          (unmarked n v.0 v.2) in
+          let is : mark ms n x.0 ≡ get_or (v.0).items x.0 false =
+          ap (λ o. option_map_or (λ (w : Vec Bool Global). get_or w.items x.0 false) o false) v.2 in
           both_ways (mark ms n x.0) (is ∙ mark_false (v.0).items (length (u.0).entries) x.0 u.2) x.2
-      | inr past ↦ both_ways (mark ms n x.0) (ap (λ o. option_map_or (λ (w : Vec Bool Global). get_or w.items x.0 false) o false) past.1) x.2
+      | inr past ↦ both_ways (mark ms n x.0) (ap (λ o. option_map_or (λ (w : Vec Bool Global). get_or w.items x.0 false)
+          o false) past.1) x.2
     ]
 
 -- what the traces got has a spot
-pub got_spot : {S : Type 0} (rs : List S) (ts : List Trace) (ps : PlaceMaps) → length ps ≡ length ts → HavePlaces ps ts → (n : ℕ) (b : List ℕ) → IsGot (nodes_of rs ts) n b → IsSome (spot ps n b)
+pub got_spot : {S : Type 0} (rs : List S) (ts : List Trace) (ps : PlaceMaps) → length ps ≡ length ts → HavePlaces ps ts
+    → (n : ℕ) (b : List ℕ) → IsGot (nodes_of rs ts) n b → IsSome (spot ps n b)
 got_spot rs ts ps l each n b h =
-    let x = some_from (slice_get (nodes_of rs ts) n) (λ z. (i : ℕ) × IsSomeAnd (slice_get z.entries i) (λ e. e.got ≡ Some b)) h in
+    let x = some_from (slice_get (nodes_of rs ts) n) (λ z. (i : ℕ) × IsSomeAnd (slice_get z.entries i) (λ e. e.got
+    ≡ Some b)) h in
     let q = node_parts rs ts n x.0 x.1 in
     let e = some_from (slice_get (x.0).entries x.2.0) (λ e'. e'.got ≡ Some b) x.2.1 in
     let at : slice_get (q.0).entries x.2.0 ≡ Some e.0 = ap (λ es. slice_get es x.2.0) (sym q.2) ∙ e.1 in
     elim (slice_get_cases ps n).1 [
       | inl p ↦
-          let t = some_from (slice_get ts n) (λ t'. AreFound p.0 t'.entries × ArePlaces p.0 t'.entries) (each n p.0 p.2) in
+          let t = some_from (slice_get ts n) (λ t'. AreFound p.0 t'.entries × ArePlaces p.0 t'.entries) (each n p.0 p.2)
+          in
           let same : t.0 ≡ q.0 = same_Some t.0 q.0 (sym t.1 ∙ q.1) in
-          let at' : slice_get (t.0).entries x.2.0 ≡ Some e.0 = ap (λ (z : Trace). slice_get z.entries x.2.0) same ∙ at in
-          let found : IsSome (place_in p.0 b) = t.2.0 x.2.0 e.0 (slice_get_within (t.0).entries x.2.0 e.0 at') b (ap (λ (z : Entry). z.got) (get_or_from_slice_get (t.0).entries x.2.0 e.0 e.0 at') ∙ e.2) in
+          let at' : slice_get (t.0).entries x.2.0 ≡ Some e.0 = ap (λ (z : Trace). slice_get z.entries x.2.0) same
+          ∙ at in
+          let found : IsSome (place_in p.0 b) = t.2.0 x.2.0 e.0 (slice_get_within (t.0).entries x.2.0 e.0 at') b
+          (ap (λ (z : Entry). z.got) (get_or_from_slice_get (t.0).entries x.2.0 e.0 e.0 at') ∙ e.2) in
           subst IsSome (sym (ap (option_and_then (λ (m : PlaceMap). place_in m b)) p.2)) found
       | inr past ↦ absurd (omega (arith, l, past.0, slice_get_within ts n q.0 q.1))
     ]

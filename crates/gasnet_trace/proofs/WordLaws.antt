@@ -1,5 +1,7 @@
 -- Reading the words of a line is the inverse of writing them.
-use Rattle.std.proofs.Common.{◌≡◌, ℕ, suc, ◌-◌, ◌/◌, ◌%◌, ◌^◌, ◌<◌, ◌≤◌, List, [], ◌∷◌, length, drop, slice_index, Option, Some, None, Bool, true, false, ◌&&◌, cond, eqb, ltb, leb, Result, Ok, Err, refl, ap, subst, ◌∙◌, arith, decimal, codes}
+use Rattle.std.proofs.Common.{◌≡◌, ℕ, suc, ◌-◌, ◌/◌, ◌%◌, ◌^◌, ◌<◌, ◌≤◌, List, [], ◌∷◌, length, drop, slice_index}
+use Rattle.std.proofs.Common.{Option, Some, None, Bool, true, false, ◌&&◌, cond, eqb, ltb, leb, Result, Ok, Err, refl}
+use Rattle.std.proofs.Common.{ap, subst, ◌∙◌, arith, decimal, codes}
 use Rattle.std.specs.List.{AllByRecursion}
 use Rattle.std.specs.Option.{ForSome}
 use Rattle.std.specs.Str.{bytes_eq}
@@ -13,11 +15,13 @@ use Rattle.hex.specs.declared.error.FromHexError.{FromHexError}
 use Rattle.hex.proofs.HexLemmas.{decode_of-encode_lower, decode_of-ok, IsDigits-lower_digits}
 use Rattle.machine.specs.declared.entry.Entry.{Entry}
 use Rattle.gasnet_trace.specs.declared.fault.TraceWhy.TheVariants.{Form, Value}
-use Rattle.gasnet_trace.specs.Lines.{Word, Line}
+use Rattle.gasnet_trace.specs.Lines.{Word, Line, IsPlain, IsWord, IsLine}
 use Rattle.gasnet_trace.specs.TraceText.{got_word, entry_line, end_line, number_line, IsEntry}
-use Rattle.gasnet_trace.specs.TraceReading.{◌>>=◌, number_of, within, number_in, thread_of, spelled_by, bytes_of, got_of, second_of, setting_of, is_end, TurnWords, turn_of, entry_of, next_of}
+use Rattle.gasnet_trace.specs.TraceReading.{◌>>=◌, number_of, within, number_in, thread_of, spelled_by, bytes_of}
+use Rattle.gasnet_trace.specs.TraceReading.{got_of, second_of, setting_of, is_end, TurnWords, turn_of, entry_of}
+use Rattle.gasnet_trace.specs.TraceReading.{next_of}
 use Rattle.gasnet_trace.proofs.Numbers.{cond_yes, number_of-decimal, decimal_of_number}
-use Rattle.gasnet_trace.proofs.LineLaws.{IsPlain, IsWord, IsLine, ok_is, bind_ok, guard_ok, cond_not}
+use Rattle.gasnet_trace.proofs.LineLaws.{ok_is, bind_ok, guard_ok, cond_not}
 
 -- ---- words that are written
 
@@ -26,7 +30,11 @@ digits_plain [] h = tt
 digits_plain (d ∷ ds) h = (let r = digit_from_value d h.0 in (omega arith, omega arith), digits_plain ds h.1)
 
 pub decimal_word : (n : ℕ) → n < 2 ^ 64 → IsWord (decimal n)
-decimal_word n h = record { some = decimal_nonempty n h; plain = digits_plain (decimal n) (digits_decimal (numerals_by_value (AllDigits 10) tells_digits) n h) }
+decimal_word n h = record {
+  some = decimal_nonempty n h;
+  plain = digits_plain (decimal n)
+      (digits_decimal (numerals_by_value (AllDigits 10) tells_digits) n h);
+}
 
 hex_plain : (c v : ℕ) → hex_digit_value c ≡ Some v → IsPlain c
 hex_plain c v h = (grind (arith), grind (arith))
@@ -39,7 +47,11 @@ hex_bytes_plain (b ∷ bytes) h =
     let high : b / 16 < 16 = omega arith in
     let low : b % 16 < 16 = omega arith in (
       hex_plain (slice_index lower_digits (b / 16)) (b / 16) (IsDigits-lower_digits (b / 16) high),
-      (hex_plain (slice_index lower_digits (b % 16)) (b % 16) (IsDigits-lower_digits (b % 16) low), hex_bytes_plain bytes (λ k. h (suc k))),
+      (
+        hex_plain (slice_index lower_digits (b % 16)) (b % 16) (IsDigits-lower_digits (b % 16) low),
+        hex_bytes_plain
+            bytes (λ k. h (suc k)),
+      ),
     )
 
 -- what a turn got can be told
@@ -48,7 +60,11 @@ IsGot got = ForSome got (λ bytes. (length bytes ≤ 8297) × IsBytes bytes)
 
 pub got_is_word : (got : Option (List ℕ)) → IsGot got → IsWord (got_word got)
 got_is_word None h = record { some = omega arith; plain = ((omega arith, omega arith), tt) }
-got_is_word (Some bytes) h = record { some = omega arith; plain = ((omega arith, omega arith), hex_bytes_plain bytes (h bytes refl).1) }
+got_is_word (Some bytes) h = record {
+  some = omega arith;
+  plain =
+      ((omega arith, omega arith), hex_bytes_plain bytes (h bytes refl).1);
+}
 
 -- ---- words that are read
 
@@ -72,7 +88,8 @@ within_ok low high n (Some m) e =
     let same : m ≡ n = ok_is m n g.1 in
     (ap (λ (k : ℕ). Some k) same, rw (← same) (leb-true low m both.0), rw (← same) (leb-true m high both.1))
 
-pub number_takes : (low high n : ℕ) (word : Word) → number_in low high word ≡ Ok n → (word ≡ decimal n) × IsIn low high n
+pub number_takes : (low high n : ℕ) (word : Word) → number_in low high word ≡ Ok n → (word ≡ decimal n)
+    × IsIn low high n
 unfolding number_in
 number_takes low high n word e =
     let w = within_ok low high n (number_of word) e in
@@ -82,7 +99,8 @@ number_takes low high n word e =
 pub number_again : (low high n : ℕ) → IsIn low high n → number_in low high (decimal n) ≡ Ok n
 unfolding number_in
 number_again low high n h =
-    ap (within low high) (number_of-decimal n h.fits) ∙ cond_yes _ _ _ (and_from _ _ (le-leb low n h.least) (le-leb n high h.most))
+    ap (within low high) (number_of-decimal n h.fits)
+    ∙ cond_yes _ _ _ (and_from _ _ (le-leb low n h.least) (le-leb n high h.most))
 
 pub wide : (n : ℕ) → n < 2 ^ 64 → IsIn 0 (2 ^ 64 - 1) n
 wide n h = record { least = omega arith; most = omega arith; fits = h }
@@ -90,7 +108,8 @@ wide n h = record { least = omega arith; most = omega arith; fits = h }
 pub narrow : (n : ℕ) → n < 2 ^ 16 → IsIn 0 65535 n
 narrow n h = record { least = omega arith; most = omega arith; fits = omega arith }
 
-thread_takes : (threads n : ℕ) (word : Word) → thread_of threads word ≡ Ok n → (word ≡ decimal n) × (n < threads) × (n < 2 ^ 16)
+thread_takes : (threads n : ℕ) (word : Word) → thread_of threads word ≡ Ok n → (word ≡ decimal n) × (n < threads)
+    × (n < 2 ^ 16)
 unfolding thread_of
 thread_takes threads n word e =
     let a = bind_ok (number_in 0 65535 word) (λ m. cond (ltb m threads) (Ok m) (Err Value)) n e in
@@ -105,15 +124,21 @@ thread_again : (threads n : ℕ) → n < threads → n < 2 ^ 16 → thread_of th
 unfolding thread_of
 thread_again threads n few h = rw (number_again 0 65535 n (narrow n h)) (cond_yes _ _ _ (lt-ltb n threads few))
 
-spelled_takes : (word : Word) (read : Result (List ℕ) FromHexError) (bytes : List ℕ) → spelled_by word read ≡ Ok bytes → (word ≡ encode_lower bytes) × (read ≡ Ok bytes) × (length bytes ≤ 8297)
+spelled_takes : (word : Word) (read : Result (List ℕ) FromHexError) (bytes : List ℕ) → spelled_by word read ≡ Ok bytes
+    → (word ≡ encode_lower bytes) × (read ≡ Ok bytes) × (length bytes ≤ 8297)
 spelled_takes word (Err e) bytes h = absurd (cc)
 spelled_takes word (Ok b) bytes h =
     let g = guard_ok (bytes_eq word (encode_lower b) && leb (length b) 8297) Value (Ok b) bytes h in
     let both = and_parts _ _ g.0 in
-    let same : b ≡ bytes = ok_is b bytes g.1 in
-    (same_word word (encode_lower b) both.0 ∙ ap encode_lower same, ap Ok same, rw (← same) (leb-true (length b) 8297 both.1))
+    let same : b ≡ bytes = ok_is b bytes g.1 in (
+      same_word word (encode_lower b) both.0 ∙ ap encode_lower same,
+      ap Ok same,
+      rw (← same)
+          (leb-true (length b) 8297 both.1),
+    )
 
-bytes_takes : (word : Word) (bytes : List ℕ) → bytes_of word ≡ Ok bytes → (word ≡ encode_lower bytes) × (length bytes ≤ 8297) × IsBytes bytes
+bytes_takes : (word : Word) (bytes : List ℕ) → bytes_of word ≡ Ok bytes → (word ≡ encode_lower bytes)
+    × (length bytes ≤ 8297) × IsBytes bytes
 unfolding bytes_of
 bytes_takes word bytes e =
     let s = spelled_takes word (decode_of word) bytes e in
@@ -123,14 +148,16 @@ bytes_takes word bytes e =
 bytes_again : (bytes : List ℕ) → length bytes ≤ 8297 → IsBytes bytes → bytes_of (encode_lower bytes) ≡ Ok bytes
 unfolding bytes_of
 bytes_again bytes few h =
-    ap (spelled_by (encode_lower bytes)) (decode_of-encode_lower bytes h) ∙ cond_yes _ _ _ (and_from _ _ (equal_word (encode_lower bytes)) (le-leb (length bytes) 8297 few))
+    ap (spelled_by (encode_lower bytes)) (decode_of-encode_lower bytes h)
+    ∙ cond_yes _ _ _ (and_from _ _ (equal_word (encode_lower bytes)) (le-leb (length bytes) 8297 few))
 
 first_is : (word : Word) → eqb (slice_index word 0) 120 ≡ true → word ≡ 120 ∷ drop 1 word
 first_is [] h = absurd (cc)
 first_is (b ∷ word) h = ap (λ c. c ∷ word) (eqb-true b 120 h)
 
 got_by : (dash : Bool) (word : Word) (got : Option (List ℕ)) → (dash ≡ true → word ≡ codes "-")
-    → cond dash (Ok None) (cond (eqb (slice_index word 0) 120) (bytes_of (drop 1 word) >>= λ bytes. Ok (Some bytes)) (Err Value)) ≡ Ok got → (word ≡ got_word got) × IsGot got
+    → cond dash (Ok None) (cond (eqb (slice_index word 0) 120) (bytes_of (drop 1 word) >>= λ bytes. Ok (Some bytes))
+    (Err Value)) ≡ Ok got → (word ≡ got_word got) × IsGot got
 got_by true word got is e =
     let same : None ≡ got = ok_is None got e in
     subst (λ (g : Option (List ℕ)). (word ≡ got_word g) × IsGot g) same (is refl, λ bytes h. absurd (cc))
@@ -139,8 +166,11 @@ got_by false word got is e =
     let b = bind_ok (bytes_of (drop 1 word)) (λ bytes. Ok (Some bytes)) got g.1 in
     let t = bytes_takes (drop 1 word) b.0 b.1 in
     let same : Some b.0 ≡ got = ok_is (Some b.0) got b.2 in
-    subst (λ (o : Option (List ℕ)). (word ≡ got_word o) × IsGot o) same
-    (first_is word g.0 ∙ ap (λ w. 120 ∷ w) t.0, λ bytes h. let s : b.0 ≡ bytes = cc in subst (λ (z : List ℕ). (length z ≤ 8297) × IsBytes z) s (t.1, t.2))
+    subst (λ (o : Option (List ℕ)). (word ≡ got_word o) × IsGot o) same (
+      first_is word g.0 ∙ ap (λ w. 120 ∷ w) t.0,
+      λ bytes h. let s : b.0 ≡ bytes = cc in
+          subst (λ (z : List ℕ). (length z ≤ 8297) × IsBytes z) s (t.1, t.2),
+    )
 
 got_takes : (word : Word) (got : Option (List ℕ)) → got_of word ≡ Ok got → (word ≡ got_word got) × IsGot got
 unfolding got_of
@@ -153,7 +183,8 @@ got_again (Some bytes) h = let k = h bytes refl in rw (bytes_again bytes k.0 k.1
 
 -- ---- lines
 
-second_takes : (name : Word) (words : Line) (value : Word) → second_of name words ≡ Ok value → words ≡ name ∷ value ∷ []
+pub second_takes : (name : Word) (words : Line) (value : Word) → second_of name words ≡ Ok value → words ≡ name ∷ value
+    ∷ []
 unfolding second_of
 second_takes name [] value e = absurd (cc)
 second_takes name (w ∷ []) value e = absurd (cc)
@@ -162,18 +193,20 @@ second_takes name (w ∷ v ∷ []) value e =
     ap (λ (x : Word). x ∷ v ∷ []) (same_word w name g.0) ∙ ap (λ (x : Word). name ∷ x ∷ []) (ok_is v value g.1)
 second_takes name (w ∷ v ∷ u ∷ ws) value e = absurd (cc)
 
-second_again : (name value : Word) → second_of name (name ∷ value ∷ []) ≡ Ok value
+pub second_again : (name value : Word) → second_of name (name ∷ value ∷ []) ≡ Ok value
 unfolding second_of
 second_again name value = cond_yes _ _ _ (equal_word name)
 
-pub setting_takes : (name : Word) (low high n : ℕ) (words : Line) → setting_of name low high words ≡ Ok n → (words ≡ number_line name n) × IsIn low high n
+pub setting_takes : (name : Word) (low high n : ℕ) (words : Line) → setting_of name low high words ≡ Ok n
+    → (words ≡ number_line name n) × IsIn low high n
 unfolding setting_of
 setting_takes name low high n words e =
     let a = bind_ok (second_of name words) (number_in low high) n e in
     let d = number_takes low high n a.0 a.2 in
     (second_takes name words a.0 a.1 ∙ ap (λ (w : Word). name ∷ w ∷ []) d.0, d.1)
 
-pub setting_again : (name : Word) (low high n : ℕ) → IsIn low high n → setting_of name low high (number_line name n) ≡ Ok n
+pub setting_again : (name : Word) (low high n : ℕ) → IsIn low high n → setting_of name low high (number_line name n)
+    ≡ Ok n
 unfolding setting_of
 setting_again name low high n h = rw (second_again name (decimal n)) (number_again low high n h)
 
@@ -183,7 +216,8 @@ end_takes [] e = absurd (cc)
 end_takes (w ∷ []) e = ap (λ (x : Word). x ∷ []) (same_word w (codes "end") e)
 end_takes (w ∷ v ∷ ws) e = absurd (cc)
 
-turn_takes : (words : Line) (t : TurnWords) → turn_of words ≡ Ok t → words ≡ codes "turn" ∷ t.thread ∷ t.time ∷ t.got ∷ []
+pub turn_takes : (words : Line) (t : TurnWords) → turn_of words ≡ Ok t → words ≡ codes "turn" ∷ t.thread ∷ t.time
+    ∷ t.got ∷ []
 unfolding turn_of
 turn_takes [] t e = absurd (cc)
 turn_takes (a ∷ []) t e = absurd (cc)
@@ -196,29 +230,43 @@ turn_takes (a ∷ b ∷ c ∷ d ∷ []) t e =
     (ap (λ (x : Word). x ∷ b ∷ c ∷ d ∷ []) (same_word a (codes "turn") g.0))
 turn_takes (a ∷ b ∷ c ∷ d ∷ f ∷ ws) t e = absurd (cc)
 
-three : (a b c a' b' c' : Word) → a ≡ a' → b ≡ b' → c ≡ c' → ◌≡◌ {A = Line} (codes "turn" ∷ a ∷ b ∷ c ∷ []) (codes "turn" ∷ a' ∷ b' ∷ c' ∷ [])
-three a b c a' b' c' p q r = ap (λ (x : Word). codes "turn" ∷ x ∷ b ∷ c ∷ []) p ∙ ap (λ (x : Word). codes "turn" ∷ a' ∷ x ∷ c ∷ []) q ∙ ap (λ (x : Word). codes "turn" ∷ a' ∷ b' ∷ x ∷ []) r
+three : (a b c a' b' c' : Word) → a ≡ a' → b ≡ b' → c ≡ c' → ◌≡◌ {A = Line} (codes "turn" ∷ a ∷ b ∷ c ∷ [])
+    (codes "turn" ∷ a' ∷ b' ∷ c' ∷ [])
+three a b c a' b' c' p q r = ap (λ (x : Word). codes "turn" ∷ x ∷ b ∷ c ∷ []) p ∙ ap (λ (x : Word). codes "turn" ∷ a'
+    ∷ x ∷ c ∷ []) q ∙ ap (λ (x : Word). codes "turn" ∷ a' ∷ b' ∷ x ∷ []) r
 
-entry_takes : (threads : ℕ) (t : TurnWords) (e : Entry) → entry_of threads t ≡ Ok e → (codes "turn" ∷ t.thread ∷ t.time ∷ t.got ∷ [] ≡ entry_line e) × IsEntry threads e
+entry_takes : (threads : ℕ) (t : TurnWords) (e : Entry) → entry_of threads t ≡ Ok e → (codes "turn" ∷ t.thread ∷ t.time
+    ∷ t.got ∷ [] ≡ entry_line e) × IsEntry threads e
 unfolding entry_of
 entry_takes threads t e h =
-    let a = bind_ok (thread_of threads t.thread) (λ n. number_in 0 (2 ^ 64 - 1) t.time >>= λ m. got_of t.got >>= λ g. Ok (record { thread = n; now = m; got = g })) e h in
-    let b = bind_ok (number_in 0 (2 ^ 64 - 1) t.time) (λ m. got_of t.got >>= λ g. Ok (record { thread = a.0; now = m; got = g })) e a.2 in
+    let a = bind_ok (thread_of threads t.thread) (λ n. number_in 0 (2 ^ 64 - 1) t.time >>= λ m. got_of t.got
+    >>= λ g. Ok (record { thread = n; now = m; got = g })) e h in
+    let b = bind_ok (number_in 0 (2 ^ 64 - 1) t.time) (λ m. got_of t.got
+    >>= λ g. Ok (record { thread = a.0; now = m; got = g })) e a.2 in
     let c = bind_ok (got_of t.got) (λ g. Ok (record { thread = a.0; now = b.0; got = g })) e b.2 in
     let made : Entry = record { thread = a.0; now = b.0; got = c.0 } in
     let p = thread_takes threads a.0 t.thread a.1 in
     let q = number_takes 0 (2 ^ 64 - 1) b.0 t.time b.1 in
     let r = got_takes t.got c.0 c.1 in
-    subst (λ (x : Entry). (codes "turn" ∷ t.thread ∷ t.time ∷ t.got ∷ [] ≡ entry_line x) × IsEntry threads x) (ok_is made e c.2)
+    subst (λ (x : Entry). (codes "turn" ∷ t.thread ∷ t.time ∷ t.got ∷ [] ≡ entry_line x) × IsEntry threads x)
+    (ok_is made e c.2)
     (three _ _ _ _ _ _ p.0 q.0 r.0, record { thread = p.1; narrow = p.2; now = q.1.fits; got = r.1 })
 
-entry_again : (threads : ℕ) (e : Entry) → IsEntry threads e → entry_of threads (record { thread = decimal e.thread; time = decimal e.now; got = got_word e.got }) ≡ Ok e
+entry_again : (threads : ℕ) (e : Entry) → IsEntry threads e
+    → entry_of threads (record { thread = decimal e.thread; time = decimal e.now; got = got_word e.got }) ≡ Ok e
 unfolding entry_of
-entry_again threads e h = rw (thread_again threads e.thread h.thread h.narrow, number_again 0 (2 ^ 64 - 1) e.now (wide e.now h.now), got_again e.got h.got) refl
+entry_again threads e h = rw (
+  thread_again threads e.thread h.thread h.narrow,
+  number_again 0 (2 ^ 64 - 1) e.now
+      (wide e.now h.now),
+  got_again e.got h.got,
+) refl
 
-turn_again : (a b c : Word) → turn_of (codes "turn" ∷ a ∷ b ∷ c ∷ []) ≡ Ok (record { thread = a; time = b; got = c })
+pub turn_again : (a b c : Word) → turn_of (codes "turn" ∷ a ∷ b ∷ c ∷ [])
+    ≡ Ok (record { thread = a; time = b; got = c })
 unfolding turn_of
-turn_again a b c = let made : TurnWords = record { thread = a; time = b; got = c } in cond_yes (bytes_eq (codes "turn") (codes "turn")) (Ok made) (Err Form) (equal_word (codes "turn"))
+turn_again a b c = let made : TurnWords = record { thread = a; time = b; got = c } in
+    cond_yes (bytes_eq (codes "turn") (codes "turn")) (Ok made) (Err Form) (equal_word (codes "turn"))
 
 turn_no_end : (a b c d : Word) → is_end (a ∷ b ∷ c ∷ d ∷ []) ≡ false
 unfolding is_end
@@ -229,7 +277,8 @@ abbrev pub IsNext : ℕ → Line → Option Entry → Type 0
 IsNext threads words None = words ≡ end_line
 IsNext threads words (Some e) = (words ≡ entry_line e) × IsEntry threads e
 
-next_by : (b : Bool) (threads : ℕ) (words : Line) (o : Option Entry) → is_end words ≡ b → cond b (Ok None) (turn_of words >>= λ t. entry_of threads t >>= λ e. Ok (Some e)) ≡ Ok o → IsNext threads words o
+next_by : (b : Bool) (threads : ℕ) (words : Line) (o : Option Entry) → is_end words ≡ b
+    → cond b (Ok None) (turn_of words >>= λ t. entry_of threads t >>= λ e. Ok (Some e)) ≡ Ok o → IsNext threads words o
 next_by true threads words o is e = subst (IsNext threads words) (ok_is None o e) (end_takes words is)
 next_by false threads words o is e =
     let a = bind_ok (turn_of words) (λ t. entry_of threads t >>= λ v. Ok (Some v)) o e in
@@ -255,10 +304,23 @@ next_again threads e h =
 -- ---- lines that are written
 
 pub turn_word : IsWord (codes "turn")
-turn_word = record { some = omega arith; plain = ((omega arith, omega arith), ((omega arith, omega arith), ((omega arith, omega arith), ((omega arith, omega arith), tt)))) }
+turn_word = record {
+  some = omega arith;
+  plain = (
+    (omega arith, omega arith),
+    ((omega arith, omega arith), ((omega arith, omega arith), ((omega arith, omega arith), tt))),
+  );
+}
 
 pub end_is_line : IsLine end_line
-end_is_line = (record { some = omega arith; plain = ((omega arith, omega arith), ((omega arith, omega arith), ((omega arith, omega arith), tt))) }, tt)
+end_is_line = (
+  record {
+    some = omega arith;
+    plain =
+        ((omega arith, omega arith), ((omega arith, omega arith), ((omega arith, omega arith), tt)));
+  },
+  tt,
+)
 
 pub entry_is_line : (threads : ℕ) (e : Entry) → IsEntry threads e → IsLine (entry_line e)
 entry_is_line threads e h =

@@ -1,7 +1,8 @@
-pub mod Merged
 pub mod Going
-pub mod Noted
 pub mod Lines
-pub mod TraceText
-pub mod TraceReading
+pub mod Merged
+pub mod Noted
 pub mod TraceRead
+pub mod TraceReading
+pub mod TraceRefusals
+pub mod TraceText

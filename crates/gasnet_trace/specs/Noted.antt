@@ -25,38 +25,43 @@ MarkLists = List (Vec Bool Global)
 
 -- the place of a datagram
 abbrev pub place_in : PlaceMap → List ℕ → Option ℕ
-place_in m b = get_by (λ k. bytes_eq b k.now) m
+place_in map bytes = get_by (λ key. bytes_eq bytes key.now) map
 
 -- each datagram got has a place
 abbrev pub AreFound : PlaceMap → List Entry → Type 0
-AreFound m es = All (λ e. ForSome e.got (λ b. IsSome (place_in m b))) es
+AreFound map entries = All (λ entry. ForSome entry.got (λ bytes. IsSome (place_in map bytes))) entries
 
 -- at each place stands an entry that got the datagram
 abbrev pub ArePlaces : PlaceMap → List Entry → Type 0
-ArePlaces m es = (b : List ℕ) → ForSome (place_in m b) (λ i. IsSomeAnd (slice_get es i) (λ e. e.got ≡ Some b))
+ArePlaces map entries = (bytes : List ℕ) → ForSome (place_in map bytes) (λ i. IsSomeAnd (slice_get entries i)
+    (λ entry. entry.got ≡ Some bytes))
 
 -- the place of a datagram in a node's trace
 abbrev pub spot : PlaceMaps → ℕ → List ℕ → Option ℕ
-spot ps n b = option_and_then (λ p. place_in p b) (slice_get ps n)
+spot places n bytes = option_and_then (λ map. place_in map bytes) (slice_get places n)
 
 -- the mark at a place of a node's trace
 abbrev pub mark : MarkLists → ℕ → ℕ → Bool
-mark ms n i = option_map_or (λ v. slice_index_or v.items i false) (slice_get ms n) false
+mark marks n i = option_map_or (λ list. slice_index_or list.items i false) (slice_get marks n) false
 
 -- the datagram is marked as sent to the node
 abbrev pub IsNoted : PlaceMaps → MarkLists → ℕ → List ℕ → Type 0
-IsNoted ps ms n b = IsSomeAnd (spot ps n b) (λ i. mark ms n i ≡ true)
+IsNoted places marks n bytes = IsSomeAnd (spot places n bytes) (λ i. mark marks n i ≡ true)
 
 -- a node's place has room for a mark, and stands for one datagram
-pub record Fit (ps : PlaceMaps) (ms : MarkLists) : Type 0 where
-  pub room : (n i : ℕ) (b : List ℕ) → spot ps n b ≡ Some i → IsSomeAnd (slice_get ms n) (λ v. i < length v.items)
-  pub one : (n i : ℕ) (b c : List ℕ) → spot ps n b ≡ Some i → spot ps n c ≡ Some i → b ≡ c
+pub record Fit (places : PlaceMaps) (marks : MarkLists) : Type 0 where
+  pub room : (n i : ℕ) (bytes : List ℕ) → spot places n bytes ≡ Some i → IsSomeAnd (slice_get marks n)
+      (λ list. i < length list.items)
+  pub one : (n i : ℕ) (bytes other : List ℕ) → spot places n bytes ≡ Some i → spot places n other ≡ Some i → bytes
+      ≡ other
 
 -- these datagrams, and no others, were marked, those of them that have a place
-pub record Marks (ps : PlaceMaps) (old new : MarkLists) (ds : List (ℕ × List ℕ)) : Type 0 where
-  pub no_more : (n : ℕ) (b : List ℕ) → IsNoted ps new n b → IsNoted ps old n b ⊎ Contains ds (n, b)
-  pub kept : (n : ℕ) (b : List ℕ) → IsNoted ps old n b → IsNoted ps new n b
-  pub noted : (n : ℕ) (b : List ℕ) → Contains ds (n, b) → IsSome (spot ps n b) → IsNoted ps new n b
+pub record Marks (places : PlaceMaps) (old new : MarkLists) (given : List (ℕ × List ℕ)) : Type 0 where
+  pub no_more : (n : ℕ) (bytes : List ℕ) → IsNoted places new n bytes → IsNoted places old n bytes
+      ⊎ Contains given (n, bytes)
+  pub kept : (n : ℕ) (bytes : List ℕ) → IsNoted places old n bytes → IsNoted places new n bytes
+  pub noted : (n : ℕ) (bytes : List ℕ) → Contains given (n, bytes) → IsSome (spot places n bytes) → IsNoted places new n
+      bytes
 
 -- a datagram with the node that it is for
 abbrev pub datagram : ℕ → List ℕ → ℕ × List ℕ
@@ -64,12 +69,12 @@ datagram to bytes = (to, bytes)
 
 -- for each trace its places
 abbrev pub HavePlaces : PlaceMaps → List Trace → Type 0
-HavePlaces ps ts =
-    (n : ℕ) (p : PlaceMap) → slice_get ps n ≡ Some p
-    → IsSomeAnd (slice_get ts n) (λ t. AreFound p t.entries × ArePlaces p t.entries)
+HavePlaces places traces =
+    (n : ℕ) (map : PlaceMap) → slice_get places n ≡ Some map
+    → IsSomeAnd (slice_get traces n) (λ trace. AreFound map trace.entries × ArePlaces map trace.entries)
 
 -- for each trace as many marks as entries, none of them set
 abbrev pub AreUnmarked : MarkLists → List Trace → Type 0
-AreUnmarked ms ts =
-    (n : ℕ) (v : Vec Bool Global) → slice_get ms n ≡ Some v
-    → IsSomeAnd (slice_get ts n) (λ t. v.items ≡ replicate (length t.entries) false)
+AreUnmarked marks traces =
+    (n : ℕ) (list : Vec Bool Global) → slice_get marks n ≡ Some list
+    → IsSomeAnd (slice_get traces n) (λ trace. list.items ≡ replicate (length trace.entries) false)

@@ -15,7 +15,7 @@ got_word (Some bytes) = 120 ∷ encode_lower bytes
 
 -- the line of an entry
 abbrev pub entry_line : Entry → Line
-entry_line e = codes "turn" ∷ decimal e.thread ∷ decimal e.now ∷ got_word e.got ∷ []
+entry_line entry = codes "turn" ∷ decimal entry.thread ∷ decimal entry.now ∷ got_word entry.got ∷ []
 
 -- the line `end`
 abbrev pub end_line : Line
@@ -31,32 +31,32 @@ entry_lines entries = map entry_line entries ++ end_line ∷ []
 
 -- the lines of a trace in a version of the text
 abbrev pub trace_lines : (version : ℕ) → Trace → List Line
-trace_lines version t =
+trace_lines version trace =
     number_line (codes "trace") version
-    ∷ number_line (codes "job") t.job
-    ∷ number_line (codes "rank") t.rank
-    ∷ entry_lines t.entries
+    ∷ number_line (codes "job") trace.job
+    ∷ number_line (codes "rank") trace.rank
+    ∷ entry_lines trace.entries
 
 -- the text of a trace
 abbrev pub trace_text : (version : ℕ) → Trace → List ℕ
-trace_text version t = spell (trace_lines version t)
+trace_text version trace = spell (trace_lines version trace)
 
 -- an entry of a machine with so many threads, which got at most 8,297 bytes
-pub record IsEntry (threads : ℕ) (e : Entry) : Type 0 where
-  pub thread : e.thread < threads
-  pub narrow : e.thread < 2 ^ 16
-  pub now : e.now < 2 ^ 64
-  pub got : ForSome e.got (λ bytes. (length bytes ≤ 8297) × IsBytes bytes)
+pub record IsEntry (threads : ℕ) (entry : Entry) : Type 0 where
+  pub thread : entry.thread < threads
+  pub narrow : entry.thread < 2 ^ 16
+  pub now : entry.now < 2 ^ 64
+  pub got : ForSome entry.got (λ bytes. (length bytes ≤ 8297) × IsBytes bytes)
 
 -- a trace of such entries
-pub record IsTrace (threads : ℕ) (t : Trace) : Type 0 where
-  pub job : t.job < 2 ^ 64
-  pub rank : t.rank < 2 ^ 16
-  pub entries : AllByRecursion (IsEntry threads) t.entries
+pub record IsTrace (threads : ℕ) (trace : Trace) : Type 0 where
+  pub job : trace.job < 2 ^ 64
+  pub rank : trace.rank < 2 ^ 16
+  pub entries : AllByRecursion (IsEntry threads) trace.entries
 
 -- the bytes begin with the text of the trace, which has this length
-pub record BeginsWith (version threads : ℕ) (bytes : List ℕ) (t : Trace) (len : ℕ) : Type 0 where
-  pub is_trace : IsTrace threads t
+pub record BeginsWith (version threads : ℕ) (bytes : List ℕ) (trace : Trace) (len : ℕ) : Type 0 where
+  pub is_trace : IsTrace threads trace
   pub rest : List ℕ
-  pub text : bytes ≡ trace_text version t ++ rest
-  pub size : len ≡ length (trace_text version t)
+  pub text : bytes ≡ trace_text version trace ++ rest
+  pub size : len ≡ length (trace_text version trace)

@@ -6,6 +6,9 @@
 //! - `read_trace` [`found`, `only`, `exact`] reads a trace exactly where the bytes begin with its text (`BeginsWith`), as that trace;
 //!   else the fault names the first bad line and the first reason that applies to it, as the reading function on lines says
 //!   (`trace_at`); or memory ran out. So what was printed is read again. What a merge asks of traces is told too [`threads`, `few`].
+//!   What a refusal means apart from that function [`meant`: `Means`]: some trace's text begins with the lines before the bad
+//!   one, and none begins with these and the bad one, whose form or value no trace has there (`IsAtFault`); or the bytes end
+//!   too early, or the line is none of words.
 //! - `merge` [`front`, `run`, `no_run`] answers an order of all entries in which each can go in its turn exactly where some order
 //!   is a run, and else the smallest node with an entry left at the one stuck front (`Answers`). Afterwards each machine stands
 //!   for the replay of its entries that have gone (`AreReplays`). All is said of whatever states the machines stood for.

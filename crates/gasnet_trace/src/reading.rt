@@ -1,7 +1,7 @@
 //! Reading a trace.
 
 ghost use Rattle.std.specs.Prelude.{◌≡◌, ℕ, ◌+◌, ◌≤◌, ◌<◌, ◌^◌, ◌∷◌, [], length, true};
-ghost use Rattle.std.specs.Prelude.{All, IfOk};
+ghost use Rattle.std.specs.Prelude.{All, IfOk, IfErr};
 ghost use Rattle.std.specs.Str.{bytes_eq};
 ghost use Rattle.machine.specs.declared.entry.Entry.{Entry as EntryState};
 ghost use Rattle.gasnet_trace.specs.declared.trace.Trace.{Trace as TraceState};
@@ -9,6 +9,7 @@ ghost use Rattle.gasnet_trace.specs.TraceReading.{entries_at, entry_of, is_end, 
 ghost use Rattle.gasnet_trace.specs.TraceReading.{read_line, second_of, setting_of, trace_at};
 ghost use Rattle.gasnet_trace.specs.TraceReading.{turn_of, words_of, TurnWords};
 ghost use Rattle.gasnet_trace.specs.TraceText.{BeginsWith};
+ghost use Rattle.gasnet_trace.specs.TraceRefusals.{IsMeant};
 ghost use Rattle.gasnet_trace.specs.TraceRead.{Gives, GivesAt, GivesTrace, ReadsTrace, Tells};
 
 use crate::fault::{Miss, TraceFault, TraceWhy};
@@ -265,6 +266,8 @@ pub fn read_trace(
     ensures few { IfOk result (λ x. length x.0.entries < length bytes.now) }
     // What is told is the first bad line, and the first reason that applies to it.
     ensures exact { ReadsTrace (length bytes.now) result (trace_at version threads bytes.now) }
+    // What that means, apart from the reader.
+    ensures meant { IfErr result (λ fault. IsMeant version threads bytes.now fault) }
 {
     match trace_at(alloc, version, threads, bytes) {
         Ok((trace, rest)) => Ok((trace, bytes.len() - rest.len())),

@@ -52,7 +52,8 @@ barrier_calls_are = (λ v. refl, (λ v. refl, tt))
 -- from `issued` on
 sync_calls_are : AreMade call_entry sync_calls
 unfolding sync_calls
-sync_calls_are = (λ v. refl, (λ v. refl, (λ v. refl, (λ v. refl, (λ v. refl, (λ v. refl, (λ v. refl, barrier_calls_are)))))))
+sync_calls_are =
+    (λ v. refl, (λ v. refl, (λ v. refl, (λ v. refl, (λ v. refl, (λ v. refl, (λ v. refl, barrier_calls_are)))))))
 
 -- from `put-nbi-bulk` on
 implicit_calls_are : AreMade call_entry implicit_calls

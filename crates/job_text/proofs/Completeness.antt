@@ -22,7 +22,7 @@ use Rattle.job_text.specs.Places.{Named, Other, Item, item_text, IsItem, least, 
 use Rattle.job_text.specs.Places.{pair_fits}
 use Rattle.job_text.specs.JobReading.{State, least_job, start, with_number, behind_setting, with_body, with_handler}
 use Rattle.job_text.specs.JobReading.{with_steps, with_script, total_rounds, next, has_index, has_pair, has_thread}
-use Rattle.job_text.specs.JobReading.{rounds_of, is_full, read}
+use Rattle.job_text.specs.JobReading.{rounds_of, is_full, front_with, read}
 use Rattle.job_text.specs.JobText.{Line, spell, setting_line, sieve_line, pair_line, handler_lines, timed_lines}
 use Rattle.job_text.specs.JobText.{script_lines, schedule_lines, head_lines, lines_with_pairs, lines_with_handlers}
 use Rattle.job_text.specs.JobText.{job_lines, job_text, IsHandler, IsNodeScript, AreThreads, IsScheduleOrNone}
@@ -36,7 +36,7 @@ use Rattle.job_text.specs.declared.job.TimedEvent.{TimedEvent}
 use Rattle.job_text.specs.declared.sections.Section.TheVariants as section
 use Rattle.job_text.proofs.Freshness.{AreFresh, AreNew, apart_fresh, fresh_to}
 use Rattle.job_text.proofs.LockLaws.{AreLocks, listed_locks}
-use Rattle.job_text.proofs.LineRuns.{line_again, read_on, over_good}
+use Rattle.job_text.proofs.LineRuns.{line_again, read_on, over_read}
 use Rattle.job_text.proofs.Ranges.{AreNumbers, sum_beside}
 use Rattle.job_text.proofs.StateLaws.{done_line, end_line}
 use Rattle.job_text.proofs.Threads.{threads_new}
@@ -65,6 +65,20 @@ reach_join a b c (x ∷ xs) ys h k = record {
   goes = h.goes;
   behind = reach_join h.to b c xs ys h.behind k;
 }
+
+-- parts, each behind those before it, where the test says of others that they may come behind these
+parts_reach : {A : Type 0} (state : List A → State) (lines : A → List Line) (May : (front rest : List A) → Type 0)
+    → ((front : List A) (part : A) (rest : List A) → May front (part ∷ rest)
+    → Reaches (state front) (lines part) (state (front ++ part ∷ [])) × May (front ++ part ∷ []) rest)
+    → (front rest : List A) → May front rest → Reaches (state front) (flat_map lines rest) (state (front ++ rest))
+parts_reach state lines May one front [] may = ap state (sym (append-nil front))
+parts_reach {A} state lines May one front (part ∷ rest) may =
+    let first = one front part rest may in
+    let others = parts_reach state lines May one (front ++ part ∷ []) rest first.1 in
+    reach_join (state front) (state (front ++ part ∷ [])) (state (front ++ part ∷ rest)) (lines part)
+    (flat_map lines rest) first.0
+    (subst (λ (all : List A). Reaches (state (front ++ part ∷ [])) (flat_map lines rest) (state all))
+    (append_assoc front (part ∷ []) rest) others)
 
 -- they are read so
 pub reach_read : (lines : List Line) (state end : State) (line : ℕ) (more : List ℕ) → Reaches state lines end
@@ -441,32 +455,33 @@ handler_reach h job is new few =
 abbrev pub with_handlers : Job → List HandlerText → Job
 with_handlers job handlers = record job { handlers = handlers }
 
-handlers_reach : (job : Job) (front rest : List HandlerText) → AllByRecursion IsHandler rest → AreFresh
-    (map (λ (x : HandlerText). x.index) front) rest → length (front ++ rest) ≤ 128
-    → Reaches (record { place = AtHandlers; job = with_handlers job front }) (flat_map handler_lines rest)
-    (record { place = AtHandlers; job = with_handlers job (front ++ rest) })
-handlers_reach job front [] all fresh le = ap (λ (hs : List HandlerText). record {
-  place = AtHandlers;
-  job = with_handlers job hs;
-}) (sym (append-nil front))
-handlers_reach job front (h ∷ rest) all fresh le =
+-- handlers of which the first ones stand
+abbrev MayFollow : (front rest : List HandlerText) → Type 0
+MayFollow front rest = AllByRecursion IsHandler rest
+    × AreFresh (map (λ (x : HandlerText). x.index) front) rest × (length (front ++ rest) ≤ 128)
+
+abbrev behind_front : Job → List HandlerText → State
+behind_front job front = record { place = AtHandlers; job = with_handlers job front }
+
+next_handler : (job : Job) (front : List HandlerText) (h : HandlerText) (rest : List HandlerText)
+    → MayFollow front (h ∷ rest)
+    → Reaches (behind_front job front) (handler_lines h) (behind_front job (front ++ h ∷ []))
+    × MayFollow (front ++ h ∷ []) rest
+next_handler job front h rest may =
     let many : length (front ++ h ∷ rest) ≡ length front + suc (length rest) = simp length-append in
-    let one = handler_reach h (with_handlers job front) all.0 (fresh_to front h.index fresh.0) (omega (arith, many)) in
+    let few = may.2 in
+    let one = handler_reach h (with_handlers job front) may.0.0 (fresh_to front h.index may.1.0)
+    (omega (arith, many, few)) in
     let indexes : map (λ (x : HandlerText). x.index) (front ++ h ∷ []) ≡ map (λ (x : HandlerText). x.index) front
     ++ h.index ∷ [] = map-append (λ (x : HandlerText). x.index) front (h ∷ []) in
-    let others = handlers_reach job (front ++ h ∷ []) rest all.1 (subst (λ (t : List ℕ). AreFresh t rest)
-    (sym indexes) fresh.1) (subst (λ (hs : List HandlerText). length hs ≤ 128) (sym
-    (append_assoc front (h ∷ []) rest)) le) in
-    reach_join (record { place = AtHandlers; job = with_handlers job front })
-    (record { place = AtHandlers; job = with_handlers job (front ++ h ∷ []) })
-    (record { place = AtHandlers; job = with_handlers job (front ++ h ∷ rest) }) (handler_lines h)
-    (flat_map handler_lines rest) one
-    (subst (λ (hs : List HandlerText). Reaches (record {
-      place = AtHandlers;
-      job = with_handlers job (front
-          ++ h ∷ []);
-    }) (flat_map handler_lines rest) (record { place = AtHandlers; job = with_handlers job hs }))
-    (append_assoc front (h ∷ []) rest) others)
+    let fresh = subst (λ (t : List ℕ). AreFresh t rest) (sym indexes) may.1.1 in
+    let room = subst (λ (hs : List HandlerText). length hs ≤ 128) (sym (append_assoc front (h ∷ []) rest)) few in
+    (one, (may.0.1, fresh, room))
+
+handlers_reach : (job : Job) (front rest : List HandlerText) → MayFollow front rest
+    → Reaches (behind_front job front) (flat_map handler_lines rest) (behind_front job (front ++ rest))
+handlers_reach job front rest may = parts_reach (behind_front job) handler_lines MayFollow (next_handler job) front rest
+    may
 
 -- what may come behind handlers may come behind pairs
 behind_pairs : (job : Job) (line : Line) (lines : List Line) (end : State) → Reaches
@@ -542,29 +557,27 @@ script_reach s job is nodes threads new =
 abbrev pub with_scripts : Job → List NodeScript → Job
 with_scripts job scripts = record job { scripts = scripts }
 
-scripts_reach : (job : Job) (front rest : List NodeScript) → AllByRecursion
-    (IsNodeScript job.settings.nodes job.settings.threads) rest → job.settings.nodes ≤ 256
-    → job.settings.threads ≤ 16 → AreThreads (front ++ rest)
-    → Reaches (record { place = AtScripts; job = with_scripts job front }) (flat_map script_lines rest)
-    (record { place = AtScripts; job = with_scripts job (front ++ rest) })
-scripts_reach job front [] all nodes threads are = ap (λ (ss : List NodeScript). record {
-  place = AtScripts;
-  job = with_scripts job ss;
-}) (sym (append-nil front))
-scripts_reach job front (s ∷ rest) all nodes threads are =
-    let one = script_reach s (with_scripts job front) all.0 nodes threads (threads_new front rest s are) in
-    let others = scripts_reach job (front ++ s ∷ []) rest all.1 nodes threads (subst AreThreads (sym
-    (append_assoc front (s ∷ []) rest)) are) in
-    reach_join (record { place = AtScripts; job = with_scripts job front })
-    (record { place = AtScripts; job = with_scripts job (front ++ s ∷ []) })
-    (record { place = AtScripts; job = with_scripts job (front ++ s ∷ rest) }) (script_lines s)
-    (flat_map script_lines rest) one
-    (subst (λ (ss : List NodeScript). Reaches (record {
-      place = AtScripts;
-      job = with_scripts job (front
-          ++ s ∷ []);
-    }) (flat_map script_lines rest) (record { place = AtScripts; job = with_scripts job ss }))
-    (append_assoc front (s ∷ []) rest) others)
+-- scripts of which the first ones stand
+abbrev MayGoOn : Job → (front rest : List NodeScript) → Type 0
+MayGoOn job front rest =
+    AllByRecursion (IsNodeScript job.settings.nodes job.settings.threads) rest × AreThreads (front ++ rest)
+
+abbrev behind_scripts_of : Job → List NodeScript → State
+behind_scripts_of job front = record { place = AtScripts; job = with_scripts job front }
+
+next_script : (job : Job) → job.settings.nodes ≤ 256 → job.settings.threads ≤ 16 → (front : List NodeScript)
+    (s : NodeScript) (rest : List NodeScript) → MayGoOn job front (s ∷ rest)
+    → Reaches (behind_scripts_of job front) (script_lines s) (behind_scripts_of job (front ++ s ∷ []))
+    × MayGoOn job (front ++ s ∷ []) rest
+next_script job nodes threads front s rest may =
+    let one = script_reach s (with_scripts job front) may.0.0 nodes threads (threads_new front rest s may.1) in
+    (one, (may.0.1, subst AreThreads (sym (append_assoc front (s ∷ []) rest)) may.1))
+
+scripts_reach : (job : Job) (front rest : List NodeScript) → job.settings.nodes ≤ 256 → job.settings.threads ≤ 16
+    → MayGoOn job front rest
+    → Reaches (behind_scripts_of job front) (flat_map script_lines rest) (behind_scripts_of job (front ++ rest))
+scripts_reach job front rest nodes threads may =
+    parts_reach (behind_scripts_of job) script_lines (MayGoOn job) (next_script job nodes threads) front rest may
 
 -- what may come behind scripts may come behind handlers
 behind_handlers : (job : Job) (line : Line) (lines : List Line) (end : State) → Reaches
@@ -707,12 +720,16 @@ whole_reach job is =
     let first = of_head job job.settings.pairs in
     let last = schedule_lines job.settings job.schedule ++ done_line ∷ [] in
     let over : State = record { place = Over; job = job } in
-    let handlers = handlers_reach first [] job.handlers is.handlers (apart_fresh [] job.handlers is.apart
-    (fresh_all job.handlers)) is.few_handlers in
+    let handlers = handlers_reach first [] job.handlers (
+      is.handlers,
+      apart_fresh [] job.handlers is.apart
+          (fresh_all job.handlers),
+      is.few_handlers,
+    ) in
     let second = with_handlers first job.handlers in
     let handler_part = flat_map handler_lines job.handlers in
     let script_part = flat_map script_lines job.scripts in
-    let scripts = scripts_reach second [] job.scripts is.scripts is.settings.nodes is.settings.threads is.threads in
+    let scripts = scripts_reach second [] job.scripts is.settings.nodes is.settings.threads (is.scripts, is.threads) in
     let tail = tail_reach (with_scripts second job.scripts) job.schedule refl is.schedule in
     let some = some_lines script_part (schedule_lines job.settings job.schedule) done_line in
     let scripted = handlers_then second (script_part ++ last) over some
@@ -730,8 +747,9 @@ whole_reach job is =
     (reach_join start (record { place = AtPairs; job = first }) over (lines_with_pairs job)
     (handler_part ++ (script_part ++ last)) head behind)
 
--- the text of a job is read as that job
-pub job_read : (job : Job) → IsJob job → read start 1 (job_text job) ≡ Ok job
-job_read job is =
-    ap (read start 1) (sym (append-nil (job_text job))) ∙ reach_read (job_lines job) start
-    (record { place = Over; job = job }) 1 [] (whole_reach job is) ∙ over_good job (1 + length (job_lines job))
+-- bytes that begin with the text of a job are read as that job, and those behind it are left
+pub job_read : (job : Job) → IsJob job → (rest : List ℕ) → read start 1 (job_text job ++ rest)
+    ≡ Ok (front_with job (1 + length (job_lines job)) rest)
+job_read job is rest =
+    reach_read (job_lines job) start (record { place = Over; job = job }) 1 rest (whole_reach job is)
+    ∙ over_read job (1 + length (job_lines job)) rest

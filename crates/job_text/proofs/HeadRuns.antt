@@ -7,15 +7,15 @@ use Rattle.job_text.specs.Lines as options
 use Rattle.job_text.specs.Forms.{none_at, named_at, passed}
 use Rattle.job_text.specs.Places.{Setting, Version, Nodes, Credits, Threads, Segment, Last, Resend, Patience}
 use Rattle.job_text.specs.Places as places
-use Rattle.job_text.specs.Places.{AtSetting, AtSieve, AtPairs, setting_name, least, greatest, setting_fits}
+use Rattle.job_text.specs.Places.{AtSetting, AtSieve, AtPairs, setting_fits}
 use Rattle.job_text.specs.Places.{setting_row, item_form}
-use Rattle.job_text.specs.JobReading.{BadLine, start, least_job, line_at, with_number, behind_setting, read}
-use Rattle.job_text.specs.HeadReading.{◌>>=◌, told, number_line, fitting_line, number_why, number_from, setting_from}
+use Rattle.job_text.specs.JobReading.{BadLine, Front, start, least_job, line_at, with_number, behind_setting, read}
+use Rattle.job_text.specs.HeadReading.{◌>>=◌, told, number_line, fitting_line, number_why, number_from, setting_form}
 use Rattle.job_text.specs.HeadReading.{sieve_line, sieve_why, head_at}
 use Rattle.job_text.specs.declared.job.Job.{Job}
 use Rattle.job_text.specs.declared.job.SieveRule.{SieveRule}
 use Rattle.job_text.proofs.Fronts.{cond_yes, cond_no}
-use Rattle.job_text.proofs.LineRuns.{read_on, setting_bad, sieve_bad}
+use Rattle.job_text.proofs.LineRuns.{read_on, line_bad}
 
 -- what passes a test before the end of the line passes it behind it
 yes : {A : Type 0} (test : A → Bool) (a : A) (o : Option (List ℕ)) → test a ≡ true → ◌≡◌ {A = Option (A × List ℕ)}
@@ -50,7 +50,7 @@ tested_of test (Some x) = tested_by test x (test x.0) refl
 
 -- the line of a setting
 tested : (setting : Setting) (settings : Parameters) (bytes : List ℕ) → line_at (AtSetting setting) settings bytes
-    ≡ fitting_line (setting_name setting) (least setting) (greatest setting) (setting_fits setting settings) bytes
+    ≡ fitting_line (setting_form setting settings) bytes
 unfolding fitting_line number_line
 tested setting settings bytes = tested_of (setting_fits setting settings) (named_at none_at
     (setting_row setting ∷ []) (front bytes) (back bytes))
@@ -58,13 +58,13 @@ tested setting settings bytes = tested_of (setting_fits setting settings) (named
 -- a line is read by its setting, and the others from there on
 abbrev pub StepsOn : Setting → Job → (line : ℕ) → List ℕ → Type 0
 StepsOn setting job line bytes = read (record { place = AtSetting setting; job = job }) line bytes
-    ≡ (setting_from setting job.settings line bytes >>= λ x. read
+    ≡ (number_from (setting_form setting job.settings) line bytes >>= λ x. read
     (record { place = behind_setting setting; job = with_number setting x.0 job }) (line + 1) x.1)
 
 steps_by : (setting : Setting) (job : Job) (line : ℕ) (bytes : List ℕ) (o : Option (ℕ × List ℕ)) → line_at
     (AtSetting setting) job.settings bytes ≡ o → StepsOn setting job line bytes
 unfolding number_from number_why
-steps_by setting job line bytes None e = setting_bad setting job line bytes e ∙ rw
+steps_by setting job line bytes None e = line_bad (AtSetting setting) tt job line bytes e ∙ rw
     (sym (tested setting job.settings bytes) ∙ e) refl
 steps_by setting job line bytes (Some x) e =
     read_on (AtSetting setting) job line bytes x.1 x.0 (record {
@@ -83,7 +83,7 @@ sieve_by : (job : Job) (line : ℕ) (bytes : List ℕ) (o : Option (SieveRule ×
     (told line (sieve_why bytes) (sieve_line bytes) >>= λ x. read
     (record { place = AtPairs; job = record job { sieve = x.0 } }) (line + 1) x.1)
 unfolding sieve_line sieve_why
-sieve_by job line bytes None e = sieve_bad job line bytes e ∙ rw e refl
+sieve_by job line bytes None e = line_bad AtSieve tt job line bytes e ∙ rw e refl
 sieve_by job line bytes (Some x) e = read_on AtSieve job line bytes x.1 x.0
     (record { place = AtPairs; job = record job { sieve = x.0 } }) e refl ∙ rw e refl
 
@@ -94,7 +94,7 @@ then_on (Ok x) f k g h = h x
 then_on (Err e) f k g h = refl
 
 -- the pairs come behind the head
-abbrev pub pairs_on : Job × List ℕ → Result Job BadLine
+abbrev pub pairs_on : Job × List ℕ → Result Front BadLine
 pairs_on x = read (record { place = AtPairs; job = x.0 }) 11 x.1
 
 pub head_reads : (bytes : List ℕ) → read start 1 bytes ≡ (head_at bytes >>= pairs_on)

@@ -1,14 +1,15 @@
 -- A job, as it is read.
-use Rattle.std.proofs.Common.{◌≡◌, ℕ, ◌<◌, ◌≤◌, List, length, Result, Err, ap, ◌∙◌}
+use Rattle.std.proofs.Common.{◌≡◌, ℕ, ◌-◌, ◌<◌, ◌≤◌, List, length, Result, Ok, Err, true, false, eqb, refl, ap}
 use Rattle.std.proofs.lemmas.Bool.{lt-ltb, le-ltb}
-use Rattle.job_text.specs.JobReading.{BadLine, start, limit, read, job_of}
-use Rattle.job_text.specs.HeadReading.{◌>>=◌, head_at}
+use Rattle.job_text.specs.JobReading.{BadLine, Front, start, limit, front_with, of_front, alone, sized, read, job_of}
+use Rattle.job_text.specs.JobReading.{front_of}
+use Rattle.job_text.specs.HeadReading.{◌>>=◌}
 use Rattle.job_text.specs.Reading.{FailsAt}
 use Rattle.job_text.specs.declared.fault.JobFault.{JobFault}
 use Rattle.job_text.specs.declared.fault.JobFault.TheVariants as faults
-use Rattle.job_text.specs.declared.fault.JobWhy.TheVariants.{Size}
+use Rattle.job_text.specs.declared.fault.JobWhy.TheVariants.{Size, After}
+use Rattle.job_text.specs.declared.job.Job.{Job}
 use Rattle.job_text.proofs.Fronts.{cond_yes, cond_no}
-use Rattle.job_text.proofs.HeadRuns.{head_reads, pairs_on}
 
 -- too many bytes
 pub too_long : (bytes : List ℕ) → limit < length bytes → job_of bytes ≡ Err (record { line = 0; why = Size })
@@ -16,15 +17,40 @@ unfolding job_of
 too_long bytes lt = cond_yes _ _ _ (lt-ltb limit (length bytes) lt)
 
 -- not too many
-pub job_reads : (bytes : List ℕ) → length bytes ≤ limit → job_of bytes ≡ read start 1 bytes
+pub job_reads : (bytes : List ℕ) → length bytes ≤ limit → job_of bytes ≡ of_front alone (read start 1 bytes)
 unfolding job_of
 job_reads bytes le = cond_no _ _ _ (le-ltb limit (length bytes) le)
-
-pub job_heads : (bytes : List ℕ) → length bytes ≤ limit → job_of bytes ≡ (head_at bytes >>= pairs_on)
-job_heads bytes le = job_reads bytes le ∙ head_reads bytes
 
 -- what fails in its first part fails
 pub fails_on : {A B : Type 0} (e : JobFault) (r : Result A BadLine) (k : A → Result B BadLine) → FailsAt e r
     → FailsAt e (r >>= k)
 fails_on faults.NoMemory r k h = tt
 fails_on {A} {B} (faults.Bad line why) r k h = ap (λ (x : Result A BadLine). ◌>>=◌ {B = B} x k) h
+
+-- what fails at the front fails
+pub front_fails : {A : Type 0} (e : JobFault) (make : Front → Result A BadLine) (r : Result Front BadLine) → FailsAt e r
+    → FailsAt e (of_front make r)
+front_fails faults.NoMemory make r h = tt
+front_fails (faults.Bad line why) make r h = ap (of_front make) h
+
+-- a job alone, and one with bytes behind it
+pub is_alone : (job : Job) (line : ℕ) (rest : List ℕ) → eqb (length rest) 0 ≡ true → alone (front_with job line rest)
+    ≡ Ok job
+is_alone job line rest e = cond_yes _ _ _ e
+
+pub not_alone : (job : Job) (line : ℕ) (rest : List ℕ) → eqb (length rest) 0 ≡ false
+    → alone (front_with job line rest) ≡ Err (record { line = line; why = After })
+not_alone job line rest e = cond_no _ _ _ e
+
+-- a job of a size, and one that is too long
+pub front_reads : (bytes : List ℕ) → front_of bytes ≡ of_front (sized (length bytes)) (read start 1 bytes)
+unfolding front_of
+front_reads bytes = refl
+
+pub is_sized : (job : Job) (line count : ℕ) (rest : List ℕ) → count - length rest ≤ limit
+    → sized count (front_with job line rest) ≡ Ok (job, count - length rest)
+is_sized job line count rest le = cond_no _ _ _ (le-ltb limit (count - length rest) le)
+
+pub not_sized : (job : Job) (line count : ℕ) (rest : List ℕ) → limit < count - length rest
+    → sized count (front_with job line rest) ≡ Err (record { line = 0; why = Size })
+not_sized job line count rest lt = cond_yes _ _ _ (lt-ltb limit (count - length rest) lt)

@@ -1,17 +1,18 @@
 -- A text, line by line.
-use Rattle.std.proofs.Common.{◌≡◌, ℕ, ◌+◌, List, [], ◌∷◌, ◌++◌, Some, None, Result, Ok, Err, Bool, length, arith}
+use Rattle.std.proofs.Common.{◌≡◌, ◌⊎◌, inl, inr, ℕ, ◌+◌, List, [], ◌∷◌, ◌++◌, Option, Some, None, Ok, Err}
 use Rattle.std.proofs.Common.{refl, ap, sym, ◌∙◌}
 use Rattle.datagram_grammar.specs.Parameters.{Parameters}
 use Rattle.job_text.specs.Reasons.{reason}
-use Rattle.job_text.specs.Places.{Setting, Place, AtSetting, AtSieve, AtPairs, AtHandlers, AtBody, AtScripts, AtSteps}
+use Rattle.job_text.specs.HeadReading.{told}
+use Rattle.job_text.specs.Places.{Place, AtSetting, AtSieve, AtPairs, AtHandlers, AtBody, AtScripts, AtSteps}
 use Rattle.job_text.specs.Places.{AtSchedule, AtDone, Over, Item, item_form, item_text, IsItem}
-use Rattle.job_text.specs.JobReading.{State, BadLine, line_at, why_at, next, step, from_later_lines, from_lines}
-use Rattle.job_text.specs.JobReading.{over_or, run, read}
+use Rattle.job_text.specs.JobReading.{State, BadLine, front_with, line_at, next, step, from_later_lines}
+use Rattle.job_text.specs.JobReading.{from_lines, over_or, run, read}
+use Rattle.job_text.specs.Reading.{FailsAt}
+use Rattle.job_text.specs.declared.fault.JobFault.{JobFault}
+use Rattle.job_text.specs.declared.fault.JobFault.TheVariants as faults
 use Rattle.job_text.specs.declared.fault.JobWhy.{JobWhy}
-use Rattle.job_text.specs.declared.fault.JobWhy.TheVariants.{Early, After}
-use Rattle.job_text.specs.declared.job.HandlerText.{HandlerText}
 use Rattle.job_text.specs.declared.job.Job.{Job}
-use Rattle.job_text.specs.declared.job.NodeScript.{NodeScript}
 use Rattle.job_text.proofs.Fronts.{cond_no}
 use Rattle.job_text.proofs.Takes.{Takes, takes_some, takes_then}
 use Rattle.job_text.proofs.FormLaws.{IsFlat, ended_takes}
@@ -63,28 +64,67 @@ lines_after place settings bytes x h =
     ap from_lines t.0 ∙ first_line (item_text place settings x.0) x.1 ((place_exact place settings).flat x.0 t.1)
     ∙ ap (λ (b : List ℕ). b ∷ from_lines x.1) (sym t.0)
 
+-- ---- places at which lines go on
+
+abbrev pub IsOpen : Place → Type 0
+IsOpen Over = ⊥
+IsOpen place = Unit {0}
+
+pub goes_on : {A : Type 0} (place : Place) (over other : A) → IsOpen place → over_or place over other ≡ other
+goes_on (AtSetting setting) over other open_ = refl
+goes_on AtSieve over other open_ = refl
+goes_on AtPairs over other open_ = refl
+goes_on AtHandlers over other open_ = refl
+goes_on (AtBody handler) over other open_ = refl
+goes_on AtScripts over other open_ = refl
+goes_on (AtSteps script) over other open_ = refl
+goes_on AtSchedule over other open_ = refl
+goes_on AtDone over other open_ = refl
+goes_on Over over other open_ = absurd open_
+
+-- a line stands there
+pub open_of : (place : Place) → Item place → IsOpen place
+open_of (AtSetting setting) item = tt
+open_of AtSieve item = tt
+open_of AtPairs item = tt
+open_of AtHandlers item = tt
+open_of (AtBody handler) item = tt
+open_of AtScripts item = tt
+open_of (AtSteps script) item = tt
+open_of AtSchedule item = tt
+open_of AtDone item = tt
+open_of Over item = absurd item
+
+-- they go on, or the text is over
+pub open_or_over : (place : Place) → IsOpen place ⊎ (place ≡ Over)
+open_or_over (AtSetting setting) = inl tt
+open_or_over AtSieve = inl tt
+open_or_over AtPairs = inl tt
+open_or_over AtHandlers = inl tt
+open_or_over (AtBody handler) = inl tt
+open_or_over AtScripts = inl tt
+open_or_over (AtSteps script) = inl tt
+open_or_over AtSchedule = inl tt
+open_or_over AtDone = inl tt
+open_or_over Over = inr refl
+
+-- ---- a line
+
 -- a line was read, and there is room for it
 pub read_on : (place : Place) (job : Job) (line : ℕ) (bytes rest : List ℕ) (item : Item place) (state : State)
     → line_at place job.settings bytes ≡ Some (item, rest) → next place job item ≡ Ok state → read
     (record { place = place; job = job }) line bytes ≡ read state (line + 1) rest
 unfolding read run step
-read_on place job line bytes rest item state h n = rw (lines_after place job.settings bytes (item, rest) h, h, n) refl
+read_on place job line bytes rest item state h n =
+    rw (lines_after place job.settings bytes (item, rest) h) (goes_on place _ _ (open_of place item) ∙ rw (h, n) refl)
 
 -- a line was read, and it may not stand there
 pub read_full : (place : Place) (job : Job) (line : ℕ) (bytes rest : List ℕ) (item : Item place) (why : JobWhy)
     → line_at place job.settings bytes ≡ Some (item, rest) → next place job item ≡ Err why → read
     (record { place = place; job = job }) line bytes ≡ Err (record { line = line; why = why })
 unfolding read run step
-read_full place job line bytes rest item why h n = rw (lines_after place job.settings bytes (item, rest) h, h, n) refl
-
--- a line isn't read, by its place
-bad_at : (place : Place) (job : Job) (line : ℕ) (bytes : List ℕ) (why : JobWhy) → line_at place job.settings bytes
-    ≡ None → why_at place job.settings bytes ≡ why → (bytes ≡ [] → over_or place job
-    (record { line = line; why = Early }) ≡ Err (record { line = line; why = why })) → read
-    (record { place = place; job = job }) line bytes ≡ Err (record { line = line; why = why })
-unfolding read run step from_lines
-bad_at place job line [] why h w e = e refl
-bad_at place job line (b ∷ bytes) why h w e = rw (h, w) refl
+read_full place job line bytes rest item why h n =
+    rw (lines_after place job.settings bytes (item, rest) h) (goes_on place _ _ (open_of place item) ∙ rw (h, n) refl)
 
 -- a line isn't read
 abbrev pub Refuses : Place → Type 0
@@ -92,71 +132,36 @@ Refuses place = (job : Job) (line : ℕ) (bytes : List ℕ) → line_at place jo
     → read (record { place = place; job = job }) line bytes ≡ Err
     (record { line = line; why = reason (item_form place job.settings) bytes })
 
-empty_early : (form : List ℕ → Bool) (bytes : List ℕ) → bytes ≡ [] → reason form bytes ≡ Early
-empty_early form [] e = refl
-empty_early form (b ∷ bytes) e = absurd (cc)
+pub line_bad : (place : Place) → IsOpen place → Refuses place
+unfolding read run step from_lines
+line_bad place open_ job line [] h = goes_on place _ _ open_
+line_bad place open_ job line (b ∷ bytes) h = goes_on place _ _ open_ ∙ rw h refl
 
-bad_by : (job : Job) (line : ℕ) (form : List ℕ → Bool) (bytes : List ℕ) → bytes ≡ [] → ◌≡◌ {A = Result Job BadLine}
-    (Err (record { line = line; why = Early })) (Err (record { line = line; why = reason form bytes }))
-bad_by job line form bytes e = ap (λ (w : JobWhy). Err (record { line = line; why = w })) (sym
-    (empty_early form bytes e))
-
-pub setting_bad : (setting : Setting) → Refuses (AtSetting setting)
-setting_bad setting job line bytes h = bad_at (AtSetting setting) job line bytes (reason
-    (item_form (AtSetting setting) job.settings) bytes) h refl (bad_by job line
-    (item_form (AtSetting setting) job.settings) bytes)
-
-pub sieve_bad : Refuses AtSieve
-sieve_bad job line bytes h = bad_at AtSieve job line bytes (reason (item_form AtSieve job.settings) bytes) h refl
-    (bad_by job line (item_form AtSieve job.settings) bytes)
-
-pub pairs_bad : Refuses AtPairs
-pairs_bad job line bytes h = bad_at AtPairs job line bytes (reason (item_form AtPairs job.settings) bytes) h refl
-    (bad_by job line (item_form AtPairs job.settings) bytes)
-
-pub handlers_bad : Refuses AtHandlers
-handlers_bad job line bytes h = bad_at AtHandlers job line bytes (reason
-    (item_form AtHandlers job.settings) bytes) h refl (bad_by job line (item_form AtHandlers job.settings) bytes)
-
-pub body_bad : (handler : HandlerText) → Refuses (AtBody handler)
-body_bad handler job line bytes h = bad_at (AtBody handler) job line bytes (reason
-    (item_form (AtBody handler) job.settings) bytes) h refl (bad_by job line (item_form
-    (AtBody handler) job.settings) bytes)
-
-pub scripts_bad : Refuses AtScripts
-scripts_bad job line bytes h = bad_at AtScripts job line bytes (reason
-    (item_form AtScripts job.settings) bytes) h refl (bad_by job line (item_form AtScripts job.settings) bytes)
-
-pub steps_bad : (script : NodeScript) → Refuses (AtSteps script)
-steps_bad script job line bytes h = bad_at (AtSteps script) job line bytes (reason
-    (item_form (AtSteps script) job.settings) bytes) h refl (bad_by job line (item_form
-    (AtSteps script) job.settings) bytes)
-
-pub schedule_bad : Refuses AtSchedule
-schedule_bad job line bytes h = bad_at AtSchedule job line bytes (reason
-    (item_form AtSchedule job.settings) bytes) h refl (bad_by job line (item_form AtSchedule job.settings) bytes)
-
-pub done_bad : Refuses AtDone
-done_bad job line bytes h = bad_at AtDone job line bytes (reason (item_form AtDone job.settings) bytes) h refl
-    (bad_by job line (item_form AtDone job.settings) bytes)
-
--- a byte stands behind the last line
-pub over_bad : (job : Job) (line : ℕ) (b : ℕ) (bytes : List ℕ) (why : JobWhy) → why_at Over job.settings (b ∷ bytes)
-    ≡ why → read (record { place = Over; job = job }) line (b ∷ bytes) ≡ Err (record { line = line; why = why })
-over_bad job line b bytes why w = bad_at Over job line (b ∷ bytes) why refl w (λ e. absurd (cc))
-
--- none does
-pub over_good : (job : Job) (line : ℕ) → read (record { place = Over; job = job }) line [] ≡ Ok job
+-- no line is to come
+pub over_read : (job : Job) (line : ℕ) (bytes : List ℕ) → read (record { place = Over; job = job }) line bytes ≡ Ok
+    (front_with job line bytes)
 unfolding read run from_lines
-over_good job line = refl
+over_read job line [] = refl
+over_read job line (b ∷ bytes) = refl
 
--- the same by the number of bytes
-pub whole_good : (job : Job) (line : ℕ) (bytes : List ℕ) → length bytes ≡ 0 → read
-    (record { place = Over; job = job }) line bytes ≡ Ok job
-whole_good job line [] e = over_good job line
-whole_good job line (b ∷ bytes) e = absurd (omega arith)
+-- ---- what is told of a line
 
-pub whole_bad : (job : Job) (line : ℕ) (bytes : List ℕ) → (length bytes ≡ 0 → ⊥) → read
-    (record { place = Over; job = job }) line bytes ≡ Err (record { line = line; why = After })
-whole_bad job line [] e = absurd (e refl)
-whole_bad job line (b ∷ bytes) e = over_bad job line b bytes After refl
+pub told_ok : {A : Type 0} (line : ℕ) (why : JobWhy) (found : Option A) (x : A) → told line why found ≡ Ok x → found
+    ≡ Some x
+told_ok line why None x h = absurd (cc)
+told_ok line why (Some y) x h = cc
+
+told_err : {A : Type 0} (line : ℕ) (why : JobWhy) (found : Option A) (bad : BadLine) → told line why found ≡ Err bad →
+    (found ≡ None) × (record { line = line; why = why } ≡ bad)
+told_err line why None bad h = (refl, cc)
+told_err line why (Some y) bad h = absurd (cc)
+
+-- a line that fails is the first bad one
+pub line_fails : (place : Place) (open_ : IsOpen place) (job : Job) (line : ℕ) (bytes : List ℕ) (fault : JobFault)
+    → FailsAt fault (told line (reason (item_form place job.settings) bytes) (line_at place job.settings bytes))
+    → FailsAt fault (read (record { place = place; job = job }) line bytes)
+line_fails place open_ job line bytes faults.NoMemory h = tt
+line_fails place open_ job line bytes (faults.Bad at why) h =
+    let bad = told_err line (reason (item_form place job.settings) bytes) (line_at place job.settings bytes)
+    (record { line = at; why = why }) h in
+    line_bad place open_ job line bytes bad.0 ∙ ap (λ (b : BadLine). Err b) bad.1

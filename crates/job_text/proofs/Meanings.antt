@@ -1,23 +1,24 @@
 -- What a refusal means.
-use Rattle.std.proofs.Common.{◌≡◌, inl, inr, ℕ, zero, suc, ◌+◌, ◌-◌, ◌⊎◌, List, [], ◌∷◌, ◌++◌, length, Option, Some}
-use Rattle.std.proofs.Common.{None, Result, Ok, Err, Bool, eqb, cond, not, ◌&&◌, ltb, leb, false, true, refl, sym, ap}
-use Rattle.std.proofs.Common.{subst, ◌∙◌, arith, append_assoc}
+use Rattle.std.proofs.Common.{◌≡◌, inl, inr, ℕ, zero, suc, ◌+◌, ◌-◌, ◌≤◌, ◌⊎◌, List, [], ◌∷◌, ◌++◌, length, Option}
+use Rattle.std.proofs.Common.{Some, None, Result, Ok, Err, Bool, eqb, cond, not, ◌&&◌, ltb, leb, false, true, refl}
+use Rattle.std.proofs.Common.{sym, ap, subst, ◌∙◌, arith, append_assoc, append-nil, length-append}
 use Rattle.std.proofs.lemmas.Bool.{eqb-true, eqb-false, leb-true, ltb-true, le-ltb, ne_eqb, and_parts}
 use Rattle.std.specs.Prelude.{IfOk, IfErr}
+use Rattle.datagram_grammar.specs.declared.pairs.PairCredits.{PairCredits}
 use Rattle.job_text.specs.Reasons.{is_text, is_plain, goes_on_as_text, reason}
 use Rattle.job_text.specs.Places.{Place, AtSetting, AtSieve, AtPairs, AtHandlers, AtBody, AtScripts, AtSteps}
 use Rattle.job_text.specs.Places.{AtSchedule, AtDone, Over}
 use Rattle.job_text.specs.Places.{NamedOr, Named, Other, Item, item_text, item_form}
-use Rattle.job_text.specs.JobReading.{State, BadLine, start, limit, line_at, why_at, next, onward, stepped, step}
-use Rattle.job_text.specs.JobReading.{over_or, unless, opened, headed, has_index, has_pair, has_thread, handler_why}
-use Rattle.job_text.specs.JobReading.{script_why, pair_why, action_why, step_why, line_why, is_full, total_rounds, lines_of, read, job_of}
-use Rattle.job_text.specs.JobText.{spell, job_text, IsJob, JobText}
+use Rattle.job_text.specs.JobReading.{State, BadLine, Front, start, limit, line_at, why_at, next, onward, stepped}
+use Rattle.job_text.specs.JobReading.{step, unless, opened, headed, paired, has_index, has_pair, has_thread}
+use Rattle.job_text.specs.JobReading.{handler_why, section_why, pair_why, action_why, step_why, line_why, is_full}
+use Rattle.job_text.specs.JobReading.{total_rounds, lines_of, front_with, of_front, alone, sized, read, job_of}
+use Rattle.job_text.specs.JobReading.{front_of}
+use Rattle.job_text.specs.JobText.{spell, job_lines, job_text, IsJob, JobText, BeginsWith}
 use Rattle.job_text.specs.Reading.{GivesAt}
 use Rattle.job_text.specs.Refusals.{first_lines, after_lines, IsNoFront, EndsEarly, HasNoText, IsWrong, Means}
-use Rattle.job_text.specs.Refusals.{Says, IsTaken, IsFull, IsAtFault}
-use Rattle.datagram_grammar.specs.declared.pairs.PairCredits.{PairCredits}
-use Rattle.job_text.specs.JobReading.{paired}
-use Rattle.job_text.specs.Refusals.{IsMeant, IsNoMemory}
+use Rattle.job_text.specs.Refusals.{Says, IsTaken, IsFull, IsAtFault, IsMeant, IsNoMemory, IsTooLong, FrontMeans}
+use Rattle.job_text.specs.Refusals.{IsFrontMeant}
 use Rattle.job_text.specs.declared.fault.JobFault.{JobFault}
 use Rattle.job_text.specs.declared.fault.JobFault.TheVariants as faults
 use Rattle.job_text.specs.declared.fault.JobWhy.{JobWhy}
@@ -29,11 +30,13 @@ use Rattle.job_text.specs.declared.sections.Section.{Section}
 use Rattle.job_text.specs.declared.sections.Section.TheVariants as section
 use Rattle.job_text.proofs.Fronts.{cond_yes, cond_no}
 use Rattle.job_text.proofs.FormLaws.{IsFlat}
+use Rattle.job_text.proofs.JobRuns.{is_sized}
 use Rattle.job_text.proofs.PlaceLaws.{place_exact}
-use Rattle.job_text.proofs.LineRuns.{line_takes, line_again, read_on, whole_bad}
+use Rattle.job_text.proofs.LineRuns.{IsOpen, line_takes, line_again, read_on, over_read}
 use Rattle.job_text.proofs.States.{IsState}
-use Rattle.job_text.proofs.Walks.{step_of, step_keeps, Walks, EndsAs, Ends, Fails, read_outcome}
-use Rattle.job_text.proofs.Refusing.{first_flat, first_none, first_spelled, after_spelled, IsWalk, walk_of, front_of}
+use Rattle.job_text.proofs.Walks.{step_of, step_keeps, Walks, EndsAs, Ends, Fails, IsOver, read_outcome}
+use Rattle.job_text.proofs.Refusing.{first_flat, first_none, first_spelled, after_spelled, IsWalk, walk_of, walk_front}
+use Rattle.job_text.proofs.Refusing.{front_same, read_text, rest_size}
 use Rattle.job_text.proofs.Completeness.{job_read}
 
 -- ---- a walk is read
@@ -57,7 +60,6 @@ pub record IsWhole (rest : List ℕ) : Type 0 where
   pub text : rest ≡ line ++ 10 ∷ more
 
 pub data Kind (place : Place) (job : Job) (rest : List ℕ) (why : JobWhy) : Type 0 where
-  IsAfter : place ≡ Over → why ≡ After → Kind place job rest why
   IsText : is_text rest ≡ false → why ≡ Text → Kind place job rest why
   IsLine : IsWhole rest → (why ≡ Form) ⊎ ((why ≡ BadValue) ⊎ ((why ≡ Entry) ⊎ (why ≡ Count)))
       → IsAtFault why place job rest → Kind place job rest why
@@ -118,20 +120,6 @@ reason_kind place job (b ∷ rest) why some none h =
     reason_by place job (item_form place job.settings (b ∷ rest)) (is_text (b ∷ rest)) b rest why refl refl none
     (sym (cond_no (eqb (length (b ∷ rest)) 0) Early _ (ne_eqb (length (b ∷ rest)) 0 (λ e. omega arith))) ∙ h)
 
--- the reason of a line that has words, by its place
-why_kind : (place : Place) (job : Job) (rest : List ℕ) (why : JobWhy) → (rest ≡ [] → ⊥)
-    → line_at place job.settings rest ≡ None → why_at place job.settings rest ≡ why → Kind place job rest why
-why_kind (AtSetting setting) job rest why some none h = reason_kind (AtSetting setting) job rest why some none h
-why_kind AtSieve job rest why some none h = reason_kind AtSieve job rest why some none h
-why_kind AtPairs job rest why some none h = reason_kind AtPairs job rest why some none h
-why_kind AtHandlers job rest why some none h = reason_kind AtHandlers job rest why some none h
-why_kind (AtBody handler) job rest why some none h = reason_kind (AtBody handler) job rest why some none h
-why_kind AtScripts job rest why some none h = reason_kind AtScripts job rest why some none h
-why_kind (AtSteps script) job rest why some none h = reason_kind (AtSteps script) job rest why some none h
-why_kind AtSchedule job rest why some none h = reason_kind AtSchedule job rest why some none h
-why_kind AtDone job rest why some none h = reason_kind AtDone job rest why some none h
-why_kind Over job rest why some none h = IsAfter refl (sym h)
-
 -- a line that may not stand there
 abbrev pub IsCounted : (place : Place) → Job → Item place → JobWhy → Type 0
 IsCounted place job item why = ((why ≡ Entry) × IsTaken place job item) ⊎ ((why ≡ Count) × IsFull place job item)
@@ -161,7 +149,8 @@ entry_by false why h = absurd (cc)
 
 opened_kind : (job : Job) (s : Section) (why : JobWhy) → opened job s ≡ Err why → IsCounted AtScripts job s why
 opened_kind job (section.Script node thread) why h =
-    inl (entry_by (has_thread job.scripts node thread) why (unless_err (script_why job.scripts node thread) _ why h))
+    inl (entry_by (has_thread job.scripts node thread) why
+    (unless_err (section_why job.scripts (section.Script node thread)) _ why h))
 opened_kind job section.Schedule why h = absurd (cc)
 opened_kind job section.Done why h = absurd (cc)
 
@@ -225,7 +214,7 @@ kind_by : (state : State) (rest : List ℕ) (why : JobWhy) (o : Option (Item sta
     → line_at state.place state.job.settings rest ≡ o → (rest ≡ [] → ⊥)
     → stepped state.place state.job (why_at state.place state.job.settings rest) o ≡ Err why
     → Kind state.place state.job rest why
-kind_by state rest why None e some h = why_kind state.place state.job rest why some e (cc)
+kind_by state rest why None e some h = reason_kind state.place state.job rest why some e (cc)
 kind_by state rest why (Some y) e some h =
     let said = (line_takes state.place state.job.settings rest).so y e in
     let whole : IsWhole rest = record {
@@ -247,13 +236,15 @@ fail_kind state rest why some h = kind_by state rest why (line_at state.place st
 err_ok : {A B : Type 0} {a : A} {b : B} {r : Result A B} → r ≡ Err b → r ≡ Ok a → ⊥
 err_ok h k = cc
 
--- a text that is read has a first step
-step_some : (count : ℕ) (state : State) (line : ℕ) (bytes : List ℕ) (end : State) (rest : List ℕ) (job : Job)
-    (result : Result Job BadLine) → Walks count state bytes end rest → EndsAs end rest line result → result ≡ Ok job
-    → (bytes ≡ [] → ⊥) → (to : State × List ℕ) × (step state bytes ≡ Ok to)
-step_some zero state line bytes end rest job result w (Ends e r) h some = absurd (some (w.1 ∙ e))
-step_some zero state line bytes end rest job result w (Fails why s f r) h some = absurd (err_ok r h)
-step_some (suc count) state line bytes end rest job result w ends h some = ((w.to, w.rest), w.is)
+-- what is read of lines that go on has a first step
+step_some : (count : ℕ) (state : State) (line : ℕ) (bytes : List ℕ) (end : State) (rest : List ℕ) (front : Front)
+    (result : Result Front BadLine) → IsOpen state.place → Walks count state bytes end rest
+    → EndsAs end rest line result → result ≡ Ok front → (to : State × List ℕ) × (step state bytes ≡ Ok to)
+step_some zero state line bytes end rest front result open_ w (Ends o e r) h = absurd (err_ok r h)
+step_some zero state line bytes end rest front result open_ w (Fails why o s f r) h = absurd (err_ok r h)
+step_some zero state line bytes end rest front result open_ w (IsOver over r) h =
+    absurd (subst IsOpen (ap (λ (s : State). s.place) w.0 ∙ over) open_)
+step_some (suc count) state line bytes end rest front result open_ w ends h = ((w.to, w.rest), w.is)
 
 -- lines that end at the same place
 flat_same : (a b x y : List ℕ) → IsFlat a → IsFlat b → a ++ 10 ∷ x ≡ b ++ 10 ∷ y → a ≡ b
@@ -271,19 +262,15 @@ flat_same (c ∷ a) (d ∷ b) x y h k e = cons_same c d a b (cc) (flat_same a b 
     cons_same : (c d : ℕ) (a b : List ℕ) → c ≡ d → a ≡ b → ◌≡◌ {A = List ℕ} (c ∷ a) (d ∷ b)
     cons_same c d a b p q = cc
 
-some_bytes : (line more : List ℕ) → line ++ 10 ∷ more ≡ [] → ⊥
-some_bytes [] more h = cc
-some_bytes (b ∷ line) more h = cc
-
 -- a whole line that isn't read
 wrong_line : (state : State) (number : ℕ) (rest : List ℕ) (why : JobWhy) (w : IsWhole rest) (more : List ℕ)
-    (job : Job) → IsState state.place state.job → step state rest ≡ Err why → read state number (w.line ++ 10 ∷ more)
-    ≡ Ok job → ⊥
-wrong_line state number rest why w more job is f h =
+    (front : Front) → IsOpen state.place → IsState state.place state.job → step state rest ≡ Err why
+    → read state number (w.line ++ 10 ∷ more) ≡ Ok front → ⊥
+wrong_line state number rest why w more front open_ is f h =
     let bytes = w.line ++ 10 ∷ more in
     let o = read_outcome state number bytes in
-    let s = step_some o.count state (number + o.count) bytes o.end o.rest job
-    (read state number bytes) o.walks o.ends h (some_bytes w.line more) in
+    let s = step_some o.count state (number + o.count) bytes o.end o.rest front
+    (read state number bytes) open_ o.walks o.ends h in
     let one = step_keeps state bytes s.0.0 s.0.1 is (step_of state bytes s.0 s.1) in
     let same : w.line ≡ one.line = flat_same w.line one.line more s.0.1 w.flat one.flat one.text in
     err_ok f (ap (step state) (w.text ∙ ap (λ (l : List ℕ). l ++ 10 ∷ w.more) same) ∙ one.again w.more)
@@ -293,11 +280,12 @@ first_some [] some h = some refl
 first_some (b ∷ rest) some h = absurd (omega arith)
 
 -- a byte behind the end
-wrong_byte : (state : State) (number : ℕ) (bytes : List ℕ) (job : Job) → state.place ≡ Over → (length bytes ≡ 0 → ⊥)
-    → read state number bytes ≡ Ok job → ⊥
-wrong_byte state number bytes job over some h =
-    err_ok (ap (λ (p : Place). read (record { place = p; job = state.job }) number bytes) over
-    ∙ whole_bad state.job number bytes some) h
+wrong_byte : (state : State) (number : ℕ) (bytes : List ℕ) (job : Job) (line : ℕ) → state.place ≡ Over
+    → (length bytes ≡ 0 → ⊥) → read state number bytes ≡ Ok (front_with job line []) → ⊥
+wrong_byte state number bytes job line over some h =
+    some (ap (λ (f : Front). length f.rest) (front_same (sym (ap
+    (λ (p : Place). read (record { place = p; job = state.job }) number bytes) over
+    ∙ over_read state.job number bytes) ∙ h)))
 
 front_first : (count : ℕ) (bytes : List ℕ) (end : State) (rest : List ℕ) (w : IsWalk count bytes end rest)
     → first_lines (count + 1) bytes ≡ spell w.walked.between ++ first_lines 1 rest
@@ -309,14 +297,14 @@ front_first count bytes end rest w =
 -- what a job's text would be read as behind the walk
 read_behind : (count : ℕ) (bytes : List ℕ) (end : State) (rest : List ℕ) (w : IsWalk count bytes end rest)
     (job : Job) (more : List ℕ) → IsJob job → job_text job ≡ first_lines (count + 1) bytes ++ more → read end
-    (1 + count) (first_lines 1 rest ++ more) ≡ Ok job
+    (1 + count) (first_lines 1 rest ++ more) ≡ Ok (front_with job (1 + length (job_lines job)) [])
 read_behind count bytes end rest w job more is e =
     let k = w.walked in
     let x = first_lines 1 rest ++ more in
     let text : job_text job ≡ spell k.between ++ x = e ∙ ap (λ (f : List ℕ). f ++ more)
     (front_first count bytes end rest w) ∙ append_assoc (spell k.between) (first_lines 1 rest) more in
     sym (walk_read count start 1 (spell k.between ++ x) end x (k.again x)) ∙ ap (read start 1) (sym text)
-    ∙ job_read job is
+    ∙ ap (read start 1) (sym (append-nil (job_text job))) ∙ job_read job is []
 
 length_join : (a b : List ℕ) → (length a ≡ 0 → ⊥) → length (a ++ b) ≡ 0 → ⊥
 length_join [] b some h = some refl
@@ -325,19 +313,20 @@ length_join (x ∷ a) b some h = absurd (omega arith)
 no_front_over : (count : ℕ) (bytes : List ℕ) (end : State) (rest : List ℕ) → IsWalk count bytes end rest → end.place
     ≡ Over → (rest ≡ [] → ⊥) → IsNoFront (first_lines (count + 1) bytes)
 no_front_over count bytes end rest w over some job more is e =
-    wrong_byte end (1 + count) (first_lines 1 rest ++ more) job over (length_join (first_lines 1 rest) more
-    (first_some rest some)) (read_behind count bytes end rest w job more is e)
+    wrong_byte end (1 + count) (first_lines 1 rest ++ more) job (1 + length (job_lines job)) over
+    (length_join (first_lines 1 rest) more (first_some rest some)) (read_behind count bytes end rest w job more is e)
 
 no_front_line : (count : ℕ) (bytes : List ℕ) (end : State) (rest : List ℕ) → IsWalk count bytes end rest →
-    (why : JobWhy) → step end rest ≡ Err why → IsWhole rest → IsNoFront (first_lines (count + 1) bytes)
-no_front_line count bytes end rest w why f whole job more is e =
+    (why : JobWhy) → IsOpen end.place → step end rest ≡ Err why → IsWhole rest
+    → IsNoFront (first_lines (count + 1) bytes)
+no_front_line count bytes end rest w why open_ f whole job more is e =
     let first : first_lines 1 rest ≡ whole.line ++ 10 ∷ [] = ap (first_lines 1) whole.text
     ∙ first_flat whole.line whole.more 0 whole.flat ∙ ap (λ (r : List ℕ). whole.line ++ 10 ∷ r)
     (first_none whole.more) in
     let text : first_lines 1 rest ++ more ≡ whole.line ++ 10 ∷ more = ap (λ (x : List ℕ). x ++ more) first
     ∙ append_assoc whole.line (10 ∷ []) more in
-    wrong_line end (1 + count) rest why whole more job w.walked.is f (ap (read end (1 + count)) (sym text)
-    ∙ read_behind count bytes end rest w job more is e)
+    wrong_line end (1 + count) rest why whole more (front_with job (1 + length (job_lines job)) []) open_ w.walked.is f
+    (ap (read end (1 + count)) (sym text) ∙ read_behind count bytes end rest w job more is e)
 
 -- ---- each reason
 
@@ -354,7 +343,7 @@ wrong : (count line : ℕ) (bytes : List ℕ) (end : State) (rest : List ℕ) (w
     → line ≡ 1 + count → IsNoFront (first_lines (count + 1) bytes) → IsAtFault why end.place end.job rest
     → IsWrong bytes line why
 wrong count line bytes end rest why w e none fault = record {
-  front = front_of count bytes end rest w (first_lines (line - 1) bytes) (ap (λ (n : ℕ). first_lines n bytes)
+  front = walk_front count bytes end rest w (first_lines (line - 1) bytes) (ap (λ (n : ℕ). first_lines n bytes)
       (omega (arith, e)));
   none = subst (λ (n : ℕ). IsNoFront (first_lines n bytes)) (omega (arith, e)) none;
   place = end.place;
@@ -366,59 +355,46 @@ wrong count line bytes end rest why w e none fault = record {
 
 -- a whole line that isn't read
 wrong_found : (found : JobWhy) (count line : ℕ) (bytes : List ℕ) (end : State) (rest : List ℕ) (why : JobWhy)
-    → IsWalk count bytes end rest → line ≡ 1 + count → step end rest ≡ Err why → IsWhole rest → why ≡ found
-    → IsAtFault why end.place end.job rest → IsWrong bytes line found
-wrong_found found count line bytes end rest why w e f whole is fault =
-    wrong count line bytes end rest found w e (no_front_line count bytes end rest w why f whole)
+    → IsWalk count bytes end rest → line ≡ 1 + count → IsOpen end.place → step end rest ≡ Err why → IsWhole rest
+    → why ≡ found → IsAtFault why end.place end.job rest → IsWrong bytes line found
+wrong_found found count line bytes end rest why w e open_ f whole is fault =
+    wrong count line bytes end rest found w e (no_front_line count bytes end rest w why open_ f whole)
     (subst (λ (x : JobWhy). IsAtFault x end.place end.job rest) is fault)
 
+-- what a refusal means, whether bytes may follow a job's text or not
+abbrev pub BothMean : List ℕ → (line : ℕ) → JobWhy → Type 0
+BothMean bytes line why = Means bytes line why × FrontMeans bytes line why
+
 means_by : (count line : ℕ) (bytes : List ℕ) (end : State) (rest : List ℕ) (why : JobWhy) → IsWalk count bytes end rest
-    → line ≡ 1 + count → (rest ≡ [] → ⊥) → step end rest ≡ Err why → Kind end.place end.job rest why
-    → Means bytes line why
-means_by count line bytes end rest why w e some f (IsAfter over is) =
-    subst (λ (x : JobWhy). Means bytes line x) (sym is)
-    (wrong count line bytes end rest After w e (no_front_over count bytes end rest w over some) tt)
-means_by count line bytes end rest why w e some f (IsText bad is) =
+    → line ≡ 1 + count → IsOpen end.place → (rest ≡ [] → ⊥) → step end rest ≡ Err why
+    → Kind end.place end.job rest why → BothMean bytes line why
+means_by count line bytes end rest why w e open_ some f (IsText bad is) =
     let after = after_of count line bytes end rest w e in
     let found : HasNoText bytes line = record {
-      front = front_of count bytes end rest w (first_lines (line - 1) bytes) (ap (λ (n : ℕ). first_lines n bytes)
+      front = walk_front count bytes end rest w (first_lines (line - 1) bytes) (ap (λ (n : ℕ). first_lines n bytes)
           (omega (arith, e)));
       some = λ none. some (sym after ∙ none);
       no_text = ap is_text after ∙ bad;
     } in
-    subst (λ (x : JobWhy). Means bytes line x) (sym is) found
-means_by count line bytes end rest why w e some f (IsLine whole (inl is) fault) =
-    subst (λ (x : JobWhy). Means bytes line x) (sym is) (wrong_found Form count line bytes end rest why w e f whole
-    is fault)
-means_by count line bytes end rest why w e some f (IsLine whole (inr (inl is)) fault) =
-    subst (λ (x : JobWhy). Means bytes line x) (sym is) (wrong_found BadValue count line bytes end rest why w e f
-    whole is fault)
-means_by count line bytes end rest why w e some f (IsLine whole (inr (inr (inl is))) fault) =
-    subst (λ (x : JobWhy). Means bytes line x) (sym is) (wrong_found Entry count line bytes end rest why w e f whole
-    is fault)
-means_by count line bytes end rest why w e some f (IsLine whole (inr (inr (inr is))) fault) =
-    subst (λ (x : JobWhy). Means bytes line x) (sym is) (wrong_found Count count line bytes end rest why w e f whole
-    is fault)
+    subst (BothMean bytes line) (sym is) (found, found)
+means_by count line bytes end rest why w e open_ some f (IsLine whole (inl is) fault) =
+    let m = wrong_found Form count line bytes end rest why w e open_ f whole is fault in
+    subst (BothMean bytes line) (sym is) (m, m)
+means_by count line bytes end rest why w e open_ some f (IsLine whole (inr (inl is)) fault) =
+    let m = wrong_found BadValue count line bytes end rest why w e open_ f whole is fault in
+    subst (BothMean bytes line) (sym is) (m, m)
+means_by count line bytes end rest why w e open_ some f (IsLine whole (inr (inr (inl is))) fault) =
+    let m = wrong_found Entry count line bytes end rest why w e open_ f whole is fault in
+    subst (BothMean bytes line) (sym is) (m, m)
+means_by count line bytes end rest why w e open_ some f (IsLine whole (inr (inr (inr is))) fault) =
+    let m = wrong_found Count count line bytes end rest why w e open_ f whole is fault in
+    subst (BothMean bytes line) (sym is) (m, m)
 
 -- ---- the text ends too early
 
-over_err : (place : Place) (job : Job) (bad found : BadLine) → over_or place job bad ≡ Err found →
-    (over_or place job (record { line = 0; why = Early }) ≡ Err (record { line = 0; why = Early })) × (bad ≡ found)
-over_err (AtSetting setting) job bad found h = (refl, cc)
-over_err AtSieve job bad found h = (refl, cc)
-over_err AtPairs job bad found h = (refl, cc)
-over_err AtHandlers job bad found h = (refl, cc)
-over_err (AtBody handler) job bad found h = (refl, cc)
-over_err AtScripts job bad found h = (refl, cc)
-over_err (AtSteps script) job bad found h = (refl, cc)
-over_err AtSchedule job bad found h = (refl, cc)
-over_err AtDone job bad found h = (refl, cc)
-over_err Over job bad found h = absurd (cc)
-
 early : (count line : ℕ) (bytes : List ℕ) (end : State) (rest : List ℕ) → IsWalk count bytes end rest → line
-    ≡ 1 + count → rest ≡ [] → over_or end.place end.job (record { line = 0; why = Early }) ≡ Err
-    (record { line = 0; why = Early }) → EndsEarly bytes line
-early count line bytes end rest w e none o =
+    ≡ 1 + count → rest ≡ [] → IsOpen end.place → EndsEarly bytes line
+early count line bytes end rest w e none open_ =
     let k = w.walked in
     let all : bytes ≡ first_lines count bytes =
     k.text ∙ ap (λ (r : List ℕ). spell k.between ++ r) (none ∙ sym (first_none rest)) ∙ sym
@@ -426,45 +402,80 @@ early count line bytes end rest w e none o =
     (arith, k.many)) ∙ ap (first_lines count) (sym k.text) in
     record {
       all = all ∙ ap (λ (n : ℕ). first_lines n bytes) (omega (arith, e));
-      front = front_of count bytes end rest w bytes all;
-      proper = w.part.some o;
+      front = walk_front count bytes end rest w bytes all;
+      proper = w.part.some open_;
     }
 
--- ---- what is told
+-- ---- what is told of lines
 
-bad_same : {A : Type 0} (bad found : BadLine) → ◌≡◌ {A = Result A BadLine} (Err bad) (Err found) → bad ≡ found
-bad_same bad found h = cc
+bad_same : {A : Type 0} {bad found : BadLine} → ◌≡◌ {A = Result A BadLine} (Err bad) (Err found) → bad ≡ found
+bad_same h = cc
 
 ends_mean : (bytes : List ℕ) (found : BadLine) (count : ℕ) (end : State) (rest : List ℕ)
-    (result : Result Job BadLine) → Walks count start bytes end rest → EndsAs end rest (1 + count) result → result
-    ≡ Err found → Means bytes found.line found.why
-ends_mean bytes found count end rest result w (Ends none r) h =
-    let o = over_err end.place end.job _ found (sym r ∙ h) in
-    subst (λ (b : BadLine). Means bytes b.line b.why) o.1 (early count (1 + count) bytes end rest
-    (walk_of count bytes end rest w) refl none o.0)
-ends_mean bytes found count end rest result w (Fails why some f r) h =
-    subst (λ (b : BadLine). Means bytes b.line b.why) (bad_same (record { line = 1 + count; why = why }) found (sym r
-    ∙ h))
-    (means_by count (1 + count) bytes end rest why (walk_of count bytes end rest w) refl some f
+    (result : Result Front BadLine) → Walks count start bytes end rest → EndsAs end rest (1 + count) result → result
+    ≡ Err found → BothMean bytes found.line found.why
+ends_mean bytes found count end rest result w (Ends open_ none r) h =
+    let m = early count (1 + count) bytes end rest (walk_of count bytes end rest w) refl none open_ in
+    subst (λ (b : BadLine). BothMean bytes b.line b.why) (bad_same (sym r ∙ h)) (m, m)
+ends_mean bytes found count end rest result w (Fails why open_ some f r) h =
+    subst (λ (b : BadLine). BothMean bytes b.line b.why) (bad_same (sym r ∙ h))
+    (means_by count (1 + count) bytes end rest why (walk_of count bytes end rest w) refl open_ some f
     (fail_kind end rest why some f))
+ends_mean bytes found count end rest result w (IsOver over r) h = absurd (err_ok h r)
+
+read_means : (bytes : List ℕ) (found : BadLine) → read start 1 bytes ≡ Err found → BothMean bytes found.line found.why
+read_means bytes found h =
+    let o = read_outcome start 1 bytes in
+    ends_mean bytes found o.count o.end o.rest (read start 1 bytes) o.walks o.ends h
+
+-- ---- bytes behind a job
+
+ends_after : (bytes : List ℕ) (front : Front) (count : ℕ) (end : State) (rest : List ℕ)
+    (result : Result Front BadLine) → Walks count start bytes end rest → EndsAs end rest (1 + count) result → result
+    ≡ Ok front → (length front.rest ≡ 0 → ⊥) → IsWrong bytes front.line After
+ends_after bytes front count end rest result w (Ends open_ none r) h some = absurd (err_ok r h)
+ends_after bytes front count end rest result w (Fails why open_ s f r) h some = absurd (err_ok r h)
+ends_after bytes front count end rest result w (IsOver over r) h some =
+    let same : front_with end.job (1 + count) rest ≡ front = front_same (sym r ∙ h) in
+    let walk = walk_of count bytes end rest w in
+    let bytes_behind : rest ≡ [] → ⊥ = λ e. some (ap (λ (f : Front). length f.rest) (sym same) ∙ ap length e) in
+    subst (λ (f : Front). IsWrong bytes f.line After) same
+    (wrong count (1 + count) bytes end rest After walk refl (no_front_over count bytes end rest walk over
+    bytes_behind) tt)
+
+after_by : (bytes : List ℕ) (front : Front) (found : BadLine) (t : Bool) → eqb (length front.rest) 0 ≡ t
+    → read start 1 bytes ≡ Ok front → ◌≡◌ {A = Result Job BadLine}
+    (cond t (Ok front.job) (Err (record { line = front.line; why = After }))) (Err found)
+    → Means bytes found.line found.why
+after_by bytes front found true e r h = absurd (err_ok h refl)
+after_by bytes front found false e r h =
+    let o = read_outcome start 1 bytes in
+    subst (λ (b : BadLine). Means bytes b.line b.why) (bad_same h)
+    (ends_after bytes front o.count o.end o.rest (read start 1 bytes) o.walks o.ends r (eqb-false
+    (length front.rest) 0 e))
+
+alone_means : (bytes : List ℕ) (found : BadLine) (r : Result Front BadLine) → read start 1 bytes ≡ r
+    → of_front alone r ≡ Err found → Means bytes found.line found.why
+alone_means bytes found (Err bad) e h = (read_means bytes found (e ∙ ap (λ (b : BadLine). Err b) (bad_same h))).0
+alone_means bytes found (Ok front) e h = after_by bytes front found (eqb (length front.rest) 0) refl e h
 
 means_of : (bytes : List ℕ) (found : BadLine) (t : Bool) → ltb limit (length bytes) ≡ t → job_of bytes ≡ Err found
     → Means bytes found.line found.why
 unfolding job_of
 means_of bytes found true e h =
-    subst (λ (b : BadLine). Means bytes b.line b.why) (bad_same (record { line = 0; why = Size }) found (sym
-    (cond_yes _ _ _ e) ∙ h)) (refl, ltb-true limit (length bytes) e)
+    subst (λ (b : BadLine). Means bytes b.line b.why) (bad_same {A = Job} (sym (cond_yes _ _ _ e) ∙ h))
+    (refl, ltb-true limit (length bytes) e)
 means_of bytes found false e h =
-    let o = read_outcome start 1 bytes in
-    ends_mean bytes found o.count o.end o.rest (read start 1 bytes) o.walks o.ends (sym (cond_no _ _ _ e) ∙ h)
+    alone_means bytes found (read start 1 bytes) refl (sym (cond_no _ _ _ e) ∙ h)
 
 -- the one job of a text
 text_read : (bytes : List ℕ) (job : Job) → JobText job bytes → job_of bytes ≡ Ok job
 unfolding job_of
-text_read bytes job is = cond_no _ _ _ (le-ltb limit (length bytes) is.within) ∙ ap (read start 1) is.text
-    ∙ job_read job is.is_job
+text_read bytes job is = cond_no _ _ _ (le-ltb limit (length bytes) is.within)
+    ∙ ap (λ (b : List ℕ). of_front alone (read start 1 b)) (is.text ∙ sym (append-nil (job_text job)))
+    ∙ ap (of_front alone) (job_read job is.is_job [])
 
-ok_same : {a b : Job} → ◌≡◌ {A = Result Job BadLine} (Ok a) (Ok b) → a ≡ b
+ok_same : {A : Type 0} {a b : A} → ◌≡◌ {A = Result A BadLine} (Ok a) (Ok b) → a ≡ b
 ok_same h = cc
 
 pub gives_one : (r : Result Job JobFault) (bytes : List ℕ) → GivesAt (λ (j : Job). j) r (job_of bytes) → IfOk r
@@ -484,3 +495,69 @@ pub gives_none : (r : Result Job JobFault) (bytes : List ℕ) → GivesAt (λ (j
 gives_none (Ok job) bytes h = tt
 gives_none (Err faults.NoMemory) bytes h = inl tt
 gives_none (Err (faults.Bad line why)) bytes h = inr (λ job is. err_ok h (text_read bytes job is))
+
+-- ---- bytes that begin with a job's text
+
+-- a job's text that is too long
+long_by : (bytes : List ℕ) (front : Front) (found : BadLine) (x : Job × ℕ) (t : Bool)
+    → ltb limit (length bytes - length front.rest) ≡ t → read start 1 bytes ≡ Ok front → ◌≡◌
+    {A = Result (Job × ℕ) BadLine} (cond t (Err (record { line = 0; why = Size })) (Ok x)) (Err found)
+    → FrontMeans bytes found.line found.why
+long_by bytes front found x true e r h =
+    let p = read_text bytes front r in
+    let size : length bytes - length front.rest ≡ length (job_text front.job) = omega
+    (arith, rest_size bytes front r) in
+    let lt = ltb-true limit (length bytes - length front.rest) e in
+    let long : IsTooLong bytes = record {
+      job = front.job;
+      is = p.0;
+      rest = front.rest;
+      text = p.1;
+      long = omega (arith, lt, size);
+    } in
+    subst (λ (b : BadLine). FrontMeans bytes b.line b.why) (bad_same h) (refl, long)
+long_by bytes front found x false e r h = absurd (err_ok h refl)
+
+sized_means : (bytes : List ℕ) (found : BadLine) (r : Result Front BadLine) → read start 1 bytes ≡ r
+    → of_front (sized (length bytes)) r ≡ Err found → FrontMeans bytes found.line found.why
+sized_means bytes found (Err bad) e h = (read_means bytes found (e ∙ ap (λ (b : BadLine). Err b) (bad_same h))).1
+sized_means bytes found (Ok front) e h =
+    long_by bytes front found _ (ltb limit (length bytes - length front.rest)) refl e h
+
+-- the one job of a front
+front_read : (bytes : List ℕ) (job : Job) (size : ℕ) → BeginsWith job size bytes → front_of bytes ≡ Ok (job, size)
+unfolding front_of
+front_read bytes job size is =
+    let line = 1 + length (job_lines job) in
+    let behind : length bytes ≡ length (job_text job) + length is.rest =
+    ap length is.text ∙ length-append (job_text job) is.rest in
+    let count : length bytes - length is.rest ≡ size = omega (arith, behind, is.long) in
+    let few : length bytes - length is.rest ≤ limit = omega (arith, count, is.within) in
+    ap (λ (b : List ℕ). of_front (sized (length bytes)) (read start 1 b)) is.text
+    ∙ ap (of_front (sized (length bytes))) (job_read job is.is_job is.rest)
+    ∙ is_sized job line (length bytes) is.rest few
+    ∙ ap (λ (n : ℕ). Ok (job, n)) count
+
+pub gives_front_one : (r : Result (Job × ℕ) JobFault) (bytes : List ℕ)
+    → GivesAt (λ (x : Job × ℕ). x) r (front_of bytes) → IfOk r
+    (λ x. (other : Job) (size : ℕ) → BeginsWith other size bytes → (other ≡ x.0) × (size ≡ x.1))
+gives_front_one (Ok x) bytes h = λ other size is.
+    let same : (other, size) ≡ x = ok_same (sym (front_read bytes other size is) ∙ h) in
+    (ap (λ (y : Job × ℕ). y.0) same, ap (λ (y : Job × ℕ). y.1) same)
+gives_front_one (Err fault) bytes h = tt
+
+pub gives_front_meant : (r : Result (Job × ℕ) JobFault) (bytes : List ℕ)
+    → GivesAt (λ (x : Job × ℕ). x) r (front_of bytes) → IfErr r (λ fault. IsFrontMeant bytes fault)
+unfolding front_of
+gives_front_meant (Ok x) bytes h = tt
+gives_front_meant (Err faults.NoMemory) bytes h = tt
+gives_front_meant (Err (faults.Bad line why)) bytes h =
+    sized_means bytes (record { line = line; why = why }) (read start 1 bytes) refl h
+
+pub gives_front_none : (r : Result (Job × ℕ) JobFault) (bytes : List ℕ)
+    → GivesAt (λ (x : Job × ℕ). x) r (front_of bytes) → IfErr r
+    (λ fault. IsNoMemory fault ⊎ ((job : Job) (size : ℕ) → BeginsWith job size bytes → ⊥))
+gives_front_none (Ok x) bytes h = tt
+gives_front_none (Err faults.NoMemory) bytes h = inl tt
+gives_front_none (Err (faults.Bad line why)) bytes h =
+    inr (λ job size is. err_ok h (front_read bytes job size is))

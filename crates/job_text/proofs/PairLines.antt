@@ -13,8 +13,7 @@ use Rattle.job_text.specs.JobReading.{State, lined, line_at, next, begun, handle
 use Rattle.job_text.specs.declared.fault.JobWhy.{JobWhy}
 use Rattle.job_text.specs.declared.job.Job.{Job}
 use Rattle.job_text.specs.declared.sections.HandlerHeader.{HandlerHeader}
-use Rattle.job_text.specs.declared.sections.Section.{Section}
-use Rattle.job_text.proofs.LineRuns.{Refuses, read_on, read_full, pairs_bad, handlers_bad, scripts_bad}
+use Rattle.job_text.proofs.LineRuns.{Refuses, read_on, read_full, line_bad}
 
 -- what was read, in other words
 mapped_end : {A B : Type 0} (o : Option (List ℕ)) (f : A → B) (x : A) → ◌≡◌ {A = Option (B × List ℕ)}
@@ -47,7 +46,8 @@ pair_line settings bytes b = named_line (codes "pair") (pair_at settings) (heade
 
 header_line : (settings : Parameters) (bytes : List ℕ) → bytes_eq (front bytes) (codes "handler") ≡ true
     → line_at AtHandlers settings bytes ≡ (lined header_at bytes >>= λ x. Some (Named x.0, x.1))
-header_line settings bytes b = named_line (codes "handler") header_at (section_at settings.nodes settings.threads) bytes b
+header_line settings bytes b = named_line (codes "handler") header_at (section_at settings.nodes settings.threads) bytes
+    b
 
 -- ---- pairs
 
@@ -74,7 +74,7 @@ pub pair_bad : (job : Job) (line : ℕ) (bytes : List ℕ) → bytes_eq (front b
     (pair_at job.settings) bytes ≡ None
     → read (record { place = AtPairs; job = job }) line bytes ≡ Err
     (record { line = line; why = reason pairs_form bytes })
-pair_bad job line bytes b h = pairs_bad job line bytes (pair_line job.settings bytes b ∙ rw h refl)
+pair_bad job line bytes b h = line_bad AtPairs tt job line bytes (pair_line job.settings bytes b ∙ rw h refl)
 
 -- ---- handlers
 
@@ -94,14 +94,15 @@ pub handler_full : (job : Job) (line : ℕ) (bytes rest : List ℕ) (header : Ha
     → handler_why job.handlers header.index ≡ Some why
     → read (record { place = AtHandlers; job = job }) line bytes ≡ Err (record { line = line; why = why })
 handler_full job line bytes rest header why b h w =
-    read_full AtHandlers job line bytes rest (Named header) why (header_line job.settings bytes b ∙ rw h refl) (rw w refl)
+    read_full AtHandlers job line bytes rest (Named header) why (header_line job.settings bytes b ∙ rw h refl)
+    (rw w refl)
 
 -- it isn't read
 pub handler_bad : (job : Job) (line : ℕ) (bytes : List ℕ) → bytes_eq (front bytes) (codes "handler") ≡ true
     → lined header_at bytes ≡ None
     → read (record { place = AtHandlers; job = job }) line bytes ≡ Err
     (record { line = line; why = reason header_or_section_form bytes })
-handler_bad job line bytes b h = handlers_bad job line bytes (header_line job.settings bytes b ∙ rw h refl)
+handler_bad job line bytes b h = line_bad AtHandlers tt job line bytes (header_line job.settings bytes b ∙ rw h refl)
 
 -- ---- what is read behind them is read among them
 
@@ -144,8 +145,8 @@ pairs_over job line bytes b = same_by AtPairs AtHandlers job line bytes (line_at
       next_is = λ item. refl;
       line_is = other_line (codes "pair") (pair_at job.settings) (header_or_section_at job.settings) bytes b;
       form_is = rw b refl;
-      bad_here = pairs_bad;
-      bad_there = handlers_bad;
+      bad_here = line_bad AtPairs tt;
+      bad_there = line_bad AtHandlers tt;
     }) refl
 
 pub handlers_over : (job : Job) (line : ℕ) (bytes : List ℕ) → bytes_eq (front bytes) (codes "handler") ≡ false → read
@@ -156,6 +157,6 @@ handlers_over job line bytes b = same_by AtHandlers AtScripts job line bytes (li
       next_is = λ item. refl;
       line_is = other_line (codes "handler") header_at (section_at job.settings.nodes job.settings.threads) bytes b;
       form_is = rw b refl;
-      bad_here = handlers_bad;
-      bad_there = scripts_bad;
+      bad_here = line_bad AtHandlers tt;
+      bad_there = line_bad AtScripts tt;
     }) refl

@@ -9,7 +9,7 @@ use Rattle.std.proofs.lemmas.Bool.{ne_eqb}
 use Rattle.datagram_grammar.specs.Parameters.{Parameters}
 use Rattle.datagram_grammar.specs.declared.pairs.PairCredits.{PairCredits}
 use Rattle.job_text.specs.Lines.{◌>>=◌, is_stop, front, back}
-use Rattle.job_text.specs.Forms.{none_at, none_text, none_fits, entry_text, IsOf}
+use Rattle.job_text.specs.Forms.{none_at, none_text, none_fits}
 use Rattle.job_text.specs.Bodies.{action_at, action_text, IsAction}
 use Rattle.job_text.specs.Events.{timed_at, timed_text, IsTimed, event_text}
 use Rattle.job_text.specs.Scripts.{step_at, step_text, IsStep}
@@ -95,7 +95,8 @@ pairs_exact settings = table_exact none_at none_text none_fits (pair_row ∷ [])
 
 headers_exact : IsExact header_at header_text IsHeader
 unfolding header_at
-headers_exact = table_exact none_at none_text none_fits (header_row ∷ []) header_entry header_fits none_exact header_table
+headers_exact = table_exact none_at none_text none_fits (header_row ∷ []) header_entry header_fits none_exact
+    header_table
 
 sections_exact : (nodes threads : ℕ) → IsExact (section_at nodes threads) section_text (IsSection nodes threads)
 unfolding section_at

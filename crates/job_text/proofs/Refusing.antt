@@ -1,6 +1,7 @@
 -- What was read, and what a refusal means.
-use Rattle.std.proofs.Common.{◌≡◌, ℕ, suc, ◌+◌, List, [], ◌∷◌, ◌++◌, length, map, ltb, Result, Ok, Err, Bool, false}
-use Rattle.std.proofs.Common.{true, refl, sym, ap, subst, ◌∙◌, arith, append_assoc, append-nil}
+use Rattle.std.proofs.Common.{◌≡◌, ℕ, suc, ◌+◌, ◌-◌, List, [], ◌∷◌, ◌++◌, length, map, ltb, eqb, cond, Result, Ok, Err}
+use Rattle.std.proofs.Common.{Bool, false, true, refl, sym, ap, subst, ◌∙◌, arith, append_assoc, append-nil}
+use Rattle.std.proofs.Common.{eqb-true, length-append}
 use Rattle.std.specs.List.{AllByRecursion, flat_map}
 use Rattle.std.proofs.lemmas.List.Concat.{flat_map-append}
 use Rattle.std.proofs.lemmas.Bool.{ltb-false}
@@ -9,15 +10,15 @@ use Rattle.job_text.specs.Places as places
 use Rattle.job_text.specs.Places.{Place, AtSetting, AtSieve, AtPairs, AtHandlers, AtBody, AtScripts, AtSteps}
 use Rattle.job_text.specs.Places.{AtSchedule, AtDone, Over}
 use Rattle.job_text.specs.Places.{Version}
-use Rattle.job_text.specs.JobReading.{State, BadLine, start, limit, over_or, read, job_of}
+use Rattle.job_text.specs.JobReading.{State, BadLine, Front, start, limit, of_front, alone, sized, read, job_of}
+use Rattle.job_text.specs.JobReading.{front_of}
 use Rattle.job_text.specs.JobText.{Line, spell, setting_line, sieve_line, pair_line, handler_lines, schedule_lines}
 use Rattle.job_text.specs.JobText.{script_lines, lines_with_pairs, lines_with_handlers, lines_with_scripts, job_lines}
-use Rattle.job_text.specs.JobText.{job_text, IsJob, JobText}
+use Rattle.job_text.specs.JobText.{job_text, IsJob, JobText, BeginsWith}
 use Rattle.job_text.specs.Refusals.{first_lines, after_lines, IsFront}
 use Rattle.job_text.specs.Reading.{GivesAt}
 use Rattle.std.specs.Prelude.{IfOk}
 use Rattle.job_text.specs.declared.fault.JobFault.{JobFault}
-use Rattle.job_text.specs.declared.fault.JobWhy.TheVariants.{Early}
 use Rattle.job_text.specs.declared.job.Job.{Job}
 use Rattle.job_text.proofs.Fronts.{cond_yes, cond_no}
 use Rattle.job_text.proofs.FormLaws.{IsFlat}
@@ -26,7 +27,8 @@ use Rattle.job_text.proofs.StateLaws.{so_far, from_on, IsUnread, done_line, end_
 use Rattle.job_text.proofs.StateLaws.{end_schedule}
 use Rattle.job_text.proofs.JobLaws.{sound_job}
 use Rattle.job_text.proofs.States.{unread, start_is, sound_completed}
-use Rattle.job_text.proofs.Walks.{Walks, Walked, walk_keeps, Outcome, EndsAs, Ends, Fails, read_outcome}
+use Rattle.job_text.proofs.LineRuns.{IsOpen}
+use Rattle.job_text.proofs.Walks.{Walks, Walked, walk_keeps, Outcome, EndsAs, Ends, Fails, IsOver, read_outcome}
 
 -- ---- first lines
 
@@ -92,8 +94,7 @@ later_lines job =
 pub record IsPart (place : Place) (job : Job) : Type 0 where
   pub others : List Line
   pub all : job_lines (completed place job) ≡ so_far place job ++ others
-  pub some : over_or place job (record { line = 0; why = Early }) ≡ Err (record { line = 0; why = Early })
-      → spell others ≡ [] → ⊥
+  pub some : IsOpen place → spell others ≡ [] → ⊥
 
 some_line : (line : Line) (lines : List Line) → spell (line ∷ lines) ≡ [] → ⊥
 some_line [] lines h = cc
@@ -182,7 +183,7 @@ part_of AtDone job u = record {
   all = sym (append_assoc (lines_with_scripts job) (schedule_lines job.settings job.schedule) (done_line ∷ []));
   some = λ o. some_line done_line [];
 }
-part_of Over job u = record { others = []; all = sym (append-nil (job_lines job)); some = λ o. absurd (cc) }
+part_of Over job u = record { others = []; all = sym (append-nil (job_lines job)); some = λ o. absurd o }
 
 -- ---- fronts
 
@@ -205,9 +206,9 @@ text_of count bytes end rest w =
     ∙ ap (λ (ls : List Line). spell ls ++ spell w.part.others) w.walked.lines
 
 -- what was read is the front of a job's text
-abbrev pub front_of : (count : ℕ) (bytes : List ℕ) (end : State) (rest : List ℕ) → IsWalk count bytes end rest →
+abbrev pub walk_front : (count : ℕ) (bytes : List ℕ) (end : State) (rest : List ℕ) → IsWalk count bytes end rest →
     (front : List ℕ) → front ≡ first_lines count bytes → IsFront front
-front_of count bytes end rest w front e =
+walk_front count bytes end rest w front e =
     let k = w.walked in
     let first : first_lines count bytes ≡ spell k.between =
     ap (first_lines count) k.text ∙ ap (λ (n : ℕ). first_lines n (spell k.between ++ rest)) (sym k.many ∙ omega arith)
@@ -222,49 +223,62 @@ front_of count bytes end rest w front e =
 
 -- ---- a job that was read
 
-over_is : (place : Place) (job found : Job) (bad : BadLine) → over_or place job bad ≡ Ok found → (place ≡ Over) ×
-    (job ≡ found)
-over_is (AtSetting setting) job found bad h = absurd (cc)
-over_is AtSieve job found bad h = absurd (cc)
-over_is AtPairs job found bad h = absurd (cc)
-over_is AtHandlers job found bad h = absurd (cc)
-over_is (AtBody handler) job found bad h = absurd (cc)
-over_is AtScripts job found bad h = absurd (cc)
-over_is (AtSteps script) job found bad h = absurd (cc)
-over_is AtSchedule job found bad h = absurd (cc)
-over_is AtDone job found bad h = absurd (cc)
-over_is Over job found bad h = (refl, cc)
-
--- the lines of a job that is over
+-- the text of a job that is over, and the bytes behind it
 over_text : (count : ℕ) (bytes : List ℕ) (place : Place) (job : Job) (rest : List ℕ) → Walked count start bytes
-    (record { place = place; job = job }) rest → place ≡ Over → rest ≡ [] → IsJob job × (bytes ≡ job_text job)
-over_text count bytes (AtSetting setting) job rest w o e = absurd (cc)
-over_text count bytes AtSieve job rest w o e = absurd (cc)
-over_text count bytes AtPairs job rest w o e = absurd (cc)
-over_text count bytes AtHandlers job rest w o e = absurd (cc)
-over_text count bytes (AtBody handler) job rest w o e = absurd (cc)
-over_text count bytes AtScripts job rest w o e = absurd (cc)
-over_text count bytes (AtSteps script) job rest w o e = absurd (cc)
-over_text count bytes AtSchedule job rest w o e = absurd (cc)
-over_text count bytes AtDone job rest w o e = absurd (cc)
-over_text count bytes Over job rest w o e = (
-  sound_job job w.is,
-  w.text ∙ ap (λ (r : List ℕ). spell w.between ++ r) e
-      ∙ append-nil (spell w.between) ∙ ap spell (sym w.lines),
-)
+    (record { place = place; job = job }) rest → place ≡ Over → IsJob job × (bytes ≡ job_text job ++ rest)
+over_text count bytes place job rest walked over =
+    let w : Walked count start bytes (record { place = Over; job = job }) rest = subst
+    (λ (p : Place). Walked count start bytes (record { place = p; job = job }) rest) over walked in
+    (sound_job job w.is, w.text ∙ ap (λ (ls : List Line). spell ls ++ rest) (sym w.lines))
 
-read_by : (bytes : List ℕ) (job : Job) (o : Outcome start 1 bytes (read start 1 bytes)) → EndsAs o.end o.rest
-    (1 + o.count) (read start 1 bytes) → read start 1 bytes ≡ Ok job → IsJob job × (bytes ≡ job_text job)
-read_by bytes job o (Ends e r) h =
-    let p = over_is o.end.place o.end.job job _ (sym r ∙ h) in
-    let q = over_text o.count bytes o.end.place o.end.job o.rest
-    (walk_keeps o.count start bytes o.end o.rest start_is o.walks) p.0 e in
-    subst (λ (j : Job). IsJob j × (bytes ≡ job_text j)) p.1 q
-read_by bytes job o (Fails why s f r) h = absurd (cc)
+pub front_same : {a b : Front} → ◌≡◌ {A = Result Front BadLine} (Ok a) (Ok b) → a ≡ b
+front_same h = cc
 
--- what was read has these bytes as its text
-pub read_text : (bytes : List ℕ) (job : Job) → read start 1 bytes ≡ Ok job → IsJob job × (bytes ≡ job_text job)
-read_text bytes job h = let o = read_outcome start 1 bytes in read_by bytes job o o.ends h
+read_by : (bytes : List ℕ) (front : Front) (o : Outcome start 1 bytes (read start 1 bytes)) → EndsAs o.end o.rest
+    (1 + o.count) (read start 1 bytes) → read start 1 bytes ≡ Ok front
+    → IsJob front.job × (bytes ≡ job_text front.job ++ front.rest)
+read_by bytes front o (Ends open_ e r) h = absurd (cc)
+read_by bytes front o (Fails why open_ s f r) h = absurd (cc)
+read_by bytes front o (IsOver over r) h =
+    subst (λ (f : Front). IsJob f.job × (bytes ≡ job_text f.job ++ f.rest)) (front_same (sym r ∙ h))
+    (over_text o.count bytes o.end.place o.end.job o.rest (walk_keeps o.count start bytes o.end o.rest start_is
+    o.walks) over)
+
+-- the bytes begin with the text of what was read
+pub read_text : (bytes : List ℕ) (front : Front) → read start 1 bytes ≡ Ok front
+    → IsJob front.job × (bytes ≡ job_text front.job ++ front.rest)
+read_text bytes front h = let o = read_outcome start 1 bytes in read_by bytes front o o.ends h
+
+-- so many bytes are behind it
+pub rest_size : (bytes : List ℕ) (front : Front) → read start 1 bytes ≡ Ok front → length bytes
+    ≡ length (job_text front.job) + length front.rest
+rest_size bytes front h = ap length (read_text bytes front h).1 ∙ length-append (job_text front.job) front.rest
+
+-- ---- a job alone
+
+record IsAlone (read : Result Front BadLine) (job : Job) : Type 0 where
+  pub front : Front
+  pub is : read ≡ Ok front
+  pub none : front.rest ≡ []
+  pub same : front.job ≡ job
+
+no_bytes : (bytes : List ℕ) → length bytes ≡ 0 → bytes ≡ []
+no_bytes [] e = refl
+no_bytes (b ∷ bytes) e = absurd (omega arith)
+
+alone_by : (front : Front) (job : Job) (bad : BadLine) (t : Bool) → eqb (length front.rest) 0 ≡ t → ◌≡◌
+    {A = Result Job BadLine} (cond t (Ok front.job) (Err bad)) (Ok job) → IsAlone (Ok front) job
+alone_by front job bad true e h = record {
+  front = front;
+  is = refl;
+  none = no_bytes front.rest (eqb-true (length front.rest) 0 e);
+  same = cc;
+}
+alone_by front job bad false e h = absurd (cc)
+
+alone_of : (read : Result Front BadLine) (job : Job) → of_front alone read ≡ Ok job → IsAlone read job
+alone_of (Err bad) job h = absurd (cc)
+alone_of (Ok front) job h = alone_by front job _ (eqb (length front.rest) 0) refl h
 
 long_by : (bytes : List ℕ) (job : Job) (t : Bool) → ltb limit (length bytes) ≡ t → job_of bytes ≡ Ok job
     → JobText job bytes
@@ -274,8 +288,12 @@ long_by bytes job true e h = absurd (err_ok (sym (cond_yes _ _ _ e) ∙ h))
     err_ok : {bad : BadLine} {j : Job} → ◌≡◌ {A = Result Job BadLine} (Err bad) (Ok j) → ⊥
     err_ok h = cc
 long_by bytes job false e h =
-    let p = read_text bytes job (sym (cond_no _ _ _ e) ∙ h) in
-    record { is_job = p.0; text = p.1; within = ltb-false limit (length bytes) e }
+    let a = alone_of (read start 1 bytes) job (sym (cond_no _ _ _ e) ∙ h) in
+    let p = read_text bytes a.front a.is in
+    let text : bytes ≡ job_text a.front.job = p.1 ∙ ap (λ (r : List ℕ). job_text a.front.job ++ r) a.none
+    ∙ append-nil (job_text a.front.job) in
+    subst (λ (j : Job). JobText j bytes) a.same
+    (record { is_job = p.0; text = text; within = ltb-false limit (length bytes) e })
 
 pub job_text_of : (bytes : List ℕ) (job : Job) → job_of bytes ≡ Ok job → JobText job bytes
 job_text_of bytes job h = long_by bytes job (ltb limit (length bytes)) refl h
@@ -285,3 +303,38 @@ pub gives_found : (r : Result Job JobFault) (bytes : List ℕ) → GivesAt (λ (
     (λ job. JobText job bytes)
 gives_found (Ok job) bytes h = job_text_of bytes job h
 gives_found (Err fault) bytes h = tt
+
+-- ---- a job at the front
+
+begins_by : (bytes : List ℕ) (front : Front) (x : Job × ℕ) (bad : BadLine) (t : Bool)
+    → ltb limit (length bytes - length front.rest) ≡ t → read start 1 bytes ≡ Ok front → ◌≡◌
+    {A = Result (Job × ℕ) BadLine} (cond t (Err bad) (Ok (front.job, length bytes - length front.rest))) (Ok x)
+    → BeginsWith x.0 x.1 bytes
+begins_by bytes front x bad true e h same = absurd (cc)
+begins_by bytes front x bad false e h same =
+    let p = read_text bytes front h in
+    let size : length bytes - length front.rest ≡ length (job_text front.job) = omega
+    (arith, rest_size bytes front h) in
+    let found : BeginsWith front.job (length bytes - length front.rest) bytes = record {
+      is_job = p.0;
+      rest = front.rest;
+      text = p.1;
+      long = size;
+      within = ltb-false limit (length bytes - length front.rest) e;
+    } in
+    subst (λ (y : Job × ℕ). BeginsWith y.0 y.1 bytes) (ok_is same) found
+  where
+    ok_is : {a b : Job × ℕ} → ◌≡◌ {A = Result (Job × ℕ) BadLine} (Ok a) (Ok b) → a ≡ b
+    ok_is h = cc
+
+begins_with : (bytes : List ℕ) (x : Job × ℕ) (r : Result Front BadLine) → read start 1 bytes ≡ r
+    → of_front (sized (length bytes)) r ≡ Ok x → BeginsWith x.0 x.1 bytes
+begins_with bytes x (Err bad) e h = absurd (cc)
+begins_with bytes x (Ok front) e h =
+    begins_by bytes front x _ (ltb limit (length bytes - length front.rest)) refl e h
+
+pub gives_front_found : (r : Result (Job × ℕ) JobFault) (bytes : List ℕ)
+    → GivesAt (λ (x : Job × ℕ). x) r (front_of bytes) → IfOk r (λ x. BeginsWith x.0 x.1 bytes)
+unfolding front_of
+gives_front_found (Ok x) bytes h = begins_with bytes x (read start 1 bytes) refl h
+gives_front_found (Err fault) bytes h = tt

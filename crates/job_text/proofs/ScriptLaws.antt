@@ -1,12 +1,11 @@
 -- The table of steps that wait, and steps.
-use Rattle.std.proofs.Common.{◌≡◌, ℕ, refl, true, false, List, ◌∷◌, ◌++◌, Option, Some, None, ap}
+use Rattle.std.proofs.Common.{◌≡◌, ℕ, refl, true, List, ◌∷◌, ◌++◌, Option, Some, None}
 use Rattle.job_text.specs.declared.job.ScheduledCall.{ScheduledCall}
 use Rattle.job_text.specs.declared.job.ScriptStep.{ScriptStep}
 use Rattle.job_text.specs.declared.job.ScriptStep.TheVariants as step
 use Rattle.job_text.specs.declared.job.TransferText.TheVariants as transfer
 use Rattle.job_text.specs.declared.job.WaitingStep.{WaitingStep}
 use Rattle.job_text.specs.declared.job.WaitingStep.TheVariants as waiting
-use Rattle.job_text.specs.Lines.{◌>>=◌}
 use Rattle.job_text.specs.Forms.{none_at, none_text, none_fits}
 use Rattle.job_text.specs.Calls.{calls, later_calls, own_calls, segment_calls, transfer_calls, implicit_calls}
 use Rattle.job_text.specs.Calls.{sync_calls, barrier_calls, call_at, call_text, IsCall}

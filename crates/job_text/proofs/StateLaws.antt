@@ -16,7 +16,7 @@ use Rattle.job_text.specs.Places.{AtSchedule, AtDone, Over}
 use Rattle.job_text.specs.Places.{NamedOr, Named, Other, Item, item_text, IsItem}
 use Rattle.job_text.specs.JobReading.{State, with_number, behind_setting, lines_of, unless, next}
 use Rattle.job_text.specs.JobReading.{opened, headed, paired, acted, scripted, scheduled, pair_why, handler_why}
-use Rattle.job_text.specs.JobReading.{script_why, action_why, step_why, line_why}
+use Rattle.job_text.specs.JobReading.{section_why, action_why, step_why, line_why}
 use Rattle.job_text.specs.JobText.{Line, setting_line, all_settings, sieve_line, pair_line, header_line}
 use Rattle.job_text.specs.JobText.{handler_lines, timed_lines, schedule_lines, head_lines, lines_with_pairs}
 use Rattle.job_text.specs.JobText.{script_line, script_lines, lines_with_handlers, lines_with_scripts, job_lines}
@@ -180,7 +180,7 @@ none_schedule settings (Some lines) front e = absurd (cc)
 opened_more : (job : Job) (s : Section) (state : State) → IsUnread AtScripts job → opened job s ≡ Ok state
     → SaysMore AtScripts job s state
 opened_more job (section.Script node thread) state u h =
-    let p = unless_ok (script_why job.scripts node thread) _ state h in
+    let p = unless_ok (section_why job.scripts (section.Script node thread)) _ state h in
     subst (λ (x : State). SaysMore AtScripts job (section.Script node thread) x) p.1 (refl, u)
 opened_more job section.Schedule state u h = subst (λ (x : State). SaysMore AtScripts job section.Schedule x)
     (ok_same h) (refl, ([], refl))
@@ -200,7 +200,8 @@ headed_more job (Other s) state u h =
       m.1,
     )
 
-paired_more : (job : Job) (item : NamedOr PairCredits (NamedOr HandlerHeader Section)) (state : State) → IsUnread AtPairs job
+paired_more : (job : Job) (item : NamedOr PairCredits (NamedOr HandlerHeader Section)) (state : State)
+    → IsUnread AtPairs job
     → paired job item ≡ Ok state → SaysMore AtPairs job item state
 paired_more job (Named pair) state u h =
     let p = unless_ok (pair_why job.settings.pairs pair) _ state h in

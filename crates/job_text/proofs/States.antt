@@ -1,5 +1,6 @@
 -- What is known wherever a text was read up to.
-use Rattle.std.proofs.Common.{◌≡◌, inl, inr, ℕ, ◌<◌, ◌≤◌, ◌⊎◌, ◌||◌, ◌&&◌, Bool, true, false, eqb, leb, cond, List, [], ◌∷◌}
+use Rattle.std.proofs.Common.{◌≡◌, inl, inr, ℕ, ◌<◌, ◌≤◌, ◌⊎◌, ◌||◌, Bool, true, false, eqb, leb, cond, List, []}
+use Rattle.std.proofs.Common.{◌∷◌}
 use Rattle.std.proofs.Common.{◌++◌, length, ltb, Option, Some, None, Ok, refl, subst, arith, length-append}
 use Rattle.std.proofs.lemmas.Bool.{and_parts, eqb-true, leb-true, leb-false, ltb-true}
 use Rattle.datagram_grammar.specs.declared.pairs.PairCredits.{PairCredits}
@@ -12,8 +13,9 @@ use Rattle.job_text.specs.Places.{Place, AtSetting, AtSieve, AtPairs, AtHandlers
 use Rattle.job_text.specs.Places.{AtSchedule, AtDone, Over}
 use Rattle.job_text.specs.Places.{NamedOr, Named, Other, Item, IsItem}
 use Rattle.job_text.specs.JobReading.{State, least_job, with_number, behind_setting, with_action, lines_of, next}
-use Rattle.job_text.specs.JobReading.{with_step, begun_script, begun, opened, headed, paired, acted, scripted, scheduled}
-use Rattle.job_text.specs.JobReading.{has_index, has_pair, has_thread, pair_why, handler_why, script_why, action_why}
+use Rattle.job_text.specs.JobReading.{with_step, begun_script, begun, opened, headed, paired, acted, scripted}
+use Rattle.job_text.specs.JobReading.{scheduled}
+use Rattle.job_text.specs.JobReading.{has_index, has_pair, has_thread, pair_why, handler_why, section_why, action_why}
 use Rattle.job_text.specs.JobReading.{step_why, line_why}
 use Rattle.job_text.specs.JobText.{IsHandler, IsNodeScript, IsSieve}
 use Rattle.job_text.specs.declared.fault.JobWhy.TheVariants.{Entry, Count}
@@ -186,7 +188,7 @@ action_free handler h = leb-false 64 (length handler.body) (no_count (leb 64 (le
 opened_state : (job : Job) (s : Section) (state : State) → IsState AtScripts job → IsItem AtScripts job.settings s
     → opened job s ≡ Ok state → IsState state.place state.job
 opened_state job (section.Script node thread) state is item h =
-    let p = unless_ok (script_why job.scripts node thread) _ state h in
+    let p = unless_ok (section_why job.scripts (section.Script node thread)) _ state h in
     let there = and_parts (ltb node job.settings.nodes) (ltb thread job.settings.threads) item.1 in
     let one : IsBegunScript (begun_script node thread) job = record {
       is = record {
@@ -221,7 +223,8 @@ headed_state job (Named header) state is item h =
     subst (λ (x : State). IsState x.place x.job) p.1 (is.0, is.1, is.2, one)
 headed_state job (Other s) state is item h = opened_state job s state (is.0, is.2) item h
 
-paired_state : (job : Job) (item : NamedOr PairCredits (NamedOr HandlerHeader Section)) (state : State) → IsState AtPairs job
+paired_state : (job : Job) (item : NamedOr PairCredits (NamedOr HandlerHeader Section)) (state : State)
+    → IsState AtPairs job
     → IsItem AtPairs job.settings item → paired job item ≡ Ok state → IsState state.place state.job
 paired_state job (Named pair) state is item h =
     let p = unless_ok (pair_why job.settings.pairs pair) _ state h in

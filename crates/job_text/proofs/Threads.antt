@@ -75,7 +75,8 @@ keys_apart s (t ∷ ss) new lt there =
       keys_apart s ss parts.1 lt there.1,
     )
 
-keys_distinct : (ss : List NodeScript) → AreThreads ss → AllByRecursion (IsThere 256 16) ss → IsDistinct eqb (map key ss)
+keys_distinct : (ss : List NodeScript) → AreThreads ss → AllByRecursion (IsThere 256 16) ss
+    → IsDistinct eqb (map key ss)
 unfolding IsDistinct
 keys_distinct [] are there = tt
 keys_distinct (s ∷ ss) are there = (keys_apart s ss are.0 there.0.1 there.1, keys_distinct ss are.1 there.1)

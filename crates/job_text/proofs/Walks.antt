@@ -1,16 +1,16 @@
 -- Reading as a walk from line to line.
-use Rattle.std.proofs.Common.{◌≡◌, ℕ, zero, suc, ◌+◌, List, [], ◌∷◌, ◌++◌, length, Option, Some, None, Result, Ok}
-use Rattle.std.proofs.Common.{Err, refl, sym, ap, subst, ◌∙◌, arith, append_assoc, append-nil}
+use Rattle.std.proofs.Common.{◌≡◌, ◌⊎◌, inl, inr, ℕ, zero, suc, ◌+◌, List, [], ◌∷◌, ◌++◌, length, Option, Some}
+use Rattle.std.proofs.Common.{None, Result, Ok, Err, refl, sym, ap, subst, ◌∙◌, arith, append_assoc, append-nil}
 use Rattle.std.specs.List.{AllByRecursion}
-use Rattle.job_text.specs.Places.{Item, item_text}
-use Rattle.job_text.specs.JobReading.{State, BadLine, line_at, why_at, next, onward, stepped, step, from_lines}
-use Rattle.job_text.specs.JobReading.{at_end, after_step, run, read}
+use Rattle.job_text.specs.Places.{Place, Over, Item, item_text}
+use Rattle.job_text.specs.JobReading.{State, BadLine, Front, line_at, why_at, next, onward, stepped, step}
+use Rattle.job_text.specs.JobReading.{from_lines, front_with, over_or, after_step, run, read}
 use Rattle.job_text.specs.JobText.{Line, spell}
 use Rattle.job_text.specs.declared.fault.JobWhy.{JobWhy}
-use Rattle.job_text.specs.declared.job.Job.{Job}
+use Rattle.job_text.specs.declared.fault.JobWhy.TheVariants.{Early}
 use Rattle.job_text.proofs.FormLaws.{IsFlat}
 use Rattle.job_text.proofs.PlaceLaws.{place_exact}
-use Rattle.job_text.proofs.LineRuns.{line_takes, line_again, lines_after}
+use Rattle.job_text.proofs.LineRuns.{IsOpen, goes_on, open_or_over, line_takes, line_again, lines_after}
 use Rattle.job_text.proofs.StateLaws.{so_far, says_more}
 use Rattle.job_text.proofs.States.{IsState, unread, state_more}
 
@@ -135,22 +135,34 @@ walk_keeps (suc count) state bytes end rest is w =
 
 -- ---- reading walks
 
--- the end of the text, or a line that isn't read
-pub data EndsAs (end : State) (rest : List ℕ) (line : ℕ) (result : Result Job BadLine) : Type 0 where
-  Ends : rest ≡ [] → result ≡ at_end end line → EndsAs end rest line result
-  Fails : (why : JobWhy) → (rest ≡ [] → ⊥) → step end rest ≡ Err why → result ≡ Err
+-- the end of the text, a line that isn't read, or the end of a job
+pub data EndsAs (end : State) (rest : List ℕ) (line : ℕ) (result : Result Front BadLine) : Type 0 where
+  Ends : IsOpen end.place → rest ≡ [] → result ≡ Err (record { line = line; why = Early }) → EndsAs end rest line result
+  Fails : (why : JobWhy) → IsOpen end.place → (rest ≡ [] → ⊥) → step end rest ≡ Err why → result ≡ Err
       (record { line = line; why = why }) → EndsAs end rest line result
+  IsOver : end.place ≡ Over → result ≡ Ok (front_with end.job line rest) → EndsAs end rest line result
 
 -- how a reading comes to its end
-pub record Outcome (state : State) (line : ℕ) (bytes : List ℕ) (result : Result Job BadLine) : Type 0 where
+pub record Outcome (state : State) (line : ℕ) (bytes : List ℕ) (result : Result Front BadLine) : Type 0 where
   pub count : ℕ
   pub end : State
   pub rest : List ℕ
   pub walks : Walks count state bytes end rest
   pub ends : EndsAs end rest (line + count) result
 
+-- it ends at once
+at_once : (state : State) (line : ℕ) (bytes : List ℕ) (result : Result Front BadLine)
+    → EndsAs state bytes (line + 0) result → Outcome state line bytes result
+at_once state line bytes result ends = record {
+  count = 0;
+  end = state;
+  rest = bytes;
+  walks = (refl, refl);
+  ends = ends;
+}
+
 -- one step before
-one_before : (state : State) (line : ℕ) (bytes : List ℕ) (to : State) (more : List ℕ) (result : Result Job BadLine)
+one_before : (state : State) (line : ℕ) (bytes : List ℕ) (to : State) (more : List ℕ) (result : Result Front BadLine)
     → step state bytes ≡ Ok (to, more) → Outcome to (line + 1) more result → Outcome state line bytes result
 one_before state line bytes to more result h o = record {
   count = suc o.count;
@@ -173,35 +185,55 @@ unfolding from_lines
 first_of [] first later e = absurd (cc)
 first_of (b ∷ bytes) first later e = (cc, λ h. absurd (cc))
 
+-- what is told behind the last line
+told_over : {A : Type 0} (place : Place) (over other : A) → place ≡ Over → over_or place over other ≡ over
+told_over place over other e = ap (λ (p : Place). over_or p over other) e
+
+-- no line follows
+no_line : (state : State) (line : ℕ) (bytes : List ℕ) → bytes ≡ [] → IsOpen state.place ⊎ (state.place ≡ Over)
+    → Outcome state line bytes (over_or state.place (Ok (front_with state.job line [])) (Err
+    (record { line = line; why = Early })))
+no_line state line bytes none (inl open_) =
+    at_once state line bytes _ (Ends open_ none (goes_on state.place _ _ open_
+    ∙ ap (λ (n : ℕ). Err (record { line = n; why = Early })) (omega arith)))
+no_line state line bytes none (inr over) =
+    at_once state line bytes _ (IsOver over (told_over state.place _ _ over
+    ∙ ap (λ (n : ℕ). Ok (front_with state.job n [])) (omega arith)
+    ∙ ap (λ (r : List ℕ). Ok (front_with state.job (line + 0) r)) (sym none)))
+
+-- a line follows where lines go on
 run_by : (later : List (List ℕ)) (state : State) (line : ℕ) (bytes : List ℕ) (r : Result (State × List ℕ) JobWhy)
-    → step state bytes ≡ r → (bytes ≡ [] → ⊥) → ((to : State) (more : List ℕ) → step state bytes ≡ Ok (to, more)
-    → Outcome to (line + 1) more (run to (line + 1) later))
+    → IsOpen state.place → step state bytes ≡ r → (bytes ≡ [] → ⊥) → ((to : State) (more : List ℕ)
+    → step state bytes ≡ Ok (to, more) → Outcome to (line + 1) more (run to (line + 1) later))
     → Outcome state line bytes (after_step line (λ to. run to (line + 1) later) r)
-run_by later state line bytes (Err why) h some on = record {
-  count = 0;
-  end = state;
-  rest = bytes;
-  walks = (refl, refl);
-  ends = Fails why some h (ap (λ (n : ℕ). Err (record { line = n; why = why })) (omega arith));
-}
-run_by later state line bytes (Ok x) h some on = one_before state line bytes x.0 x.1 (run x.0 (line + 1) later) h
-    (on x.0 x.1 h)
+run_by later state line bytes (Err why) open_ h some on =
+    at_once state line bytes _ (Fails why open_ some h (ap (λ (n : ℕ). Err (record { line = n; why = why }))
+    (omega arith)))
+run_by later state line bytes (Ok x) open_ h some on = one_before state line bytes x.0 x.1
+    (run x.0 (line + 1) later) h (on x.0 x.1 h)
+
+-- a line follows
+some_line : (later : List (List ℕ)) (state : State) (line : ℕ) (bytes : List ℕ)
+    → IsOpen state.place ⊎ (state.place ≡ Over) → (bytes ≡ [] → ⊥) → ((to : State) (more : List ℕ)
+    → step state bytes ≡ Ok (to, more) → Outcome to (line + 1) more (run to (line + 1) later))
+    → Outcome state line bytes (over_or state.place (Ok (front_with state.job line bytes))
+    (after_step line (λ to. run to (line + 1) later) (step state bytes)))
+some_line later state line bytes (inl open_) some on =
+    subst (Outcome state line bytes) (sym (goes_on state.place _ _ open_))
+    (run_by later state line bytes (step state bytes) open_ refl some on)
+some_line later state line bytes (inr over) some on =
+    at_once state line bytes _ (IsOver over (told_over state.place _ _ over
+    ∙ ap (λ (n : ℕ). Ok (front_with state.job n bytes)) (omega arith)))
 
 run_outcome : (lines : List (List ℕ)) (state : State) (line : ℕ) (bytes : List ℕ) → from_lines bytes ≡ lines
     → Outcome state line bytes (run state line lines)
 unfolding run
-run_outcome [] state line bytes e = record {
-  count = 0;
-  end = state;
-  rest = bytes;
-  walks = (refl, refl);
-  ends = Ends (empty_lines bytes e) (ap (λ (n : ℕ). at_end state n) (omega arith));
-}
+run_outcome [] state line bytes e = no_line state line bytes (empty_lines bytes e) (open_or_over state.place)
 run_outcome (first ∷ later) state line bytes e =
     let f = first_of bytes first later e in
-    subst (λ (b : List ℕ). Outcome state line bytes (after_step line (λ to. run to (line + 1) later) (step state b)))
-    f.0
-    (run_by later state line bytes (step state bytes) refl f.1 (λ to more h.
+    subst (λ (b : List ℕ). Outcome state line bytes (over_or state.place (Ok (front_with state.job line b))
+    (after_step line (λ to. run to (line + 1) later) (step state b)))) f.0
+    (some_line later state line bytes (open_or_over state.place) f.1 (λ to more h.
     let one = step_of state bytes (to, more) h in
     let lines : from_lines bytes ≡ bytes ∷ from_lines more = lines_after state.place state.job.settings bytes
     (one.item, more) one.found in

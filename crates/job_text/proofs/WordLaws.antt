@@ -18,11 +18,12 @@ use Rattle.job_text.specs.declared.job.ImplicitKind.TheVariants as implicit
 use Rattle.job_text.specs.declared.job.Operand.{Operand}
 use Rattle.job_text.specs.declared.job.Operand.TheVariants as operand
 use Rattle.job_text.specs.Lines.{Word}
-use Rattle.job_text.specs.Words.{number_in, schedule_operand, body_operand, operand_word, IsBodyOperand}
-use Rattle.job_text.specs.Words.{IsScheduleOperand, kind_of, kind_word, IsNamed, role_of, role_word}
+use Rattle.job_text.specs.Words.{number_in, schedule_operand, body_operand, operand_word, IsOperand}
+use Rattle.job_text.specs.Words.{kind_of, kind_word, IsNamed, role_of, role_word}
 use Rattle.job_text.specs.Words.{implicit_of, implicit_word}
+use Rattle.job_text.specs.declared.operands.NumberPlace.TheVariants.{Schedule, Body}
 use Rattle.job_text.specs.Forms.{Bytes, Payload, BodyPayload, Integer, Implicit}
-use Rattle.job_text.specs.Forms.{Part, Number, Value, BodyValue, Kind, Role, Meaning, word_text, IsSaid, word_says}
+use Rattle.job_text.specs.Forms.{Part, Number, NumberOf, Kind, Role, Meaning, word_text, IsSaid, word_says}
 use Rattle.job_text.proofs.Fronts.{cond_yes, cond_no}
 use Rattle.job_text.proofs.Decimals.{own, number_of-decimal}
 use Rattle.job_text.proofs.Integers.{IsInteger, number_takes, integer_takes, integer_again, first_is}
@@ -108,7 +109,7 @@ kind_run kind.Return h = absurd h
 -- ---- numbers of an action
 
 -- a word that was read as a number of a schedule
-schedule_takes : (word : Word) → Takes (λ v. (word ≡ operand_word v) × IsScheduleOperand v) (schedule_operand word)
+schedule_takes : (word : Word) → Takes (λ v. (word ≡ operand_word v) × IsOperand Schedule v) (schedule_operand word)
 unfolding schedule_operand
 schedule_takes word =
     takes_if
@@ -120,13 +121,13 @@ schedule_takes word =
     (λ b. takes_then (λ z. IsInteger word z) (integer_takes word) (λ z h. takes_some (h.spells, h.fits)))
 
 -- a number of a schedule may stand in a body
-wider : (v : Operand) → IsScheduleOperand v → IsBodyOperand v
+wider : (v : Operand) → IsOperand Schedule v → IsOperand Body v
 wider (operand.Number z) h = h
 wider (operand.Cell n) h = h
 wider (operand.Argument n) h = absurd h
 
 -- a word that was read as a number of a body
-body_takes : (word : Word) → Takes (λ v. (word ≡ operand_word v) × IsBodyOperand v) (body_operand word)
+body_takes : (word : Word) → Takes (λ v. (word ≡ operand_word v) × IsOperand Body v) (body_operand word)
 unfolding body_operand
 body_takes word =
     takes_if
@@ -135,7 +136,7 @@ body_takes word =
       first_is word 96 (eqb-true _ _ b) ∙ ap (λ ds. 97 ∷ ds) h.0,
       let m = h.1.1 in omega arith,
     )))
-    (λ b. takes_weaker (λ v. (word ≡ operand_word v) × IsScheduleOperand v) (schedule_takes word) (λ v h.
+    (λ b. takes_weaker (λ v. (word ≡ operand_word v) × IsOperand Schedule v) (schedule_takes word) (λ v h.
     (h.0, wider v h.1)))
 
 -- digits begin with a digit
@@ -153,21 +154,21 @@ no_letter : (z : ℤ) (letter : ℕ) → FitsSigned w32 z → 57 < letter → eq
 no_letter z letter h lt = let low = first_low z h in ne_eqb (get_or (signed_decimal z) 0 0) letter (λ e. omega arith)
 
 -- a number of a schedule is read again
-schedule_again : (v : Operand) → IsScheduleOperand v → schedule_operand (operand_word v) ≡ Some v
+schedule_again : (v : Operand) → IsOperand Schedule v → schedule_operand (operand_word v) ≡ Some v
 unfolding schedule_operand
 schedule_again (operand.Number z) h = cond_no _ _ _ (no_letter z 99 h (omega arith)) ∙ rw (integer_again z h) refl
 schedule_again (operand.Cell n) h = rw (in_again 0 255 n (omega arith) (omega arith) (omega arith)) refl
 schedule_again (operand.Argument n) h = absurd h
 
 -- a number of a body is read again
-body_again : (v : Operand) → IsBodyOperand v → body_operand (operand_word v) ≡ Some v
+body_again : (v : Operand) → IsOperand Body v → body_operand (operand_word v) ≡ Some v
 unfolding body_operand
 body_again (operand.Number z) h = cond_no _ _ _ (no_letter z 97 h (omega arith)) ∙ schedule_again (operand.Number z) h
 body_again (operand.Cell n) h = schedule_again (operand.Cell n) h
 body_again (operand.Argument n) h = rw (in_again 0 15 n (omega arith) (omega arith) (omega arith)) refl
 
 -- a number of a body ends no word
-body_run : (v : Operand) → IsBodyOperand v → IsRun (operand_word v)
+body_run : (v : Operand) → IsOperand Body v → IsRun (operand_word v)
 body_run (operand.Number z) h = integer_run z h
 body_run (operand.Cell n) h = (refl, decimal_run n (omega arith))
 body_run (operand.Argument n) h = (refl, decimal_run n (omega arith))
@@ -220,8 +221,8 @@ implicit_run implicit.All = (refl, (refl, (refl, tt)))
 -- a word that was read
 pub word_takes : (p : Part) (word : Word) → Takes (λ x. (word ≡ word_text p x) × IsSaid p x) (word_says p word)
 word_takes (Number low high) word = in_takes low high word
-word_takes Value word = schedule_takes word
-word_takes BodyValue word = body_takes word
+word_takes (NumberOf Schedule) word = schedule_takes word
+word_takes (NumberOf Body) word = body_takes word
 word_takes Kind word = kind_takes word
 word_takes Role word = takes_weaker (λ w. word ≡ role_word w) (role_takes word) (λ w h. (h, tt))
 word_takes Bytes word = bytes_take word
@@ -233,8 +234,8 @@ word_takes Implicit word = takes_weaker (λ w. word ≡ implicit_word w) (implic
 -- a word is read again
 pub word_again : (p : Part) (x : Meaning p) → IsSaid p x → word_says p (word_text p x) ≡ Some x
 word_again (Number low high) x h = in_again low high x h.0 h.1 h.2
-word_again Value x h = schedule_again x h
-word_again BodyValue x h = body_again x h
+word_again (NumberOf Schedule) x h = schedule_again x h
+word_again (NumberOf Body) x h = body_again x h
 word_again Kind x h = kind_again x h
 word_again Role x h = role_again x
 word_again Bytes x h = bytes_again x h
@@ -246,8 +247,8 @@ word_again Implicit x h = implicit_again x
 -- no word ends within it
 pub word_run : (p : Part) (x : Meaning p) → IsSaid p x → IsRun (word_text p x)
 word_run (Number low high) x h = decimal_run x h.2
-word_run Value x h = body_run x (wider x h)
-word_run BodyValue x h = body_run x h
+word_run (NumberOf Schedule) x h = body_run x (wider x h)
+word_run (NumberOf Body) x h = body_run x h
 word_run Kind x h = kind_run x h
 word_run Role x h = role_run x
 word_run Bytes x h = bytes_run x

@@ -8,8 +8,8 @@ use Rattle.std.specs.Int.RustNames.{FitsSigned}
 use Rattle.std.specs.List.{AllByRecursion, flat_map}
 use Rattle.std.specs.Str.{bytes_eq}
 use Rattle.job_text.specs.Lines.{Word, ◌>>=◌, front, back, spaced}
-use Rattle.job_text.specs.Words.{integer_of, integer_read, number_in, schedule_operand, body_operand, operand_word}
-use Rattle.job_text.specs.Words.{IsScheduleOperand, IsBodyOperand, kind_of, kind_word, IsNamed, role_of, role_word}
+use Rattle.job_text.specs.Words.{integer_of, integer_read, number_in, operand_of, operand_word, IsOperand}
+use Rattle.job_text.specs.Words.{kind_of, kind_word, IsNamed, role_of, role_word}
 use Rattle.job_text.specs.Words.{implicit_of, implicit_word}
 use Rattle.job_text.specs.Payloads.{payload_of, body_payload_of, payload_word, IsPayload, IsBodyPayload, bytes_of}
 use Rattle.job_text.specs.Payloads.{bytes_word, AreBytes}
@@ -17,6 +17,8 @@ use Rattle.job_text.specs.declared.job.ImplicitKind.{ImplicitKind}
 use Rattle.job_text.specs.declared.job.Operand.{Operand}
 use Rattle.job_text.specs.declared.job.Operand.TheVariants as operand
 use Rattle.job_text.specs.declared.job.Payload.{Payload as PayloadValue}
+use Rattle.job_text.specs.declared.operands.NumberPlace.{NumberPlace}
+use Rattle.job_text.specs.declared.operands.NumberPlace.TheVariants.{Schedule, Body}
 use Rattle.handler_rules.specs.declared.rules.CallKind.{CallKind}
 use Rattle.handler_rules.specs.declared.rules.Role.{Role as HandlerRole}
 
@@ -25,8 +27,7 @@ use Rattle.handler_rules.specs.declared.rules.Role.{Role as HandlerRole}
 -- what a word of a line may be
 pub data Part : Type 0 where
   Number : (low high : ℕ) → Part  -- a number of a range
-  Value : Part  -- a number of a schedule: itself, or `cN`
-  BodyValue : Part  -- a number of a handler's body: also `aN`
+  NumberOf : NumberPlace → Part  -- a number of an action: itself, or `cN`; in a handler's body also `aN`
   Kind : Part  -- a kind of call
   Role : Part  -- a handler's role
   Bytes : Part  -- bytes, as `x` and two digits for each
@@ -35,11 +36,17 @@ pub data Part : Type 0 where
   Integer : Part  -- a number of 32 bits, itself
   Implicit : Part  -- implicit operations
 
+-- a number of a schedule or a script, and one of a handler's body
+abbrev pub Value : Part
+Value = NumberOf Schedule
+
+abbrev pub BodyValue : Part
+BodyValue = NumberOf Body
+
 -- what such a word says
 abbrev pub Meaning : Part → Type 0
 Meaning (Number low high) = ℕ
-Meaning Value = Operand
-Meaning BodyValue = Operand
+Meaning (NumberOf place) = Operand
 Meaning Kind = CallKind
 Meaning Role = HandlerRole
 Meaning Bytes = List ℕ
@@ -51,8 +58,7 @@ Meaning Implicit = ImplicitKind
 -- the word that says it
 abbrev pub word_text : (p : Part) → Meaning p → Word
 word_text (Number low high) n = decimal n
-word_text Value v = operand_word v
-word_text BodyValue v = operand_word v
+word_text (NumberOf place) v = operand_word v
 word_text Kind k = kind_word k
 word_text Role r = role_word r
 word_text Bytes bytes = bytes_word bytes
@@ -64,8 +70,7 @@ word_text Implicit kind = implicit_word kind
 -- what can be said so
 abbrev pub IsSaid : (p : Part) → Meaning p → Type 0
 IsSaid (Number low high) n = (low ≤ n) × (n ≤ high) × (n < 2 ^ 64)
-IsSaid Value v = IsScheduleOperand v
-IsSaid BodyValue v = IsBodyOperand v
+IsSaid (NumberOf place) v = IsOperand place v
 IsSaid Kind k = IsNamed k
 IsSaid Role r = Unit {0}
 IsSaid Bytes bytes = AreBytes bytes
@@ -77,8 +82,7 @@ IsSaid Implicit kind = Unit {0}
 -- what a word says
 abbrev pub word_says : (p : Part) → Word → Option (Meaning p)
 word_says (Number low high) word = number_in low high word
-word_says Value word = schedule_operand word
-word_says BodyValue word = body_operand word
+word_says (NumberOf place) word = operand_of place word
 word_says Kind word = kind_of word
 word_says Role word = role_of word
 word_says Bytes word = bytes_of word

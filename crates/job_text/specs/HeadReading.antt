@@ -28,22 +28,47 @@ told line why (Some x) = Ok x
 unfoldable pub number_line : Word → (low high : ℕ) → List ℕ → Option (ℕ × List ℕ)
 number_line name low high bytes = lined (table_at none_at (number_row name low high ∷ []) (λ number. true)) bytes
 
--- the same, where it passes the test
-unfoldable pub fitting_line : Word → (low high : ℕ) → (ℕ → Bool) → List ℕ → Option (ℕ × List ℕ)
-fitting_line name low high test bytes = options.◌>>=◌ (number_line name low high bytes) (passed test)
+-- a line of a name and a number: from `low` to `high`, and such that it fits
+pub record NumberForm : Type 0 where
+  pub name : Word
+  pub low : ℕ
+  pub high : ℕ
+  pub fits : ℕ → Bool
+
+-- any number of a range
+abbrev pub in_range : Word → (low high : ℕ) → NumberForm
+in_range name low high = record { name = name; low = low; high = high; fits = λ number. true }
+
+-- the number of a setting behind these
+abbrev pub setting_form : Setting → Parameters → NumberForm
+setting_form setting settings = record {
+  name = setting_name setting;
+  low = least setting;
+  high = greatest setting;
+  fits = setting_fits setting settings;
+}
+
+-- the nodes of a version, and the credits and the segment of so many nodes
+abbrev pub nodes_form : (version : ℕ) → NumberForm
+nodes_form version = setting_form Nodes (record least_job.settings { version = version })
+
+abbrev pub credits_form : (nodes : ℕ) → NumberForm
+credits_form nodes = setting_form Credits (record least_job.settings { nodes = nodes })
+
+abbrev pub segment_form : (nodes : ℕ) → NumberForm
+segment_form nodes = setting_form Segment (record least_job.settings { nodes = nodes })
+
+-- a number of the form, and the bytes after its line
+unfoldable pub fitting_line : NumberForm → List ℕ → Option (ℕ × List ℕ)
+fitting_line form bytes = options.◌>>=◌ (number_line form.name form.low form.high bytes) (passed form.fits)
 
 -- the reason where there is none
 unfoldable pub number_why : Word → List ℕ → JobWhy
 number_why name bytes = reason (table_form (λ b. false) (number_row name 0 0 ∷ [])) bytes
 
 -- the number, or the reason
-unfoldable pub number_from : Word → (low high : ℕ) → (ℕ → Bool) → (line : ℕ) → List ℕ → Result (ℕ × List ℕ) BadLine
-number_from name low high test line bytes = told line (number_why name bytes) (fitting_line name low high test bytes)
-
--- the number of a setting
-abbrev pub setting_from : Setting → Parameters → (line : ℕ) → List ℕ → Result (ℕ × List ℕ) BadLine
-setting_from setting settings line bytes =
-    number_from (setting_name setting) (least setting) (greatest setting) (setting_fits setting settings) line bytes
+unfoldable pub number_from : NumberForm → (line : ℕ) → List ℕ → Result (ℕ × List ℕ) BadLine
+number_from form line bytes = told line (number_why form.name bytes) (fitting_line form bytes)
 
 -- the line of the sieve
 unfoldable pub sieve_line : List ℕ → Option (SieveRule × List ℕ)
@@ -56,18 +81,15 @@ sieve_why bytes = reason (table_form (λ b. false) (sieve_row ∷ [])) bytes
 -- the ten lines of the head
 unfoldable pub head_at : List ℕ → Result (Job × List ℕ) BadLine
 head_at bytes = do
-  version ← setting_from Version least_job.settings 1 bytes
-  job ← number_from (setting_name places.Job) 0 (greatest places.Job) (λ n. true) 2 version.1
-  nodes ← number_from (setting_name Nodes) 1 256 (setting_fits Nodes
-      (record least_job.settings { version = version.0 })) 3 job.1
-  credits ← number_from (setting_name Credits) 1 32 (setting_fits Credits
-      (record least_job.settings { nodes = nodes.0 })) 4 nodes.1
-  threads ← number_from (setting_name Threads) 1 16 (λ n. true) 5 credits.1
-  segment ← number_from (setting_name Segment) 4096 67108864 (setting_fits Segment
-      (record least_job.settings { nodes = nodes.0 })) 6 threads.1
-  last ← number_from (setting_name Last) 1 (greatest Last) (λ n. true) 7 segment.1
-  resend ← number_from (setting_name Resend) 1 1000000 (λ n. true) 8 last.1
-  patience ← number_from (setting_name Patience) 1 1000000 (λ n. true) 9 resend.1
+  version ← number_from (in_range (setting_name Version) 1 2) 1 bytes
+  job ← number_from (in_range (setting_name places.Job) 0 (greatest places.Job)) 2 version.1
+  nodes ← number_from (nodes_form version.0) 3 job.1
+  credits ← number_from (credits_form nodes.0) 4 nodes.1
+  threads ← number_from (in_range (setting_name Threads) 1 16) 5 credits.1
+  segment ← number_from (segment_form nodes.0) 6 threads.1
+  last ← number_from (in_range (setting_name Last) 1 (greatest Last)) 7 segment.1
+  resend ← number_from (in_range (setting_name Resend) 1 1000000) 8 last.1
+  patience ← number_from (in_range (setting_name Patience) 1 1000000) 9 resend.1
   rule ← told 10 (sieve_why patience.1) (sieve_line patience.1)
   Ok (
     record {

@@ -1,5 +1,5 @@
 -- Reading a job line by line: the first bad line, and the first reason that applies to it.
-use Rattle.std.specs.Prelude.{ℕ, ◌+◌, ◌*◌, List, [], ◌∷◌, ◌++◌, length, map, Option, Some, None, Result, Ok, Err}
+use Rattle.std.specs.Prelude.{ℕ, ◌+◌, ◌-◌, ◌*◌, List, [], ◌∷◌, ◌++◌, length, map, Option, Some, None, Result, Ok, Err}
 use Rattle.std.specs.Prelude.{Bool, true, false}
 use Rattle.std.specs.Prelude.{not, ◌&&◌, ◌||◌, nat_le, nat_lt, ◌==◌, if◌then◌else◌}
 use Rattle.std.specs.List.{list_any}
@@ -182,9 +182,10 @@ pair_why pairs pair = if has_pair pairs pair then Some Entry else (if nat_le 64
 abbrev pub action_why : List Action → Option JobWhy
 action_why actions = if nat_le 64 (length actions) then Some Count else None
 
--- why a script of this thread may not
-abbrev pub script_why : List NodeScript → (node thread : ℕ) → Option JobWhy
-script_why scripts node thread = if has_thread scripts node thread then Some Entry else None
+-- why a line that begins a script, or another part, may not
+abbrev pub section_why : List NodeScript → Section → Option JobWhy
+section_why scripts (section.Script node thread) = if has_thread scripts node thread then Some Entry else None
+section_why scripts other = None
 
 -- why a step may not
 abbrev pub step_why : List ScriptStep → Option JobWhy
@@ -213,12 +214,20 @@ begun_script node thread = record { node = node; thread = thread; steps = [] }
 abbrev pub begun : HandlerHeader → HandlerText
 begun header = record { index = header.index; role = header.role; locks = header.locks; body = [] }
 
+-- whether a line begins the schedule
+abbrev pub is_schedule : Section → Bool
+is_schedule section.Schedule = true
+is_schedule other = false
+
 -- behind a line that begins a part behind the handlers
+abbrev pub behind_section : Job → Section → State
+behind_section job (section.Script node thread) =
+    record { place = AtSteps (begun_script node thread); job = job }
+behind_section job other = behind_scripts (is_schedule other) job
+
+-- the same, unless there is a reason against it
 abbrev pub opened : Job → Section → Result State JobWhy
-opened job (section.Script node thread) =
-    unless (script_why job.scripts node thread) (record { place = AtSteps (begun_script node thread); job = job })
-opened job section.Schedule = Ok (behind_scripts true job)
-opened job section.Done = Ok (behind_scripts false job)
+opened job section = unless (section_why job.scripts section) (behind_section job section)
 
 -- behind the first line of a handler, or such a line
 abbrev pub headed : Job → NamedOr HandlerHeader Section → Result State JobWhy
@@ -276,7 +285,6 @@ line_at place settings bytes = lined (item_at place settings) bytes
 
 -- why it says nothing
 abbrev pub why_at : (place : Place) → Parameters → List ℕ → JobWhy
-why_at Over settings bytes = After
 why_at place settings bytes = reason (item_form place settings) bytes
 
 -- what was read, with the bytes after it
@@ -316,33 +324,62 @@ from_later_lines (b ∷ bytes) =
 unfoldable pub from_lines : List ℕ → List (List ℕ)
 from_lines bytes = also_from bytes (from_later_lines bytes)
 
--- the job behind its last line
-abbrev pub over_or : Place → Job → BadLine → Result Job BadLine
-over_or Over job bad = Ok job
-over_or place job bad = Err bad
+-- a job with whose text bytes begin, the number of the line behind it, and the bytes from there on
+pub record Front : Type 0 where
+  pub job : Job
+  pub line : ℕ
+  pub rest : List ℕ
 
--- the text ends there
-abbrev pub at_end : State → (line : ℕ) → Result Job BadLine
-at_end state line = over_or state.place state.job (record { line = line; why = Early })
+abbrev pub front_with : Job → (line : ℕ) → (rest : List ℕ) → Front
+front_with job line rest = record { job = job; line = line; rest = rest }
+
+-- behind the last line of a job it is told, and else something goes on
+abbrev pub over_or : {A : Type 0} → Place → (told other : A) → A
+over_or Over told other = told
+over_or place told other = other
 
 -- a line was read, or not
-abbrev pub after_step : (line : ℕ) → (State → Result Job BadLine) → Result (State × List ℕ) JobWhy → Result Job BadLine
+abbrev pub after_step : (line : ℕ) → (State → Result Front BadLine) → Result (State × List ℕ) JobWhy
+    → Result Front BadLine
 after_step line more (Err why) = Err (record { line = line; why = why })
 after_step line more (Ok x) = more x.0
 
--- the lines from these places on
-unfoldable pub run : State → (line : ℕ) → List (List ℕ) → Result Job BadLine
-run state line [] = at_end state line
-run state line (bytes ∷ later) = after_step line (λ then_state. run then_state (line + 1) later) (step state bytes)
+-- the lines from these places on up to the last one of a job
+unfoldable pub run : State → (line : ℕ) → List (List ℕ) → Result Front BadLine
+run state line [] =
+    over_or state.place (Ok (front_with state.job line [])) (Err (record { line = line; why = Early }))
+run state line (bytes ∷ later) =
+    over_or state.place (Ok (front_with state.job line bytes))
+    (after_step line (λ then_state. run then_state (line + 1) later) (step state bytes))
 
 -- the bytes from a line on
-unfoldable pub read : State → (line : ℕ) → List ℕ → Result Job BadLine
+unfoldable pub read : State → (line : ℕ) → List ℕ → Result Front BadLine
 read state line bytes = run state line (from_lines bytes)
+
+-- what is made of a front, unless a line was bad
+abbrev pub of_front : {A : Type 0} → (Front → Result A BadLine) → Result Front BadLine → Result A BadLine
+of_front make (Ok front) = make front
+of_front make (Err bad) = Err bad
 
 -- the most bytes of a job's text
 abbrev pub limit : ℕ
 limit = 4194304
 
+-- the job, where no byte stands behind it
+abbrev pub alone : Front → Result Job BadLine
+alone front = if length front.rest == 0 then Ok front.job else Err (record { line = front.line; why = After })
+
 -- what a text is read as
 unfoldable pub job_of : List ℕ → Result Job BadLine
-job_of bytes = if nat_lt limit (length bytes) then Err (record { line = 0; why = Size }) else read start 1 bytes
+job_of bytes =
+    if nat_lt limit (length bytes) then Err (record { line = 0; why = Size }) else of_front alone (read start 1 bytes)
+
+-- the job at the front of so many bytes, and the size of its text, which is not too long
+abbrev pub sized : (count : ℕ) → Front → Result (Job × ℕ) BadLine
+sized count front =
+    if nat_lt limit (count - length front.rest) then Err (record { line = 0; why = Size })
+    else Ok (front.job, count - length front.rest)
+
+-- what bytes are read as that go on behind a job's text
+unfoldable pub front_of : List ℕ → Result (Job × ℕ) BadLine
+front_of bytes = of_front (sized (length bytes)) (read start 1 bytes)

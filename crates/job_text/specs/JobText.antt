@@ -169,3 +169,11 @@ pub record JobText (job : Job) (bytes : List ℕ) : Type 0 where
   pub is_job : IsJob job
   pub text : bytes ≡ job_text job
   pub within : length bytes ≤ limit
+
+-- the bytes begin with the text of the job, which has this size
+pub record BeginsWith (job : Job) (size : ℕ) (bytes : List ℕ) : Type 0 where
+  pub is_job : IsJob job
+  pub rest : List ℕ
+  pub text : bytes ≡ job_text job ++ rest
+  pub long : size ≡ length (job_text job)
+  pub within : size ≤ limit

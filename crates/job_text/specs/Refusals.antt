@@ -5,7 +5,8 @@ use Rattle.job_text.specs.Reasons.{is_text}
 use Rattle.datagram_grammar.specs.Parameters.{Parameters}
 use Rattle.job_text.specs.Places.{Place, AtPairs, AtHandlers, AtBody, AtScripts, AtSteps, AtSchedule}
 use Rattle.job_text.specs.Places.{NamedOr, Named, Other, Item, item_form, item_text, IsItem}
-use Rattle.job_text.specs.JobReading.{limit, job_of, with_handler, with_script, lines_of, total_rounds, has_index}
+use Rattle.job_text.specs.JobReading.{limit, job_of, front_of, with_handler, with_script, lines_of, total_rounds}
+use Rattle.job_text.specs.JobReading.{has_index}
 use Rattle.job_text.specs.JobReading.{has_pair, has_thread, is_full}
 use Rattle.job_text.specs.declared.sections.HandlerHeader.{HandlerHeader}
 use Rattle.job_text.specs.declared.sections.Section.{Section}
@@ -15,6 +16,7 @@ use Rattle.job_text.specs.declared.fault.JobFault.{JobFault}
 use Rattle.job_text.specs.declared.fault.JobFault.TheVariants as faults
 use Rattle.job_text.specs.declared.fault.JobWhy.{JobWhy}
 use Rattle.job_text.specs.declared.fault.JobWhy.TheVariants.{Size, Early, Text, Form, Value as BadValue, Entry, Count}
+use Rattle.job_text.specs.declared.fault.JobWhy.TheVariants.{After}
 use Rattle.job_text.specs.declared.job.Job.{Job}
 
 -- the first so many lines, each with its ending byte, which the last one may lack
@@ -136,3 +138,29 @@ IsNoMemory (faults.Bad line why) = ⊥
 abbrev pub IsBadLine : List ℕ → JobFault → Type 0
 IsBadLine bytes faults.NoMemory = ⊥
 IsBadLine bytes (faults.Bad line why) = job_of bytes ≡ Err (record { line = line; why = why })
+
+-- ---- bytes that begin with a job's text
+
+-- the bytes begin with a job's text that is too long
+pub record IsTooLong (bytes : List ℕ) : Type 0 where
+  pub job : Job
+  pub is : IsJob job
+  pub rest : List ℕ
+  pub text : bytes ≡ job_text job ++ rest
+  pub long : limit < length (job_text job)
+
+-- what a refusal means where any bytes may follow a job's text
+abbrev pub FrontMeans : List ℕ → (line : ℕ) → JobWhy → Type 0
+FrontMeans bytes line Size = (line ≡ 0) × IsTooLong bytes
+FrontMeans bytes line After = ⊥
+FrontMeans bytes line why = Means bytes line why
+
+-- a refusal means that, unless memory ran out
+abbrev pub IsFrontMeant : List ℕ → JobFault → Type 0
+IsFrontMeant bytes faults.NoMemory = Unit {0}
+IsFrontMeant bytes (faults.Bad line why) = FrontMeans bytes line why
+
+-- the fault names the first bad line of the bytes up to a job's last line, and the first reason that applies to it
+abbrev pub IsBadFront : List ℕ → JobFault → Type 0
+IsBadFront bytes faults.NoMemory = ⊥
+IsBadFront bytes (faults.Bad line why) = front_of bytes ≡ Err (record { line = line; why = why })

@@ -6,7 +6,6 @@ use Rattle.job_text.specs.Forms.{table_at, entry_text, IsOf, none_at, none_text,
 use Rattle.job_text.specs.Reasons.{table_form}
 use Rattle.job_text.specs.Calls.{move_shape, fill_shape, call_at, call_form, call_text, IsCall}
 use Rattle.job_text.specs.declared.job.PutText.{PutText}
-use Rattle.job_text.specs.declared.job.ScheduledCall.{ScheduledCall}
 use Rattle.job_text.specs.declared.job.ScriptStep.{ScriptStep}
 use Rattle.job_text.specs.declared.job.ScriptStep.TheVariants as step
 use Rattle.job_text.specs.declared.job.TransferText.{TransferText}

@@ -13,6 +13,8 @@ use Rattle.job_text.specs.declared.job.ImplicitKind.{ImplicitKind}
 use Rattle.job_text.specs.declared.job.ImplicitKind.TheVariants as implicit
 use Rattle.job_text.specs.declared.job.Operand.{Operand}
 use Rattle.job_text.specs.declared.job.Operand.TheVariants as operand
+use Rattle.job_text.specs.declared.operands.NumberPlace.{NumberPlace}
+use Rattle.job_text.specs.declared.operands.NumberPlace.TheVariants.{Schedule, Body}
 use Rattle.handler_rules.specs.declared.rules.CallKind.{CallKind}
 use Rattle.handler_rules.specs.declared.rules.CallKind.TheVariants as kind
 use Rattle.handler_rules.specs.declared.rules.Role.{Role}
@@ -101,23 +103,23 @@ unfoldable pub body_operand : Word → Option Operand
 body_operand word = if slice_index word 0 == 97 then (number_in 0 15 (drop 1 word) >>= λ n. Some
     (operand.Argument n)) else schedule_operand word
 
+-- a number of an action at a place
+abbrev pub operand_of : NumberPlace → Word → Option Operand
+operand_of Schedule word = schedule_operand word
+operand_of Body word = body_operand word
+
 -- the word of a number of an action
 abbrev pub operand_word : Operand → Word
 operand_word (operand.Number n) = signed_decimal n
 operand_word (operand.Cell cell) = 99 ∷ decimal cell
 operand_word (operand.Argument place) = 97 ∷ decimal place
 
--- a number of a handler's body
-abbrev pub IsBodyOperand : Operand → Type 0
-IsBodyOperand (operand.Number n) = FitsSigned w32 n
-IsBodyOperand (operand.Cell cell) = cell < 256
-IsBodyOperand (operand.Argument place) = place < 16
-
--- a number of a schedule
-abbrev pub IsScheduleOperand : Operand → Type 0
-IsScheduleOperand (operand.Number n) = FitsSigned w32 n
-IsScheduleOperand (operand.Cell cell) = cell < 256
-IsScheduleOperand (operand.Argument place) = ⊥
+-- a number of an action at a place
+abbrev pub IsOperand : NumberPlace → Operand → Type 0
+IsOperand place (operand.Number n) = FitsSigned w32 n
+IsOperand place (operand.Cell cell) = cell < 256
+IsOperand Schedule (operand.Argument argument) = ⊥
+IsOperand Body (operand.Argument argument) = argument < 16
 
 -- the word of a kind of call; the last three have none in a text
 abbrev pub kind_word : CallKind → Word

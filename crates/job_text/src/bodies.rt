@@ -10,8 +10,8 @@ use crate::fault::Miss;
 use crate::job::{Action, ReplyAction};
 use crate::kinds::kind_at;
 use crate::numbers::{byte_at, number_at};
-use crate::operand_lists::body_values_at;
-use crate::operands::body_value_at;
+use crate::operand_lists::operands_at;
+use crate::operands::{NumberPlace, body_value_at};
 use crate::payloads::body_payload_at;
 use crate::reasons::{is_between, words_left};
 use crate::words::{is_name, name_of, spaced};
@@ -27,13 +27,13 @@ fn named_reply_at<'a>(
 {
     if is_name(name, b"short") {
         let (handler, rest) = byte_at(rest, 255)?;
-        let (operands, rest) = body_values_at(alloc, rest)?;
+        let (operands, rest) = operands_at(alloc, NumberPlace::Body, rest)?;
         return Ok((ReplyAction::Short { handler, operands }, rest));
     }
     if is_name(name, b"medium") {
         let (handler, rest) = byte_at(rest, 255)?;
         let (payload, rest) = body_payload_at(alloc, rest)?;
-        let (operands, rest) = body_values_at(alloc, rest)?;
+        let (operands, rest) = operands_at(alloc, NumberPlace::Body, rest)?;
         let reply = ReplyAction::Medium {
             handler,
             payload,
@@ -45,7 +45,7 @@ fn named_reply_at<'a>(
         let (handler, rest) = byte_at(rest, 255)?;
         let (payload, rest) = body_payload_at(alloc, rest)?;
         let (offset, rest) = number_at(rest, 0, u64::MAX)?;
-        let (operands, rest) = body_values_at(alloc, rest)?;
+        let (operands, rest) = operands_at(alloc, NumberPlace::Body, rest)?;
         let reply = ReplyAction::Long {
             handler,
             payload,

@@ -13,8 +13,8 @@ use crate::fault::Miss;
 use crate::job::{BoxedLong, BoxedMedium, LongText, MediumText, ScheduledCall};
 use crate::kinds::kind_at;
 use crate::numbers::{byte_at, number_at, short_at};
-use crate::operand_lists::values_at;
-use crate::operands::value_at;
+use crate::operand_lists::operands_at;
+use crate::operands::{NumberPlace, value_at};
 use crate::payloads::payload_at;
 use crate::reasons::{is_between, words_left};
 use crate::transfer_calls::{transfer_call_at, transfer_call_form};
@@ -32,7 +32,7 @@ fn long_at(alloc: Global, bytes: &[u8]) -> Result<(BoxedLong, &[u8]), Miss>
     let (handler, rest) = byte_at(rest, 255)?;
     let (payload, rest) = payload_at(alloc, rest)?;
     let (offset, rest) = number_at(rest, 0, u64::MAX)?;
-    let (operands, rest) = values_at(alloc, rest)?;
+    let (operands, rest) = operands_at(alloc, NumberPlace::Schedule, rest)?;
     let text = LongText {
         to,
         handler,
@@ -51,7 +51,7 @@ fn medium_at(alloc: Global, bytes: &[u8]) -> Result<(BoxedMedium, &[u8]), Miss>
     let (to, rest) = short_at(bytes, 65_535)?;
     let (handler, rest) = byte_at(rest, 255)?;
     let (payload, rest) = payload_at(alloc, rest)?;
-    let (operands, rest) = values_at(alloc, rest)?;
+    let (operands, rest) = operands_at(alloc, NumberPlace::Schedule, rest)?;
     let text = MediumText {
         to,
         handler,
@@ -168,7 +168,7 @@ pub fn call_at(alloc: Global, bytes: &[u8]) -> Result<(ScheduledCall, &[u8]), Mi
     if let Some(rest) = behind_name(bytes, b"short") {
         let (to, rest) = short_at(rest, 65_535)?;
         let (handler, rest) = byte_at(rest, 255)?;
-        let (operands, rest) = values_at(alloc, rest)?;
+        let (operands, rest) = operands_at(alloc, NumberPlace::Schedule, rest)?;
         let call = ScheduledCall::Short {
             to,
             handler,

@@ -2,28 +2,27 @@
 
 ghost use Rattle.std.specs.Prelude.{◌≡◌, ◌≤◌, ◌+◌, None};
 ghost use Rattle.job_text.specs.Places.{AtDone, Over, done_at};
-ghost use Rattle.job_text.specs.JobReading.{State, lined, job_of_head, behind_scripts, read};
+ghost use Rattle.job_text.specs.JobReading.{State, lined, job_of_head, front_with, behind_scripts, read};
 ghost use Rattle.job_text.specs.Reading.{Finds, GivesAt, Continues};
 ghost use Rattle.job_text.specs.declared.job.Job.{Job as JobState};
 
-use crate::fault::{JobFault, JobWhy, Other};
-use crate::job::{HandlerTexts, Head, Job, NodeScript, NodeScripts};
+use crate::fault::{JobFault, Other};
+use crate::job::{HandlerTexts, Head, Job, NodeScripts};
 use crate::reasons::reason_of;
 use crate::schedules::schedule_at;
 use crate::words::{ended, is_name, name_of};
 use std::alloc::Global;
 
 /// The job of a head and these handlers and scripts, without a schedule.
-pub fn job_with(head: Head, handlers: HandlerTexts, scripts: Vec<NodeScript>) -> Job
-    ensures { result ≡ record (job_of_head head)
-        { handlers = handlers; scripts = scripts.items } }
+pub fn job_with(head: Head, handlers: HandlerTexts, scripts: NodeScripts) -> Job
+    ensures { result ≡ record (job_of_head head) { handlers = handlers; scripts = scripts } }
 {
     Job {
         settings: head.settings,
         patience: head.patience,
         sieve: head.sieve,
         handlers,
-        scripts: NodeScripts { scripts },
+        scripts,
         schedule: None,
     }
 }
@@ -55,34 +54,24 @@ fn done_line(line: u32, bytes: &[u8]) -> Result<&[u8], JobFault>
     }
 }
 
-/// The job, where no byte stands behind its last line.
-fn whole(job: Job, line: u32, bytes: &[u8]) -> Result<Job, JobFault>
-    ensures { GivesAt (λ j. j) result (read (record { place = Over; job = job }) line bytes.now) }
-{
-    let count = bytes.len();
-    if count == 0 {
-        return Ok(job);
-    }
-    let why = JobWhy::After;
-    Err(JobFault::Bad { line, why })
-}
-
-/// The job, with the schedule that comes next, if one does, and the end of the text.
+/// The job, with the schedule that comes next, if one does, and the number of the line behind its last one with the bytes from
+/// there on.
 pub fn tail_at(
     alloc: Global,
     job: Job,
     schedule: bool,
     line: u32,
     bytes: &[u8],
-) -> Result<Job, JobFault>
+) -> Result<(Job, u32, &[u8]), JobFault>
     requires line { line ≤ 20000000 }
     requires none { job.schedule ≡ None }
-    ensures { GivesAt (λ j. j) result (read (behind_scripts schedule job) line bytes.now) }
+    ensures { GivesAt (λ x. front_with x.0 x.1 x.2.now) result
+        (read (behind_scripts schedule job) line bytes.now) }
 {
     if !schedule {
-        return whole(job, line, bytes);
+        return Ok((job, line, bytes));
     }
-    let (lines, line, rest) = match schedule_at(alloc, &job, line, bytes) {
+    let (lines, line, rest) = match schedule_at(alloc, &job.settings, line, bytes) {
         Ok(read) => read,
         Err(fault) => return Err(fault),
     };
@@ -94,5 +83,5 @@ pub fn tail_at(
         schedule: Some(lines),
         ..job
     };
-    whole(job, line + 1, rest)
+    Ok((job, line + 1, rest))
 }

@@ -1,11 +1,13 @@
 //! Reading the handlers of a job.
 
-ghost use Rattle.std.specs.Prelude.{◌≡◌, ◌+◌, ◌≤◌, ◌==◌, [], length, map, IfOk};
+ghost use Rattle.std.specs.Prelude.{◌≡◌, ◌+◌, ◌≤◌, ◌<◌, ◌==◌, [], length, map, true, IfOk};
 ghost use Rattle.job_text.specs.Places.{AtHandlers, AtBody, AtScripts, end_or};
-ghost use Rattle.job_text.specs.Bodies.{action_at};
+ghost use Rattle.job_text.specs.Bodies.{action_at, action_form};
+ghost use Rattle.job_text.specs.HeadReading.{told};
 ghost use Rattle.job_text.specs.JobReading.{State, begun, lined, has_index, with_body, with_handler, handler_why, read};
 ghost use Rattle.job_text.specs.Lines.{front};
-ghost use Rattle.job_text.specs.Reading.{Reads, Continues};
+ghost use Rattle.job_text.specs.Reading.{Reads, GivesAt, Continues};
+ghost use Rattle.job_text.specs.Reasons.{reason};
 ghost use Rattle.job_text.specs.declared.job.Job.{Job as JobState};
 ghost use Rattle.job_text.specs.declared.job.HandlerText.{HandlerText as HandlerValue};
 ghost use Rattle.std.specs.List.{list_any};
@@ -38,8 +40,8 @@ pub fn is_end(bytes: &[u8]) -> bool
     is_name(word, b"end")
 }
 
-/// The action of the next line, or none at the line `end`, and the bytes after it.
-fn next_action(alloc: Global, bytes: &[u8]) -> Result<(Option<Action>, &[u8]), Miss>
+/// An action, or none at the line `end`, and the bytes after the line.
+fn action_or_end(alloc: Global, bytes: &[u8]) -> Result<(Option<Action>, &[u8]), Miss>
     ensures { Reads (λ x. (x.0, x.1.now)) result (lined (end_or action_at) bytes.now) }
 {
     if is_end(bytes) {
@@ -50,6 +52,21 @@ fn next_action(alloc: Global, bytes: &[u8]) -> Result<(Option<Action>, &[u8]), M
     let (action, rest) = action_at(alloc, bytes)?;
     let rest = ended(rest)?;
     Ok((Some(action), rest))
+}
+
+/// The action of the next line, or none at the line `end`, and the bytes after it; or why it isn't read.
+fn next_action(alloc: Global, line: u32, bytes: &[u8]) -> Result<(Option<Action>, &[u8]), JobFault>
+    ensures { GivesAt (λ x. (x.0, x.1.now)) result (told line (reason action_form bytes.now)
+        (lined (end_or action_at) bytes.now)) }
+{
+    match action_or_end(alloc, bytes) {
+        Ok(read) => Ok(read),
+        Err(Miss::NoMemory) => Err(JobFault::NoMemory),
+        Err(Miss::Unlike) => {
+            let why = reason_of(action_form(bytes), bytes);
+            Err(JobFault::Bad { line, why })
+        }
+    }
 }
 
 /// The actions of a handler up to the line `end`, with the next line's number and the bytes after it.
@@ -67,13 +84,9 @@ fn body_at(alloc: Global, first: u32, bytes: &[u8]) -> Result<(Body, u32, &[u8])
     let mut rest = bytes;
     let mut line = first;
     loop {
-        let (next, after) = match next_action(alloc, rest) {
+        let (next, after) = match next_action(alloc, line, rest) {
             Ok(read) => read,
-            Err(Miss::NoMemory) => return Err(JobFault::NoMemory),
-            Err(Miss::Unlike) => {
-                let why = reason_of(action_form(rest), rest);
-                return Err(JobFault::Bad { line, why });
-            }
+            Err(fault) => return Err(fault),
         };
         let Some(action) = next else {
             return Ok((Body { actions }, line + 1, after));
@@ -127,6 +140,33 @@ fn why_not(handlers: &[HandlerText], index: u8) -> Option<JobWhy>
     None
 }
 
+/// The first line of a handler that may stand behind these, and the bytes after it.
+fn next_header<'a>(
+    alloc: Global,
+    before: &[HandlerText],
+    line: u32,
+    bytes: &'a [u8],
+) -> Result<(HandlerHeader, &'a [u8]), JobFault>
+    requires { bytes_eq (front bytes.now) (codes "handler") ≡ true }
+    ensures value { (job : JobState) → job.handlers ≡ before.now →
+        Continues (λ x. read (record { place = AtBody (begun x.0); job = job }) (line + 1) x.1.now)
+        result (read (record { place = AtHandlers; job = job }) line bytes.now) }
+    ensures room { IfOk result (λ x. length before.now < 128) }
+{
+    let (header, rest) = match header_line(alloc, bytes) {
+        Ok(read) => read,
+        Err(Miss::NoMemory) => return Err(JobFault::NoMemory),
+        Err(Miss::Unlike) => {
+            let why = header_why(bytes);
+            return Err(JobFault::Bad { line, why });
+        }
+    };
+    match why_not(before, header.index) {
+        Some(why) => Err(JobFault::Bad { line, why }),
+        None => Ok((header, rest)),
+    }
+}
+
 /// The handlers up to the first line of another kind, with its number and the bytes from it on.
 pub fn handlers_at(
     alloc: Global,
@@ -146,17 +186,10 @@ pub fn handlers_at(
     let mut rest = bytes;
     let mut line = first;
     while begins(b"handler", rest) {
-        let (header, after) = match header_line(alloc, rest) {
+        let (header, after) = match next_header(alloc, &texts, line, rest) {
             Ok(read) => read,
-            Err(Miss::NoMemory) => return Err(JobFault::NoMemory),
-            Err(Miss::Unlike) => {
-                let why = header_why(rest);
-                return Err(JobFault::Bad { line, why });
-            }
+            Err(fault) => return Err(fault),
         };
-        if let Some(why) = why_not(&texts, header.index) {
-            return Err(JobFault::Bad { line, why });
-        }
         let (body, later, after) = match body_at(alloc, line + 1, after) {
             Ok(read) => read,
             Err(fault) => return Err(fault),

@@ -1,8 +1,8 @@
 //! Reading the head of a job: its lines of a name and a number, and the sieve.
 
-ghost use Rattle.std.specs.Prelude.{◌≡◌, ◌≤◌, ◌*◌, ◌-◌, ◌%◌, ◌&&◌, ◌||◌, ◌==◌, nat_le, IfOk, codes, true, []};
-ghost use Rattle.job_text.specs.HeadReading.{number_line, fitting_line, number_why, number_from, sieve_line};
-ghost use Rattle.job_text.specs.HeadReading.{sieve_why, told, head_at};
+ghost use Rattle.std.specs.Prelude.{◌≡◌, ◌≤◌, ◌*◌, ◌-◌, ◌%◌, ◌&&◌, ◌||◌, ◌==◌, nat_le, IfOk, true, []};
+ghost use Rattle.job_text.specs.HeadReading.{credits_form, fitting_line, head_at, in_range, nodes_form, number_from};
+ghost use Rattle.job_text.specs.HeadReading.{number_line, number_why, segment_form, sieve_line, sieve_why, told};
 ghost use Rattle.job_text.specs.JobReading.{job_of_head};
 ghost use Rattle.job_text.specs.Forms.{Number, part_at};
 ghost use Rattle.job_text.specs.Reading.{Finds, GivesAt};
@@ -55,8 +55,7 @@ fn are_nodes(version: u64, nodes: u64) -> bool
 #[tactic(auto, unfolding(crate::specs::HeadReading::fitting_line))]
 fn nodes_line(version: u64, bytes: &[u8]) -> Result<(u64, &[u8]), Other>
     ensures value { Finds (λ x. (x.0, x.1.now)) result
-        (fitting_line (codes "nodes") 1 256
-        (λ n. nat_le n 64 || (version == 2)) bytes.now) }
+        (fitting_line (nodes_form version) bytes.now) }
     ensures range { IfOk result (λ x. (1 ≤ x.0) × (x.0 ≤ 256)) }
     ensures few { IfOk result (λ x. (nat_le x.0 64 || (version == 2)) ≡ true) }
 {
@@ -81,8 +80,7 @@ fn are_credits(nodes: u64, credits: u64) -> bool
 fn credits_line(nodes: u64, bytes: &[u8]) -> Result<(u64, &[u8]), Other>
     requires { nodes ≤ 256 }
     ensures value { Finds (λ x. (x.0, x.1.now)) result
-        (fitting_line (codes "credits") 1 32 (λ n. nat_le
-        (nodes * (nodes - 1) * n) 65536) bytes.now) }
+        (fitting_line (credits_form nodes) bytes.now) }
     ensures range { IfOk result (λ x. (1 ≤ x.0) × (x.0 ≤ 32)) }
     ensures few { IfOk result (λ x. nat_le (nodes * (nodes - 1) * x.0) 65536 ≡ true) }
 {
@@ -107,8 +105,7 @@ fn are_segments(nodes: u64, segment: u64) -> bool
 fn segment_line(nodes: u64, bytes: &[u8]) -> Result<(u64, &[u8]), Other>
     requires { nodes ≤ 256 }
     ensures value { Finds (λ x. (x.0, x.1.now)) result
-        (fitting_line (codes "segment") 4096 67108864 (λ n.
-        (n % 4096 == 0) && nat_le (nodes * n) 268435456) bytes.now) }
+        (fitting_line (segment_form nodes) bytes.now) }
     ensures range { IfOk result (λ x. (4096 ≤ x.0) × (x.0 ≤ 67108864)) }
     ensures few { IfOk result (λ x. ((x.0 % 4096 == 0) && nat_le (nodes * x.0) 268435456) ≡ true) }
 {
@@ -163,8 +160,7 @@ fn number_from<'a>(
     bytes: &'a [u8],
 ) -> Result<(u64, &'a [u8]), JobFault>
     ensures value { GivesAt (λ x. (x.0, x.1.now)) result
-        (number_from name.now low high
-        (λ n. true) line bytes.now) }
+        (number_from (in_range name.now low high) line bytes.now) }
     ensures range { IfOk result (λ x. (low ≤ x.0) × (x.0 ≤ high)) }
 {
     match number_line(name, low, high, bytes) {
@@ -180,8 +176,7 @@ fn number_from<'a>(
 #[tactic(auto, unfolding(crate::specs::HeadReading::number_from))]
 fn nodes_from(line: u32, version: u64, bytes: &[u8]) -> Result<(u64, &[u8]), JobFault>
     ensures value { GivesAt (λ x. (x.0, x.1.now)) result
-        (number_from (codes "nodes") 1 256
-        (λ n. nat_le n 64 || (version == 2)) line bytes.now) }
+        (number_from (nodes_form version) line bytes.now) }
     ensures range { IfOk result (λ x. (1 ≤ x.0) × (x.0 ≤ 256)) }
     ensures few { IfOk result (λ x. (nat_le x.0 64 || (version == 2)) ≡ true) }
 {
@@ -199,8 +194,7 @@ fn nodes_from(line: u32, version: u64, bytes: &[u8]) -> Result<(u64, &[u8]), Job
 fn credits_from(line: u32, nodes: u64, bytes: &[u8]) -> Result<(u64, &[u8]), JobFault>
     requires { nodes ≤ 256 }
     ensures value { GivesAt (λ x. (x.0, x.1.now)) result
-        (number_from (codes "credits") 1 32 (λ n. nat_le
-        (nodes * (nodes - 1) * n) 65536) line bytes.now) }
+        (number_from (credits_form nodes) line bytes.now) }
     ensures range { IfOk result (λ x. (1 ≤ x.0) × (x.0 ≤ 32)) }
     ensures few { IfOk result (λ x. nat_le (nodes * (nodes - 1) * x.0) 65536 ≡ true) }
 {
@@ -218,8 +212,7 @@ fn credits_from(line: u32, nodes: u64, bytes: &[u8]) -> Result<(u64, &[u8]), Job
 fn segment_from(line: u32, nodes: u64, bytes: &[u8]) -> Result<(u64, &[u8]), JobFault>
     requires { nodes ≤ 256 }
     ensures value { GivesAt (λ x. (x.0, x.1.now)) result
-        (number_from (codes "segment") 4096 67108864 (λ n.
-        (n % 4096 == 0) && nat_le (nodes * n) 268435456) line bytes.now) }
+        (number_from (segment_form nodes) line bytes.now) }
     ensures range { IfOk result (λ x. (4096 ≤ x.0) × (x.0 ≤ 67108864)) }
     ensures few { IfOk result (λ x. ((x.0 % 4096 == 0) && nat_le (nodes * x.0) 268435456) ≡ true) }
 {

@@ -7,6 +7,10 @@
 //! text, its size apart, begins with the lines before the bad one, and none begins with these and the bad one, in which its
 //! reason is wrong by the line and what came before it (`IsAtFault`); or the bytes end too early, the line is none of
 //! words, or there are too many bytes.
+//!
+//! `read_job_front` is the same reader where any bytes may stand behind a job's text [`found`, `one`, `bad`, `meant`, `none`]:
+//! it tells the one job with whose text the bytes begin, and the size of that text (`BeginsWith`); else the first bad line
+//! of the front (`front_of`), with what that means (`FrontMeans`), or that the text at the front is too long.
 #![tactic(auto)]
 
 mod bodies;
@@ -41,4 +45,4 @@ pub use job::{
     Operands, Payload, PutText, Registers, ReplyAction, Schedule, ScheduledCall, ScheduledEvent,
     ScriptStep, ScriptSteps, SieveRule, TimedEvent, TransferText, WaitingStep,
 };
-pub use reading::read_job;
+pub use reading::{read_job, read_job_front};

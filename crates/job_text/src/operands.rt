@@ -2,13 +2,22 @@
 
 ghost use Rattle.std.specs.Prelude.{◌≡◌, ◌==◌, ◌<◌, slice_index, drop};
 ghost use Rattle.job_text.specs.Words.{negated, plain, integer_read};
-ghost use Rattle.job_text.specs.Forms.{BodyValue, Integer, Value, body_value_read, part_at, value_read};
+ghost use Rattle.job_text.specs.Forms.{BodyValue, Integer, NumberOf, Value, body_value_read, part_at, value_read};
 ghost use Rattle.job_text.specs.Reading.{Finds};
 
 use crate::fault::Other;
 use crate::job::Operand;
 use crate::numbers::{number_from, number_here};
 use crate::words::spaced;
+
+/// Where a number of an action stands, which decides what it may be.
+#[derive(Clone, Copy, Debug, PartialEq, Eq)]
+pub enum NumberPlace {
+    /// In a schedule or a script.
+    Schedule,
+    /// In a handler's body.
+    Body,
+}
 
 /// Whether bytes begin with this one.
 #[inline(always)]
@@ -130,4 +139,14 @@ pub fn body_value_at(bytes: &[u8]) -> Result<(Operand, &[u8]), Other>
 {
     let bytes = spaced(bytes)?;
     body_value_here(bytes)
+}
+
+/// A number of an action behind a space.
+pub fn operand_at(place: NumberPlace, bytes: &[u8]) -> Result<(Operand, &[u8]), Other>
+    ensures { Finds (λ x. (x.0, x.1.now)) result (part_at (NumberOf place) bytes.now) }
+{
+    match place {
+        NumberPlace::Schedule => value_at(bytes),
+        NumberPlace::Body => body_value_at(bytes),
+    }
 }

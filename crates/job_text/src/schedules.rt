@@ -2,23 +2,27 @@
 
 ghost use Rattle.std.specs.Prelude.{◌≡◌, ◌+◌, ◌*◌, ◌≤◌, [], length, Some, IfOk};
 ghost use Rattle.job_text.specs.Places.{AtSchedule, AtDone, end_or};
-ghost use Rattle.job_text.specs.Events.{timed_at};
+ghost use Rattle.job_text.specs.Events.{timed_at, timed_form};
+ghost use Rattle.job_text.specs.HeadReading.{told};
 ghost use Rattle.job_text.specs.JobReading.{State, lined, rounds_of, are_too_many, is_full, admitted, read};
-ghost use Rattle.job_text.specs.Reading.{Reads, Continues};
+ghost use Rattle.job_text.specs.Reading.{Reads, Continues, GivesAt};
+ghost use Rattle.job_text.specs.Reasons.{reason};
+ghost use Rattle.job_text.specs.declared.job.Job.{Job as JobState};
 
 use crate::events::{timed_at, timed_form};
 use crate::fault::{JobFault, JobWhy, Miss};
 use crate::handler_lines::is_end;
-use crate::job::{Job, Schedule, ScheduledEvent, TimedEvent};
+use crate::job::{Schedule, ScheduledEvent, TimedEvent};
 use crate::reasons::reason_of;
 use crate::words::{ended, name_of};
+use datagram_grammar::Settings;
 use std::alloc::Global;
 
 /// The most lines of a schedule.
 const LINES: usize = 65_536;
 
-/// The line of the schedule, or none at the line `end`, and the bytes after it.
-fn next_timed(
+/// A line of the schedule, or none at the line `end`, and the bytes after it.
+fn timed_or_end(
     alloc: Global,
     nodes: u16,
     threads: u16,
@@ -35,6 +39,28 @@ fn next_timed(
     let (event, rest) = timed_at(alloc, nodes, threads, bytes)?;
     let rest = ended(rest)?;
     Ok((Some(event), rest))
+}
+
+/// The next line of a schedule, or none at the line `end`, and the bytes after it; or why it isn't read.
+fn next_timed<'a>(
+    alloc: Global,
+    settings: &Settings,
+    line: u32,
+    bytes: &'a [u8],
+) -> Result<(Option<TimedEvent>, &'a [u8]), JobFault>
+    ensures { let nodes = settings.now.nodes in let threads = settings.now.threads in
+        GivesAt (λ x. (x.0, x.1.now)) result (told line (reason (timed_form nodes threads) bytes.now)
+        (lined (end_or (timed_at nodes threads)) bytes.now)) }
+{
+    let (nodes, threads) = (settings.nodes(), settings.threads());
+    match timed_or_end(alloc, nodes, threads, bytes) {
+        Ok(read) => Ok(read),
+        Err(Miss::NoMemory) => Err(JobFault::NoMemory),
+        Err(Miss::Unlike) => {
+            let why = reason_of(timed_form(nodes, threads, bytes), bytes);
+            Err(JobFault::Bad { line, why })
+        }
+    }
 }
 
 /// The rounds of an event.
@@ -77,41 +103,29 @@ fn admitted(nodes: u16, lines: usize, rounds: u32, event: TimedEvent) -> Option<
 /// The lines of a job's schedule up to the line `end`, with the next line's number and the bytes after it.
 pub fn schedule_at<'a>(
     alloc: Global,
-    job: &Job,
+    settings: &Settings,
     first: u32,
     bytes: &'a [u8],
 ) -> Result<(Schedule, u32, &'a [u8]), JobFault>
     requires { first ≤ 20000000 }
-    ensures value { Continues (λ x. read (record {
-      place = AtDone;
-      job = record job.now {
-        schedule = Some x.0;
-      };
-    }) x.1 x.2.now) result (read (record {
-      place = AtSchedule;
-      job = record job.now
-          { schedule = Some [] };
-    }) first bytes.now) }
+    ensures value { (job : JobState) → job.settings ≡ settings.now → Continues
+        (λ x. read (record { place = AtDone; job = record job { schedule = Some x.0 } }) x.1 x.2.now)
+        result (read (record { place = AtSchedule; job = record job { schedule = Some [] } }) first bytes.now) }
     ensures later { IfOk result (λ x. x.1 ≤ first + 65537) }
 {
-    let (nodes, threads) = (job.settings.nodes(), job.settings.threads());
     let mut lines = Vec::new(alloc);
     let mut rest = bytes;
     let mut line = first;
     let mut rounds: u32 = 0;
     loop {
-        let (next, after) = match next_timed(alloc, nodes, threads, rest) {
+        let (next, after) = match next_timed(alloc, settings, line, rest) {
             Ok(read) => read,
-            Err(Miss::NoMemory) => return Err(JobFault::NoMemory),
-            Err(Miss::Unlike) => {
-                let why = reason_of(timed_form(nodes, threads, rest), rest);
-                return Err(JobFault::Bad { line, why });
-            }
+            Err(fault) => return Err(fault),
         };
         let Some(event) = next else {
             return Ok((Schedule { lines }, line + 1, after));
         };
-        let Some(event) = admitted(nodes, lines.len(), rounds, event) else {
+        let Some(event) = admitted(settings.nodes(), lines.len(), rounds, event) else {
             let why = JobWhy::Count;
             return Err(JobFault::Bad { line, why });
         };

@@ -1,28 +1,31 @@
 //! Reading the scripts of a job.
 
-ghost use Rattle.std.specs.Prelude.{◌≡◌, ◌+◌, ◌≤◌, [], length, IfOk};
-ghost use Rattle.job_text.specs.Places.{AtScripts, AtSteps, end_or};
-ghost use Rattle.job_text.specs.Scripts.{step_at};
-ghost use Rattle.job_text.specs.JobReading.{State, lined, has_thread, job_of_head, script_why, with_script, with_steps, read};
+ghost use Rattle.std.specs.Prelude.{◌≡◌, ◌+◌, ◌≤◌, [], length, true, None, IfOk};
+ghost use Rattle.job_text.specs.HeadReading.{told};
+ghost use Rattle.job_text.specs.Places.{AtScripts, AtSteps, end_or, section_fits};
+ghost use Rattle.job_text.specs.Scripts.{step_at, step_form};
+ghost use Rattle.job_text.specs.JobReading.{State, begun_script, behind_scripts, behind_section, has_thread};
+ghost use Rattle.job_text.specs.JobReading.{is_schedule, lined, read, section_why, with_script, with_steps};
 ghost use Rattle.job_text.specs.Reading.{Reads, Continues, GivesAt};
+ghost use Rattle.job_text.specs.Reasons.{reason};
 ghost use Rattle.job_text.specs.declared.job.Job.{Job as JobState};
 ghost use Rattle.job_text.specs.declared.job.NodeScript.{NodeScript as ScriptValue};
 
-use crate::endings::{job_with, tail_at};
 use crate::fault::{JobFault, JobWhy, Miss, Other};
 use crate::handler_lines::is_end;
-use crate::job::{HandlerTexts, Head, Job, NodeScript, ScriptStep, ScriptSteps};
+use crate::job::{NodeScript, NodeScripts, ScriptStep, ScriptSteps};
 use crate::reasons::reason_of;
 use crate::sections::{Section, section_form, section_line};
 use crate::waiting_steps::{step_at, step_form};
 use crate::words::{ended, name_of};
+use datagram_grammar::Settings;
 use std::alloc::Global;
 
 /// The most steps of a script.
 const STEPS: usize = 4_096;
 
-/// The step of the next line, or none at the line `end`, and the bytes after it.
-fn next_step(alloc: Global, bytes: &[u8]) -> Result<(Option<ScriptStep>, &[u8]), Miss>
+/// A step, or none at the line `end`, and the bytes after the line.
+fn step_or_end(alloc: Global, bytes: &[u8]) -> Result<(Option<ScriptStep>, &[u8]), Miss>
     ensures { Reads (λ x. (x.0, x.1.now)) result (lined (end_or step_at) bytes.now) }
 {
     if is_end(bytes) {
@@ -33,6 +36,25 @@ fn next_step(alloc: Global, bytes: &[u8]) -> Result<(Option<ScriptStep>, &[u8]),
     let (step, rest) = step_at(alloc, bytes)?;
     let rest = ended(rest)?;
     Ok((Some(step), rest))
+}
+
+/// The step of the next line, or none at the line `end`, and the bytes after it; or why it isn't read.
+fn next_step(
+    alloc: Global,
+    line: u32,
+    bytes: &[u8],
+) -> Result<(Option<ScriptStep>, &[u8]), JobFault>
+    ensures { GivesAt (λ x. (x.0, x.1.now)) result (told line (reason step_form bytes.now)
+        (lined (end_or step_at) bytes.now)) }
+{
+    match step_or_end(alloc, bytes) {
+        Ok(read) => Ok(read),
+        Err(Miss::NoMemory) => Err(JobFault::NoMemory),
+        Err(Miss::Unlike) => {
+            let why = reason_of(step_form(bytes), bytes);
+            Err(JobFault::Bad { line, why })
+        }
+    }
 }
 
 /// The steps of a script up to the line `end`, with the next line's number and the bytes after it.
@@ -50,13 +72,9 @@ fn steps_at(alloc: Global, first: u32, bytes: &[u8]) -> Result<(ScriptSteps, u32
     let mut rest = bytes;
     let mut line = first;
     loop {
-        let (next, after) = match next_step(alloc, rest) {
+        let (next, after) = match next_step(alloc, line, rest) {
             Ok(read) => read,
-            Err(Miss::NoMemory) => return Err(JobFault::NoMemory),
-            Err(Miss::Unlike) => {
-                let why = reason_of(step_form(rest), rest);
-                return Err(JobFault::Bad { line, why });
-            }
+            Err(fault) => return Err(fault),
         };
         let Some(step) = next else {
             return Ok((ScriptSteps { steps }, line + 1, after));
@@ -80,68 +98,96 @@ fn has_thread(scripts: &[NodeScript], node: u16, thread: u16) -> bool
         .any(|script| script.node == node && script.thread == thread)
 }
 
-/// Why a script of this thread may not stand behind these.
-fn why_not(scripts: &[NodeScript], node: u16, thread: u16) -> Option<JobWhy>
-    ensures { result ≡ script_why scripts.now node thread }
+/// Why a line that begins a script, or another part, may not stand behind these scripts.
+fn why_not(scripts: &[NodeScript], section: Section) -> Option<JobWhy>
+    ensures { result ≡ section_why scripts.now section }
 {
-    if has_thread(scripts, node, thread) {
-        return Some(JobWhy::Entry);
+    match section {
+        Section::Script { node, thread } if has_thread(scripts, node, thread) => {
+            Some(JobWhy::Entry)
+        }
+        _ => None,
     }
-    None
 }
 
-/// The job of a head and these handlers, of the scripts that come next, and of what comes behind them.
-pub fn scripts_at(
-    alloc: Global,
-    head: Head,
-    handlers: HandlerTexts,
-    first: u32,
-    bytes: &[u8],
-) -> Result<Job, JobFault>
-    requires { first ≤ 10000 }
-    ensures { GivesAt (λ j. j) result (read (record {
-      place = AtScripts;
-      job = record (job_of_head head) { handlers = handlers };
-    }) first bytes.now) }
+/// The line that begins a script, or another part, behind these scripts, and the bytes after it.
+fn next_section<'a>(
+    settings: &Settings,
+    before: &[NodeScript],
+    line: u32,
+    bytes: &'a [u8],
+) -> Result<(Section, &'a [u8]), JobFault>
+    ensures value { (job : JobState) → job.settings ≡ settings.now → job.scripts ≡ before.now →
+        Continues (λ x. read (behind_section job x.0) (line + 1) x.1.now) result
+        (read (record { place = AtScripts; job = job }) line bytes.now) }
+    ensures there { IfOk result (λ x. section_fits 256 16 x.0 ≡ true) }
+    ensures new { IfOk result (λ x. section_why before.now x.0 ≡ None) }
 {
-    let (nodes, threads) = (head.settings.nodes(), head.settings.threads());
+    let (section, rest) = match section_line(settings.nodes(), settings.threads(), bytes) {
+        Ok(read) => read,
+        Err(Other) => {
+            let why = reason_of(section_form(bytes), bytes);
+            return Err(JobFault::Bad { line, why });
+        }
+    };
+    match why_not(before, section) {
+        Some(why) => Err(JobFault::Bad { line, why }),
+        None => Ok((section, rest)),
+    }
+}
+
+/// Whether a line begins the schedule.
+fn is_schedule(section: Section) -> bool
+    ensures { result ≡ is_schedule section }
+{
+    match section {
+        Section::Schedule => true,
+        _ => false,
+    }
+}
+
+/// The script of a thread with these steps.
+fn script_of(node: u16, thread: u16, steps: ScriptSteps) -> NodeScript
+    ensures { result ≡ with_steps steps (begun_script node thread) }
+{
+    NodeScript {
+        node,
+        thread,
+        steps,
+    }
+}
+
+/// The scripts of a job, whether a schedule comes behind them, and its line's number and the bytes from it on.
+pub fn scripts_at<'a>(
+    alloc: Global,
+    settings: &Settings,
+    first: u32,
+    bytes: &'a [u8],
+) -> Result<(NodeScripts, bool, u32, &'a [u8]), JobFault>
+    requires { first ≤ 10000 }
+    ensures value { (job : JobState) → job.settings ≡ settings.now →
+        Continues (λ x. read (behind_scripts x.1 (record job { scripts = x.0 })) x.2 x.3.now) result
+        (read (record { place = AtScripts; job = record job { scripts = [] } }) first bytes.now) }
+    ensures later { IfOk result (λ x. x.2 ≤ first + 16785409) }
+{
     let mut scripts = Vec::new(alloc);
     let mut rest = bytes;
     let mut line = first;
     loop {
-        let (section, after) = match section_line(nodes, threads, rest) {
+        let (section, after) = match next_section(settings, &scripts, line, rest) {
             Ok(read) => read,
-            Err(Other) => {
-                let why = reason_of(section_form(rest), rest);
-                return Err(JobFault::Bad { line, why });
-            }
+            Err(fault) => return Err(fault),
         };
-        match section {
-            Section::Script { node, thread } => {
-                if let Some(why) = why_not(&scripts, node, thread) {
-                    return Err(JobFault::Bad { line, why });
-                }
-                let (steps, later, after) = match steps_at(alloc, line + 1, after) {
-                    Ok(read) => read,
-                    Err(fault) => return Err(fault),
-                };
-                let script = NodeScript {
-                    node,
-                    thread,
-                    steps,
-                };
-                scripts.push(script)?;
-                rest = after;
-                line = later;
-            }
-            Section::Schedule => {
-                let job = job_with(head, handlers, scripts);
-                return tail_at(alloc, job, true, line + 1, after);
-            }
-            Section::Done => {
-                let job = job_with(head, handlers, scripts);
-                return tail_at(alloc, job, false, line + 1, after);
-            }
-        }
+        let Section::Script { node, thread } = section else {
+            let schedule = is_schedule(section);
+            return Ok((NodeScripts { scripts }, schedule, line + 1, after));
+        };
+        let (steps, later, after) = match steps_at(alloc, line + 1, after) {
+            Ok(read) => read,
+            Err(fault) => return Err(fault),
+        };
+        scripts.push(script_of(node, thread, steps))?;
+        rest = after;
+        line = later;
     }
 }

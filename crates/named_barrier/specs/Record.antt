@@ -1,6 +1,6 @@
 -- The record of a node's barrier: all that it ever notified, heard and sent.
 use Rattle.std.specs.Prelude.{ℕ, zero, suc, ◌-◌, ◌^◌, ℤ, Bool, not, ◌&&◌, ◌||◌, Option, Some, None}
-use Rattle.std.specs.Prelude.{List, [], ◌∷◌, ◌++◌, is_some, if◌then◌else◌, ◌==◌, nat_lt, bit_or, slice_get}
+use Rattle.std.specs.Prelude.{List, [], ◌∷◌, ◌++◌, is_some, if◌then◌else◌, ◌==◌, length, nat_lt, bit_or, slice_get}
 use Rattle.std.specs.Ordering.{int_eq}
 use Rattle.std.specs.List.{list_any}
 use Rattle.datagram_grammar.specs.declared.note.BarrierNote.{BarrierNote}
@@ -29,6 +29,10 @@ pub record BarrierRecord : Type 0 where
 -- at the start
 abbrev pub opened : BarrierRecord
 opened = record { notifies = []; ended = 0; heard = []; sent = [] }
+
+-- it was never notified
+abbrev pub has_notified_nothing : BarrierRecord → Bool
+has_notified_nothing kept = length kept.notifies == 0
 
 -- its own notify of a phase
 abbrev pub own : BarrierRecord → (phase : ℕ) → Option Notify

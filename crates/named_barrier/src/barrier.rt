@@ -1,7 +1,7 @@
 //! One node's barrier.
 
 ghost use Rattle.std.specs.Prelude.{◌≡◌, ℕ, ◌<◌, ◌≤◌, None, IsTrue, IsSome, IfOk, IsOk};
-ghost use Rattle.named_barrier.specs.Record.{BarrierRecord, opened, notify_answer, notify_after};
+ghost use Rattle.named_barrier.specs.Record.{BarrierRecord, opened, has_notified_nothing, notify_answer, notify_after};
 ghost use Rattle.named_barrier.specs.Record.{try_answer, try_after, hear, note_to, owes, send};
 ghost use Rattle.named_barrier.specs.State.{last_due, now_due, note_at};
 ghost use Rattle.named_barrier.specs.Stands.{Stands};
@@ -201,7 +201,9 @@ impl Barrier {
     /// Whether this node has notified nothing so far: then no note must go to any node. A node whose job has no barrier needs no more
     /// than that at each tick (profile).
     pub fn is_quiet(&self) -> bool
-        ensures { IsTrue result → (nodes me : ℕ) (kept : BarrierRecord) → Stands nodes me self.now kept
+        ensures exact { (nodes me : ℕ) (kept : BarrierRecord) → Stands nodes me self.now kept
+            → result ≡ has_notified_nothing kept }
+        ensures none { IsTrue result → (nodes me : ℕ) (kept : BarrierRecord) → Stands nodes me self.now kept
             → (to : ℕ) → note_to nodes me kept to ≡ None }
     {
         self.phase == 0 && self.own.is_none()

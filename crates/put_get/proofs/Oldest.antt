@@ -1,17 +1,19 @@
 -- The least number among the records that are ready is that of the oldest operation.
-use Rattle.std.proofs.Common.{◌≡◌, ◌⊎◌, inl, inr, ℕ, zero, suc, ◌+◌, ◌<◌, Bool, true, false, true≢false, not, ◌&&◌, List, [], ◌∷◌, Option, None, Some, refl, sym, ap, ap₂, ◌∙◌, arith, lt-ltb, le-ltb}
+use Rattle.std.proofs.Common.{◌≡◌, drop, ◌⊎◌, IfSome, IfNone, is_some, inl, inr, ℕ, zero, suc, ◌+◌, ◌<◌, Bool, true, false, true≢false, not, ◌&&◌, List, [], ◌∷◌, Option, None, Some, refl, sym, ap, ap₂, ◌∙◌, arith, lt-ltb, le-ltb}
 use Rattle.std.specs.List.{slice_get, list_all, list_any}
 use Rattle.std.proofs.lemmas.Bool.{cases_Bool, cases_eq, cases_lt, and_parts, not-true}
 use Rattle.std.proofs.lemmas.Option.{same_Some, slice_get_within}
 use Rattle.put_get.specs.declared.operation.Next.{Next}
 use Rattle.put_get.specs.declared.transfers.Transfers.{Transfers}
 use Rattle.put_get.specs.declared.table.Standing.{Standing}
-use Rattle.put_get.specs.Operation.{Operation, Sent, target, has_next, next_chunk, chunk_of}
-use Rattle.put_get.specs.Table.{is_unissued}
-use Rattle.put_get.specs.Table.{on_place}
+use Rattle.lists.specs.Numbered.{numbered}
+use Rattle.put_get.specs.declared.table.Check.TheVariants.{Unissued}
+use Rattle.put_get.specs.Operation.{Operation, Sent, target, has_next, has_next_in, has_unissued, next_chunk, chunk_of}
+use Rattle.put_get.specs.Table.{is_unissued, unissued_count, on_place, IsPlaceOf}
 use Rattle.put_get.specs.Stands.{kept, Stands, is_ready, IsLeast, better, older, next_of, CanNote}
 use Rattle.put_get.proofs.Counts.{number_at}
 use Rattle.put_get.proofs.Tests.{same_test, any_at, any_from}
+use Rattle.put_get.proofs.Unissued.{none_left}
 
 none_is : (can : ℕ → Bool) (number : ℕ) (operations : List Operation)
     → ((place : ℕ) (operation : Operation) → slice_get operations place ≡ Some operation → (has_next operation && can (target operation.transfer)) ≡ false)
@@ -141,6 +143,25 @@ least_more can places end (Some last) best at_end least = elim (cases_Bool (is_r
   | inr idle ↦ rw idle (idle_more can places end last best at_end idle least)
 ]
 
+-- a place that has no unissued chunk isn't ready
+not_ready : (can : ℕ → Bool) (there : Standing) → is_unissued there ≡ false → is_ready can there ≡ false
+not_ready can there none = rw none refl
+
+-- it is the least of all, where no place behind has an unissued chunk
+pub least_all : (can : ℕ → Bool) (places : List (Option Standing)) (end : ℕ) (best : Option Standing)
+    → IsLeast can places end best → unissued_count (drop end places) ≡ 0 → IsLeast can places 256 best
+least_all can places end None least none = λ place there less at. elim (cases_lt place end) [
+  | inl before ↦ least place there before at
+  | inr behind ↦ not_ready can there (none_left places end place there none behind at)
+]
+least_all can places end (Some best) least none = (
+  least.0,
+  λ place there less at is. elim (cases_lt place end) [
+    | inl before ↦ least.1 place there before at is
+    | inr behind ↦ absurd (true≢false (sym is ∙ not_ready can there (none_left places end place there none behind at)))
+  ],
+)
+
 -- what was found is unissued, and stands
 pub unissued_of : (can : ℕ → Bool) (places : List (Option Standing)) (end : ℕ) (best : Standing)
     → IsLeast can places end (Some best) → is_unissued best ≡ true
@@ -187,3 +208,29 @@ idle_is table operations S = same_test _ _ forth back
 pub idle_next : (can : ℕ → Bool) (operations : List Operation) → list_any has_next operations ≡ false
     → next_chunk can 1 operations ≡ None
 idle_next can operations none = none_is can 1 operations (λ place operation at. ap (λ has. has && can (target operation.transfer)) (any_here has_next operations none place operation at))
+
+-- ---- one operation
+
+-- a place was found for the operation of that number where a chunk of it is unissued
+pub unissued_is : (table : Transfers) (operations : List Operation) (number : ℕ) (place : Option ℕ) → Stands table operations
+    → IfSome place (λ at. IsPlaceOf table.table number Unissued at)
+    → IfNone place ((at : ℕ) → IsPlaceOf table.table number Unissued at → ⊥)
+    → is_some place ≡ has_unissued number operations
+unissued_is table operations number (Some place) S found none =
+    let o = S.keeps.each place found.0 found.1 in
+    let here : numbered operations number ≡ Some o.0 = ap (numbered operations) (sym found.2) ∙ o.1 in
+    sym (rw here (ap is_unissued (sym o.3) ∙ found.3))
+unissued_is table operations number None S found none = nowhere (numbered operations number) refl
+  where
+    is_issued : (operation : Operation) → numbered operations number ≡ Some operation → has_next operation ≡ false
+    is_issued operation here = elim (cases_Bool (has_next operation)) [
+      | inr isnt ↦ isnt
+      | inl is ↦ (
+          let at = number_at operations number operation here in
+          let there = stands_ready (λ node. true) table operations at.0 operation S at.2 (rw is refl) in
+          let number_is = at.1 in absurd (none there.0 (kept (suc at.0) operation, there.1, omega (arith, number_is), is)))
+    ]
+
+    nowhere : (operation : Option Operation) → numbered operations number ≡ operation → false ≡ has_next_in operation
+    nowhere None at = refl
+    nowhere (Some operation) at = sym (is_issued operation at)

@@ -1,8 +1,10 @@
 -- How many records have an unissued chunk.
-use Rattle.std.proofs.Common.{◌≡◌, inl, inr, ℕ, ◌+◌, ◌-◌, ◌≤◌, ◌==◌, not, ◌||◌, List, [], ◌∷◌, Option, None, Some, length, set, replicate, refl, sym, ap, ◌∙◌, arith, ne_eqb, length-set}
+use Rattle.std.proofs.Common.{◌≡◌, drop, false, inl, inr, ℕ, ◌+◌, ◌-◌, ◌≤◌, ◌==◌, not, ◌||◌, List, [], ◌∷◌, Option, None, Some, length, set, replicate, refl, sym, ap, ◌∙◌, arith, ne_eqb, length-set}
 use Rattle.std.specs.List.{slice_get, list_any}
 use Rattle.std.proofs.lemmas.Bool.{cases_Bool}
-use Rattle.std.proofs.lemmas.List.Sums.{sum_by-cons}
+use Rattle.std.proofs.lemmas.List.Sums.{sum_by-cons, sum_by-drop_more}
+use Rattle.std.proofs.lemmas.Option.{get_or_from_slice_get, slice_get_within}
+use Rattle.lists.proofs.Cut.{get-drop}
 use Rattle.std.proofs.lemmas.List.Folds.{sum_by-replicate}
 use Rattle.lists.proofs.Update.{update-Some, sum_by-update}
 use Rattle.put_get.specs.declared.table.Standing.{Standing}
@@ -61,4 +63,27 @@ none_counted (place ∷ places) = elim (cases_Bool (on_place is_unissued place))
       let nothing : unissued_in place ≡ 0 = rw isnt refl in
       let same : unissued_count (place ∷ places) ≡ unissued_count places = omega (arith, nothing, sum_by-cons unissued_in place places) in
       ap (λ n. n == 0) same ∙ (none_counted places ∙ sym (ap (λ here. not (here || list_any (on_place is_unissued) places)) isnt)))
+]
+
+-- ---- the places that are still to be looked at
+
+-- a place that was looked at has its part of the count
+pub count_drop : (places : List (Option Standing)) (place : ℕ) (there : Option Standing)
+    → slice_get places place ≡ Some there
+    → unissued_count (drop place places) ≡ unissued_in there + unissued_count (drop (place + 1) places)
+count_drop places place there at =
+    sum_by-drop_more unissued_in places place there (slice_get_within places place there at)
+    ∙ ap (λ here. unissued_in here + unissued_count (drop (place + 1) places)) (get_or_from_slice_get places place there there at)
+
+-- none of them has an unissued chunk where none is counted
+pub none_left : (places : List (Option Standing)) (from place : ℕ) (there : Standing) → unissued_count (drop from places) ≡ 0
+    → from ≤ place → slice_get places place ≡ Some (Some there) → is_unissued there ≡ false
+none_left places from place there none behind at = elim (cases_Bool (is_unissued there)) [
+  | inr isnt ↦ isnt
+  | inl is ↦ (
+      let here : slice_get (drop from places) (place - from) ≡ Some (Some there) =
+      get-drop from (place - from) places ∙ (ap (slice_get places) (omega (arith, behind)) ∙ at) in
+      let counted = count_at (drop from places) (place - from) (Some there) here in
+      let one : unissued_in (Some there) ≡ 1 = rw is refl in
+      absurd (omega (arith, none, counted, one)))
 ]

@@ -67,6 +67,15 @@ pub record Operation : Type 0 where
 abbrev pub has_next : Operation → Bool
 has_next operation = nat_lt (length operation.sent) (chunks (size operation.transfer))
 
+-- so it is of an operation, if there is one
+abbrev pub has_next_in : Option Operation → Bool
+has_next_in None = false
+has_next_in (Some operation) = has_next operation
+
+-- some chunk of the operation of that number is unissued
+abbrev pub has_unissued : (number : ℕ) → List Operation → Bool
+has_unissued number operations = has_next_in (numbered operations number)
+
 abbrev pub is_complete : Operation → Bool
 is_complete operation = not (has_next operation) && list_all (λ (sent : Sent). sent.back) operation.sent
 

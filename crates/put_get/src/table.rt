@@ -2,7 +2,7 @@
 
 ghost use Rattle.std.specs.Prelude.{◌≡◌, ◌<◌, ◌≤◌, ℕ, List, Option, None, Some, length, replicate, slice_get, slice_set, IfOk, IfSome, IfNone, Bool, not, ◌||◌};
 ghost use Rattle.put_get.specs.Syncs.{is_kind, flag_at};
-ghost use Rattle.put_get.specs.Table.{taken, is_unissued, unissued_in, passes, picked, on_place, picks, unless_marked, also, has, AreMarks, has_number, IsPlaceOf, AreDropped};
+ghost use Rattle.put_get.specs.Table.{taken, is_unissued, unissued_in, unissued_count, passes, picked, on_place, picks, unless_marked, also, has, AreMarks, has_number, IsPlaceOf, AreDropped};
 ghost use Rattle.std.specs.List.{list_any};
 
 use crate::operation::{Some3, Transfer};
@@ -143,7 +143,7 @@ fn has_number(place: Option<Standing>, number: u64, check: Check) -> bool
 }
 
 /// 1 where a record stands there and has an unissued chunk, else 0.
-fn unissued_in(place: Option<Standing>) -> usize
+pub(crate) fn unissued_in(place: Option<Standing>) -> usize
     ensures { result ≡ unissued_in place }
 {
     match place {
@@ -208,6 +208,13 @@ impl Table {
         self.unissued -= unissued_in(self.records[key]);
         self.unissued += unissued_in(standing);
         self.records[key] = standing;
+    }
+
+    /// How many records have an unissued chunk.
+    pub fn unissued(&self) -> usize
+        ensures { result ≡ unissued_count self.now }
+    {
+        self.unissued
     }
 
     /// Whether no record has an unissued chunk.

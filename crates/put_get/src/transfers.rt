@@ -5,14 +5,14 @@ ghost use Rattle.put_get.specs.declared.table.Standing.{Standing};
 ghost use Rattle.std.specs.List.{list_any, list_all};
 ghost use Rattle.put_get.specs.declared.operation.Handle.{Handle};
 ghost use Rattle.std.specs.Prelude.{◌==◌};
-ghost use Rattle.put_get.specs.Operation.{Operation, target, region_of, begin_answer, after_begin, has_next, next_chunk, issue, has_out, come_back, IsFreeSlot};
+ghost use Rattle.put_get.specs.Operation.{Operation, target, region_of, begin_answer, after_begin, has_next, has_unissued, next_chunk, issue, has_out, come_back, IsFreeSlot};
 ghost use Rattle.put_get.specs.Syncs.{Choice, is_implicit, chosen, flag_at, members, sync_answer, handle_answer, after_handle, implicit_of, implicit_answer, left_by, issued_answer, fault_here, fault_of, members_of, all_answer, whole_of, some_here, some_answer, is_whole};
 ghost use Rattle.put_get.specs.Table.{AreMarks, also, is_unissued};
 ghost use Rattle.put_get.specs.Stands.{HasOperations, room_of, Stands, Agrees, member_in, member_of, member_of_any, is_whole_in, whole_here, whole_in, IsFirstWorn, is_ready, better, IsLeast, CanNote, next_of, older};
 
 use crate::operation::{Handle, Mode, Next, Some3, Synced, TooMany, Transfer};
 use crate::slots::{Slots, Waiting};
-use crate::table::{Check, Pick, Standing, Table, either, flag_at};
+use crate::table::{Check, Pick, Standing, Table, either, flag_at, unissued_in};
 use std::alloc::{AllocError, Global};
 
 /// The operations of a node: a record for each one that isn't yet synchronised, at most 256.
@@ -134,14 +134,28 @@ impl Transfers {
             → result ≡ next_chunk (flag_at can.now) 1 operations }
         ensures can_note { IfSome result (λ next. CanNote self.now next.number) }
     {
-        let mut best = None;
-        for place in 0usize..256 {
-            best = better(self.table.at(place), can, best);
-        }
-        match best {
+        match self.oldest(can) {
             Some(standing) => Some(next_of(standing)),
             None => None,
         }
+    }
+
+    /// The oldest operation that has an unissued chunk to a node that can be asked. No place behind the last record with an
+    /// unissued chunk is looked at.
+    fn oldest(&self, can: &[bool]) -> Option<Standing>
+        ensures { IsLeast (flag_at can.now) self.now.table 256 result }
+    {
+        let mut best = None;
+        let mut left = self.table.unissued();
+        for place in 0usize..256 {
+            if left == 0 {
+                return best;
+            }
+            let there = self.table.at(place);
+            left -= unissued_in(there);
+            best = better(there, can, best);
+        }
+        best
     }
 
     /// Whether no operation has an unissued chunk. It looks at no record.
@@ -231,6 +245,18 @@ impl Transfers {
             return None;
         }
         Some(!self.table.has(&marks, Check::Unissued))
+    }
+
+    /// Whether some chunk of the operation with the handle's number is unissued: of that one alone, also where it is in a region
+    /// that has its number as a name. False where no operation has the number, as it is for the invalid handle. It doesn't ask
+    /// whose the operation is. (What gasnet_put_nb and gasnet_put_nbi wait for; of a region `issued` speaks.)
+    pub fn has_unissued(&self, handle: Handle) -> bool
+        ensures { (operations : List Operation) → Stands self.now operations
+            → result ≡ has_unissued handle.serial operations }
+    {
+        self.table
+            .place_of(handle.serial, Check::Unissued)
+            .is_some()
     }
 
     /// The smallest node that is worn out and has an unissued chunk of what is marked.

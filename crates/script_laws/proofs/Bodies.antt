@@ -21,7 +21,8 @@ use Rattle.handler_rules.specs.Runs.{Arrival, Frame, Start, Outcome, answer, aft
 use Rattle.job_text.specs.Bodies.{IsAction, IsReply}
 use Rattle.job_text.specs.JobText.{IsHandler}
 use Rattle.job_text.specs.Payloads.{IsBodyPayload}
-use Rattle.job_text.specs.Words.{IsBodyOperand}
+use Rattle.job_text.specs.Words.{IsOperand}
+use Rattle.job_text.specs.declared.operands.NumberPlace.TheVariants.{Body}
 use Rattle.job_text.specs.declared.job.Action.{Action}
 use Rattle.job_text.specs.declared.job.Action.TheVariants as action
 use Rattle.job_text.specs.declared.job.HandlerText.{HandlerText}
@@ -59,13 +60,13 @@ number_at [] place all = zero_fits
 number_at (number ∷ numbers) zero all = all.0
 number_at (number ∷ numbers) (suc place) all = number_at numbers place all.1
 
-operand_fits : (cells args : List ℤ) (one : Operand) → IsBodyOperand one → AreNumbers cells → AreNumbers args
+operand_fits : (cells args : List ℤ) (one : Operand) → IsOperand Body one → AreNumbers cells → AreNumbers args
     → FitsSigned w32 (operand_value cells args one)
 operand_fits cells args (operand.Number number) is all given = is
 operand_fits cells args (operand.Cell cell) is all given = number_at cells cell all
 operand_fits cells args (operand.Argument place) is all given = number_at args place given
 
-operands_fit : (cells args : List ℤ) (operands : List Operand) → AllByRecursion IsBodyOperand operands
+operands_fit : (cells args : List ℤ) (operands : List Operand) → AllByRecursion (IsOperand Body) operands
     → AreNumbers cells → AreNumbers args → AreNumbers (map (operand_value cells args) operands)
 operands_fit cells args [] is all given = tt
 operands_fit cells args (one ∷ operands) is all given =

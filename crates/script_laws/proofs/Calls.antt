@@ -5,7 +5,8 @@ use Rattle.std.specs.Int.{w32}
 use Rattle.std.specs.Int.RustNames.{FitsSigned}
 use Rattle.job_text.specs.Calls.{IsCall}
 use Rattle.job_text.specs.Payloads.{IsPayload}
-use Rattle.job_text.specs.Words.{IsScheduleOperand}
+use Rattle.job_text.specs.Words.{IsOperand}
+use Rattle.job_text.specs.declared.operands.NumberPlace.TheVariants.{Schedule}
 use Rattle.job_text.specs.declared.job.Operand.{Operand}
 use Rattle.job_text.specs.declared.job.Operand.TheVariants as operand
 use Rattle.job_text.specs.declared.job.Payload.{Payload}
@@ -19,14 +20,14 @@ use Rattle.node_runs.proofs.Bytes.{bytes_none}
 use Rattle.script_laws.proofs.Bodies.{number_at, said_bytes}
 
 -- a number of a schedule
-operand_fits : (cells : List ℤ) (one : Operand) → AreNumbers cells → IsScheduleOperand one
+operand_fits : (cells : List ℤ) (one : Operand) → AreNumbers cells → IsOperand Schedule one
     → FitsSigned w32 (operand_value cells [] one)
 operand_fits cells (operand.Number number) all is = is
 operand_fits cells (operand.Cell cell) all is = number_at cells cell all
 operand_fits cells (operand.Argument place) all is = absurd is
 
 operands_fit : (cells : List ℤ) (operands : List Operand) → AreNumbers cells
-    → AllByRecursion IsScheduleOperand operands → AreNumbers (map (operand_value cells []) operands)
+    → AllByRecursion (IsOperand Schedule) operands → AreNumbers (map (operand_value cells []) operands)
 operands_fit cells [] all is = tt
 operands_fit cells (one ∷ operands) all is =
     (operand_fits cells one all is.0, operands_fit cells operands all is.1)

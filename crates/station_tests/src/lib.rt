@@ -94,4 +94,8 @@ impl Machine for TwoThreads {
 }
 
 #[cfg(test)]
+mod in_step;
+#[cfg(test)]
+mod node_tests;
+#[cfg(test)]
 mod tests;

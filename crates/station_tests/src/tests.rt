@@ -2,12 +2,11 @@ ghost use Rattle.std.specs.Prelude.{◌≡◌, ◌≤◌, IfOk};
 ghost use Rattle.endpoint_lock.specs.Stations.{opened, opening_of};
 
 use crate::TwoThreads;
+use crate::in_step::InStep;
 use endpoint_lock::{End, Station, TurnEnd, run_threads};
-use gas_outside::{FixedClock, Gate, Link, LinkAnswer, MemoryLink, Received};
+use gas_outside::{FixedClock, Link, LinkAnswer, MemoryLink, Received};
 use std::alloc::Global;
-use std::sync::atomic::{AtomicU64, Ordering};
 use std::test::Fail;
-use std::thread;
 
 // A station of the two threads over a link, at time 0.
 fn station_over<L: Link + Drop>(
@@ -142,40 +141,11 @@ fn fills_its_journal(rt: HostRuntime) -> Result<(), Fail> {
     Ok(())
 }
 
-// Holds the first eight calls of each thread until the other thread has come as often.
-#[derive(Drop)]
-struct InStep {
-    came: [AtomicU64; 2],
-    failures: AtomicU64,
-}
-
-impl Gate for InStep {
-    fn before_turn(&self, thread: u16, _quiet: bool) {
-        let me = usize::from(thread % 2);
-        let mine = self.came[me]
-            .fetch_add(1, Ordering::SeqCst)
-            .saturating_add(1);
-        if mine > 8 {
-            return;
-        }
-        for _ in 0..1_000_000u64 {
-            if self.came[1 - me].load(Ordering::SeqCst) >= mine {
-                return;
-            }
-            thread::yield_now();
-        }
-        self.failures.fetch_add(1, Ordering::SeqCst);
-    }
-}
-
 #[test]
 fn runs_two_threads_in_step(rt: HostRuntime) -> Result<(), Fail> {
     let alloc = rt.alloc();
     let station = station_over(alloc, empty_link(alloc, Vec::new(alloc))?, 100_000)?;
-    let gate = InStep {
-        came: [AtomicU64::new(0), AtomicU64::new(0)],
-        failures: AtomicU64::new(0),
-    };
+    let gate = InStep::new();
     let ended = run_threads(&rt, alloc, station, 2, &gate);
     assert_eq!(rt; ended.end, End::Over);
     let entries = ended.journal.as_slice();
@@ -186,9 +156,6 @@ fn runs_two_threads_in_step(rt: HostRuntime) -> Result<(), Fail> {
             (thread, 0, true)
         );
     }
-    assert_eq!(rt; gate.failures.load(Ordering::SeqCst), 0);
-    for came in &gate.came {
-        assert!(rt; came.load(Ordering::SeqCst) >= 8);
-    }
+    assert!(rt; gate.held());
     Ok(())
 }

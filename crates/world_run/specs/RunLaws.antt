@@ -66,9 +66,9 @@ ReturnedToldOnce job =
 
 -- ---- all of them
 
--- its events are among the nodes of the job; the headline holds of it; its lines tell the answers of its events, so that
--- no line tells again that a request ran or came back; the most that the end lines tell of a node is the greatest number
--- of message buffers that it held; and in it, as in each run of a job with its settings and handlers, what a
+-- its events are among the nodes of the job; the headline holds of it; its lines tell the answers of its events, so
+-- that no line tells again that a request ran or came back; the most that the end lines tell of a node is the greatest
+-- number of message buffers that it held; and in it, as in each run of a job with its settings and handlers, what a
 -- synchronisation of transfers that answers Ok tells was done, and a try of the barrier that ends a phase tells the
 -- outcome of the nodes' notifies
 pub record RunLaws (job : JobState) : Type 0 where

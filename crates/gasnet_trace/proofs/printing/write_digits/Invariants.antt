@@ -5,7 +5,8 @@ use Rattle.gasnet_trace.proofs.printing.write_digits.Given as goal
 
 abbrev pub invariant-loop-rest : goal.invariant-loop-rest
 invariant-loop-rest g l = record {
-  taken : TakesUpTo (g.K.Sink.taken l.initial.sink) (g.K.Sink.taken l.sink) (encode_lower l.bytes) (encode_lower l.rest);
+  taken : TakesUpTo (g.K.Sink.taken l.initial.sink) (g.K.Sink.taken l.sink) (encode_lower l.bytes)
+      (encode_lower l.rest);
   later : g.K.Sink.faults l.initial.sink ≤ g.K.Sink.faults l.sink;
 }
 

@@ -7,16 +7,20 @@ returns-in-Fault-clause-bytes g c = past_fault _ _ _ _ _ _ _ refl (nothing_yet _
 
 pub returns-in-Fault-write_all-clause-bytes : goal.returns-in-Fault-write_all-clause-bytes
 returns-in-Fault-write_all-clause-bytes g c =
-    past_fault _ _ _ _ _ _ _ (next_word c.args.others.now c.loop-word.word-index (record { ref_ptr = (0, 0); now = [] }) c.loop-word-test.true) c.loop-word.invariant.taken c.in-Fault-write_all.ensures.bytes
+    past_fault _ _ _ _ _ _ _ (next_word c.args.others.now c.loop-word.word-index (record { ref_ptr = (0, 0); now = [] })
+    c.loop-word-test.true) c.loop-word.invariant.taken c.in-Fault-write_all.ensures.bytes
 
 pub returns-in-Fault-write_all-2-clause-bytes : goal.returns-in-Fault-write_all-2-clause-bytes
 returns-in-Fault-write_all-2-clause-bytes g c =
-    past_fault _ _ _ _ _ _ _ refl (past_done _ _ _ _ _ _ _ (next_word c.args.others.now c.loop-word.word-index _ c.loop-word-test.true) c.loop-word.invariant.taken c.in_default-write_all.ensures.bytes) c.in-Fault-write_all-2.ensures.bytes
+    past_fault _ _ _ _ _ _ _ refl (past_done _ _ _ _ _ _ _ (next_word c.args.others.now c.loop-word.word-index _
+    c.loop-word-test.true) c.loop-word.invariant.taken c.in_default-write_all.ensures.bytes)
+    c.in-Fault-write_all-2.ensures.bytes
 
 pub loop-word-preserved : goal.loop-word-preserved
 loop-word-preserved g c = record {
   taken =
-      past_done _ _ _ _ _ _ _ refl (past_done _ _ _ _ _ _ _ (next_word c.args.others.now c.loop-word.word-index _ c.loop-word-test.true) c.loop-word.invariant.taken c.in_default-write_all.ensures.bytes)
+      past_done _ _ _ _ _ _ _ refl (past_done _ _ _ _ _ _ _ (next_word c.args.others.now c.loop-word.word-index _
+      c.loop-word-test.true) c.loop-word.invariant.taken c.in_default-write_all.ensures.bytes)
       c.in_default-write_all-2.ensures.bytes;
   later = omega arith;
 }

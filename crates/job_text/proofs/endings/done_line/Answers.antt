@@ -1,6 +1,6 @@
 use Rattle.std.proofs.Common.{refl}
 use Rattle.job_text.specs.Places.{AtDone, Over}
-use Rattle.job_text.proofs.LineRuns.{read_on, done_bad}
+use Rattle.job_text.proofs.LineRuns.{read_on, line_bad}
 use Rattle.job_text.proofs.HandlerRuns.{told_by}
 use Rattle.job_text.proofs.endings.done_line.Goals as goal
 
@@ -10,4 +10,4 @@ returns-in-Ok c = λ job. read_on AtDone job c.args.line c.args.bytes.now c.in-O
 
 pub returns-in-Err : goal.returns-in-Err
 returns-in-Err c = λ job. told_by _ c.args.line _ c.reason_of-why.result
-    (done_bad job c.args.line c.args.bytes.now c.in-Err.ensures) c.reason_of-why.ensures
+    (line_bad AtDone tt job c.args.line c.args.bytes.now c.in-Err.ensures) c.reason_of-why.ensures

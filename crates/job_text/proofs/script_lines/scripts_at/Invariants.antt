@@ -1,19 +1,17 @@
-use Rattle.std.proofs.Common.{◌≡◌, ◌≤◌, ◌+◌, ◌*◌, ◌-◌, length}
+use Rattle.std.proofs.Common.{◌≡◌, ◌≤◌, ◌+◌, ◌*◌, ◌-◌, length, []}
 use Rattle.std.specs.List.{AllByRecursion}
-use Rattle.job_text.specs.JobReading.{job_of_head, read}
+use Rattle.job_text.specs.JobReading.{read}
 use Rattle.job_text.specs.JobText.{AreThreads}
 use Rattle.job_text.specs.Places.{AtScripts}
+use Rattle.job_text.specs.declared.job.Job.{Job}
 use Rattle.job_text.proofs.Threads.{IsThere}
 use Rattle.job_text.proofs.script_lines.scripts_at.Given as goal
 
 abbrev pub invariant-loop-read : goal.invariant-loop-read
 invariant-loop-read l = record {
-  so_far : read (record {
-    place = AtScripts;
-    job = record (job_of_head l.fn.head) { handlers = l.handlers; scripts = l.scripts.items };
-  }) l.line l.rest
-      ≡ read (record { place = AtScripts; job = record (job_of_head l.fn.head) { handlers = l.fn.handlers } })
-      l.first l.bytes;
+  so_far : (job : Job) → job.settings ≡ l.settings →
+      read (record { place = AtScripts; job = record job { scripts = l.scripts.items } }) l.line l.rest
+      ≡ read (record { place = AtScripts; job = record job { scripts = [] } }) l.first l.bytes;
   threads : AreThreads l.scripts.items;
   there : AllByRecursion (IsThere 256 16) l.scripts.items;
   few : length l.scripts.items ≤ 4096;

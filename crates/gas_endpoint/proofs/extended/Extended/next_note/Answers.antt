@@ -18,7 +18,7 @@ returns-then-is_quiet-clause-next c meaning node S =
     rw (lt-ltb core.me core.settings.nodes c.requires.me_in)
     (sym (among_quiet (note_to core.settings.nodes core.me node.local.barrier)
     (can_ask (site_of (job_here meaning (endpoint_of core c.args.self.now)) core.me) node) 0 core.settings.nodes
-    (c.is_quiet.ensures c.if-is_quiet.true core.settings.nodes core.me node.local.barrier S.barrier)))
+    (c.is_quiet.ensures.none c.if-is_quiet.true core.settings.nodes core.me node.local.barrier S.barrier)))
 
 pub returns-in-Some-clause-next : goal.returns-in-Some-clause-next
 returns-in-Some-clause-next c meaning node S =

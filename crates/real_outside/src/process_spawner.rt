@@ -1,0 +1,180 @@
+//! A spawner of processes.
+
+ghost use Rattle.std.specs.Prelude.{◌≡◌, ◌≤◌, ◌<◌, IfSome, vec_len};
+ghost use Rattle.gas_outside.specs.Faults.{Rose};
+ghost use Rattle.gas_outside.specs.Spawner.{AppendsOutput};
+
+use gas_outside::{Finished, Got, MAX_OUTPUT, ReadAll, Source, Spawner, Started, read_all};
+use std::alloc::Global;
+use std::io;
+use std::io::{ErrorKind, Read, Write};
+use std::process::{Child, Command, OpenProcess, Processes, Stdio};
+
+/// A spawner that starts a program once for each rank, with the words `node RANK PORT` and the bytes on its standard input.
+///
+/// A child that ends before it has read all its input is no fault: its end tells why. A start of a rank whose child runs, a finish of a
+/// rank without a child, an output over the limit and an end by a signal are faults, and so is each other error of the system. It tells
+/// nothing of its children.
+#[derive(Drop)]
+pub struct ProcessSpawner<R: Processes> {
+    rt: R,
+    alloc: Global,
+    program: String,
+    children: Vec<(u16, Child<R::Started>)>,
+    faults: u64,
+}
+
+impl<R: Processes> ProcessSpawner<R> {
+    /// A spawner of the program with this path, or of the one that the system finds by this name.
+    pub fn new(rt: R, alloc: Global, program: String) -> ProcessSpawner<R> {
+        ProcessSpawner {
+            rt,
+            alloc,
+            program,
+            children: Vec::new(alloc),
+            faults: 0,
+        }
+    }
+
+    /// The place of the child of a rank.
+    fn place(&self, rank: u16) -> Option<usize>
+        ensures { IfSome result (λ place. place < vec_len self.now.children) }
+    {
+        self.children.iter().position(|(own, _)| *own == rank)
+    }
+
+    /// Starts the program, with pipes at its input and its output.
+    fn spawn(&self, rank: u16, port: u16) -> io::Result<Child<R::Started>> {
+        let mut command = Command::new(self.alloc, self.program.as_str())?;
+        command.arg("node")?;
+        command.arg(format!(in self.alloc; "{rank}")?.as_str())?;
+        command.arg(format!(in self.alloc; "{port}")?.as_str())?;
+        command.stdin(Stdio::piped());
+        command.stdout(Stdio::piped());
+        command.spawn(&self.rt)
+    }
+
+    /// Starts the child of a rank, and gives it its input.
+    fn try_start(&mut self, rank: u16, port: u16, input: &[u8]) -> io::Result<()>
+        ensures { self.new.faults ≡ self.old.faults }
+    {
+        if self.place(rank).is_some() {
+            return Err(io::Error::from(ErrorKind::AlreadyExists));
+        }
+        self.children.reserve(1)?;
+        let mut child = self.spawn(rank, port)?;
+        if let Err(error) = feed(&mut child, input) {
+            stop(&mut child);
+            return Err(error);
+        }
+        self.children.push_reserved((rank, child));
+        Ok(())
+    }
+}
+
+/// Gives a child all its input, unless it ends before.
+fn feed<P: OpenProcess>(child: &mut Child<P>, input: &[u8]) -> io::Result<()> {
+    let Some(mut pipe) = child.stdin.take() else {
+        return Err(io::Error::from(ErrorKind::BrokenPipe));
+    };
+    match pipe.write_all(input) {
+        Err(error) if error.kind() != ErrorKind::BrokenPipe => Err(error),
+        _ => Ok(()),
+    }
+}
+
+/// Ends a child at once. One that can't be ended is left alone.
+fn stop<P: OpenProcess>(child: &mut Child<P>) {
+    if child.kill().is_ok() {
+        let _ = child.wait();
+    }
+}
+
+/// The output of a child as a source, which tells nothing.
+#[derive(Drop)]
+struct OutputSource<O> {
+    pipe: O,
+    faults: u64,
+}
+
+impl<O: Read> Source for OutputSource<O> {
+    ghost use Rattle.std.specs.Prelude.{None};
+
+    ghost left = { λ _. None };
+
+    ghost faults = { λ s. s.faults };
+
+    /// One read of the pipe.
+    fn read(&mut self, buf: &mut [u8]) -> Got {
+        match self.pipe.read(buf) {
+            Ok(len) => Got::Got(len),
+            Err(_) => {
+                self.faults = self.faults.saturating_add(1);
+                Got::Failed
+            }
+        }
+    }
+}
+
+/// Waits for a child's exit status. None where it can't be had, or a signal ended the child.
+fn status_of<P: OpenProcess>(child: &mut Child<P>) -> Option<u8> {
+    let code = child.wait().ok()?.code()?;
+    u8::try_from(code).ok()
+}
+
+/// Waits until a child ends, and appends its output.
+fn end<P: OpenProcess>(alloc: Global, child: &mut Child<P>, into: &mut Vec<u8>) -> Finished
+    ensures { AppendsOutput result into.old.items into.new.items }
+{
+    let Some(pipe) = child.stdout.take() else {
+        stop(child);
+        return Finished::Failed;
+    };
+    let output = match read_all(alloc, &mut OutputSource { pipe, faults: 0 }, MAX_OUTPUT) {
+        ReadAll::Bytes(output) => output,
+        ReadAll::NoMemory => {
+            stop(child);
+            return Finished::NoMemory;
+        }
+        ReadAll::TooLong | ReadAll::Fault => {
+            stop(child);
+            return Finished::Failed;
+        }
+    };
+    let Some(status) = status_of(child) else {
+        return Finished::Failed;
+    };
+    if into.extend_from_slice(&output).is_err() {
+        return Finished::NoMemory;
+    }
+    Finished::Ended(status)
+}
+
+impl<R: Processes> Spawner for ProcessSpawner<R> {
+    ghost use Rattle.std.specs.Prelude.{None};
+
+    ghost told = { λ _. None };
+
+    ghost faults = { λ s. s.faults };
+
+    /// Starts the program with the words `node RANK PORT`, and writes its input.
+    fn start(&mut self, rank: u16, port: u16, input: &[u8]) -> Started {
+        if self.try_start(rank, port, input).is_err() {
+            self.faults = self.faults.saturating_add(1);
+            return Started::Failed;
+        }
+        Started::Started
+    }
+
+    /// Reads the child's output to its end, and waits for its exit status. Where that fails the child is ended.
+    fn finish(&mut self, rank: u16, into: &mut Vec<u8>) -> Finished {
+        let end = match self.place(rank) {
+            Some(place) => end(self.alloc, &mut self.children.swap_remove(place).1, into),
+            None => Finished::Failed,
+        };
+        if end == Finished::Failed {
+            self.faults = self.faults.saturating_add(1);
+        }
+        end
+    }
+}

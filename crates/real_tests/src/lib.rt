@@ -1,0 +1,9 @@
+//! Tests of the real outside: sockets of 127.0.0.1, the system's clock, and processes.
+#![tactic(auto)]
+
+#[cfg(test)]
+mod links;
+#[cfg(test)]
+mod nodes;
+#[cfg(test)]
+mod spawners;

@@ -1,0 +1,65 @@
+ghost use Rattle.std.specs.Prelude.{◌≡◌, ◌≤◌, IfOk};
+ghost use Rattle.endpoint_lock.specs.Stations.{opened, opening_of};
+
+use endpoint_lock::{End, Station, run_threads};
+use gas_outside::{Clock, Gate, Link, LinkAnswer};
+use real_outside::{LinkSocket, SocketGate, SystemClock, UdpLink};
+use station_tests::TwoThreads;
+use std::alloc::Global;
+use std::test::Fail;
+use std::time::Instant;
+
+/// A station of the two threads over a link and a clock.
+fn station_over<L: Link + Drop, C: Clock + Drop>(
+    alloc: Global,
+    link: L,
+    clock: C,
+) -> Result<Station<TwoThreads, L, C>, Fail>
+    ensures { IfOk result (λ station. (station ≡ opened (opening_of station))
+        × (1 ≤ station.patience)) }
+{
+    match Station::new(alloc, TwoThreads::Waiting, link, clock, 2_000) {
+        Ok(station) => Ok(station),
+        Err(_) => Err(Fail::from("memory")),
+    }
+}
+
+// Thread 0 waits for thread 1, and then sends to the ranks 1 and 2, whose ports aren't open.
+#[test]
+fn runs_threads_over_a_socket(rt: HostRuntime) -> Result<(), Fail> {
+    let alloc = rt.alloc();
+    let socket = LinkSocket::new();
+    let mut link = UdpLink::new(rt, &socket);
+    for step in 0..400 {
+        if link.bind(0, 3, 26_000 + 3 * step) == LinkAnswer::Done {
+            break;
+        }
+    }
+    let gate = SocketGate::new(rt, alloc, &socket);
+    let station = station_over(alloc, link, SystemClock::new(rt))?;
+    let ended = run_threads(&rt, alloc, station, 2, &gate);
+    assert_eq!(rt; ended.end, End::Over);
+    assert_eq!(rt; ended.machine, TwoThreads::Sent);
+    let threads = [1, 0, 0];
+    assert_eq!(rt; ended.journal.as_slice().len(), threads.len());
+    for (entry, thread) in ended.journal.as_slice().iter().zip(threads) {
+        assert_eq!(rt; (entry.thread, entry.got.is_none()), (thread, true));
+    }
+    Ok(())
+}
+
+#[test]
+fn counts_milliseconds(rt: HostRuntime) -> Result<(), Fail> {
+    let before = Instant::now(&rt)?;
+    let mut clock = SystemClock::new(rt);
+    let socket = LinkSocket::new();
+    let gate = SocketGate::new(rt, rt.alloc(), &socket);
+    let first = clock.now();
+    for _ in 0..3 {
+        gate.before_turn(0, true);
+    }
+    let last = clock.now();
+    assert!(rt; first.saturating_add(2) <= last, "{first} {last}");
+    assert!(rt; u128::from(last) <= before.elapsed(&rt)?.as_millis());
+    Ok(())
+}

@@ -1,0 +1,49 @@
+use gas_outside::{Finished, Spawner, Started};
+use real_outside::ProcessSpawner;
+use std::test::Fail;
+
+/// A spawner of the program with this name.
+fn spawner_of(rt: HostRuntime, program: &str) -> Result<ProcessSpawner<HostRuntime>, Fail> {
+    let program = String::from_str(rt.alloc(), program)?;
+    Ok(ProcessSpawner::new(rt, rt.alloc(), program))
+}
+
+#[test]
+fn gives_a_child_its_words(rt: HostRuntime) -> Result<(), Fail> {
+    let mut spawner = spawner_of(rt, "echo")?;
+    let mut output = Vec::new(rt.alloc());
+    assert_eq!(rt; spawner.start(0, 21_000, &[]), Started::Started);
+    assert_eq!(rt; spawner.start(0, 21_000, &[]), Started::Failed);
+    assert_eq!(rt; spawner.start(1, 21_000, &[]), Started::Started);
+    assert_eq!(rt; spawner.finish(0, &mut output), Finished::Ended(0));
+    assert_eq!(rt; output.as_slice(), b"node 0 21000\n".as_slice());
+    assert_eq!(rt; spawner.finish(1, &mut output), Finished::Ended(0));
+    assert_eq!(rt;
+        output.as_slice(),
+        b"node 0 21000\nnode 1 21000\n".as_slice()
+    );
+    assert_eq!(rt; spawner.finish(1, &mut output), Finished::Failed);
+    assert_eq!(rt; output.len(), 26);
+    Ok(())
+}
+
+// `false` ends with status 1, whether it has read its input or not; `yes` writes without an end.
+#[test]
+fn tells_how_a_child_ends(rt: HostRuntime) -> Result<(), Fail> {
+    let input = vec![in rt.alloc(); 10u8; 1_000_000]?;
+    for (program, want) in [("false", Finished::Ended(1)), ("yes", Finished::Failed)] {
+        let mut spawner = spawner_of(rt, program)?;
+        let mut output = Vec::new(rt.alloc());
+        let input = if program == "yes" {
+            &[]
+        } else {
+            input.as_slice()
+        };
+        assert_eq!(rt; spawner.start(3, 21_000, input), Started::Started);
+        assert_eq!(rt; spawner.finish(3, &mut output), want, "{program}");
+        assert_eq!(rt; output.len(), 0, "{program}");
+    }
+    let mut spawner = spawner_of(rt, "/no/such/program")?;
+    assert_eq!(rt; spawner.start(0, 21_000, &[]), Started::Failed);
+    Ok(())
+}

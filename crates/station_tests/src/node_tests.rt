@@ -1,0 +1,140 @@
+use crate::TwoThreads;
+use crate::in_step::InStep;
+use endpoint_lock::End;
+use gas_outside::{FixedClock, Link, LinkAnswer, MemoryLink, MemorySink, Received, Wrote};
+use station_run::{Node, Place, run_node};
+use std::alloc::Global;
+use std::test::Fail;
+
+// A trace of the two threads of node 0 of job 7.
+const WHOLE: &str = "trace 1
+job 7
+rank 0
+turn 1 0 -
+turn 0 0 -
+turn 0 0 -
+end
+";
+
+// A trace without turns.
+const EMPTY: &str = "trace 1
+job 7
+rank 0
+end
+";
+
+// Node 0 of three of job 7, with the two threads as its machine, at time 0.
+fn node_over<L: Link>(link: L) -> Node<TwoThreads, L, FixedClock> {
+    Node {
+        place: Place {
+            version: 1,
+            job: 7,
+            rank: 0,
+            nodes: 3,
+            port: 20_000,
+        },
+        machine: TwoThreads::Waiting,
+        link,
+        clock: FixedClock::new(0),
+        patience: 100_000,
+    }
+}
+
+// A link on which nothing waits, and whose sends fail.
+#[derive(Drop)]
+struct Mute {
+    bound: Option<(u16, u16, u16)>,
+}
+
+impl Link for Mute {
+    ghost use Rattle.std.specs.Prelude.{None};
+
+    ghost bound = { λ l. l.bound };
+
+    ghost sent = { λ _. None };
+
+    ghost received = { λ _. None };
+
+    ghost waiting = { λ _. None };
+
+    ghost faults = { λ _. 18446744073709551615 };
+
+    fn bind(&mut self, rank: u16, nodes: u16, port: u16) -> LinkAnswer {
+        self.bound = Some((rank, nodes, port));
+        LinkAnswer::Done
+    }
+
+    fn send(&mut self, _to: u16, _bytes: &[u8]) -> LinkAnswer {
+        LinkAnswer::Failed
+    }
+
+    fn receive(&mut self, _buf: &mut [u8]) -> Received {
+        Received::Empty
+    }
+}
+
+// A link in memory on which nothing waits, and which fails at a call.
+fn link_failing_at(alloc: Global, call: u64) -> Result<MemoryLink, Fail> {
+    Ok(MemoryLink::new(alloc, Vec::new(alloc), vec![in alloc; call]?)?)
+}
+
+#[test]
+fn writes_the_trace_of_a_node(rt: HostRuntime) -> Result<(), Fail> {
+    let alloc = rt.alloc();
+    let gate = InStep::new();
+    let mut sink = MemorySink::new(alloc, Vec::new(alloc))?;
+    let run = run_node(
+        &rt,
+        alloc,
+        node_over(link_failing_at(alloc, 0)?),
+        &gate,
+        &mut sink,
+    );
+    assert_eq!(rt; (run.left.end, run.wrote), (End::Over, Wrote::Done));
+    assert_eq!(rt; run.left.link.sent().len(), 2);
+    assert_eq!(rt; sink.taken(), WHOLE.as_bytes());
+    assert!(rt; gate.held());
+    Ok(())
+}
+
+// The first call of the link binds it, the second is the first receive. The machine's first datagrams go in its third turn that changes
+// something.
+#[test]
+fn writes_the_trace_before_a_fault(rt: HostRuntime) -> Result<(), Fail> {
+    let alloc = rt.alloc();
+    for call in 1..3 {
+        let mut sink = MemorySink::new(alloc, Vec::new(alloc))?;
+        let node = node_over(link_failing_at(alloc, call)?);
+        let run = run_node(&rt, alloc, node, &InStep::new(), &mut sink);
+        assert_eq!(rt;
+            (run.left.end, run.wrote),
+            (End::LinkFault, Wrote::Done),
+            "call {call}"
+        );
+        assert_eq!(rt; sink.taken(), EMPTY.as_bytes(), "call {call}");
+    }
+    let mut sink = MemorySink::new(alloc, Vec::new(alloc))?;
+    let run = run_node(
+        &rt,
+        alloc,
+        node_over(Mute { bound: None }),
+        &InStep::new(),
+        &mut sink,
+    );
+    assert_eq!(rt; (run.left.end, run.wrote), (End::LinkFault, Wrote::Done));
+    assert_eq!(rt; sink.taken(), WHOLE.as_bytes());
+    Ok(())
+}
+
+#[test]
+fn tells_a_fault_of_its_sink(rt: HostRuntime) -> Result<(), Fail> {
+    let alloc = rt.alloc();
+    let mut sink = MemorySink::new(alloc, vec![in alloc; 4u64]?)?;
+    let node = node_over(link_failing_at(alloc, 0)?);
+    let run = run_node(&rt, alloc, node, &InStep::new(), &mut sink);
+    assert_eq!(rt; (run.left.end, run.wrote), (End::Over, Wrote::Fault));
+    let taken = sink.taken();
+    assert_eq!(rt; WHOLE.as_bytes().get(..taken.len()), Some(taken));
+    assert!(rt; taken.len() < WHOLE.len());
+    Ok(())
+}
