@@ -4,8 +4,6 @@
 //! front of it. It takes no memory. So what it writes of a job that was read is the text that was read, and reading it
 //! gives the job.
 //!
-//! `upgraded` is the same job with datagrams of version 2; it takes no memory either.
-//!
 //! A form of line is a name, the words behind it (`Word`) and, of some, a list at its end (`Last`); `write_form` writes
 //! any of them. Each call, step, action and event has a row of its own in `write_call` and its kin.
 #![tactic(auto)]
@@ -23,8 +21,6 @@ mod printing;
 mod schedules;
 mod scripts;
 mod steps;
-mod upgrading;
 mod words;
 
 pub use printing::print_job;
-pub use upgrading::upgraded;

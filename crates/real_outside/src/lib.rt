@@ -1,15 +1,15 @@
-//! The real ones of the traits of `gas_outside`: a link over a UDP socket, a clock of the system, a gate that watches the link's
-//! socket, and a spawner of processes.
+//! The real ones of the traits of `gas_outside`: a link over a UDP socket, a clock of the system, a gate that watches
+//! the link's socket, and a spawner of processes.
 //!
-//! Each holds the handle by which it asks the system, so that the traits' calls need none. What the system does is its own: nothing
-//! tells what was sent, received, waits, or what a child gave. So what is proved is little:
+//! Each holds the handle by which it asks the system, so that the traits' calls need none. What the system does is its
+//! own: nothing tells what was sent, received, waits, or what a child gave. So what is proved is little:
 //!
-//! - `UdpLink` meets `Link` [`bound`, `later`, `cause`]: it tells what it was bound to; its count of faults never falls, and a call
-//!   fails only where that count rose, or stands at its last value.
+//! - `UdpLink` meets `Link` [`bound`, `later`, `cause`]: it tells what it was bound to; its count of faults never
+//!   falls, and a call fails only where that count rose, or stands at its last value.
 //! - `SystemClock` meets `Clock` [`asked`, `said`]: it counts how often it was asked, and tells what it said last.
 //! - `SocketGate` meets `Gate`, which promises nothing.
-//! - `ProcessSpawner` meets `Spawner` [`output`, `later`, `cause`]: where a child ended, its output was appended and is within the
-//!   limit; after another answer nothing was appended; faults as the link's.
+//! - `ProcessSpawner` meets `Spawner` [`output`, `later`, `cause`]: where a child ended, its output was appended and is
+//!   within the limit; after another answer nothing was appended; faults as the link's.
 //!
 //! What each does with the system is tested in `real_tests`.
 #![tactic(auto)]

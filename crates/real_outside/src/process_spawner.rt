@@ -10,11 +10,12 @@ use std::io;
 use std::io::{ErrorKind, Read, Write};
 use std::process::{Child, Command, OpenProcess, Processes, Stdio};
 
-/// A spawner that starts a program once for each rank, with the words `node RANK PORT` and the bytes on its standard input.
+/// A spawner that starts a program once for each rank, with the words `node RANK PORT` and the bytes on its standard
+/// input.
 ///
-/// A child that ends before it has read all its input is no fault: its end tells why. A start of a rank whose child runs, a finish of a
-/// rank without a child, an output over the limit and an end by a signal are faults, and so is each other error of the system. It tells
-/// nothing of its children.
+/// A child that ends before it has read all its input is no fault: its end tells why. A start of a rank whose child
+/// runs, a finish of a rank without a child, an output over the limit and an end by a signal are faults, and so is each
+/// other error of the system. It tells nothing of its children.
 #[derive(Drop)]
 pub struct ProcessSpawner<R: Processes> {
     rt: R,
@@ -157,7 +158,7 @@ impl<R: Processes> Spawner for ProcessSpawner<R> {
 
     ghost faults = { λ s. s.faults };
 
-    /// Starts the program with the words `node RANK PORT`, and writes its input.
+    /// Starts the program with the words `node RANK PORT`, and waits until it has read its input or has ended.
     fn start(&mut self, rank: u16, port: u16, input: &[u8]) -> Started {
         if self.try_start(rank, port, input).is_err() {
             self.faults = self.faults.saturating_add(1);

@@ -17,8 +17,8 @@ const PAUSE: u64 = 1;
 
 /// A gate that, after a quiet turn, pauses until a datagram waits at a link's socket, and about a millisecond at most.
 ///
-/// A turn that wasn't quiet is followed by the next at once. Where several threads pause, one of them watches the socket, and the others
-/// pause for the whole millisecond.
+/// A turn that wasn't quiet is followed by the next at once. Where several threads pause, one of them watches the
+/// socket, and the others pause for the whole millisecond.
 #[derive(Drop)]
 pub struct SocketGate<'a, R: Net + Clock> {
     rt: R,
@@ -45,7 +45,8 @@ impl<'a, R: Net + Clock> SocketGate<'a, R> {
         }
     }
 
-    /// Waits until a datagram waits, and for one pause at most. An error where another thread watches, or the system can't.
+    /// Waits until a datagram waits, and for one pause at most. An error where another thread watches, or the system
+    /// can't.
     fn wait(&self) -> io::Result<()> {
         let Some(mut watch) = self.watch.try_lock() else {
             return Err(io::Error::from(ErrorKind::WouldBlock));

@@ -14,9 +14,9 @@ const NO_ROOM: i32 = 105;
 
 /// A link over a UDP socket that doesn't wait. The node of rank r has the port `port + r` of 127.0.0.1.
 ///
-/// A datagram that the socket can't take now is lost, and so is one to a port that isn't open yet. Any other error of the system is a
-/// fault. The link can be bound once; a call before, and a second `bind`, is a fault. It tells what it was bound to, and nothing of
-/// datagrams.
+/// A datagram that the socket can't take now is lost, and so is one to a port that isn't open yet. Any other error of
+/// the system is a fault. The link can be bound once; a call before, and a second `bind`, is a fault. It tells what it
+/// was bound to, and nothing of datagrams.
 #[derive(Drop)]
 pub struct UdpLink<'a, R: Net> {
     rt: R,
@@ -69,7 +69,8 @@ fn address(port: u16, rank: u16) -> io::Result<SocketAddr> {
     }
 }
 
-/// Whether an error says that a datagram was lost, or that none is there: the socket can't do it now, or a peer's port isn't open.
+/// Whether an error says that a datagram was lost, or that none is there: the socket can't do it now, or a peer's port
+/// isn't open.
 fn is_loss(error: &io::Error) -> bool {
     matches!(
         error.kind(),
@@ -90,7 +91,8 @@ impl<R: Net> Link for UdpLink<'_, R> {
 
     ghost faults = { λ l. l.faults };
 
-    /// Opens the port of this rank. A port that another socket has, and a job whose ports don't end by 65,535, is a fault.
+    /// Opens the port of this rank. A port that another socket has, and a job whose ports don't end by 65,535, is a
+    /// fault.
     fn bind(&mut self, rank: u16, nodes: u16, port: u16) -> LinkAnswer {
         if self.open(rank, nodes, port).is_err() {
             self.faults = self.faults.saturating_add(1);

@@ -27,23 +27,27 @@ fn gives_a_child_its_words(rt: HostRuntime) -> Result<(), Fail> {
     Ok(())
 }
 
-// `false` ends with status 1, whether it has read its input or not; `yes` writes without an end.
+// `false` ends with status 1, whether it was given its input or not; `yes` writes without an end.
 #[test]
 fn tells_how_a_child_ends(rt: HostRuntime) -> Result<(), Fail> {
-    let input = vec![in rt.alloc(); 10u8; 1_000_000]?;
     for (program, want) in [("false", Finished::Ended(1)), ("yes", Finished::Failed)] {
         let mut spawner = spawner_of(rt, program)?;
         let mut output = Vec::new(rt.alloc());
-        let input = if program == "yes" {
-            &[]
-        } else {
-            input.as_slice()
-        };
+        let input = b"gasnet 1\n".as_slice();
         assert_eq!(rt; spawner.start(3, 21_000, input), Started::Started);
         assert_eq!(rt; spawner.finish(3, &mut output), want, "{program}");
         assert_eq!(rt; output.len(), 0, "{program}");
     }
+    Ok(())
+}
+
+#[test]
+fn fails_where_there_is_no_program(rt: HostRuntime) -> Result<(), Fail> {
     let mut spawner = spawner_of(rt, "/no/such/program")?;
     assert_eq!(rt; spawner.start(0, 21_000, &[]), Started::Failed);
+    assert_eq!(rt;
+        spawner.finish(0, &mut Vec::new(rt.alloc())),
+        Finished::Failed
+    );
     Ok(())
 }

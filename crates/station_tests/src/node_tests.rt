@@ -97,8 +97,8 @@ fn writes_the_trace_of_a_node(rt: HostRuntime) -> Result<(), Fail> {
     Ok(())
 }
 
-// The first call of the link binds it, the second is the first receive. The machine's first datagrams go in its third turn that changes
-// something.
+// The first call of the link binds it, the second is the first receive. The machine's first datagrams go in its third
+// turn that changes something.
 #[test]
 fn writes_the_trace_before_a_fault(rt: HostRuntime) -> Result<(), Fail> {
     let alloc = rt.alloc();

@@ -1,7 +1,7 @@
 //! Jobs printed after they were read: each form of line, jobs without parts, and a sink that fails.
 
 use gas_outside::{BufferedSink, MemorySink, Wrote};
-use job_print::{print_job, upgraded};
+use job_print::print_job;
 use job_text::{Job, read_job};
 use std::alloc::Global;
 use std::process::Abort;
@@ -145,7 +145,7 @@ fn each_form(rt: HostRuntime) -> Result<(), Fail> {
 
 #[test]
 fn each_form_in_version_2(rt: HostRuntime) -> Result<(), Fail> {
-    let job = upgraded(read_job(rt.alloc(), EVERY_FORM.as_bytes())?);
+    let job = read_job(rt.alloc(), EVERY_FORM.as_bytes())?.into_upgraded();
     let text = printed(rt.alloc(), &job, &rt)?;
     let (first, others) = EVERY_FORM.split_at(9);
     assert_eq!(rt; first, "gasnet 1\n");

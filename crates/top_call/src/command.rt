@@ -12,7 +12,7 @@ use crate::status::say;
 use crate::words::{Command, asked};
 use drill_run::run_drill;
 use gas_outside::{BufferedSink, ReadAll, Sink, Source, Wrote, read_all};
-use job_print::{print_job, upgraded};
+use job_print::print_job;
 use job_text::{Job, JobFault, JobWhy, read_job};
 use node_script::Script;
 use std::alloc::{AllocError, Global};
@@ -112,8 +112,8 @@ fn write_upgraded<K: Sink>(job: Job, sink: &mut BufferedSink<K>) -> Ended
     ensures { (reading : Reading) → GivesJob reading job → EndsBy (UpgradeEnds reading)
         (outbox K.taken K.faults sink.old) (outbox K.taken K.faults sink.new) result }
 {
-    let newer = upgraded(job);
-    match print_job(&newer, sink) {
+    let upgraded = job.into_upgraded();
+    match print_job(&upgraded, sink) {
         Wrote::Done => Ended {
             end: End::Done,
             world: None,
