@@ -1,9 +1,9 @@
 -- Lines of the drill, one after the other.
-use Rattle.std.proofs.Common.{◌≡◌, ℕ, suc, ◌+◌, ◌<◌, List, [], ◌∷◌, ◌++◌, Option, refl, sym, ap, subst, ◌∙◌, append_assoc, arith}
+use Rattle.std.proofs.Common.{◌≡◌, ℕ, suc, ◌+◌, List, [], ◌∷◌, ◌++◌, Option, refl, sym, ap, subst, ◌∙◌, append_assoc, arith}
 use Rattle.datagram_grammar.specs.Parameters.{Parameters}
 use Rattle.handler_rules.specs.declared.table.Entry.{Entry}
 use Rattle.handler_rules.specs.Runs.{Meaning}
-use Rattle.plain_world.specs.World.{Timed, IsAmong, run, world_after, world_answer}
+use Rattle.plain_world.specs.World.{Timed, run, world_after, world_answer}
 use Rattle.endpoint_rules.specs.EndpointRules.{OtherCall, Records, RecordsEvent, at_the_opening, job_of, timed, transition}
 use Rattle.gas_world.specs.Events.{ForItsRecords, Steps, job_in}
 use Rattle.gas_world.specs.Settling.{WorldJob}
@@ -15,7 +15,6 @@ use Rattle.gas_world.specs.declared.event.WorldAnswer.TheVariants as answers
 use Rattle.gas_world.proofs.Moving.{run_append, same_job, stands_both}
 use Rattle.job_text.specs.declared.job.Job.{Job as JobState}
 use Rattle.job_text.specs.declared.job.ScheduledEvent.{ScheduledEvent}
-use Rattle.job_text.specs.declared.job.ScheduledEvent.TheVariants as scheduled
 use Rattle.job_text.specs.declared.job.TimedEvent.{TimedEvent}
 use Rattle.node_script.specs.AnswerWords.{Sight, sight_of}
 use Rattle.node_script.specs.Bodies.{script_meaning}
@@ -25,13 +24,9 @@ use Rattle.world_run.specs.ScheduleRun.{StandsAfter}
 use Rattle.drill_run.specs.Counting.{AreAtMost, Tallies, count_in}
 use Rattle.drill_run.specs.Draws.{round_at}
 use Rattle.drill_run.specs.Drilling.{CountsEvent, CountsLines, IsDrilled, Stage, job_by}
-use Rattle.drill_run.specs.Rounds.{IsDelivery, at_time, bare_job, deed_lines, delivered, drill_job, drill_schedule}
-use Rattle.drill_run.specs.Rounds.{drill_settings, number_of, round_lines, rounds_lines}
+use Rattle.drill_run.specs.Rounds.{at_time, bare_job, drill_job, drill_schedule, drill_settings, round_lines, rounds_lines}
 use Rattle.drill_run.specs.Summary.{answers_to, count_of, drill_answers}
 use Rattle.drill_run.specs.declared.counts.Counted.{Counted}
-use Rattle.drill_run.specs.declared.rounds.Deed.{Deed}
-use Rattle.drill_run.specs.declared.rounds.Deed.TheVariants as deeds
-use Rattle.drill_run.specs.declared.rounds.Round.{Round}
 use Rattle.drill_run.proofs.Tallied.{tallies_both, tallies_none}
 
 -- ---- lines
@@ -117,29 +112,6 @@ delivery_counts job old new time number by event same h = λ records most stands
     (λ n. StandsAfter job new.world (schedule_events job (at_time time (event n) ∷ []) records) records most
     × Tallies old.counts new.counts (answers_to job (at_time time (event n) ∷ []) records))
     (same records most stands) (h records most stands)
-
-pub delivered_counts : (job : WorldJob) (old new : Stage) (time number : ℕ) (deed : Deed) (round : Round)
-    → IsDelivery deed → ForItsRecords old.world (λ records most. number ≡ number_of round records)
-    → CountsEvent job (timed time (delivered deed round number)) old new
-    → CountsLines job (deed_lines time deed round) old new
-delivered_counts job old new time number deeds.Short round is same h = absurd is
-delivered_counts job old new time number deeds.Put round is same h = absurd is
-delivered_counts job old new time number deeds.Tick round is same h = absurd is
-delivered_counts job old new time number deeds.Request round is same h =
-    delivery_counts job old new time number (number_of round)
-    (λ number. scheduled.Request round.from round.to number) same h
-delivered_counts job old new time number deeds.Reply round is same h =
-    delivery_counts job old new time number (number_of round)
-    (λ number. scheduled.Reply round.from round.to number) same h
-
--- it falls on nodes that are there
-pub among_delivered : (settings : Parameters) (deed : Deed) (round : Round) (number : ℕ) → IsDelivery deed →
-    (round.from < settings.nodes) × (round.to < settings.nodes) → IsAmong settings (delivered deed round number)
-among_delivered settings deeds.Short round number is nodes = absurd is
-among_delivered settings deeds.Put round number is nodes = absurd is
-among_delivered settings deeds.Tick round number is nodes = absurd is
-among_delivered settings deeds.Request round number is nodes = nodes
-among_delivered settings deeds.Reply round number is nodes = nodes
 
 -- two lines, where the second one's world has the settings and the table of the first one's
 pub two_lines : (text : JobState) (old mid new : Stage) (first second : TimedEvent)

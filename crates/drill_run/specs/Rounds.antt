@@ -1,9 +1,8 @@
 -- The schedule of the drill.
 use Rattle.std.specs.Prelude.{ℕ, zero, suc, ◌-◌, ◌*◌, ◌%◌, ◌^◌, max, pos, List, [], ◌∷◌, ◌++◌, map, length, Some, None}
 use Rattle.plain_world.specs.World.{run}
-use Rattle.plain_world.specs.World.{RequestComes, ReplyComes}
 use Rattle.plain_world.specs.Plain.{plain_of}
-use Rattle.endpoint_rules.specs.EndpointRules.{Records, RecordsEvent, at_the_opening}
+use Rattle.endpoint_rules.specs.EndpointRules.{Records, at_the_opening}
 use Rattle.datagram_grammar.specs.Parameters.{Parameters}
 use Rattle.handler_rules.specs.declared.rules.Role.TheVariants as role
 use Rattle.gas_world.specs.Settling.{WorldJob}
@@ -41,16 +40,6 @@ deed_events Tick round number = scheduled.Tick round.from ∷ []
 deed_events Request round number = scheduled.Request round.from round.to number ∷ []
 deed_events Reply round number = scheduled.Reply round.from round.to number ∷ []
 
--- a round that delivers a message, and the event in which it delivers the one with that number
-abbrev pub IsDelivery : Deed → Type 0
-IsDelivery Request = Unit {0}
-IsDelivery Reply = Unit {0}
-IsDelivery deed = ⊥
-
-abbrev pub delivered : Deed → Round → (number : ℕ) → RecordsEvent
-delivered Reply round number = ReplyComes round.from round.to number
-delivered deed round number = RequestComes round.from round.to number
-
 abbrev pub at_time : (time : ℕ) → ScheduledEvent → TimedEvent
 at_time time event = record { time = time; event = event }
 
@@ -64,7 +53,7 @@ round_lines time round = deed_lines time round.deed round
 
 -- ---- all rounds
 
--- the lines of so many rounds, each at the time of its number from 0 and by the records that the earlier ones leave
+-- the lines of so many rounds, each at the time of its number from 0, and each by the records that the earlier ones leave
 unfoldable pub rounds_lines : WorldJob → (seed count : ℕ) → Records → List TimedEvent
 rounds_lines job seed zero records = []
 rounds_lines job seed (suc count) records =

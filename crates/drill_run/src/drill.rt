@@ -1,7 +1,6 @@
 //! The run of the drill.
 
 ghost use Rattle.std.specs.Prelude.{◌≡◌, ◌<◌, ◌+◌, ◌-◌, ◌^◌, ℕ, IfOk, OnOk};
-ghost use Rattle.datagram_grammar.specs.Parameters.{Parameters};
 ghost use Rattle.gas_outside.specs.Buffered.{outbox};
 ghost use Rattle.endpoint_rules.specs.EndpointRules.{at_the_opening, timed};
 ghost use Rattle.gas_world.specs.Aims.{MayFall};
@@ -15,8 +14,8 @@ ghost use Rattle.world_run.specs.ScheduleRun.{StandsForRun};
 ghost use Rattle.drill_run.specs.Counting.{AreAtMost};
 ghost use Rattle.drill_run.specs.DrillEnds.{DrillEnds};
 ghost use Rattle.drill_run.specs.Drilling.{CountsEvent, CountsLines, IsDrilled, job_by, stage};
-ghost use Rattle.drill_run.specs.Rounds.{IsDelivery, bare_job, deed_lines, delivered, drill_job, drill_settings};
-ghost use Rattle.drill_run.specs.Rounds.{number_of, round_lines, rounds_lines};
+ghost use Rattle.drill_run.specs.Rounds.{bare_job, deed_lines, drill_job, drill_settings, number_of, round_lines};
+ghost use Rattle.drill_run.specs.Rounds.{rounds_lines};
 ghost use Rattle.drill_run.specs.Summary.{drill_lines};
 ghost use Rattle.drill_run.specs.declared.rounds.Deed.TheVariants as Deed;
 
@@ -171,22 +170,8 @@ fn number_of(world: &World, round: Round) -> u64
     accepted.saturating_sub(u64::from(round.rest % 4)).max(1)
 }
 
-/// The event in which a round delivers the message of this number.
-fn delivery(round: Round, number: u64) -> WorldEvent<'static>
-    requires { IsDelivery round.deed }
-    ensures event { event_of result ≡ delivered round.deed round number }
-    ensures falls { (settings : Parameters) → MayFall settings result }
-{
-    let (from, to) = (round.from, round.to);
-    match round.deed {
-        Deed::Request => WorldEvent::Request { from, to, number },
-        Deed::Reply => WorldEvent::Reply { from, to, number },
-        _ => unreachable!(),
-    }
-}
-
-/// The delivery of a request or of a reply.
-fn run_delivery(
+/// The delivery of a request.
+fn run_request(
     world: &mut World,
     counts: &mut Counts,
     script: &Script,
@@ -194,16 +179,48 @@ fn run_delivery(
     round: Round,
 ) -> Result<(), AllocError>
     requires drilled { IsDrilled world.old }
-    requires delivers { IsDelivery round.deed }
-    requires nodes { (round.from < 4) × (round.to < 4) }
+    requires from { round.from < 4 }
+    requires to { round.to < 4 }
     requires few { AreAtMost (2 ^ 64 - 2) counts.old }
     ensures settings { world.new.settings ≡ world.old.settings }
     ensures table { world.new.table ≡ world.old.table }
     ensures few { (most : ℕ) → AreAtMost most counts.old → AreAtMost (most + 1) counts.new }
     ensures runs { OnOk result (CountsLines (job_by script.now world.old)
-        (round_lines now round) (stage world.old counts.old) (stage world.new counts.new)) }
+        (deed_lines now Deed.Request round) (stage world.old counts.old)
+        (stage world.new counts.new)) }
 {
-    let event = delivery(round, number_of(world, round));
+    let event = WorldEvent::Request {
+        from: round.from,
+        to: round.to,
+        number: number_of(world, round),
+    };
+    run_event(world, counts, script, now, &event)
+}
+
+/// The delivery of a reply.
+fn run_reply(
+    world: &mut World,
+    counts: &mut Counts,
+    script: &Script,
+    now: u64,
+    round: Round,
+) -> Result<(), AllocError>
+    requires drilled { IsDrilled world.old }
+    requires from { round.from < 4 }
+    requires to { round.to < 4 }
+    requires few { AreAtMost (2 ^ 64 - 2) counts.old }
+    ensures settings { world.new.settings ≡ world.old.settings }
+    ensures table { world.new.table ≡ world.old.table }
+    ensures few { (most : ℕ) → AreAtMost most counts.old → AreAtMost (most + 1) counts.new }
+    ensures runs { OnOk result (CountsLines (job_by script.now world.old)
+        (deed_lines now Deed.Reply round) (stage world.old counts.old)
+        (stage world.new counts.new)) }
+{
+    let event = WorldEvent::Reply {
+        from: round.from,
+        to: round.to,
+        number: number_of(world, round),
+    };
     run_event(world, counts, script, now, &event)
 }
 
@@ -232,7 +249,8 @@ fn run_round(
             let event = WorldEvent::Tick { node: round.from };
             run_event(world, counts, script, now, &event)
         }
-        Deed::Request | Deed::Reply => run_delivery(world, counts, script, now, round),
+        Deed::Request => run_request(world, counts, script, now, round),
+        Deed::Reply => run_reply(world, counts, script, now, round),
     }
 }
 

@@ -1,4 +1,3 @@
 pub mod CallEnds
 pub mod CallStatus
 pub mod AskedWords
-pub mod UpgradeText
