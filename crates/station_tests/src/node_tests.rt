@@ -1,3 +1,5 @@
+ghost use Rattle.std.specs.Prelude.{◌≤◌};
+
 use crate::TwoThreads;
 use crate::in_step::InStep;
 use endpoint_lock::End;
@@ -24,7 +26,9 @@ end
 ";
 
 // Node 0 of three of job 7, with the two threads as its machine, at time 0.
-fn node_over<L: Link>(link: L) -> Node<TwoThreads, L, FixedClock> {
+fn node_over<L: Link>(link: L) -> Node<TwoThreads, L, FixedClock>
+    ensures { 1 ≤ result.patience }
+{
     Node {
         place: Place {
             version: 1,
