@@ -1,5 +1,6 @@
 -- Who holds locks changes only where a step ends: no delivery and no tick changes it, nor a call at which a step waits.
-use Rattle.std.proofs.Common.{◌≡◌, ℕ, Bool, true, false, true≢false, List, [], ◌∷◌, ◌++◌, Option, None, Some, refl, sym, ◌∙◌}
+use Rattle.std.proofs.Common.{◌≡◌, ℕ, Bool, true, false, true≢false, List, [], ◌∷◌, ◌++◌, Option, None, Some, refl, sym}
+use Rattle.std.proofs.Common.{◌∙◌}
 use Rattle.std.proofs.Common.{inl, inr, subst}
 use Rattle.std.specs.Prelude.{◌==◌}
 use Rattle.std.specs.Prelude.{Result, Ok, Err}
@@ -30,7 +31,8 @@ use Rattle.node_record.specs.Behaviour.{Ask, Contact}
 use Rattle.node_record.specs.NodeStep.{Asks, Does, Comes, Ticks, site_of, node_after, node_answer}
 use Rattle.node_record.specs.Record.{Node}
 use Rattle.node_record.specs.Step.{Verdict, Runs, Returns, verdict, after_delivery, request_answer, after_request}
-use Rattle.node_record.specs.Step.{said, with_itself, is_worn_out, TickChoice, Resends, Sends, Rests, tick_choice, after_tick}
+use Rattle.node_record.specs.Step.{said, with_itself, is_worn_out, TickChoice, Resends, Sends, Rests, tick_choice}
+use Rattle.node_record.specs.Step.{after_tick}
 use Rattle.am_core.specs.ClientRules.{rules}
 use Rattle.am_core.specs.HandlerRuns.{handlers_of, run_reply}
 use Rattle.am_core.specs.Kept.{Local}
@@ -52,7 +54,8 @@ use Rattle.job_text.specs.declared.job.ScheduledCall.TheVariants as call
 use Rattle.job_text.specs.declared.job.ScriptStep.{ScriptStep}
 use Rattle.job_text.specs.declared.job.ScriptStep.TheVariants as step
 use Rattle.job_text.specs.declared.job.WaitingStep.TheVariants as waiting
-use Rattle.node_runs.specs.Actions.{Form, Once, Again, Until, Twice, Looks, call_of, ended_by, FormMay, unless, next_call}
+use Rattle.node_runs.specs.Actions.{Form, Once, Again, Until, Twice, Looks, call_of, ended_by, FormMay, unless}
+use Rattle.node_runs.specs.Actions.{next_call}
 use Rattle.node_runs.specs.Actions.{tried_step}
 use Rattle.node_runs.specs.Scripts.{ThreadCall}
 use Rattle.node_runs.specs.Turn.{node_run, coming, before_try}
@@ -113,7 +116,8 @@ ended_keeps : (caller : Caller) (register : ℕ) (was : Option BegunRegion) (loc
 ended_keeps caller register None local = refl
 ended_keeps caller register (Some was) local = by_name was.name refl
   where
-    by_name : (name : Option ℕ) → was.name ≡ name → (ended caller register (Some was) local).1.core.locks ≡ local.core.locks
+    by_name : (name : Option ℕ) → was.name ≡ name
+        → (ended caller register (Some was) local).1.core.locks ≡ local.core.locks
     by_name None e = rw e refl
     by_name (Some name) e = rw e refl
 
@@ -248,7 +252,8 @@ waiting_keeps : (settings : Parameters) (table : List (Option Entry)) (meaning :
     → call_of (step_form one node) began ≡ Some made
     → let job = job_of settings table meaning in
     let after = node_after job me node now (node_event thread made) in
-    ended_by (step_form one node) began after (Some (told (node_answer job me node now (node_event thread made)))) ≡ None
+    ended_by (step_form one node) began after (Some (told (node_answer job me node now (node_event thread made))))
+    ≡ None
     → locks_in after ≡ locks_in node
 waiting_keeps settings table meaning me thread now one node began made is waits =
     by_step one (is_lock_step one) refl is waits

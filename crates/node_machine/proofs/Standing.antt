@@ -132,7 +132,8 @@ me_then : (it : Turning) → IsTurning it → (state : NodeState) → NodeStands
 me_then it T state S = S.me_is ∙ sym T.takes.same.me_is
 
 own_then : (it : Turning) → IsTurning it → (state : NodeState) → NodeStands it.machine state
-    → (turn_by (script_job state.job) state.ranked.me it.taken state.ranked.state).after.own ≡ own_scripts (scripts_then it)
+    → (turn_by (script_job state.job) state.ranked.me it.taken state.ranked.state).after.own
+    ≡ own_scripts (scripts_then it)
 own_then it T state S =
     (facts_of it T state S).own
     ∙ (ap (λ (own : OwnScripts ScriptStep). put own it.taken.thread it.progress) S.own_is
@@ -184,17 +185,17 @@ or_parts true b e = absurd (true≢false e)
 or_parts false b e = (refl, e)
 
 -- of a turn that changed nothing
-pub record IsQuiet (it : Turning) : Type 0 where
-  pub got : it.taken.got ≡ None
-  pub ended : is_some it.done.ended ≡ false
+pub record IsQuiet (taken : TurnTaken) (done : Done) : Type 0 where
+  pub got : taken.got ≡ None
+  pub ended : is_some done.ended ≡ false
 
-pub quiet_is : (it : Turning) → is_changed it.taken it.done ≡ false → IsQuiet it
-quiet_is it quiet =
-    let a = or_parts (is_some it.taken.got || is_some_there (slots_of it.done.outgoing) || is_some it.done.ended)
-    it.done.began quiet in
-    let b = or_parts (is_some it.taken.got || is_some_there (slots_of it.done.outgoing)) (is_some it.done.ended) a.0 in
-    let c = or_parts (is_some it.taken.got) (is_some_there (slots_of it.done.outgoing)) b.0 in
-    record { got = none_got it.taken.got c.0; ended = b.1 }
+pub quiet_is : (taken : TurnTaken) (done : Done) → is_changed taken done ≡ false → IsQuiet taken done
+quiet_is taken done quiet =
+    let a = or_parts (is_some taken.got || is_some_there (slots_of done.outgoing) || is_some done.ended) done.began
+    quiet in
+    let b = or_parts (is_some taken.got || is_some_there (slots_of done.outgoing)) (is_some done.ended) a.0 in
+    let c = or_parts (is_some taken.got) (is_some_there (slots_of done.outgoing)) b.0 in
+    record { got = none_got taken.got c.0; ended = b.1 }
 
 -- what a turn told
 pub told_is : (it : Turning) → IsTurning it → (state : NodeState) → NodeStands it.machine state
@@ -226,7 +227,7 @@ pub quiet_stands : WaitingIsCalm → (it : Turning) → IsTurning it → (state 
 quiet_stands calm it T state S quiet =
     let F = facts_of it T state S in
     let job = script_job state.job in
-    let got = (quiet_is it quiet).got in
+    let got = (quiet_is it.taken it.done quiet).got in
     let next = turn_by job state.ranked.me it.taken state.ranked.state in
     let still : (turned state it.taken.thread it.taken.now None).changed ≡ false =
     subst (λ (o : Option (List ℕ)). (turned state it.taken.thread it.taken.now o).changed ≡ false) got
@@ -303,13 +304,6 @@ copied_some : (got : Option (Bor (List ℕ))) → is_some got ≡ is_some (optio
 copied_some None = refl
 copied_some (Some bytes) = refl
 
--- no step ended in a turn that changed nothing
-pub quiet_ended : (taken : TurnTaken) (done : Done) → is_changed taken done ≡ false → is_some done.ended ≡ false
-quiet_ended taken done quiet =
-    let a = or_parts (is_some taken.got || is_some_there (slots_of done.outgoing) || is_some done.ended) done.began
-    quiet in
-    (or_parts (is_some taken.got || is_some_there (slots_of done.outgoing)) (is_some done.ended) a.0).1
-
 -- ---- from what the code says
 
 -- a machine that has these cursors
@@ -322,7 +316,8 @@ machine_at job endpoint cursors outgoing answer = record {
   answer = answer;
 }
 
-slice_get-map : {A B : Type 0} (f : A → B) (xs : List A) (i : ℕ) → slice_get (map f xs) i ≡ option_map f (slice_get xs i)
+slice_get-map : {A B : Type 0} (f : A → B) (xs : List A) (i : ℕ)
+    → slice_get (map f xs) i ≡ option_map f (slice_get xs i)
 slice_get-map f [] i = refl
 slice_get-map f (x ∷ xs) zero = refl
 slice_get-map f (x ∷ xs) (suc i) = slice_get-map f xs i
@@ -332,7 +327,8 @@ pub record Reads (job : JobState) (cursors : List Cursor) (thread : ℕ) (cursor
   pub low : thread < job.settings.threads
   pub read : slice_get cursors thread ≡ Some cursor
 
-pub reads_is : (machine : MachineKept) (job : JobState) (cursors from : List Cursor) (thread place : ℕ) (cursor : Cursor)
+pub reads_is : (machine : MachineKept) (job : JobState) (cursors from : List Cursor) (thread place : ℕ)
+    (cursor : Cursor)
     → job ≡ machine.job → thread < machine.job.settings.threads → place ≡ thread → from ≡ cursors
     → slice_get from place ≡ Some cursor → Reads job cursors thread cursor
 reads_is machine job cursors from thread place cursor same low at is read = record {
@@ -412,8 +408,8 @@ took calm job endpoint cursors outgoing answer taken place cursor next handlers 
       endpoint = later;
       progress = progress_of next;
     } in
-    let T = turning_is job endpoint cursors outgoing answer taken cursor handlers done later (progress_of next) is R same
-    takes in
+    let T = turning_is job endpoint cursors outgoing answer taken cursor handlers done later (progress_of next) is R
+    same takes in
     let scripts = cursors_set cursors taken.thread place next at in
     record {
       is = subst (λ (these : List (Progress ScriptStep)).
@@ -453,10 +449,11 @@ told_quiet old taken done new M quiet state S =
       changed = changed;
       stepped = stepped;
       sends = cond changed (length (slots_of done.outgoing)) 0;
-    }) quiet (quiet_ended taken done quiet))
+    }) quiet (quiet_is taken done quiet).ended)
 
 -- what is told of another turn
-pub told_changed : (old : MachineKept) (taken : TurnTaken) (done : Done) (new : MachineKept) (stepped : Bool) (count : ℕ)
+pub told_changed : (old : MachineKept) (taken : TurnTaken) (done : Done) (new : MachineKept) (stepped : Bool)
+    (count : ℕ)
     → MachineTakes old taken done new → is_changed taken done ≡ true → stepped ≡ is_some done.ended
     → count ≡ length (slots_of done.outgoing) → (state : NodeState) → NodeStands old state
     → ◌≡◌ {A = Turned} (record { changed = true; stepped = stepped; sends = count })

@@ -1,5 +1,6 @@
 -- A turn of a thread, put together from its parts.
-use Rattle.std.proofs.Common.{◌≡◌, ℕ, Bool, ◌||◌, not, List, [], ◌∷◌, ◌++◌, map, length, Option, None, Some, refl, sym, ap}
+use Rattle.std.proofs.Common.{◌≡◌, ℕ, Bool, ◌||◌, not, List, [], ◌∷◌, ◌++◌, map, length, Option, None, Some, refl, sym}
+use Rattle.std.proofs.Common.{ap}
 use Rattle.std.proofs.Common.{ap₂, ◌∙◌, subst, suc, arith, cond}
 use Rattle.std.specs.Prelude.{is_some}
 use Rattle.std.specs.List.{AllByRecursion, Contains}
@@ -123,7 +124,8 @@ state_goes : (meaning : Meaning) (old mid new : EndpointState) (taken : TurnTake
     × EndpointStands new (turn_by (job_at meaning old) old.core.me taken state).after.node
     × ((turn_by (job_at meaning old) old.core.me taken state).after.own
     ≡ put state.own taken.thread (progress_after (state.own taken.thread) tried))
-state_goes meaning old mid new taken state slots tried done lawful bytes stands before tries slots_is ended_is began_is =
+state_goes meaning old mid new taken state slots tried done lawful bytes stands before tries slots_is ended_is
+    began_is =
     let it = turn_by job me taken state in
     let sent : slots_of done.outgoing ≡ map slot_of it.packets = slots_is ∙ all.slots_are in (
       record {
@@ -232,5 +234,6 @@ turn_goes meaning old mid new taken progress polls slots tried done lawful bytes
           (subst (λ (p : Progress ScriptStep).
           TriesNext meaning mid (record { now = taken.now; thread = taken.thread; progress = p }) tried new)
           (sym own) tries) slots_is ended_is began_is in
-          (it.0, it.1, it.2 ∙ ap (λ (p : Progress ScriptStep). put state.own taken.thread (progress_after p tried)) own);
+          let left = λ (p : Progress ScriptStep). put state.own taken.thread (progress_after p tried) in
+          (it.0, it.1, it.2 ∙ ap left own);
     }

@@ -51,8 +51,8 @@ IsRunOf job items turns =
     IsWorldRun job.settings (registered job.handlers).table (script_meaning job.handlers) (scripts_of step_form)
     (scripts_at job) items turns
 
--- of a job that a text says: where a list of ranks reaches the front that has all entries of the nodes' traces, they are
--- a run of the world in its order, and the entries of each node in it are the node's trace
+-- of a job that a text says: where a list of ranks reaches the front that has all entries of the nodes' traces, they
+-- are a run of the world in its order, and the entries of each node in it are the node's trace
 abbrev pub AreTracesARun : Type 0
 AreTracesARun =
     (job : JobState) (traces : List (List Entry)) (ranks : List ℕ)

@@ -112,7 +112,8 @@ impl<'a> NodeMachine<'a> {
         })
     }
 
-    /// The answer of the script step that ended in the last turn that wasn't empty; None exactly where none ended in it.
+    /// The answer of the script step that ended in the last turn that wasn't empty; None exactly where none ended in
+    /// it.
     pub fn answer(&self) -> Option<Answer>
         ensures { result ≡ self.now.answer }
     {

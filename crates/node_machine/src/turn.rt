@@ -82,8 +82,8 @@ fn try_next<H: Handlers>(
     }
 }
 
-/// A turn of a thread, with its script: where it polls, what was got is delivered, and the node ticks; then the next step of
-/// the script is tried.
+/// A turn of a thread, with its script: where it polls, what was got is delivered, and the node ticks; then the next
+/// step of the script is tried.
 pub fn take_turn<H: Handlers>(
     endpoint: &mut Endpoint,
     handlers: &H,

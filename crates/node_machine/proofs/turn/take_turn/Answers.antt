@@ -31,8 +31,8 @@ returns g c =
       ended = c.try_next-tried.result.ended;
       began = c.is_some.result;
     } in
-    subst (λ (p : Progress ScriptStep). TakesTurn meaning (c.args.endpoint.now, progress_of c.args.cursor.now) taken done
-    (c.try_next-tried.new.endpoint, p)) (sym c.go_on.ensures)
+    subst (λ (p : Progress ScriptStep). TakesTurn meaning (c.args.endpoint.now, progress_of c.args.cursor.now) taken
+    done (c.try_next-tried.new.endpoint, p)) (sym c.go_on.ensures)
     (turn_goes meaning c.args.endpoint.now c.before_try-sent.new.endpoint c.try_next-tried.new.endpoint taken
     (progress_of c.args.cursor.now) c.args.turn.polls
     (option_to_list c.before_try-sent.result.reply ++ option_to_list c.before_try-sent.result.tick)

@@ -5,7 +5,7 @@ use Rattle.node_machine.specs.Kept.{MachineKept, polls_at}
 use Rattle.node_machine.specs.Machines.{with_done}
 use Rattle.node_machine.specs.States.{NodeStands, after_turn}
 use Rattle.node_machine.specs.Turns.{slots_of, TurnTaken}
-use Rattle.node_machine.proofs.Standing.{change_is, empty_turn, quiet_ended, still_machine, told_changed, told_quiet}
+use Rattle.node_machine.proofs.Standing.{change_is, empty_turn, quiet_is, still_machine, told_changed, told_quiet}
 use Rattle.node_machine.proofs.node.NodeMachineMachine.turn.Goals as goal
 
 pub returns-then-not-is_change-clause-after : goal.returns-then-not-is_change-clause-after
@@ -30,7 +30,7 @@ returns-then-not-is_change-clause-polls c = λ none thread.
     record { thread = c.args.thread; now = c.args.now; got = option_copied c.args.got } in
     let quiet = change_is taken c.take-done.result c.args.got c.is_change.result c.is_some-came.result false refl
     c.is_change.ensures c.is_some-came.ensures c.if-not-is_change.true in
-    c.take-done.ensures.polls (quiet_ended taken c.take-done.result quiet) thread
+    c.take-done.ensures.polls (quiet_is taken c.take-done.result quiet).ended thread
 
 pub returns-then-not-is_change-clause-empty : goal.returns-then-not-is_change-clause-empty
 returns-then-not-is_change-clause-empty c = λ none unchanged.
