@@ -1,6 +1,6 @@
 -- A try that waits leaves the record of its node.
-use Rattle.std.proofs.Common.{◌≡◌, ℕ, ℤ, Bool, true, false, true≢false, cond, ◌&&◌, map, List, [], ◌∷◌, ◌++◌, Option, None}
-use Rattle.std.proofs.Common.{Some, refl, sym, ap, ◌∙◌, subst}
+use Rattle.std.proofs.Common.{◌≡◌, ℕ, ℤ, Bool, true, false, true≢false, cond, ◌&&◌, map, List, [], ◌∷◌, ◌++◌, Option}
+use Rattle.std.proofs.Common.{None, Some, refl, sym, ap, ◌∙◌, subst}
 use Rattle.std.specs.Prelude.{◌==◌, is_some, is_none, Result, Ok, Err}
 use Rattle.std.specs.Option.{option_map}
 use Rattle.std.proofs.lemmas.List.{append-nil}
@@ -40,7 +40,8 @@ use Rattle.endpoint_rules.specs.TransferCalls.{Caller, TransferCall, transfer_do
 use Rattle.endpoint_rules.specs.TransferCalls.{SyncImplicit, transfer_kind, handle_in, emptied_by, whole_registers}
 use Rattle.endpoint_rules.specs.Called.{Requests, Performs, node_event}
 use Rattle.endpoint_rules.specs.EndpointLocal.{EndpointLocal, with_core}
-use Rattle.endpoint_rules.specs.EndpointRules.{OnCore, OnTransfers, OnBarrier, asked_answer, told, job_of, unless_forbidden}
+use Rattle.endpoint_rules.specs.EndpointRules.{OnCore, OnTransfers, OnBarrier, asked_answer, told, job_of}
+use Rattle.endpoint_rules.specs.EndpointRules.{unless_forbidden}
 use Rattle.endpoint_rules.specs.EndpointRules.{with_barrier}
 use Rattle.endpoint_rules.specs.declared.answer.Answer.{Answer}
 use Rattle.endpoint_rules.specs.declared.answer.Answer.TheVariants as answers
@@ -286,10 +287,12 @@ call_calm place node (call.Medium text) =
     (medium_asking text.handler (map (operand_value node.local.core.cells []) text.operands) (given_from text.payload))
 call_calm place node (call.Long text) =
     request_leaves place node text.to
-    (long_asking text.handler (map (operand_value node.local.core.cells []) text.operands) (given_from text.payload) text.offset)
+    (long_asking text.handler (map (operand_value node.local.core.cells []) text.operands) (given_from text.payload)
+    text.offset)
 call_calm place node (call.LongAsync text) =
     request_leaves place node text.to
-    (long_asking text.handler (map (operand_value node.local.core.cells []) text.operands) (given_from text.payload) text.offset)
+    (long_asking text.handler (map (operand_value node.local.core.cells []) text.operands) (given_from text.payload)
+    text.offset)
 call_calm place node (call.Lock lock) = lock_leaves place node lock
 call_calm place node (call.Unlock lock) = tt
 call_calm place node call.Poll = tt

@@ -17,7 +17,8 @@ use Rattle.node_runs.specs.Actions.{FormMay, OwnScripts, ActionsMay}
 use Rattle.node_runs.specs.Fitting.{KeptFits, CallFits}
 use Rattle.node_runs.specs.Scripts.{ThreadCall}
 use Rattle.script_laws.proofs.Calls.{calls_fit}
-use Rattle.script_steps.specs.Forms.{tried_while, waits_of, waiting_form, step_form, begun_handle, on_transfers, sync_of}
+use Rattle.script_steps.specs.Forms.{tried_while, waits_of, waiting_form, step_form, begun_handle, on_transfers}
+use Rattle.script_steps.specs.Forms.{sync_of}
 
 -- a call that a schedule has, too
 call_may : (waits : Option (Answer → Bool)) (meant : ThreadCall) → CallFits meant

@@ -17,16 +17,12 @@ use Rattle.job_text.specs.declared.job.WaitingStep.TheVariants as waiting
 use Rattle.node_runs.specs.Actions.{Form, Once, Again, Until, Twice, Looks, call_of, ended_by, begins, unless}
 use Rattle.node_runs.specs.Scripts.{ThreadCall}
 use Rattle.node_script.specs.ScheduledCalls.{meant_by, transfer_of}
-use Rattle.script_steps.specs.Forms.{call_form, tried_while, waits_of, waiting_form, waits_at, begun_handle, as_synced, on_transfers}
-use Rattle.script_steps.specs.Tries.{Made, Makes, FormTrial, TriesForm, read_as, begun_by, trial_call}
+use Rattle.script_steps.specs.Forms.{call_form, tried_while, waits_of, waiting_form, waits_at, begun_handle}
+use Rattle.script_steps.specs.Forms.{as_synced, on_transfers}
+use Rattle.script_steps.specs.Tries.{Makes, TriesForm, made_by, read_as, begun_by}
 use Rattle.script_steps.specs.declared.trial.Trial.{Trial}
 use Rattle.script_steps.specs.declared.trial.Tried.{Tried}
 use Rattle.script_steps.proofs.Trying.{CallOf, goes_so, tries_call}
-
--- a call of the trial's thread
-abbrev pub made_by : Trial → ThreadCall → Answer → Made
-made_by trial meant answer =
-    record { now = trial.time; thread = trial.thread; meant = meant; answer = answer }
 
 -- what a try tells whose call was answered so
 abbrev pub ended_with : (waits : Bool) → (call step : Answer) → Tried

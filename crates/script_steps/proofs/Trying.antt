@@ -1,5 +1,6 @@
 -- What a step of the endpoint leaves, as a try of a form of step.
-use Rattle.std.proofs.Common.{◌≡◌, ℕ, Bool, true, false, true≢false, cond, ◌&&◌, List, [], ◌∷◌, ◌++◌, map, Option, None, Some}
+use Rattle.std.proofs.Common.{◌≡◌, ℕ, Bool, true, false, true≢false, cond, ◌&&◌, List, [], ◌∷◌, ◌++◌, map, Option}
+use Rattle.std.proofs.Common.{None, Some}
 use Rattle.std.proofs.Common.{refl, sym, ap, ◌∙◌, subst}
 use Rattle.std.specs.Prelude.{is_some, is_none}
 use Rattle.std.specs.Option.{option_map, option_or, option_to_list}
@@ -28,7 +29,8 @@ use Rattle.node_runs.specs.Actions.{progress_after, tried_form}
 use Rattle.node_runs.specs.Outgoing.{slot_of, StaysWell}
 use Rattle.node_runs.specs.Scripts.{ThreadCall, Tried as FormTried}
 use Rattle.node_runs.specs.Turn.{node_run, node_sends}
-use Rattle.script_steps.specs.Tries.{EndpointJob, Happening, HasHappened, Happen, Made, made_happening, Makes, FormTrial}
+use Rattle.script_steps.specs.Tries.{EndpointJob, Happening, HasHappened, Happen, Made, made_happening, Makes}
+use Rattle.script_steps.specs.Tries.{FormTrial}
 use Rattle.script_steps.specs.Tries.{trial_call, trial_events, trial_answer, trial_after, begun_by, WentSo}
 use Rattle.script_steps.specs.Tries.{trial_happening, TriesForm, as_form, left_by, as_tried, IsTriedSo, Tries}
 use Rattle.script_steps.specs.declared.trial.Trial.{Trial}
@@ -76,7 +78,8 @@ call_made meaning old new made steps sent =
       happen = record {
         same = steps.same;
         happened = λ node stands.
-            let after = node_after (job_here meaning old) old.core.me node made.now (node_event made.thread made.meant) in
+            let event = node_event made.thread made.meant in
+            let after = node_after (job_here meaning old) old.core.me node made.now event in
             let it = steps.steps node stands in
             record {
               stands = it.1;
@@ -147,8 +150,10 @@ tries_call meaning old new trial tried made makes calls =
         → made.thread ≡ thread
         → CallOf meaning old (record trial { now = now; thread = thread }) tried new node (Some made.meant)
     with_call node stands now thread now_is thread_is =
-        subst (λ t. CallOf meaning old (record trial { now = now; thread = t }) tried new node (Some made.meant)) thread_is
-        (subst (λ n. CallOf meaning old (record trial { now = n; thread = made.thread }) tried new node (Some made.meant))
+        subst (λ t. CallOf meaning old (record trial { now = now; thread = t }) tried new node (Some made.meant))
+        thread_is
+        (subst
+        (λ n. CallOf meaning old (record trial { now = n; thread = made.thread }) tried new node (Some made.meant))
         now_is
         (let happened = makes.happen.happened node stands in
         let answered = makes.answered node stands in (

@@ -128,6 +128,11 @@ pub record TriesForm
 
 -- ---- the try of a step
 
+-- a call of the thread, with its answer
+abbrev pub made_by : Trial → (meant : ThreadCall) → Answer → Made
+made_by trial meant answer =
+    record { now = trial.time; thread = trial.thread; meant = meant; answer = answer }
+
 -- the step, where it is read so
 abbrev pub read_as : Trial → (form : Node EndpointLocal → Form EndpointLocal) → FormTrial
 read_as trial form =

@@ -4,8 +4,8 @@ ghost use Rattle.script_steps.specs.Laws.{StepsFit, WaitingIsCalm};
 
 /// Carries what this crate proves of the steps of a job's text, for the check alone: it has no code.
 ///
-/// `fitting`: what the calls of steps say and write that can be said in a text fits its places, where what the node keeps
-/// does. `calm`: a try that neither ends nor begins its step, and sends nothing, leaves the node and its scripts.
+/// `fitting`: what the calls of such steps say and write fits its places, where what the node keeps does. `calm`: a try
+/// that neither ends nor begins its step, and sends nothing, leaves the node and its scripts.
 pub fn steps_law()
     // The calls of such steps may be made.
     ensures fitting { StepsFit }

@@ -1,20 +1,21 @@
 //! The steps of scripts: how each is tried on the endpoint of its node.
 //!
-//! A step is read as one of the forms of `node_runs` (`step_form`, in `specs/Forms.antt`), by the cells of its node as the
-//! try begins. Requests wait where all credits are out or a handler's lock is taken, `lock` waits where another one holds
-//! it, and the waiting forms of the synchronisations and of the barrier where what they ask for isn't complete. `until`
-//! waits for a cell. A blocking transfer begins an operation, and then synchronises it by its handle; a `put-nb` and a
-//! `put-nbi` begin one, and then look whether its own chunks are all issued. Each other call is made once.
+//! A step is read as one of the forms of `node_runs` (`step_form`, in `specs/Forms.antt`), by the cells of its node
+//! as the try begins. Requests wait where all credits are out or a handler's lock is taken, `lock` waits where
+//! another one holds it, and the waiting forms of the synchronisations and of the barrier where what they ask for
+//! isn't complete. `until` waits for a cell. A blocking transfer begins an operation, and then synchronises it by
+//! its handle; a `put-nb` and a `put-nbi` begin one, and then look whether its own chunks are all issued. Each other
+//! call is made once.
 //!
 //! What is proved:
 //!
-//! - `attempt` [`tries`: `Tries`]: of every record for which the endpoint stood, the try makes at most one call, that of the
-//!   step's form; the endpoint stands for the record after it (`Happen`), what the call sent stands in the slot that is
-//!   told, and the step ends, begins or stays as the form says (`IsTriedSo`). It is asked for a thread of the job and a step
-//!   of which a text can say each word. It takes no memory.
+//! - `attempt` [`tries`: `Tries`]: of every record for which the endpoint stood, the try makes at most one call,
+//!   that of the step's form; the endpoint stands for the record after it (`Happen`), what the call sent stands in
+//!   the slot that is told, and the step ends, begins or stays as the form says (`IsTriedSo`). It is asked for a
+//!   thread of the job and a step of which a text can say each word.
 //! - `steps_law` [`fitting`]: the calls of scripts whose steps a text can say may be made in a run of the world
-//!   (`ActionsMay`); [`calm`]: a try that waits leaves the record of its node and the scripts (`IsCalm`), so that an empty
-//!   turn leaves the machine.
+//!   (`ActionsMay`); [`calm`]: a try that waits leaves the record of its node and the scripts (`IsCalm`), so that an
+//!   empty turn leaves the machine.
 #![tactic(auto)]
 
 mod answers;

@@ -6,7 +6,7 @@ ghost use Rattle.endpoint_rules.specs.Called.{meant};
 ghost use Rattle.endpoint_rules.specs.Sends.{sends};
 ghost use Rattle.gas_endpoint.specs.Endpoints.{ForItsRecord, MayBeCalled};
 ghost use Rattle.script_steps.specs.Forms.{is_sent};
-ghost use Rattle.script_steps.specs.Tries.{Makes};
+ghost use Rattle.script_steps.specs.Tries.{Makes, made_by};
 
 use crate::answers::begun_handle;
 use crate::trial::{Trial, Tried};
@@ -23,8 +23,7 @@ pub(crate) fn make<H: Handlers>(
 ) -> Answer
     requires { MayBeCalled endpoint.old.core.settings trial.now.thread call.now }
     ensures { Makes (H.meaning handlers.now) endpoint.old
-        (record { now = trial.now.time; thread = trial.now.thread; meant = meant call.now; answer = result })
-        endpoint.new }
+        (made_by trial.now (meant call.now) result) endpoint.new }
 {
     let (thread, call) = (trial.thread, *call);
     endpoint.step(handlers, trial.time, &Event::Call { thread, call })
@@ -54,7 +53,8 @@ impl Tried {
 
     /// The call of the try was answered so, and the step ended with that, unless it waits there.
     pub(crate) fn unless(waits: bool, call: &Answer, step: Answer) -> Tried
-        ensures { result ≡ record { sent = sends call.now; ended = unless waits step; began = None } }
+        ensures { result
+            ≡ record { sent = sends call.now; ended = unless waits step; began = None } }
     {
         Tried {
             sent: call.sends(),

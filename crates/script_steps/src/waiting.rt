@@ -194,7 +194,8 @@ fn try_put<H: Handlers>(
 /// The call of a step that waits at a synchronisation or at the barrier.
 fn sync_call(step: &WaitingStep) -> Call<'_>
     requires { IsSync step.now }
-    ensures form { (cells : List ℤ) → waiting_form cells step.now ≡ Again is_not_ready (meant result) }
+    ensures form { (cells : List ℤ)
+        → waiting_form cells step.now ≡ Again is_not_ready (meant result) }
     ensures callable { IsCallable result }
 {
     match step {
@@ -240,7 +241,8 @@ pub(crate) fn try_waiting<H: Handlers>(
 ) -> Tried
     requires { trial.now.thread < endpoint.old.core.settings.threads }
     ensures { TriesForm (H.meaning handlers.now) endpoint.old
-        (read_as trial.now (λ node. waiting_form node.local.core.cells step.now)) result endpoint.new }
+        (read_as trial.now (λ node. waiting_form node.local.core.cells step.now))
+        result endpoint.new }
 {
     match step {
         WaitingStep::Until { cell, operand } => {
