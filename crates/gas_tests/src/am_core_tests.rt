@@ -2,10 +2,12 @@
 
 ghost use Rattle.std.specs.Prelude.{◌≡◌, ◌<◌, IfOk, slice_index_or};
 
-use crate::handlers::{Looks, registered};
 use am_core::{Asked, Asking, Category, Core, Delivered, Payload, Side, SlotRef, Why};
 use datagram_grammar::{Refused, Settings};
-use handler_rules::{CallKind, Cells, Context, Desk, Fault, Forbidden, Handlers, Violation, Which};
+use handler_rules::{
+    CallKind, Cells, Context, Desk, Entry, Fault, Forbidden, Handlers, Role, Table, Violation,
+    Which,
+};
 use hsl_locks::{LockAnswer, LockFault, UnlockAnswer};
 use raw_segment::Segment;
 use std::alloc::Global;
@@ -36,6 +38,34 @@ impl Handlers for Sevens {
         cells.set(0, 7);
         let _ = desk.reply_short(130, &[7]);
     }
+}
+
+// Whatever its index, the handler puts byte 8 of the segment as it finds it into cell 0.
+struct Looks;
+
+impl Handlers for Looks {
+    ghost use Rattle.std.specs.Prelude.{pos, slice_set, slice_index_or};
+    ghost use Rattle.handler_rules.specs.Runs.{untouched};
+    ghost use Rattle.handler_rules.proofs.Lawful.{lawful-untouched, lawful-cells};
+
+    ghost meaning = { λ it handler frame start. record (untouched start) {
+      cells = slice_set start.cells 0 (pos (slice_index_or start.segment 8 0));
+    } };
+
+    ghost is_lawful = { λ it handler frame start.
+        lawful-cells frame start (untouched start) _ (lawful-untouched frame start) };
+
+    fn run(&self, _handler: u8, segment: &mut Segment, cells: &mut Cells, _desk: &mut Desk<'_>) {
+        let byte = eighth(segment.bytes());
+        cells.set(0, i32::from(byte));
+    }
+}
+
+// Byte 8, or 0.
+fn eighth(bytes: &[u8]) -> u8
+    ensures { result ≡ slice_index_or bytes.now 8 0 }
+{
+    if bytes.len() > 8 { bytes[8] } else { 0 }
 }
 
 // A core whose segment is as long as its settings say.
@@ -76,27 +106,6 @@ impl Node {
         self.core.request_short(&Sevens, 5, 3, to, handler, args)
     }
 
-    // Thread 3 asks node 1 for a Medium request, at time 5.
-    fn ask_medium(&mut self, payload: &[u8]) -> Asked {
-        let payload = Payload::Lent(payload);
-        self.core
-            .request_medium(&Sevens, 5, 3, 1, 128, &[], payload)
-    }
-
-    // It asks for a Long request with place 8.
-    fn ask_long(&mut self, payload: &[u8]) -> Asked {
-        let payload = Payload::Lent(payload);
-        self.core
-            .request_long(&Sevens, 5, 3, 1, 128, &[], payload, 8)
-    }
-
-    // The same by the call whose payload may be read later, where `Looks` is the handler.
-    fn ask_long_async(&mut self, payload: &[u8]) -> Asked {
-        let payload = Payload::Lent(payload);
-        self.core
-            .request_long_async(&Looks, 5, 3, 1, 128, &[], payload, 8)
-    }
-
     fn would_accept(&self, asking: &Asking<'_>) -> bool {
         self.core.would_accept(asking)
     }
@@ -132,6 +141,23 @@ impl Node {
             None => false,
         }
     }
+}
+
+// Handlers 128, 129 and 133 for requests, the last of which may take lock 3; 130 for replies.
+fn registered(alloc: Global) -> Result<Table, Fail> {
+    let mut table = Table::new(alloc)?;
+    for (index, role, locks) in [
+        (128, Role::Request, 0),
+        (129, Role::Request, 0),
+        (130, Role::Reply, 0),
+        (133, Role::Request, 8),
+    ] {
+        let entry = Entry { index, role, locks };
+        if table.register(entry).is_err() {
+            return Err(Fail::new("refused"));
+        }
+    }
+    Ok(table)
 }
 
 // A node of job 7, which has two nodes with segments of 4,096 bytes.
@@ -269,7 +295,11 @@ fn calls_of_threads(rt: HostRuntime) -> Result<(), Fail> {
 #[test]
 fn a_medium_request(rt: HostRuntime) -> Result<(), Fail> {
     let mut node = opened(rt.alloc(), 0)?;
-    assert_eq!(rt; node.ask_medium(&[10, 11]), accepted(0, 1));
+    let payload = Payload::Lent(&[10, 11]);
+    let asked = node
+        .core
+        .request_medium(&Sevens, 5, 3, 1, 128, &[], payload);
+    assert_eq!(rt; asked, accepted(0, 1));
     assert!(rt; node.keeps(slot(Side::Request, 1), &MEDIUM));
     Ok(())
 }
@@ -277,7 +307,11 @@ fn a_medium_request(rt: HostRuntime) -> Result<(), Fail> {
 #[test]
 fn a_long_request(rt: HostRuntime) -> Result<(), Fail> {
     let mut node = opened(rt.alloc(), 0)?;
-    assert_eq!(rt; node.ask_long(&[1, 2]), accepted(0, 1));
+    let payload = Payload::Lent(&[1, 2]);
+    let asked = node
+        .core
+        .request_long(&Sevens, 5, 3, 1, 128, &[], payload, 8);
+    assert_eq!(rt; asked, accepted(0, 1));
     assert!(rt; node.keeps(slot(Side::Request, 1), &LONG));
     Ok(())
 }
@@ -285,7 +319,11 @@ fn a_long_request(rt: HostRuntime) -> Result<(), Fail> {
 #[test]
 fn a_long_request_to_the_own_node(rt: HostRuntime) -> Result<(), Fail> {
     let mut node = opened(rt.alloc(), 1)?;
-    assert_eq!(rt; node.ask_long_async(&[6]), Asked::Ran);
+    let payload = Payload::Lent(&[6]);
+    let asked = node
+        .core
+        .request_long_async(&Looks, 5, 3, 1, 128, &[], payload, 8);
+    assert_eq!(rt; asked, Asked::Ran);
     assert_eq!(rt; node.core.cells().get(0), 6);
     let overlapping = Asking {
         payload: Payload::Own { offset: 7, len: 2 },
