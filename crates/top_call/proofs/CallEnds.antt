@@ -84,7 +84,7 @@ weak_world reading ends.WriteFault world said h = h
 
 pub weak_drill : (seed : ℕ) → Weakens (DrillEnds seed)
 weak_drill seed ends.Done world said h = weak_run (drill_job seed) (drill_lines seed) false world said h
-weak_drill seed ends.Violations world said h = weak_run (drill_job seed) (drill_lines seed) true world said h
+weak_drill seed ends.Violations world said h = h
 weak_drill seed ends.NoMemory world said h = weak_left (drill_job seed) (drill_lines seed) world said h
 weak_drill seed ends.Usage world said h = h
 weak_drill seed (ends.BadJob line reason) world said h = h
@@ -208,17 +208,18 @@ world_runs reading job read laws = record {
 }
 
 -- `drill` runs its own
-drill_whole : (seed : ℕ) (after : After) (violated : Bool) (said : List ℕ)
+drill_whole : (seed : ℕ) (after : After) (violated : Bool) (said : List ℕ) → is_violated (drill_job seed) ≡ false
     → EndsRun (drill_job seed) (drill_lines seed) violated after said → DrillEnds seed (end_of violated) after said
-drill_whole seed after true said run = run
-drill_whole seed after false said run = run
+drill_whole seed after true said calm run = let both : false ≡ true = sym calm ∙ run.violated_is in absurd (cc)
+drill_whole seed after false said calm run = run
 
-pub drill_runs : (seed : ℕ) → RunLaws (drill_job seed) → Runs (DrillEnds seed) (drill_job seed) (drill_lines seed)
-drill_runs seed laws = record {
+pub drill_runs : (seed : ℕ) → RunLaws (drill_job seed) → is_violated (drill_job seed) ≡ false
+    → Runs (DrillEnds seed) (drill_job seed) (drill_lines seed)
+drill_runs seed laws calm = record {
   laws = laws;
   weak = weak_drill seed;
-  whole = λ violated world said. drill_whole seed (gives world) violated said;
-  cut = λ violated said. drill_whole seed unasked violated said;
+  whole = λ violated world said. drill_whole seed (gives world) violated said calm;
+  cut = λ violated said. drill_whole seed unasked violated said calm;
   left = λ said left. left;
 }
 

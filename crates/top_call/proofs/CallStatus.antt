@@ -82,31 +82,22 @@ drill_means : (call : Call) (seed : ℕ) (end : End) → Means (DrillEnds seed) 
 drill_means call seed ends.Done h = record {
   is_status = (0, lit< tt, refl);
   ok = λ e. h;
-  violations = λ e. absurd (omega (arith, e));
-  write_fault = λ e. absurd (omega (arith, e));
-  no_memory = λ e. absurd (omega (arith, e));
-}
-drill_means call seed ends.Violations h = record {
-  is_status = (1, lit< tt, refl);
-  ok = λ e. absurd (omega (arith, e));
-  violations = λ e. h;
   write_fault = λ e. absurd (omega (arith, e));
   no_memory = λ e. absurd (omega (arith, e));
 }
 drill_means call seed ends.WriteFault h = record {
-  is_status = (2, lit< tt, refl);
+  is_status = (1, lit< tt, refl);
   ok = λ e. absurd (omega (arith, e));
-  violations = λ e. absurd (omega (arith, e));
   write_fault = λ e. h;
   no_memory = λ e. absurd (omega (arith, e));
 }
 drill_means call seed ends.NoMemory h = record {
-  is_status = (3, lit< tt, refl);
+  is_status = (2, lit< tt, refl);
   ok = λ e. absurd (omega (arith, e));
-  violations = λ e. absurd (omega (arith, e));
   write_fault = λ e. absurd (omega (arith, e));
   no_memory = λ e. h;
 }
+drill_means call seed ends.Violations h = absurd h.ends
 drill_means call seed ends.Usage h = absurd h.ends
 drill_means call seed (ends.BadJob line reason) h = absurd h.ends
 drill_means call seed ends.ReadFault h = absurd h.ends
@@ -186,10 +177,10 @@ world_completes call (ends.BadJob line reason) h holds faultless =
     (subst (λ (before : Option (List ℕ)). ReadsNoJob before left line reason) holds.told h.ends.read))
 
 drill_completes : (call : Call) (seed : ℕ) (end : End) → Means (DrillEnds seed) (took_in call) call.world end
-    → IsFaultless call → Contains (0 ∷ 1 ∷ 8 ∷ []) (code_of end)
+    → IsFaultless call → Contains (0 ∷ 8 ∷ []) (code_of end)
 drill_completes call seed ends.Done h faultless = (0, lit< tt, refl)
-drill_completes call seed ends.Violations h faultless = (1, lit< tt, refl)
-drill_completes call seed ends.NoMemory h faultless = (2, lit< tt, refl)
+drill_completes call seed ends.NoMemory h faultless = (1, lit< tt, refl)
+drill_completes call seed ends.Violations h faultless = absurd h.ends
 drill_completes call seed ends.WriteFault h faultless = absurd (faultless.sink h.cut.0)
 drill_completes call seed ends.Usage h faultless = absurd h.ends
 drill_completes call seed (ends.BadJob line reason) h faultless = absurd h.ends

@@ -141,10 +141,11 @@ WorldEnds reading ends.WriteFault after said = ⊥
 
 -- ---- `drill`
 
+-- no node notes a violation in it
 abbrev pub DrillEnds : (seed : ℕ) → EndsHow
 DrillEnds seed ends.Done after said = EndsRun (drill_job seed) (drill_lines seed) false after said
-DrillEnds seed ends.Violations after said = EndsRun (drill_job seed) (drill_lines seed) true after said
 DrillEnds seed ends.NoMemory after said = LeavesRun (drill_job seed) (drill_lines seed) after said
+DrillEnds seed ends.Violations after said = ⊥
 DrillEnds seed ends.Usage after said = ⊥
 DrillEnds seed (ends.BadJob line reason) after said = ⊥
 DrillEnds seed ends.ReadFault after said = ⊥

@@ -59,9 +59,8 @@ pub record WorldMeans (call : Call) (code : ℕ) : Type 0 where
 
 -- what each exit status of `drill` says
 pub record DrillMeans (call : Call) (seed code : ℕ) : Type 0 where
-  pub is_status : Contains (0 ∷ 1 ∷ 5 ∷ 8 ∷ []) code
+  pub is_status : Contains (0 ∷ 5 ∷ 8 ∷ []) code
   pub ok : code ≡ 0 → Tells call (DrillEnds seed) ends.Done
-  pub violations : code ≡ 1 → Tells call (DrillEnds seed) ends.Violations
   pub write_fault : code ≡ 5 → IsCut call (DrillEnds seed)
   pub no_memory : code ≡ 8 → Tells call (DrillEnds seed) ends.NoMemory
 
@@ -91,4 +90,4 @@ pub record IsComplete (call : Call) (code : ℕ) : Type 0 where
   pub world : Asks call.words commands.World → HoldsJob call.before.source → IsFaultless call
       → Contains (0 ∷ 1 ∷ 8 ∷ []) code
   pub drill : (seed : ℕ) → Asks call.words (commands.Drill seed) → IsFaultless call
-      → Contains (0 ∷ 1 ∷ 8 ∷ []) code
+      → Contains (0 ∷ 8 ∷ []) code

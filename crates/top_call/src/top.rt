@@ -45,7 +45,7 @@ fn flushed<K: Sink>(sink: &mut BufferedSink<K>, ended: Ended) -> Ended
 /// written is `status CODE NAME`, but with code 5:
 ///
 /// - 0 `ok`: the job or the drill was run, the lines of its run were written before, and no node noted a violation;
-/// - 1 `violations`: the same, and a node noted a violation;
+/// - 1 `violations`: the job was run so, and a node noted a violation;
 /// - 2 `usage`: the words are those of no command;
 /// - 3 `bad-job LINE WHY`: the bytes read are no job's text; the first bad line, and the first reason that applies to
 ///   it. Of more than 4,194,304 bytes they are `0 size`;
