@@ -14,7 +14,7 @@ use Rattle.named_barrier.specs.Record.{try_after, note_to, send}
 use Rattle.named_barrier.specs.World.{Barriers, BarrierEvent, Notifying, Trying, Sending, Hearing, put, hear_sent}
 use Rattle.named_barrier.specs.World.{happens, barriers_after, all_opened, InEveryRun, EndedByAll}
 use Rattle.named_barrier.proofs.Runs.{put_same, put_other}
-use Rattle.named_barrier.proofs.Stepping.{slice_get_short}
+use Rattle.lists.proofs.Places.{slice_get_short}
 
 -- a node notifies no later phase than its present one
 abbrev pub IsHigh : BarrierRecord → Type 0

@@ -11,7 +11,8 @@ use Rattle.put_get.specs.declared.operation.Synced.TheVariants as synced
 use Rattle.put_get.specs.declared.transfers.Transfers.{Transfers}
 use Rattle.put_get.specs.Operation.{Operation, target, next_chunk, is_complete}
 use Rattle.put_get.specs.Stands.{Stands as TransfersStand, room_of}
-use Rattle.put_get.specs.Syncs.{Choice, chosen, flag_at, worn_of, worn_or, sync_answer, members, handle_answer, after_handle}
+use Rattle.put_get.specs.Syncs.{Choice, chosen, flag_at, worn_of, worn_or, sync_answer, members, handle_answer}
+use Rattle.put_get.specs.Syncs.{after_handle}
 use Rattle.put_get.specs.Syncs.{fault_here, fault_of, unless_fault, members_of, all_answer, is_whole, whole_of}
 use Rattle.put_get.specs.Syncs.{some_answer, implicit_of, implicit_answer, left_by}
 use Rattle.node_record.specs.Record.{Node}
@@ -169,8 +170,8 @@ implicit_does core extended transfers flags thread some says are out answer stan
         rw none (ap (λ (s : Synced). answers.Synced s) is),
         rw none (record {
           core = S.core;
-          transfers = subst (λ (s : Synced). TransfersStand transfers (left_by s (implicit_of thread some) operations)) is
-              (stands operations S.transfers);
+          transfers = subst (λ (s : Synced). TransfersStand transfers
+              (left_by s (implicit_of thread some) operations)) is (stands operations S.transfers);
           regions_are = S.regions_are;
           registers_are = S.registers_are;
           barrier = S.barrier;
@@ -240,8 +241,8 @@ pub group_does : (group : Group) (core : CoreState) (extended : Extended) (trans
     → room_of transfers ≡ room_of extended.transfers
     → PartDoes (record { core = core; extended = extended }) thread (group_outcome group) (answers.Synced says)
     (record { core = core; extended = record extended { transfers = transfers; registers = registers } })
-group_does group core extended transfers flags thread handles whole says registers are those wholes emptied_so answer stands room =
-    record {
+group_does group core extended transfers flags thread handles whole says registers are those wholes emptied_so answer
+    stands room = record {
       same = same_core core;
       frame = record { nodes = refl; me_is = refl; threads = refl; room = room };
       steps = λ node S.

@@ -2,12 +2,10 @@
 
 ghost use Rattle.std.specs.Prelude.{◌≡◌, ◌<◌, IfOk, slice_index_or};
 
+use crate::handlers::{Looks, registered};
 use am_core::{Asked, Asking, Category, Core, Delivered, Payload, Side, SlotRef, Why};
 use datagram_grammar::{Refused, Settings};
-use handler_rules::{
-    CallKind, Cells, Context, Desk, Entry, Fault, Forbidden, Handlers, Role, Table, Violation,
-    Which,
-};
+use handler_rules::{CallKind, Cells, Context, Desk, Fault, Forbidden, Handlers, Violation, Which};
 use hsl_locks::{LockAnswer, LockFault, UnlockAnswer};
 use raw_segment::Segment;
 use std::alloc::Global;
@@ -38,34 +36,6 @@ impl Handlers for Sevens {
         cells.set(0, 7);
         let _ = desk.reply_short(130, &[7]);
     }
-}
-
-// Whatever its index, the handler puts byte 8 of the segment as it finds it into cell 0.
-struct Looks;
-
-impl Handlers for Looks {
-    ghost use Rattle.std.specs.Prelude.{pos, slice_set, slice_index_or};
-    ghost use Rattle.handler_rules.specs.Runs.{untouched};
-    ghost use Rattle.handler_rules.proofs.Lawful.{lawful-untouched, lawful-cells};
-
-    ghost meaning = { λ it handler frame start. record (untouched start) {
-      cells = slice_set start.cells 0 (pos (slice_index_or start.segment 8 0));
-    } };
-
-    ghost is_lawful = { λ it handler frame start.
-        lawful-cells frame start (untouched start) _ (lawful-untouched frame start) };
-
-    fn run(&self, _handler: u8, segment: &mut Segment, cells: &mut Cells, _desk: &mut Desk<'_>) {
-        let byte = eighth(segment.bytes());
-        cells.set(0, i32::from(byte));
-    }
-}
-
-// Byte 8, or 0.
-fn eighth(bytes: &[u8]) -> u8
-    ensures { result ≡ slice_index_or bytes.now 8 0 }
-{
-    if bytes.len() > 8 { bytes[8] } else { 0 }
 }
 
 // A core whose segment is as long as its settings say.
@@ -141,23 +111,6 @@ impl Node {
             None => false,
         }
     }
-}
-
-// Handlers 128, 129 and 133 for requests, the last of which may take lock 3; 130 for replies.
-fn registered(alloc: Global) -> Result<Table, Fail> {
-    let mut table = Table::new(alloc)?;
-    for (index, role, locks) in [
-        (128, Role::Request, 0),
-        (129, Role::Request, 0),
-        (130, Role::Reply, 0),
-        (133, Role::Request, 8),
-    ] {
-        let entry = Entry { index, role, locks };
-        if table.register(entry).is_err() {
-            return Err(Fail::new("refused"));
-        }
-    }
-    Ok(table)
 }
 
 // A node of job 7, which has two nodes with segments of 4,096 bytes.

@@ -1,6 +1,7 @@
 //! What the text of a job says, as values.
 
 ghost use Rattle.std.specs.Prelude.{◌≡◌, ◌≤◌, length, true};
+ghost use Rattle.datagram_grammar.specs.Parameters.{upgraded};
 ghost use Rattle.job_text.specs.Locks.{are_listed, listed_by};
 ghost use Rattle.job_text.specs.JobReading.{lines_of};
 
@@ -720,5 +721,13 @@ impl Job {
             Some(schedule) => schedule.lines.len(),
             None => 0,
         }
+    }
+
+    /// The same job with datagrams of version 2, in whose limits its settings are too. It takes no memory.
+    pub fn into_upgraded(mut self) -> Job
+        ensures { result ≡ record self { settings = upgraded self.settings } }
+    {
+        self.settings = self.settings.upgraded();
+        self
     }
 }

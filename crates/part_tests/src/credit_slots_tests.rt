@@ -2,6 +2,7 @@ ghost use Rattle.std.specs.Prelude.{◌≡◌, ℕ, ◌<◌, ◌≤◌, ◌+◌,
 ghost use Rattle.credit_slots.specs.State.{CanClaim, Refuses, slot_count, with_request};
 
 use credit_slots::{BUFFER_BYTES, CreditSlots, NoClaim};
+use std::process::Abort;
 use std::test::Fail;
 
 fn write_front(message: &[u8], buffer: &mut [u8])
@@ -49,15 +50,6 @@ fn take_back(table: &mut CreditSlots, slot: u16, number: u64) -> bool
     table.take_back(1, slot, number)
 }
 
-// Sends one byte to one of three nodes.
-fn send_one(table: &mut CreditSlots, to: u16, now: u64) -> Result<(u16, u64), NoClaim>
-    requires nodes { length table.old.peers ≡ 3 }
-    requires node { to < 3 }
-    ensures nodes { length table.new.peers ≡ 3 }
-{
-    send(table, to, now, &[7])
-}
-
 // Sends two bytes to node 1.
 fn send_two_bytes(table: &mut CreditSlots) -> Result<(u16, u64), NoClaim>
     requires peer { slot_count table.old 1 ≡ 2 }
@@ -74,18 +66,62 @@ fn has(table: &CreditSlots, slot: u16, number: Option<u64>, message: Option<&[u8
     table.number(1, slot) == number && table.bytes(1, slot) == message
 }
 
+/// What happens to a table with two slots towards node 1, and its answer.
+#[derive(Clone, Copy)]
+enum Deed<'a> {
+    /// Two bytes are sent to node 1.
+    Sends(Result<(u16, u64), NoClaim>),
+    /// A slot and a number are claimed, and dropped unsealed.
+    Claims(Result<(u16, u64), NoClaim>),
+    /// The request of this slot, 0 or 1, and this number is back.
+    TakesBack(u16, u64, bool),
+    /// A slot, 0 or 1, has this number and message, or none.
+    Has(u16, Option<u64>, Option<&'a [u8]>),
+    /// So many buffers are in use.
+    Holds(usize),
+}
+
+/// Whether it is answered so.
+fn is_answered(table: &mut CreditSlots, deed: Deed<'_>) -> bool
+    requires peer { slot_count table.old 1 ≡ 2 }
+    ensures peer { slot_count table.new 1 ≡ 2 }
+{
+    match deed {
+        Deed::Sends(want) => send_two_bytes(table) == want,
+        Deed::Claims(want) => claim(table) == want,
+        Deed::TakesBack(slot, number, want) => {
+            slot < 2 && take_back(table, slot, number) == want
+        }
+        Deed::Has(slot, number, message) => slot < 2 && has(table, slot, number, message),
+        Deed::Holds(count) => table.held() == count,
+    }
+}
+
+/// Checks that each deed is answered so.
+fn check_deeds(rt: &impl Abort, table: &mut CreditSlots, deeds: &[Deed<'_>])
+    requires peer { slot_count table.old 1 ≡ 2 }
+{
+    for (row, deed) in deeds.iter().enumerate() {
+        assert!(rt; is_answered(table, *deed), "row {row}");
+    }
+}
+
+const SENT_AND_TAKEN_BACK: [Deed<'static>; 7] = [
+    Deed::Sends(Ok((0, 1))),
+    Deed::Has(0, Some(1), Some(&[7, 8])),
+    Deed::Has(1, None, None),
+    Deed::Holds(1),
+    Deed::TakesBack(0, 1, true),
+    Deed::Has(0, None, None),
+    Deed::Holds(0),
+];
+
 #[test]
 fn sends_and_takes_back(rt: HostRuntime) -> Result<(), Fail> {
     let mut table = CreditSlots::new(rt.alloc(), &[2, 2], 0, 9)?;
     assert_eq!(rt; table.free(0), 0);
     assert_eq!(rt; table.free(1), 2);
-    assert!(rt; matches!(send_two_bytes(&mut table), Ok((0, 1))));
-    assert!(rt; has(&table, 0, Some(1), Some(&[7, 8])));
-    assert!(rt; has(&table, 1, None, None));
-    assert_eq!(rt; table.held(), 1);
-    assert!(rt; take_back(&mut table, 0, 1));
-    assert!(rt; has(&table, 0, None, None));
-    assert_eq!(rt; table.held(), 0);
+    check_deeds(&rt, &mut table, &SENT_AND_TAKEN_BACK);
     Ok(())
 }
 
@@ -100,45 +136,24 @@ fn lends_whole_buffers(rt: HostRuntime) -> Result<(), Fail> {
     Ok(())
 }
 
-// With two credits and numbers up to 4.
+/// With two credits and numbers up to 4.
+const CREDITS_AND_NUMBERS: [Deed<'static>; 10] = [
+    Deed::Claims(Ok((0, 1))),
+    Deed::Claims(Ok((1, 2))),
+    Deed::Claims(Err(NoClaim::NotYet)),
+    Deed::TakesBack(1, 1, false),
+    Deed::TakesBack(0, 1, true),
+    Deed::TakesBack(0, 1, false),
+    Deed::Claims(Ok((0, 3))),
+    Deed::TakesBack(1, 2, true),
+    Deed::Claims(Ok((1, 4))),
+    Deed::Claims(Err(NoClaim::WornOut)),
+];
+
 #[test]
 fn credits_and_numbers(rt: HostRuntime) -> Result<(), Fail> {
     let mut table = CreditSlots::new(rt.alloc(), &[2, 2], 0, 4)?;
-    assert!(rt; matches!(claim(&mut table), Ok((0, 1))));
-    assert!(rt; matches!(claim(&mut table), Ok((1, 2))));
-    assert!(rt; matches!(claim(&mut table), Err(NoClaim::NotYet)));
-    assert!(rt; !take_back(&mut table, 1, 1));
-    assert!(rt; take_back(&mut table, 0, 1));
-    assert!(rt; !take_back(&mut table, 0, 1));
-    assert!(rt; matches!(claim(&mut table), Ok((0, 3))));
-    assert!(rt; take_back(&mut table, 1, 2));
-    assert!(rt; matches!(claim(&mut table), Ok((1, 4))));
-    assert!(rt; matches!(claim(&mut table), Err(NoClaim::WornOut)));
-    Ok(())
-}
-
-// The earliest first, then the lower node, then the lower slot; 10 must have passed since the last sending.
-#[test]
-fn resends_in_order(rt: HostRuntime) -> Result<(), Fail> {
-    let mut table = CreditSlots::new(rt.alloc(), &[2, 2, 2], 0, 9)?;
-    assert_eq!(rt; table.due(100, 10), None);
-    assert!(rt; matches!(send_one(&mut table, 2, 3), Ok((0, 1))));
-    assert!(rt; matches!(send_one(&mut table, 2, 1), Ok((1, 2))));
-    assert!(rt; matches!(send_one(&mut table, 1, 3), Ok((0, 1))));
-    assert!(rt; matches!(send_one(&mut table, 1, 3), Ok((1, 2))));
-    assert_eq!(rt; table.due(0, 0), None);
-    assert_eq!(rt; table.due(10, 10), None);
-    assert_eq!(rt; table.due(11, 10), Some((2, 1)));
-    assert_eq!(rt; table.due(11, 10), None);
-    assert_eq!(rt; table.due(20, 10), Some((1, 0)));
-    assert_eq!(rt; table.due(20, 10), Some((1, 1)));
-    assert_eq!(rt; table.due(20, 10), Some((2, 0)));
-    assert_eq!(rt; table.due(20, 10), None);
-    let Some((to, slot)) = table.due(21, 10) else {
-        return Err(Fail::new("none is due"));
-    };
-    assert_eq!(rt; (to, slot), (2, 1));
-    assert_eq!(rt; table.bytes(to, slot), Some([7].as_slice()));
+    check_deeds(&rt, &mut table, &CREDITS_AND_NUMBERS);
     Ok(())
 }
 
@@ -151,44 +166,111 @@ fn resends_no_unsealed_claim(rt: HostRuntime) -> Result<(), Fail> {
     Ok(())
 }
 
+/// Sends one byte to one of so many nodes; none where it isn't among them.
+fn send_one(
+    table: &mut CreditSlots,
+    nodes: u16,
+    to: u16,
+    now: u64,
+) -> Option<Result<(u16, u64), NoClaim>>
+    requires nodes { length table.old.peers ≡ nodes }
+    ensures nodes { length table.new.peers ≡ nodes }
+{
+    if to >= nodes {
+        return None;
+    }
+    Some(send(table, to, now, &[7]))
+}
+
+/// Checks what it is answered where one byte is sent to these nodes at these times.
+fn check_sends(
+    rt: &impl Abort,
+    table: &mut CreditSlots,
+    nodes: u16,
+    rows: &[(u16, u64, Result<(u16, u64), NoClaim>)],
+)
+    requires nodes { length table.old.peers ≡ nodes }
+{
+    for (row, (to, now, want)) in rows.iter().enumerate() {
+        assert_eq!(rt; send_one(table, nodes, *to, *now), Some(*want), "row {row}");
+    }
+}
+
+/// Checks what is sent again at these times, where so much must have passed since it was last sent.
+fn check_dues(rt: &impl Abort, table: &mut CreditSlots, rows: &[(u64, u64, Option<(u16, u16)>)]) {
+    for (row, (now, resend, want)) in rows.iter().enumerate() {
+        assert_eq!(rt; table.due(*now, *resend), *want, "row {row}");
+    }
+}
+
+/// The earliest first, then the lower node, then the lower slot; 10 must have passed since the last sending.
+#[test]
+fn resends_in_order(rt: HostRuntime) -> Result<(), Fail> {
+    let mut table = CreditSlots::new(rt.alloc(), &[2, 2, 2], 0, 9)?;
+    assert_eq!(rt; table.due(100, 10), None);
+    let sends = [
+        (2, 3, Ok((0, 1))),
+        (2, 1, Ok((1, 2))),
+        (1, 3, Ok((0, 1))),
+        (1, 3, Ok((1, 2))),
+    ];
+    check_sends(&rt, &mut table, 3, &sends);
+    let dues = [
+        (0, 0, None),
+        (10, 10, None),
+        (11, 10, Some((2, 1))),
+        (11, 10, None),
+        (20, 10, Some((1, 0))),
+        (20, 10, Some((1, 1))),
+        (20, 10, Some((2, 0))),
+        (20, 10, None),
+    ];
+    check_dues(&rt, &mut table, &dues);
+    let Some((to, slot)) = table.due(21, 10) else {
+        return Err(Fail::new("none is due"));
+    };
+    assert_eq!(rt; (to, slot), (2, 1));
+    assert_eq!(rt; table.bytes(to, slot), Some([7].as_slice()));
+    Ok(())
+}
+
 // Times that fall and rise: a slot goes to its place in the order, and back among the others when it is sent again.
 #[test]
 fn times_fall_and_rise(rt: HostRuntime) -> Result<(), Fail> {
     let mut table = CreditSlots::new(rt.alloc(), &[2, 2, 2], 0, 9)?;
-    assert!(rt; matches!(send_one(&mut table, 1, 9), Ok((0, 1))));
-    assert!(rt; matches!(send_one(&mut table, 1, 4), Ok((1, 2))));
-    assert!(rt; matches!(send_one(&mut table, 2, 6), Ok((0, 1))));
-    assert_eq!(rt; table.due(9, 0), Some((1, 1)));
-    assert_eq!(rt; table.due(5, 0), None);
-    assert_eq!(rt; table.due(8, 0), Some((2, 0)));
-    assert_eq!(rt; table.due(8, 0), Some((2, 0)));
-    assert_eq!(rt; table.due(9, 1), Some((2, 0)));
-    assert_eq!(rt; table.due(9, 0), Some((1, 0)));
+    let sends = [(1, 9, Ok((0, 1))), (1, 4, Ok((1, 2))), (2, 6, Ok((0, 1)))];
+    check_sends(&rt, &mut table, 3, &sends);
+    let dues = [
+        (9, 0, Some((1, 1))),
+        (5, 0, None),
+        (8, 0, Some((2, 0))),
+        (8, 0, Some((2, 0))),
+        (9, 1, Some((2, 0))),
+        (9, 0, Some((1, 0))),
+    ];
+    check_dues(&rt, &mut table, &dues);
     Ok(())
-}
-
-// Sends one byte to one of 256 nodes, each of which has one slot but the first.
-fn send_to_many(table: &mut CreditSlots, to: u16, now: u64) -> Result<(u16, u64), NoClaim>
-    requires nodes { length table.old.peers ≡ 256 }
-    requires node { to < 256 }
-    ensures nodes { length table.new.peers ≡ 256 }
-{
-    send(table, to, now, &[7])
 }
 
 #[test]
 fn a_slot_for_each_of_many_peers(rt: HostRuntime) -> Result<(), Fail> {
     let mut table = CreditSlots::new(rt.alloc(), &[1; 256], 0, 9)?;
-    assert!(rt; matches!(send_to_many(&mut table, 255, 3), Ok((0, 1))));
-    assert!(rt; matches!(send_to_many(&mut table, 1, 3), Ok((0, 1))));
-    assert!(rt; matches!(send_to_many(&mut table, 128, 2), Ok((0, 1))));
-    assert!(rt; matches!(send_to_many(&mut table, 128, 2), Err(NoClaim::NotYet)));
-    assert!(rt; matches!(send_to_many(&mut table, 0, 2), Err(NoClaim::NotYet)));
+    let sends = [
+        (255, 3, Ok((0, 1))),
+        (1, 3, Ok((0, 1))),
+        (128, 2, Ok((0, 1))),
+        (128, 2, Err(NoClaim::NotYet)),
+        (0, 2, Err(NoClaim::NotYet)),
+    ];
+    check_sends(&rt, &mut table, 256, &sends);
     assert_eq!(rt; table.held(), 3);
-    assert_eq!(rt; table.due(10, 5), Some((128, 0)));
-    assert_eq!(rt; table.due(10, 5), Some((1, 0)));
-    assert_eq!(rt; table.due(10, 5), Some((255, 0)));
-    assert_eq!(rt; table.due(10, 5), None);
+    let dues = [
+        (10, 5, Some((128, 0))),
+        (10, 5, Some((1, 0))),
+        (10, 5, Some((255, 0))),
+        (10, 5, None),
+    ];
+    check_dues(&rt, &mut table, &dues);
     Ok(())
 }
 
@@ -196,12 +278,13 @@ fn a_slot_for_each_of_many_peers(rt: HostRuntime) -> Result<(), Fail> {
 #[test]
 fn a_narrow_pair(rt: HostRuntime) -> Result<(), Fail> {
     let mut table = CreditSlots::new(rt.alloc(), &[1, 9, 3], 1, 9)?;
-    assert_eq!(rt; table.free(0), 1);
-    assert_eq!(rt; table.free(1), 0);
-    assert_eq!(rt; table.free(2), 3);
-    assert!(rt; matches!(send_one(&mut table, 0, 5), Ok((0, 1))));
-    assert!(rt; matches!(send_one(&mut table, 0, 5), Err(NoClaim::NotYet)));
-    assert!(rt; matches!(send_one(&mut table, 2, 5), Ok((0, 1))));
-    assert!(rt; matches!(send_one(&mut table, 2, 5), Ok((1, 2))));
+    assert_eq!(rt; (table.free(0), table.free(1), table.free(2)), (1, 0, 3));
+    let sends = [
+        (0, 5, Ok((0, 1))),
+        (0, 5, Err(NoClaim::NotYet)),
+        (2, 5, Ok((0, 1))),
+        (2, 5, Ok((1, 2))),
+    ];
+    check_sends(&rt, &mut table, 3, &sends);
     Ok(())
 }

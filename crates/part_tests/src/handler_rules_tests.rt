@@ -6,7 +6,7 @@ ghost use Rattle.handler_rules.specs.Desks.{IsReadyDesk};
 use datagram_grammar::{Kind, Settings};
 use handler_rules::{
     CallKind, Cells, Context, Desk, Entry, EntryFault, Fault, Forbidden, Handlers, Incoming, Log,
-    Replied, Role, Table, Violation, Which, allowed,
+    Replied, Reply, Role, Table, Violation, Which, allowed,
 };
 use hsl_locks::{LockAnswer, LockFault, Locks, Owner, UnlockAnswer};
 use raw_segment::Segment;
@@ -68,30 +68,32 @@ fn the_locks_of_all_replies(rt: HostRuntime) -> Result<(), Fail> {
     Ok(())
 }
 
+/// Entries that are registered one after the other, and what each gets.
+const ENTRIES: [(u8, Role, Result<u8, EntryFault>); 7] = [
+    (129, Role::Request, Ok(129)),
+    (0, Role::Reply, Ok(128)),
+    (0, Role::Reply, Ok(130)),
+    (255, Role::Reply, Ok(255)),
+    (1, Role::Reply, Err(EntryFault::Reserved)),
+    (127, Role::Reply, Err(EntryFault::Reserved)),
+    (128, Role::Reply, Err(EntryFault::Taken)),
+];
+
 #[test]
 fn registers_entries(rt: HostRuntime) -> Result<(), Fail> {
     let mut table = Table::new(rt.alloc())?;
-    assert_eq!(rt; table.register(entry(129, Role::Request)), Ok(129));
-    assert_eq!(rt; table.register(entry(0, Role::Reply)), Ok(128));
-    assert_eq!(rt; table.register(entry(0, Role::Reply)), Ok(130));
-    assert_eq!(rt; table.register(entry(255, Role::Reply)), Ok(255));
-    assert_eq!(rt;
-        table.register(entry(1, Role::Reply)),
-        Err(EntryFault::Reserved)
-    );
-    assert_eq!(rt;
-        table.register(entry(127, Role::Reply)),
-        Err(EntryFault::Reserved)
-    );
-    assert_eq!(rt;
-        table.register(entry(128, Role::Reply)),
-        Err(EntryFault::Taken)
-    );
+    for (index, role, want) in ENTRIES {
+        assert_eq!(rt; table.register(entry(index, role)), want, "entry {index}");
+    }
     let copy = table.copy()?;
-    assert_eq!(rt; copy.entry(129), Some(entry(129, Role::Request)));
-    assert_eq!(rt; copy.entry(130), Some(entry(130, Role::Reply)));
-    assert_eq!(rt; copy.entry(131), None);
-    assert_eq!(rt; copy.entry(64), None);
+    for (index, want) in [
+        (129, Some(entry(129, Role::Request))),
+        (130, Some(entry(130, Role::Reply))),
+        (131, None),
+        (64, None),
+    ] {
+        assert_eq!(rt; copy.entry(index), want, "entry {index}");
+    }
     Ok(())
 }
 
@@ -108,94 +110,122 @@ const OF_LOCKS: [CallKind; 2] = [CallKind::Lock, CallKind::Unlock];
 
 const OF_MESSAGES: [CallKind; 2] = [CallKind::Reply, CallKind::Source];
 
+const REPLY: [CallKind; 1] = [CallKind::Reply];
+
 const SOURCE: [CallKind; 1] = [CallKind::Source];
 
 const RETURN: [CallKind; 1] = [CallKind::Return];
 
-// Whether each of the calls is judged so, whether or not a reply was sent.
-fn are_judged(
-    context: Context,
-    locks: &Locks,
-    calls: &[CallKind],
-    judged: Result<(), Forbidden>,
-) -> bool {
+const THREAD: Context = Context::Thread(3);
+
+/// Calls of a context, and how they are judged, whether or not a reply was sent.
+type Line = (Context, &'static [CallKind], Result<(), Forbidden>);
+
+/// Whether each of the calls is judged so, whether or not a reply was sent.
+fn are_judged(locks: &Locks, line: Line) -> bool {
+    let (context, calls, judged) = line;
     calls.iter().all(|call| {
         allowed(context, locks, false, *call) == judged
             && allowed(context, locks, true, *call) == judged
     })
 }
 
+/// The first line of which a call is judged otherwise, or none.
+fn judged_otherwise(locks: &Locks, lines: &[Line]) -> Option<usize> {
+    for (row, line) in lines.iter().enumerate() {
+        if !are_judged(locks, *line) {
+            return Some(row);
+        }
+    }
+    None
+}
+
+/// The judgements of a reply of a request's handler: where none was sent, and where one was.
+fn judged_replies(locks: &Locks) -> (Result<(), Forbidden>, Result<(), Forbidden>) {
+    let context = Context::RequestHandler;
+    let first = allowed(context, locks, false, CallKind::Reply);
+    (first, allowed(context, locks, true, CallKind::Reply))
+}
+
+/// Where no lock is held.
+const FREE: [Line; 11] = [
+    (
+        Context::RequestHandler,
+        &IN_HANDLERS,
+        Err(Forbidden::InHandler),
+    ),
+    (
+        Context::ReplyHandler,
+        &IN_HANDLERS,
+        Err(Forbidden::InHandler),
+    ),
+    (THREAD, &IN_HANDLERS, Ok(())),
+    (THREAD, &OF_MESSAGES, Err(Forbidden::NoToken)),
+    (Context::ReplyHandler, &REPLY, Err(Forbidden::ReplyInReply)),
+    (Context::RequestHandler, &SOURCE, Ok(())),
+    (Context::ReplyHandler, &SOURCE, Ok(())),
+    (THREAD, &OF_LOCKS, Ok(())),
+    (Context::RequestHandler, &OF_LOCKS, Ok(())),
+    (Context::RequestHandler, &RETURN, Ok(())),
+    (Context::ReplyHandler, &RETURN, Ok(())),
+];
+
 #[test]
 fn each_line_of_the_rule_table(rt: HostRuntime) {
     let locks = Locks::new();
-    let thread = Context::Thread(3);
-    let request = Context::RequestHandler;
-    let reply = Context::ReplyHandler;
-    assert!(rt; are_judged(request, &locks, &IN_HANDLERS, Err(Forbidden::InHandler)));
-    assert!(rt; are_judged(reply, &locks, &IN_HANDLERS, Err(Forbidden::InHandler)));
-    assert!(rt; are_judged(thread, &locks, &IN_HANDLERS, Ok(())));
-    assert!(rt; are_judged(thread, &locks, &OF_MESSAGES, Err(Forbidden::NoToken)));
-    assert!(rt;
-        are_judged(
-            reply,
-            &locks,
-            &[CallKind::Reply],
-            Err(Forbidden::ReplyInReply)
-        )
-    );
+    assert_eq!(rt; judged_otherwise(&locks, &FREE), None);
     assert_eq!(rt;
-        allowed(request, &locks, true, CallKind::Reply),
-        Err(Forbidden::SecondReply)
+        judged_replies(&locks),
+        (Ok(()), Err(Forbidden::SecondReply))
     );
-    assert_eq!(rt; allowed(request, &locks, false, CallKind::Reply), Ok(()));
-    assert!(rt; are_judged(request, &locks, &SOURCE, Ok(())));
-    assert!(rt; are_judged(reply, &locks, &SOURCE, Ok(())));
-    assert!(rt; are_judged(thread, &locks, &OF_LOCKS, Ok(())));
-    assert!(rt; are_judged(request, &locks, &OF_LOCKS, Ok(())));
-    assert!(rt; are_judged(request, &locks, &RETURN, Ok(())));
-    assert!(rt; are_judged(reply, &locks, &RETURN, Ok(())));
 }
+
+/// Where thread 3 holds a lock.
+const THREAD_HOLDS: [Line; 5] = [
+    (THREAD, &IN_HANDLERS, Err(Forbidden::UnderLock)),
+    (THREAD, &OF_MESSAGES, Err(Forbidden::NoToken)),
+    (THREAD, &OF_LOCKS, Ok(())),
+    (Context::Thread(4), &IN_HANDLERS, Ok(())),
+    (Context::RequestHandler, &RETURN, Ok(())),
+];
 
 #[test]
 fn a_thread_that_holds_a_lock(rt: HostRuntime) {
     let mut locks = Locks::new();
     assert_eq!(rt; locks.lock(Owner::Thread(3), 5, 0), LockAnswer::Taken);
-    let thread = Context::Thread(3);
-    assert!(rt; are_judged(thread, &locks, &IN_HANDLERS, Err(Forbidden::UnderLock)));
-    assert!(rt; are_judged(thread, &locks, &OF_MESSAGES, Err(Forbidden::NoToken)));
-    assert!(rt; are_judged(thread, &locks, &OF_LOCKS, Ok(())));
-    assert!(rt; are_judged(Context::Thread(4), &locks, &IN_HANDLERS, Ok(())));
-    assert!(rt; are_judged(Context::RequestHandler, &locks, &RETURN, Ok(())));
+    assert_eq!(rt; judged_otherwise(&locks, &THREAD_HOLDS), None);
 }
+
+/// Where a handler holds one.
+const HANDLER_HOLDS: [Line; 7] = [
+    (Context::ReplyHandler, &REPLY, Err(Forbidden::ReplyInReply)),
+    (
+        Context::RequestHandler,
+        &RETURN,
+        Err(Forbidden::LockHeldAtReturn),
+    ),
+    (
+        Context::ReplyHandler,
+        &RETURN,
+        Err(Forbidden::LockHeldAtReturn),
+    ),
+    (
+        Context::ReplyHandler,
+        &IN_HANDLERS,
+        Err(Forbidden::InHandler),
+    ),
+    (Context::RequestHandler, &SOURCE, Ok(())),
+    (Context::RequestHandler, &OF_LOCKS, Ok(())),
+    (THREAD, &IN_HANDLERS, Ok(())),
+];
 
 #[test]
 fn a_handler_that_holds_a_lock(rt: HostRuntime) {
     let mut locks = Locks::new();
     assert_eq!(rt; locks.lock(Owner::Handler, 5, 32), LockAnswer::Taken);
-    let request = Context::RequestHandler;
-    let reply = Context::ReplyHandler;
-    assert_eq!(rt;
-        allowed(request, &locks, false, CallKind::Reply),
-        Err(Forbidden::ReplyUnderLock)
-    );
-    assert_eq!(rt;
-        allowed(request, &locks, true, CallKind::Reply),
-        Err(Forbidden::SecondReply)
-    );
-    assert!(rt;
-        are_judged(
-            reply,
-            &locks,
-            &[CallKind::Reply],
-            Err(Forbidden::ReplyInReply)
-        )
-    );
-    assert!(rt; are_judged(request, &locks, &RETURN, Err(Forbidden::LockHeldAtReturn)));
-    assert!(rt; are_judged(reply, &locks, &RETURN, Err(Forbidden::LockHeldAtReturn)));
-    assert!(rt; are_judged(reply, &locks, &IN_HANDLERS, Err(Forbidden::InHandler)));
-    assert!(rt; are_judged(request, &locks, &SOURCE, Ok(())));
-    assert!(rt; are_judged(request, &locks, &OF_LOCKS, Ok(())));
-    assert!(rt; are_judged(Context::Thread(3), &locks, &IN_HANDLERS, Ok(())));
+    assert_eq!(rt; judged_otherwise(&locks, &HANDLER_HOLDS), None);
+    let under_lock = (Err(Forbidden::ReplyUnderLock), Err(Forbidden::SecondReply));
+    assert_eq!(rt; judged_replies(&locks), under_lock);
 }
 
 fn violation(thread: u16) -> Violation {
@@ -304,319 +334,328 @@ fn of_request(forbidden: Forbidden) -> Option<Violation> {
     noted(Context::RequestHandler, Fault::Rule(forbidden))
 }
 
-// A handler that replies twice: the two answers.
-fn reply_twice(desk: &mut Desk<'_>) -> (Replied, Replied)
-    requires { IsReadyDesk desk.old }
-{
-    let first = desk.reply_short(130, &[7]);
-    let second = desk.reply_short(130, &[8]);
-    (first, second)
+/// What a handler does at its desk, and what it is told.
+#[derive(Clone, Copy)]
+enum Deed<'a> {
+    /// A Short reply: the handler, the arguments, and the answer.
+    Short(u8, &'a [i32], Replied),
+    /// A Medium reply of a payload.
+    Medium(u8, &'a [i32], &'a [u8], Replied),
+    /// A Medium reply of the message's own payload.
+    Echo(u8, &'a [i32], Replied),
+    /// A Long reply of a payload for a place.
+    Long(u8, &'a [i32], &'a [u8], u64, Replied),
+    /// Takes a lock.
+    Lock(u8, LockAnswer),
+    /// Gives it back.
+    Unlock(u8, UnlockAnswer),
+    /// A call of a kind.
+    Attempt(CallKind, Result<(), Forbidden>),
 }
 
-#[test]
-fn a_request_has_one_reply(rt: HostRuntime) -> Result<(), Fail> {
-    let mut node = fresh_node(rt.alloc())?;
+/// Whether the handler is told so.
+fn is_told(desk: &mut Desk<'_>, deed: Deed<'_>) -> bool
+    requires { IsReadyDesk desk.old }
+    ensures { IsReadyDesk desk.new }
+{
+    match deed {
+        Deed::Short(handler, args, want) => desk.reply_short(handler, args) == want,
+        Deed::Medium(handler, args, payload, want) => {
+            desk.reply_medium(handler, args, payload) == want
+        }
+        Deed::Echo(handler, args, want) => {
+            let payload = desk.payload();
+            desk.reply_medium(handler, args, payload) == want
+        }
+        Deed::Long(handler, args, payload, offset, want) => {
+            desk.reply_long(handler, args, payload, offset) == want
+        }
+        Deed::Lock(lock, want) => desk.lock(lock) == want,
+        Deed::Unlock(lock, want) => desk.unlock(lock) == want,
+        Deed::Attempt(call, want) => desk.attempt(call) == want,
+    }
+}
+
+/// The first deed of which the handler is told otherwise, or none.
+fn told_otherwise(desk: &mut Desk<'_>, deeds: &[Deed<'_>]) -> Option<usize>
+    requires { IsReadyDesk desk.old }
+    ensures { IsReadyDesk desk.new }
+{
+    for (row, deed) in deeds.iter().enumerate() {
+        if !is_told(desk, *deed) {
+            return Some(row);
+        }
+    }
+    None
+}
+
+/// What a handler's run left: its node, its buffer, whose bytes were 9, and its reply.
+#[derive(Drop)]
+struct Handled {
+    node: Node,
+    buffer: [u8; 8296],
+    reply: Option<Reply>,
+}
+
+/// Runs a handler that may take the listed locks; it does this, and is told so.
+fn run_handler(
+    alloc: Global,
+    listed: u64,
+    asked: Incoming<'_>,
+    deeds: &[Deed<'_>],
+) -> Result<Handled, Fail> {
+    if asked.args.len() > 16 || asked.number == 0 {
+        return Err(Fail::new("no such message"));
+    }
+    let mut node = fresh_node(alloc)?;
     let mut buffer = [9; 8296];
     let mut desk = Desk::new(
         &node.settings,
         &node.table,
         &mut node.locks,
         &mut node.log,
-        0,
-        message(Role::Request, 0, &[5]),
+        listed,
+        asked,
         &mut buffer,
     );
-    let answers = reply_twice(&mut desk);
-    let sent = desk.close();
-    assert_eq!(rt; answers.0, Replied::Sent);
-    assert_eq!(rt; answers.1, Replied::Forbidden(Forbidden::SecondReply));
-    assert_eq!(rt; node.log.count(), 1);
-    assert_eq!(rt; node.log.back(0), of_request(Forbidden::SecondReply));
-    let reply = sent.ok_or("no reply")?;
+    let otherwise = told_otherwise(&mut desk, deeds);
+    let reply = desk.close();
+    if otherwise.is_some() {
+        return Err(Fail::new("told otherwise"));
+    }
+    Ok(Handled {
+        node,
+        buffer,
+        reply,
+    })
+}
+
+#[test]
+fn a_request_has_one_reply(rt: HostRuntime) -> Result<(), Fail> {
+    let second = Replied::Forbidden(Forbidden::SecondReply);
+    let deeds = [
+        Deed::Short(130, &[7], Replied::Sent),
+        Deed::Short(130, &[8], second),
+    ];
+    let it = run_handler(rt.alloc(), 0, message(Role::Request, 0, &[5]), &deeds)?;
+    let log = &it.node.log;
+    assert_eq!(rt;
+        (log.count(), log.back(0)),
+        (1, of_request(Forbidden::SecondReply))
+    );
+    let reply = it.reply.ok_or("no reply")?;
     assert_eq!(rt;
         (reply.kind, reply.handler, reply.count),
         (Kind::ShortReply, 130, 1)
     );
     assert_eq!(rt; (reply.args[0], reply.args[15]), (7, 0));
     assert_eq!(rt; (reply.offset, reply.len), (0, 44));
-    assert_eq!(rt; buffer.get(..44), Some(SHORT_REPLY.as_slice()));
-    assert_eq!(rt; buffer[44], 9);
+    assert_eq!(rt; it.buffer.get(..44), Some(SHORT_REPLY.as_slice()));
+    assert_eq!(rt; it.buffer[44], 9);
     Ok(())
 }
 
 #[test]
 fn a_reply_has_none(rt: HostRuntime) -> Result<(), Fail> {
-    let mut node = fresh_node(rt.alloc())?;
-    let mut buffer = [9; 8296];
-    let mut desk = Desk::new(
-        &node.settings,
-        &node.table,
-        &mut node.locks,
-        &mut node.log,
-        0,
-        message(Role::Reply, 0, &[5]),
-        &mut buffer,
-    );
-    let answers = reply_twice(&mut desk);
-    let sent = desk.close();
-    assert_eq!(rt; answers.0, Replied::Forbidden(Forbidden::ReplyInReply));
-    assert_eq!(rt; answers.1, Replied::Forbidden(Forbidden::ReplyInReply));
-    assert_eq!(rt; node.log.count(), 2);
-    assert!(rt; sent.is_none());
+    let none = Replied::Forbidden(Forbidden::ReplyInReply);
+    let deeds = [Deed::Short(130, &[7], none), Deed::Short(130, &[8], none)];
+    let it = run_handler(rt.alloc(), 0, message(Role::Reply, 0, &[5]), &deeds)?;
+    assert_eq!(rt; it.node.log.count(), 2);
+    assert!(rt; it.reply.is_none());
     Ok(())
 }
 
 #[test]
 fn a_medium_reply(rt: HostRuntime) -> Result<(), Fail> {
-    let mut node = fresh_node(rt.alloc())?;
-    let mut buffer = [5; 8296];
     let asked = Incoming {
         payload: &[9, 8],
         ..message(Role::Request, 0, &[5])
     };
-    let mut desk = Desk::new(
-        &node.settings,
-        &node.table,
-        &mut node.locks,
-        &mut node.log,
+    let it = run_handler(
+        rt.alloc(),
         0,
         asked,
-        &mut buffer,
-    );
-    let payload = desk.payload();
-    let answer = desk.reply_medium(130, &[7], payload);
-    let reply = desk.close().ok_or("no reply")?;
-    assert_eq!(rt; answer, Replied::Sent);
+        &[Deed::Echo(130, &[7], Replied::Sent)],
+    )?;
+    let reply = it.reply.ok_or("no reply")?;
     assert_eq!(rt;
         (reply.kind, reply.offset, reply.len),
         (Kind::MediumReply, 0, 46)
     );
-    assert_eq!(rt; buffer.get(..46), Some(MEDIUM_REPLY.as_slice()));
-    assert_eq!(rt; buffer[46], 5);
+    assert_eq!(rt; it.buffer.get(..46), Some(MEDIUM_REPLY.as_slice()));
+    assert_eq!(rt; it.buffer[46], 9);
     Ok(())
 }
 
+/// A Long reply of two bytes.
+const LONG: [Deed<'static>; 1] = [Deed::Long(130, &[7], &[9, 8], 258, Replied::Sent)];
+
 #[test]
 fn a_long_reply(rt: HostRuntime) -> Result<(), Fail> {
-    let mut node = fresh_node(rt.alloc())?;
-    let mut buffer = [5; 8296];
     let asked = Incoming {
         place: Some((16, 2)),
         ..message(Role::Request, 0, &[5])
     };
-    let mut desk = Desk::new(
-        &node.settings,
-        &node.table,
-        &mut node.locks,
-        &mut node.log,
-        0,
-        asked,
-        &mut buffer,
-    );
-    let place = desk.place();
-    let answer = desk.reply_long(130, &[7], &[9, 8], 258);
-    let reply = desk.close().ok_or("no reply")?;
-    assert_eq!(rt; place, Some((16, 2)));
-    assert_eq!(rt; answer, Replied::Sent);
+    let it = run_handler(rt.alloc(), 0, asked, &LONG)?;
+    let reply = it.reply.ok_or("no reply")?;
     assert_eq!(rt;
         (reply.kind, reply.offset, reply.len),
         (Kind::LongReply, 258, 46)
     );
-    assert_eq!(rt; buffer.get(..46), Some(LONG_REPLY.as_slice()));
+    assert_eq!(rt; it.buffer.get(..46), Some(LONG_REPLY.as_slice()));
     Ok(())
 }
 
 #[test]
 fn a_reply_to_the_own_node_is_its_payload(rt: HostRuntime) -> Result<(), Fail> {
-    let mut node = fresh_node(rt.alloc())?;
-    let mut buffer = [5; 8296];
-    let mut desk = Desk::new(
-        &node.settings,
-        &node.table,
-        &mut node.locks,
-        &mut node.log,
-        0,
-        message(Role::Request, 1, &[5]),
-        &mut buffer,
-    );
-    let answer = desk.reply_long(130, &[7], &[9, 8], 258);
-    let reply = desk.close().ok_or("no reply")?;
-    assert_eq!(rt; answer, Replied::Sent);
+    let it = run_handler(rt.alloc(), 0, message(Role::Request, 1, &[5]), &LONG)?;
+    let reply = it.reply.ok_or("no reply")?;
     assert_eq!(rt; (reply.handler, reply.count, reply.args[0]), (130, 1, 7));
     assert_eq!(rt; (reply.offset, reply.len), (258, 2));
-    assert_eq!(rt; (buffer[0], buffer[1], buffer[2]), (9, 8, 5));
+    assert_eq!(rt; (it.buffer[0], it.buffer[1], it.buffer[2]), (9, 8, 9));
     Ok(())
 }
 
-// A handler that asks for replies with a wrong part, fewer of them each time: the answers.
-fn reply_wrongly(desk: &mut Desk<'_>, payload: &[u8]) -> [Replied; 6]
-    requires { IsReadyDesk desk.old }
-{
-    let unknown = desk.reply_long(64, &[0; 17], payload, 4096);
-    let for_requests = desk.reply_medium(129, &[0; 17], payload);
-    let many = desk.reply_long(130, &[0; 17], payload, 4096);
-    let large = desk.reply_long(130, &[], payload, 4096);
-    let past = desk.reply_long(130, &[], &[1], 4096);
-    let far = desk.reply_long(130, &[], &[], 0xffff_ffff_ffff_ffff);
-    [unknown, for_requests, many, large, past, far]
-}
-
-const WRONGLY: [Replied; 6] = [
-    Replied::BadArg(Which::Handler),
-    Replied::BadArg(Which::Handler),
-    Replied::BadArg(Which::Count),
-    Replied::BadArg(Which::Payload),
-    Replied::BadArg(Which::Offset),
-    Replied::BadArg(Which::Offset),
+/// Replies with a wrong part, fewer of them each time.
+const WRONGLY: [Deed<'static>; 6] = [
+    Deed::Long(
+        64,
+        &[0; 17],
+        &[3; 8193],
+        4096,
+        Replied::BadArg(Which::Handler),
+    ),
+    Deed::Medium(129, &[0; 17], &[3; 8193], Replied::BadArg(Which::Handler)),
+    Deed::Long(
+        130,
+        &[0; 17],
+        &[3; 8193],
+        4096,
+        Replied::BadArg(Which::Count),
+    ),
+    Deed::Long(130, &[], &[3; 8193], 4096, Replied::BadArg(Which::Payload)),
+    Deed::Long(130, &[], &[1], 4096, Replied::BadArg(Which::Offset)),
+    Deed::Long(
+        130,
+        &[],
+        &[],
+        0xffff_ffff_ffff_ffff,
+        Replied::BadArg(Which::Offset),
+    ),
 ];
 
 #[test]
 fn wrong_parts_of_a_reply(rt: HostRuntime) -> Result<(), Fail> {
-    let mut node = fresh_node(rt.alloc())?;
-    let mut buffer = [5; 8296];
-    let payload = [3; 8193];
-    let mut desk = Desk::new(
-        &node.settings,
-        &node.table,
-        &mut node.locks,
-        &mut node.log,
-        0,
-        message(Role::Request, 0, &[5]),
-        &mut buffer,
-    );
-    let wrongly = reply_wrongly(&mut desk, &payload);
-    let sent = desk.close();
-    assert!(rt; wrongly == WRONGLY);
-    assert!(rt; sent.is_none());
-    assert_eq!(rt; node.log.count(), 0);
+    let it = run_handler(rt.alloc(), 0, message(Role::Request, 0, &[5]), &WRONGLY)?;
+    assert!(rt; it.reply.is_none());
+    assert_eq!(rt; it.node.log.count(), 0);
     Ok(())
 }
 
+/// The longest reply.
+const LONGEST: [Deed<'static>; 1] = [Deed::Medium(130, &[0; 16], &[3; 8192], Replied::Sent)];
+
 #[test]
 fn the_longest_reply(rt: HostRuntime) -> Result<(), Fail> {
-    let mut node = fresh_node(rt.alloc())?;
-    let mut buffer = [5; 8296];
-    let payload = [3; 8192];
-    let mut desk = Desk::new(
-        &node.settings,
-        &node.table,
-        &mut node.locks,
-        &mut node.log,
-        0,
-        message(Role::Request, 0, &[5]),
-        &mut buffer,
-    );
-    let longest = desk.reply_medium(130, &[0; 16], &payload);
-    let reply = desk.close().ok_or("no reply")?;
-    assert_eq!(rt; longest, Replied::Sent);
+    let it = run_handler(rt.alloc(), 0, message(Role::Request, 0, &[5]), &LONGEST)?;
+    let reply = it.reply.ok_or("no reply")?;
     assert_eq!(rt; (reply.count, reply.len), (16, 8296));
     Ok(())
 }
 
-#[test]
-fn a_desk_answers(rt: HostRuntime) -> Result<(), Fail> {
-    let mut node = fresh_node(rt.alloc())?;
+/// What a desk tells of its message: the source, how many arguments, whether the payload is empty, and the place.
+fn seen(
+    alloc: Global,
+    place: Option<(u64, u64)>,
+) -> Result<(u16, usize, bool, Option<(u64, u64)>), Fail> {
+    let mut node = fresh_node(alloc)?;
     let mut buffer = [9; 8296];
-    let mut desk = Desk::new(
+    let asked = Incoming {
+        place,
+        ..message(Role::Request, 0, &[5])
+    };
+    let desk = Desk::new(
         &node.settings,
         &node.table,
         &mut node.locks,
         &mut node.log,
         0,
-        message(Role::Request, 0, &[5]),
+        asked,
         &mut buffer,
     );
-    let source = desk.source();
-    let count = desk.args().len();
+    let (source, count, place) = (desk.source(), desk.args().len(), desk.place());
     let empty = desk.payload().is_empty();
-    let place = desk.place();
-    let polled = desk.attempt(CallKind::Poll);
-    let asked_for_source = desk.attempt(CallKind::Source);
-    let at_the_end = desk.reply_long(130, &[], &[], 4096);
-    let sent = desk.close();
-    assert_eq!(rt; (source, count, empty, place), (0, 1, true, None));
-    assert_eq!(rt; polled, Err(Forbidden::InHandler));
-    assert_eq!(rt; asked_for_source, Ok(()));
-    assert_eq!(rt; at_the_end, Replied::Sent);
-    assert!(rt; sent.is_some());
-    assert_eq!(rt; node.log.count(), 1);
-    assert_eq!(rt; node.log.back(0), of_request(Forbidden::InHandler));
-    Ok(())
-}
-
-// A handler that takes a lock that it doesn't list, and replies under one that it lists.
-fn reply_under_lock(desk: &mut Desk<'_>) -> (LockAnswer, LockAnswer, Replied, UnlockAnswer, Replied)
-    requires { IsReadyDesk desk.old }
-{
-    let unlisted = desk.lock(4);
-    let listed = desk.lock(3);
-    let early = desk.reply_short(130, &[]);
-    let freed = desk.unlock(3);
-    let late = desk.reply_short(130, &[]);
-    (unlisted, listed, early, freed, late)
+    desk.close();
+    Ok((source, count, empty, place))
 }
 
 #[test]
-fn a_reply_under_a_lock(rt: HostRuntime) -> Result<(), Fail> {
-    let mut node = fresh_node(rt.alloc())?;
-    let mut buffer = [9; 8296];
-    let mut desk = Desk::new(
-        &node.settings,
-        &node.table,
-        &mut node.locks,
-        &mut node.log,
-        8,
-        message(Role::Request, 0, &[]),
-        &mut buffer,
-    );
-    let (unlisted, listed, early, freed, late) = reply_under_lock(&mut desk);
-    let sent = desk.close();
-    assert_eq!(rt; unlisted, LockAnswer::Refused(LockFault::NotListed));
-    assert_eq!(rt; listed, LockAnswer::Taken);
-    assert_eq!(rt; early, Replied::Forbidden(Forbidden::ReplyUnderLock));
-    assert_eq!(rt; freed, UnlockAnswer::Freed);
-    assert_eq!(rt; late, Replied::Sent);
-    assert!(rt; sent.is_some());
-    assert_eq!(rt; node.log.count(), 2);
-    assert_eq!(rt; node.log.back(0), of_request(Forbidden::ReplyUnderLock));
+fn a_desk_has_its_message(rt: HostRuntime) -> Result<(), Fail> {
+    for place in [None, Some((16, 2))] {
+        assert_eq!(rt; seen(rt.alloc(), place)?, (0, 1, true, place));
+    }
+    Ok(())
+}
+
+/// Attempts, and a reply for a place at the end of the segment.
+const ATTEMPTS: [Deed<'static>; 3] = [
+    Deed::Attempt(CallKind::Poll, Err(Forbidden::InHandler)),
+    Deed::Attempt(CallKind::Source, Ok(())),
+    Deed::Long(130, &[], &[], 4096, Replied::Sent),
+];
+
+#[test]
+fn a_desk_answers(rt: HostRuntime) -> Result<(), Fail> {
+    let it = run_handler(rt.alloc(), 0, message(Role::Request, 0, &[5]), &ATTEMPTS)?;
+    assert!(rt; it.reply.is_some());
+    let log = &it.node.log;
     assert_eq!(rt;
-        node.log.back(1),
+        (log.count(), log.back(0)),
+        (1, of_request(Forbidden::InHandler))
+    );
+    Ok(())
+}
+
+/// A lock that the handler doesn't list, and replies under one that it lists, and after it.
+const UNDER_LOCK: [Deed<'static>; 5] = [
+    Deed::Lock(4, LockAnswer::Refused(LockFault::NotListed)),
+    Deed::Lock(3, LockAnswer::Taken),
+    Deed::Short(130, &[], Replied::Forbidden(Forbidden::ReplyUnderLock)),
+    Deed::Unlock(3, UnlockAnswer::Freed),
+    Deed::Short(130, &[], Replied::Sent),
+];
+
+#[test]
+fn a_reply_under_a_lock(rt: HostRuntime) -> Result<(), Fail> {
+    let it = run_handler(rt.alloc(), 8, message(Role::Request, 0, &[]), &UNDER_LOCK)?;
+    assert!(rt; it.reply.is_some());
+    let log = &it.node.log;
+    assert_eq!(rt; log.count(), 2);
+    assert_eq!(rt; log.back(0), of_request(Forbidden::ReplyUnderLock));
+    assert_eq!(rt;
+        log.back(1),
         noted(Context::RequestHandler, Fault::Lock(LockFault::NotListed))
     );
     Ok(())
 }
 
-// A handler that returns with two locks, after it tried to give them back in the order of locking.
-fn keep_locks(desk: &mut Desk<'_>) -> UnlockAnswer
-    requires { IsReadyDesk desk.old }
-{
-    let _ = desk.lock(0);
-    let _ = desk.lock(63);
-    desk.unlock(0)
-}
+/// A return with two locks, after a try to give them back in the order of locking.
+const KEEPS_LOCKS: [Deed<'static>; 3] = [
+    Deed::Lock(0, LockAnswer::Taken),
+    Deed::Lock(63, LockAnswer::Taken),
+    Deed::Unlock(0, UnlockAnswer::Refused(LockFault::OutOfOrder)),
+];
 
 #[test]
 fn a_return_under_a_lock(rt: HostRuntime) -> Result<(), Fail> {
-    let mut node = fresh_node(rt.alloc())?;
-    let mut buffer = [9; 8296];
     let asked = message(Role::Reply, 0, &[]);
-    let mut desk = Desk::new(
-        &node.settings,
-        &node.table,
-        &mut node.locks,
-        &mut node.log,
-        0x8000_0000_0000_0001,
-        asked,
-        &mut buffer,
-    );
-    let early = keep_locks(&mut desk);
-    let sent = desk.close();
-    assert_eq!(rt; early, UnlockAnswer::Refused(LockFault::OutOfOrder));
-    assert!(rt; sent.is_none());
-    assert!(rt; !node.locks.holds(Owner::Handler));
-    assert_eq!(rt; node.log.count(), 2);
+    let it = run_handler(rt.alloc(), 0x8000_0000_0000_0001, asked, &KEEPS_LOCKS)?;
+    assert!(rt; it.reply.is_none());
+    assert!(rt; !it.node.locks.holds(Owner::Handler));
+    let log = &it.node.log;
+    assert_eq!(rt; log.count(), 2);
     assert_eq!(rt;
-        node.log.back(0),
+        log.back(0),
         noted(
             Context::ReplyHandler,
             Fault::Rule(Forbidden::LockHeldAtReturn)

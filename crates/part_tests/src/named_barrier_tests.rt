@@ -1,10 +1,151 @@
 //! Phases of one node, of two, of five, and of one among many, note by note.
 
-ghost use Rattle.std.specs.Prelude.{◌≡◌, ◌<◌};
+ghost use Rattle.std.specs.Prelude.{◌≡◌};
 
 use datagram_grammar::BarrierNote;
 use named_barrier::{Barrier, BarrierAnswer, Notified};
+use std::alloc::Global;
+use std::process::Abort;
 use std::test::Fail;
+
+/// The barrier of one of so many nodes.
+#[derive(Drop)]
+struct Node {
+    barrier: Barrier,
+    nodes: u16,
+    ghost counted: { barrier.nodes ≡ nodes },
+}
+
+/// A call of a node's barrier, with its answer.
+#[derive(Clone, Copy)]
+enum Deed {
+    /// A notify of an identifier with flags.
+    Notify(i32, u8, Notified),
+    /// A try, where the numbers of messages for that node are worn out.
+    Try(i32, u8, Option<u16>, BarrierAnswer),
+    /// A note comes.
+    Hears(BarrierNote),
+    /// The note that goes to a node.
+    Note(u16, Option<BarrierNote>),
+    /// Whether a note of the phase must go to a node.
+    Owes(u16, bool),
+    /// To how many nodes a note must go.
+    Due(u16),
+}
+
+impl Node {
+    fn new(nodes: u16, me: u16) -> Result<Node, Fail> {
+        if nodes > 256 || me >= nodes {
+            return Err(Fail::new("no such node"));
+        }
+        let barrier = Barrier::new(nodes, me)?;
+        Ok(Node { barrier, nodes })
+    }
+
+    fn note_to(&self, node: u16) -> Option<BarrierNote> {
+        if node < self.nodes {
+            self.barrier.note_to(node)
+        } else {
+            None
+        }
+    }
+
+    fn owes(&self, node: u16) -> bool {
+        node < self.nodes && self.barrier.owes(node)
+    }
+
+    fn count_due(&self) -> u16 {
+        let mut due = 0u16;
+        for node in 0..self.nodes {
+            if self.note_to(node).is_some() {
+                due = due.saturating_add(1);
+            }
+        }
+        due
+    }
+
+    /// The note goes to that node, if there is one.
+    fn send(&mut self, node: u16) -> Option<BarrierNote> {
+        if node >= self.nodes {
+            return None;
+        }
+        let note = self.barrier.note_to(node);
+        if note.is_some() {
+            self.barrier.sent(node);
+        }
+        note
+    }
+
+    /// Whether the call is answered so.
+    fn answers(&mut self, deed: Deed) -> bool {
+        match deed {
+            Deed::Notify(id, flags, want) => self.barrier.notify(id, flags) == want,
+            Deed::Try(id, flags, worn, want) => self.barrier.try_wait(id, flags, worn) == want,
+            Deed::Hears(note) => {
+                self.barrier.heard(&note);
+                true
+            }
+            Deed::Note(to, want) => self.note_to(to) == want,
+            Deed::Owes(to, want) => self.owes(to) == want,
+            Deed::Due(want) => self.count_due() == want,
+        }
+    }
+
+    /// Checks that each of these calls is answered so.
+    fn check(&mut self, rt: &impl Abort, deeds: &[Deed]) {
+        for (row, deed) in deeds.iter().enumerate() {
+            assert!(rt; self.answers(*deed), "row {row}");
+        }
+    }
+}
+
+/// The barriers of nodes that hand their notes to each other.
+#[derive(Drop)]
+struct Nodes {
+    nodes: Vec<Node>,
+}
+
+impl Nodes {
+    fn new(alloc: Global, count: u16) -> Result<Nodes, Fail> {
+        let mut nodes = Vec::new(alloc);
+        for me in 0..count {
+            nodes.push(Node::new(count, me)?)?;
+        }
+        Ok(Nodes { nodes })
+    }
+
+    /// A node hands over the note that goes to another one, if there is one; it comes twice.
+    fn pass(&mut self, from: u16, to: u16) {
+        let Some(sender) = self.nodes.get_mut(usize::from(from)) else {
+            return;
+        };
+        let Some(note) = sender.send(to) else {
+            return;
+        };
+        if let Some(other) = self.nodes.get_mut(usize::from(to)) {
+            other.barrier.heard(&note);
+            other.barrier.heard(&note);
+        }
+    }
+
+    /// Each of five nodes, the last one first, hands over its note to the node that is so many further.
+    fn pass_by(&mut self, further: u16) {
+        for from in [4u16, 3, 2, 1, 0] {
+            self.pass(from, (from + further % 5) % 5);
+        }
+    }
+
+    /// Checks that each of these calls, of these nodes, is answered so.
+    fn check(&mut self, rt: &impl Abort, deeds: &[(u16, Deed)]) {
+        for (row, (me, deed)) in deeds.iter().enumerate() {
+            let told = match self.nodes.get_mut(usize::from(*me)) {
+                Some(node) => node.answers(*deed),
+                None => false,
+            };
+            assert!(rt; told, "row {row}");
+        }
+    }
+}
 
 /// A named note of nodes below 64.
 fn named(phase: u64, mask: u64, id: i32) -> BarrierNote {
@@ -16,47 +157,25 @@ fn named(phase: u64, mask: u64, id: i32) -> BarrierNote {
     }
 }
 
-/// Hands over the note that goes to the other node, if there is one; it comes twice.
-fn pass(from: &mut Barrier, to: &mut Barrier, node: u16)
-    requires { node < from.old.nodes }
-    ensures from { from.new.nodes ≡ from.old.nodes }
-    ensures to { to.new.nodes ≡ to.old.nodes }
-{
-    if let Some(note) = from.note_to(node) {
-        to.heard(&note);
-        to.heard(&note);
-        from.sent(node);
-    }
-}
-
-/// To how many nodes a note must go.
-fn count_due(barrier: &Barrier, nodes: u16) -> u16
-    requires { barrier.now.nodes ≡ nodes }
-{
-    let mut due = 0u16;
-    for node in 0..nodes {
-        if barrier.note_to(node).is_some() {
-            due = due.saturating_add(1);
-        }
-    }
-    due
-}
+const ONE_NODE: [Deed; 6] = [
+    Deed::Notify(3, 4, Notified::BadFlags),
+    Deed::Notify(3, 0, Notified::Ok),
+    Deed::Notify(3, 0, Notified::Twice),
+    Deed::Note(0, None),
+    Deed::Try(3, 0, None, BarrierAnswer::Ok),
+    Deed::Try(3, 0, None, BarrierAnswer::NoNotify),
+];
 
 #[test]
 fn one_node(rt: HostRuntime) -> Result<(), Fail> {
-    let mut barrier = Barrier::new(1, 0)?;
-    assert_eq!(rt; barrier.notify(3, 4), Notified::BadFlags);
-    assert_eq!(rt; barrier.notify(3, 0), Notified::Ok);
-    assert_eq!(rt; barrier.notify(3, 0), Notified::Twice);
-    assert_eq!(rt; barrier.note_to(0), None);
-    assert_eq!(rt; barrier.try_wait(3, 0, None), BarrierAnswer::Ok);
-    assert_eq!(rt; barrier.try_wait(3, 0, None), BarrierAnswer::NoNotify);
+    let mut node = Node::new(1, 0)?;
+    node.check(&rt, &ONE_NODE);
     Ok(())
 }
 
 #[test]
 fn tries_of_one_node(rt: HostRuntime) -> Result<(), Fail> {
-    let mut barrier = Barrier::new(1, 0)?;
+    let mut node = Node::new(1, 0)?;
     // the notify's identifier and flags, the try's, and the answer
     for (id, flags, try_id, try_flags, want) in [
         (3, 0, 3, 0, BarrierAnswer::Ok),
@@ -67,204 +186,163 @@ fn tries_of_one_node(rt: HostRuntime) -> Result<(), Fail> {
         (3, 2, 3, 2, BarrierAnswer::Mismatch),
         (3, 3, 3, 3, BarrierAnswer::Mismatch),
     ] {
-        assert_eq!(rt; barrier.notify(id, flags), Notified::Ok);
-        assert_eq!(rt; barrier.try_wait(try_id, 4, None), BarrierAnswer::BadFlags);
-        assert_eq!(rt;
-            barrier.try_wait(try_id, try_flags, None),
-            want,
-            "{id} {flags}"
-        );
+        let deeds = [
+            Deed::Notify(id, flags, Notified::Ok),
+            Deed::Try(try_id, 4, None, BarrierAnswer::BadFlags),
+            Deed::Try(try_id, try_flags, None, want),
+        ];
+        node.check(&rt, &deeds);
     }
     Ok(())
 }
 
 #[test]
 fn notes_of_two_phases(rt: HostRuntime) -> Result<(), Fail> {
-    let mut near = Barrier::new(2, 0)?;
-    let mut far = Barrier::new(2, 1)?;
-    assert_eq!(rt; near.notify(7, 0), Notified::Ok);
-    assert_eq!(rt; near.note_to(1), Some(named(0, 1, 7)));
-    assert_eq!(rt; far.notify(7, 0), Notified::Ok);
-    pass(&mut far, &mut near, 0);
-    assert_eq!(rt; far.note_to(0), None);
-    assert_eq!(rt; near.try_wait(7, 0, None), BarrierAnswer::Ok);
+    let mut it = Nodes::new(rt.alloc(), 2)?;
+    let near_first = [
+        (0, Deed::Notify(7, 0, Notified::Ok)),
+        (0, Deed::Note(1, Some(named(0, 1, 7)))),
+        (1, Deed::Notify(7, 0, Notified::Ok)),
+    ];
+    it.check(&rt, &near_first);
+    it.pass(1, 0);
     // the phase has ended, and its note must go still
-    assert_eq!(rt;
-        (near.note_to(1), near.owes(1)),
-        (Some(named(0, 3, 7)), false)
-    );
-    assert_eq!(rt; near.notify(9, 0), Notified::Ok);
-    assert_eq!(rt;
-        (near.note_to(1), near.owes(1)),
-        (Some(named(0, 3, 7)), true)
-    );
-    pass(&mut near, &mut far, 1);
-    assert_eq!(rt; near.note_to(1), Some(named(1, 1, 9)));
+    let ended = [
+        (1, Deed::Note(0, None)),
+        (0, Deed::Try(7, 0, None, BarrierAnswer::Ok)),
+        (0, Deed::Note(1, Some(named(0, 3, 7)))),
+        (0, Deed::Owes(1, false)),
+        (0, Deed::Notify(9, 0, Notified::Ok)),
+        (0, Deed::Note(1, Some(named(0, 3, 7)))),
+        (0, Deed::Owes(1, true)),
+    ];
+    it.check(&rt, &ended);
+    it.pass(0, 1);
+    it.check(&rt, &[(0, Deed::Note(1, Some(named(1, 1, 9))))]);
     // a note of the next phase comes while the present one stands
-    pass(&mut near, &mut far, 1);
-    assert_eq!(rt; near.note_to(1), None);
-    assert_eq!(rt; far.try_wait(7, 0, Some(0)), BarrierAnswer::Ok);
-    assert_eq!(rt; far.note_to(0), None);
-    assert_eq!(rt; far.notify(9, 0), Notified::Ok);
-    assert_eq!(rt; far.try_wait(9, 0, Some(0)), BarrierAnswer::Ok);
+    it.pass(0, 1);
     // old notes, and one of a phase that can't be, change nothing
-    near.heard(&named(0, 2, 7));
-    near.heard(&named(3, 2, 9));
-    assert_eq!(rt; near.try_wait(9, 0, None), BarrierAnswer::NotReady);
-    assert_eq!(rt; near.try_wait(9, 0, Some(1)), BarrierAnswer::WornOut(1));
-    pass(&mut far, &mut near, 0);
-    assert_eq!(rt; near.try_wait(9, 0, None), BarrierAnswer::Ok);
+    let late = [
+        (0, Deed::Note(1, None)),
+        (1, Deed::Try(7, 0, Some(0), BarrierAnswer::Ok)),
+        (1, Deed::Note(0, None)),
+        (1, Deed::Notify(9, 0, Notified::Ok)),
+        (1, Deed::Try(9, 0, Some(0), BarrierAnswer::Ok)),
+        (0, Deed::Hears(named(0, 2, 7))),
+        (0, Deed::Hears(named(3, 2, 9))),
+        (0, Deed::Try(9, 0, None, BarrierAnswer::NotReady)),
+        (0, Deed::Try(9, 0, Some(1), BarrierAnswer::WornOut(1))),
+    ];
+    it.check(&rt, &late);
+    it.pass(1, 0);
+    it.check(&rt, &[(0, Deed::Try(9, 0, None, BarrierAnswer::Ok))]);
     Ok(())
 }
 
-/// Each of five nodes hands over its note to the next one.
-fn pass_by_one(a: &mut Barrier, b: &mut Barrier, c: &mut Barrier, d: &mut Barrier, e: &mut Barrier)
-    requires a { a.old.nodes ≡ 5 }
-    requires b { b.old.nodes ≡ 5 }
-    requires c { c.old.nodes ≡ 5 }
-    requires d { d.old.nodes ≡ 5 }
-    requires e { e.old.nodes ≡ 5 }
-    ensures a { a.new.nodes ≡ 5 }
-    ensures b { b.new.nodes ≡ 5 }
-    ensures c { c.new.nodes ≡ 5 }
-    ensures d { d.new.nodes ≡ 5 }
-    ensures e { e.new.nodes ≡ 5 }
-{
-    pass(e, a, 0);
-    pass(d, e, 4);
-    pass(c, d, 3);
-    pass(b, c, 2);
-    pass(a, b, 1);
-}
+const FIVE_NOTIFY: [(u16, Deed); 8] = [
+    (0, Deed::Notify(7, 0, Notified::Ok)),
+    (1, Deed::Notify(7, 0, Notified::Ok)),
+    (2, Deed::Notify(7, 0, Notified::Ok)),
+    (3, Deed::Notify(7, 0, Notified::Ok)),
+    (4, Deed::Notify(0, 1, Notified::Ok)),
+    (0, Deed::Note(1, Some(NODE_0))),
+    (0, Deed::Due(1)),
+    (4, Deed::Note(0, Some(NODE_4))),
+];
 
-/// Each of five nodes hands over its note to the next one but one.
-fn pass_by_two(a: &mut Barrier, b: &mut Barrier, c: &mut Barrier, d: &mut Barrier, e: &mut Barrier)
-    requires a { a.old.nodes ≡ 5 }
-    requires b { b.old.nodes ≡ 5 }
-    requires c { c.old.nodes ≡ 5 }
-    requires d { d.old.nodes ≡ 5 }
-    requires e { e.old.nodes ≡ 5 }
-    ensures a { a.new.nodes ≡ 5 }
-    ensures b { b.new.nodes ≡ 5 }
-    ensures c { c.new.nodes ≡ 5 }
-    ensures d { d.new.nodes ≡ 5 }
-    ensures e { e.new.nodes ≡ 5 }
-{
-    pass(e, b, 1);
-    pass(d, a, 0);
-    pass(c, e, 4);
-    pass(b, d, 3);
-    pass(a, c, 2);
-}
+/// The note of node 0 alone, and of node 4 alone, which is anonymous.
+const NODE_0: BarrierNote = BarrierNote {
+    phase: 0,
+    mask: [1, 0, 0, 0],
+    id: 7,
+    flags: 0,
+};
 
-/// Each of five nodes hands over its note to the one before it, which is four further.
-fn pass_by_four(a: &mut Barrier, b: &mut Barrier, c: &mut Barrier, d: &mut Barrier, e: &mut Barrier)
-    requires a { a.old.nodes ≡ 5 }
-    requires b { b.old.nodes ≡ 5 }
-    requires c { c.old.nodes ≡ 5 }
-    requires d { d.old.nodes ≡ 5 }
-    requires e { e.old.nodes ≡ 5 }
-    ensures a { a.new.nodes ≡ 5 }
-    ensures b { b.new.nodes ≡ 5 }
-    ensures c { c.new.nodes ≡ 5 }
-    ensures d { d.new.nodes ≡ 5 }
-    ensures e { e.new.nodes ≡ 5 }
-{
-    pass(e, d, 3);
-    pass(d, c, 2);
-    pass(c, b, 1);
-    pass(b, a, 0);
-    pass(a, e, 4);
-}
+const NODE_4: BarrierNote = BarrierNote {
+    phase: 0,
+    mask: [16, 0, 0, 0],
+    id: 0,
+    flags: 1,
+};
+
+/// A try that differs tells a mismatch on its own node alone.
+const FIVE_TRY: [(u16, Deed); 6] = [
+    (0, Deed::Due(0)),
+    (0, Deed::Try(7, 0, None, BarrierAnswer::Ok)),
+    (1, Deed::Try(8, 0, None, BarrierAnswer::Mismatch)),
+    (2, Deed::Try(7, 0, None, BarrierAnswer::Ok)),
+    (3, Deed::Try(7, 0, None, BarrierAnswer::Ok)),
+    (4, Deed::Try(0, 1, None, BarrierAnswer::Ok)),
+];
 
 #[test]
 fn five_nodes(rt: HostRuntime) -> Result<(), Fail> {
-    let mut a = Barrier::new(5, 0)?;
-    let mut b = Barrier::new(5, 1)?;
-    let mut c = Barrier::new(5, 2)?;
-    let mut d = Barrier::new(5, 3)?;
-    let mut e = Barrier::new(5, 4)?;
-    assert_eq!(rt; a.notify(7, 0), Notified::Ok);
-    assert_eq!(rt; b.notify(7, 0), Notified::Ok);
-    assert_eq!(rt; c.notify(7, 0), Notified::Ok);
-    assert_eq!(rt; d.notify(7, 0), Notified::Ok);
-    assert_eq!(rt; e.notify(0, 1), Notified::Ok);
-    assert_eq!(rt; (a.note_to(1), count_due(&a, 5)), (Some(named(0, 1, 7)), 1));
-    assert_eq!(rt;
-        e.note_to(0),
-        Some(BarrierNote {
-            flags: 1,
-            ..named(0, 16, 0)
-        })
-    );
-    pass_by_one(&mut a, &mut b, &mut c, &mut d, &mut e);
-    // nodes 0 and 4, whose least named identifier is 7
-    assert_eq!(rt;
-        (a.note_to(2), count_due(&a, 5)),
-        (Some(named(0, 17, 7)), 1)
-    );
-    assert_eq!(rt; a.try_wait(7, 0, None), BarrierAnswer::NotReady);
-    pass_by_two(&mut a, &mut b, &mut c, &mut d, &mut e);
-    // nodes 0, 2, 3 and 4
-    assert_eq!(rt;
-        (a.note_to(4), count_due(&a, 5)),
-        (Some(named(0, 29, 7)), 1)
-    );
-    assert_eq!(rt; a.try_wait(7, 0, None), BarrierAnswer::NotReady);
-    pass_by_four(&mut a, &mut b, &mut c, &mut d, &mut e);
-    assert_eq!(rt; count_due(&a, 5), 0);
-    assert_eq!(rt; a.try_wait(7, 0, None), BarrierAnswer::Ok);
-    // a try that differs tells a mismatch on its own node alone
-    assert_eq!(rt; b.try_wait(8, 0, None), BarrierAnswer::Mismatch);
-    assert_eq!(rt; c.try_wait(7, 0, None), BarrierAnswer::Ok);
-    assert_eq!(rt; d.try_wait(7, 0, None), BarrierAnswer::Ok);
-    assert_eq!(rt; e.try_wait(0, 1, None), BarrierAnswer::Ok);
+    let mut it = Nodes::new(rt.alloc(), 5)?;
+    it.check(&rt, &FIVE_NOTIFY);
+    // nodes 0 and 4, whose least named identifier is 7; then nodes 0, 2, 3 and 4
+    for (further, to, mask) in [(1, 2, 17), (2, 4, 29)] {
+        it.pass_by(further);
+        let deeds = [
+            (0, Deed::Note(to, Some(named(0, mask, 7)))),
+            (0, Deed::Due(1)),
+            (0, Deed::Try(7, 0, None, BarrierAnswer::NotReady)),
+        ];
+        it.check(&rt, &deeds);
+    }
+    it.pass_by(4);
+    it.check(&rt, &FIVE_TRY);
     Ok(())
 }
 
+const TWO_IDENTIFIERS: [(u16, Deed); 5] = [
+    (0, Deed::Notify(-1, 0, Notified::Ok)),
+    (1, Deed::Notify(0, 1, Notified::Ok)),
+    (2, Deed::Notify(2, 0, Notified::Ok)),
+    (3, Deed::Notify(2, 0, Notified::Ok)),
+    (4, Deed::Notify(2, 0, Notified::Ok)),
+];
+
+const ALL_MISMATCH: [(u16, Deed); 5] = [
+    (0, Deed::Try(-1, 0, None, BarrierAnswer::Mismatch)),
+    (1, Deed::Try(0, 1, None, BarrierAnswer::Mismatch)),
+    (2, Deed::Try(2, 0, None, BarrierAnswer::Mismatch)),
+    (3, Deed::Try(2, 0, None, BarrierAnswer::Mismatch)),
+    (4, Deed::Try(2, 0, None, BarrierAnswer::Mismatch)),
+];
+
 #[test]
 fn five_nodes_of_two_identifiers(rt: HostRuntime) -> Result<(), Fail> {
-    let mut a = Barrier::new(5, 0)?;
-    let mut b = Barrier::new(5, 1)?;
-    let mut c = Barrier::new(5, 2)?;
-    let mut d = Barrier::new(5, 3)?;
-    let mut e = Barrier::new(5, 4)?;
-    assert_eq!(rt; a.notify(-1, 0), Notified::Ok);
-    assert_eq!(rt; b.notify(0, 1), Notified::Ok);
-    assert_eq!(rt; c.notify(2, 0), Notified::Ok);
-    assert_eq!(rt; d.notify(2, 0), Notified::Ok);
-    assert_eq!(rt; e.notify(2, 0), Notified::Ok);
-    pass_by_one(&mut a, &mut b, &mut c, &mut d, &mut e);
+    let mut it = Nodes::new(rt.alloc(), 5)?;
+    it.check(&rt, &TWO_IDENTIFIERS);
+    it.pass_by(1);
     // nodes 0 and 4: a mismatch, and the least identifier
-    assert_eq!(rt;
-        a.note_to(2),
-        Some(BarrierNote {
-            flags: 2,
-            ..named(0, 17, -1)
-        })
-    );
-    pass_by_two(&mut a, &mut b, &mut c, &mut d, &mut e);
-    pass_by_four(&mut a, &mut b, &mut c, &mut d, &mut e);
-    assert_eq!(rt; a.try_wait(-1, 0, None), BarrierAnswer::Mismatch);
-    assert_eq!(rt; b.try_wait(0, 1, None), BarrierAnswer::Mismatch);
-    assert_eq!(rt; c.try_wait(2, 0, None), BarrierAnswer::Mismatch);
-    assert_eq!(rt; d.try_wait(2, 0, None), BarrierAnswer::Mismatch);
-    assert_eq!(rt; e.try_wait(2, 0, None), BarrierAnswer::Mismatch);
+    let note = BarrierNote {
+        flags: 2,
+        ..named(0, 17, -1)
+    };
+    it.check(&rt, &[(0, Deed::Note(2, Some(note)))]);
+    it.pass_by(2);
+    it.pass_by(4);
+    it.check(&rt, &ALL_MISMATCH);
     Ok(())
 }
 
 #[test]
 fn the_last_of_sixty_five_nodes(rt: HostRuntime) -> Result<(), Fail> {
-    let mut last = Barrier::new(65, 64)?;
-    last.heard(&named(0, 1 << 63, 5));
-    assert_eq!(rt; count_due(&last, 65), 0);
-    assert_eq!(rt; last.notify(5, 0), Notified::Ok);
+    let mut last = Node::new(65, 64)?;
     let two = BarrierNote {
         mask: [1 << 63, 1, 0, 0],
         ..named(0, 0, 5)
     };
-    assert_eq!(rt; (last.note_to(0), last.note_to(1)), (Some(two), Some(two)));
-    assert_eq!(rt; count_due(&last, 65), 2);
+    let first = [
+        Deed::Hears(named(0, 1 << 63, 5)),
+        Deed::Due(0),
+        Deed::Notify(5, 0, Notified::Ok),
+        Deed::Note(0, Some(two)),
+        Deed::Note(1, Some(two)),
+        Deed::Due(2),
+    ];
+    last.check(&rt, &first);
     // nodes 62 and 61, and then twice as many each time
     for (mask, due) in [
         (0x3 << 61, 3),
@@ -273,36 +351,41 @@ fn the_last_of_sixty_five_nodes(rt: HostRuntime) -> Result<(), Fail> {
         (0xffff << 33, 6),
         (0xffff_ffff << 1, 7),
     ] {
-        last.heard(&named(0, mask, 5));
-        assert_eq!(rt; count_due(&last, 65), due);
+        last.check(&rt, &[Deed::Hears(named(0, mask, 5)), Deed::Due(due)]);
     }
     let but_one = BarrierNote {
         mask: [u64::MAX - 1, 1, 0, 0],
         ..named(0, 0, 5)
     };
-    assert_eq!(rt; last.note_to(63), Some(but_one));
-    assert_eq!(rt; last.try_wait(5, 0, None), BarrierAnswer::NotReady);
-    last.heard(&named(0, 1, 5));
-    assert_eq!(rt; last.try_wait(5, 0, None), BarrierAnswer::Ok);
+    let end = [
+        Deed::Note(63, Some(but_one)),
+        Deed::Try(5, 0, None, BarrierAnswer::NotReady),
+        Deed::Hears(named(0, 1, 5)),
+        Deed::Try(5, 0, None, BarrierAnswer::Ok),
+    ];
+    last.check(&rt, &end);
     Ok(())
 }
 
 #[test]
 fn the_last_of_the_most_nodes(rt: HostRuntime) -> Result<(), Fail> {
-    let mut last = Barrier::new(256, 255)?;
-    assert_eq!(rt; last.notify(5, 0), Notified::Ok);
+    let mut last = Node::new(256, 255)?;
     let own = BarrierNote {
         mask: [0, 0, 0, 1 << 63],
         ..named(0, 0, 5)
     };
-    assert_eq!(rt; last.note_to(0), Some(own));
     let others = BarrierNote {
         mask: [u64::MAX, u64::MAX, u64::MAX, u64::MAX >> 1],
         ..named(0, 0, 5)
     };
-    last.heard(&others);
-    assert_eq!(rt; last.try_wait(5, 0, None), BarrierAnswer::Ok);
-    // the notes of the phase go still, in eight rounds
-    assert_eq!(rt; count_due(&last, 256), 8);
+    // the notes of the phase that has ended go still, in eight rounds
+    let deeds = [
+        Deed::Notify(5, 0, Notified::Ok),
+        Deed::Note(0, Some(own)),
+        Deed::Hears(others),
+        Deed::Try(5, 0, None, BarrierAnswer::Ok),
+        Deed::Due(8),
+    ];
+    last.check(&rt, &deeds);
     Ok(())
 }

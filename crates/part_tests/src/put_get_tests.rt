@@ -5,6 +5,7 @@ ghost use Rattle.std.specs.Prelude.{◌≡◌, []};
 ghost use Rattle.put_get.specs.Stands.{Stands, room_of};
 
 use put_get::{Handle, Mode, Next, Some3, Synced, TooMany, Transfer, Transfers};
+use std::process::Abort;
 use std::test::Fail;
 
 const TO_ONE: Transfer = Transfer::Put {
@@ -75,28 +76,52 @@ fn replies(table: &mut Transfers) -> Option<[bool; 4]>
 }
 
 #[test]
-fn puts_three_chunks(rt: HostRuntime) -> Result<(), Fail> {
-    let can = [false, true, false];
-    let worn = [false, false, false];
+fn a_get_waits_for_its_target(rt: HostRuntime) -> Result<(), Fail> {
     let mut table = Transfers::new(rt.alloc(), 3, 4)?;
     assert!(rt; table.is_idle());
     assert_eq!(rt; table.begin(0, FROM_TWO, Mode::Implicit), Ok(FIRST));
-    assert_eq!(rt; table.next(&can), None);
+    assert_eq!(rt; table.next(&[false, true, false]), None);
     assert!(rt; !table.is_idle());
-    let mut table = Transfers::new(rt.alloc(), 3, 4)?;
-    assert_eq!(rt; table.begin(0, TO_ONE, Mode::Explicit), Ok(FIRST));
-    assert_eq!(rt; issue(&mut table, &can, 0, 1), chunk(0, 8192));
-    assert_eq!(rt; issue(&mut table, &can, 1, 2), chunk(8192, 8192));
-    assert_eq!(rt; table.issued(FIRST), Some(false));
-    assert_eq!(rt; issue(&mut table, &can, 2, 3), chunk(16384, 3616));
-    assert_eq!(rt; issue(&mut table, &can, 3, 4), None);
-    assert_eq!(rt; table.issued(FIRST), Some(true));
-    assert!(rt; table.is_idle());
-    // all is sent, and nothing is back
-    assert_eq!(rt; table.try_sync(&worn, 0, FIRST), Synced::NotReady);
-    assert_eq!(rt; table.try_sync(&worn, 1, FIRST), Synced::NotYours);
     Ok(())
 }
+
+#[test]
+fn puts_three_chunks(rt: HostRuntime) -> Result<(), Fail> {
+    let can = [false, true, false];
+    let mut table = Transfers::new(rt.alloc(), 3, 4)?;
+    assert_eq!(rt; table.begin(0, TO_ONE, Mode::Explicit), Ok(FIRST));
+    for (slot, request, want, issued) in [
+        (0, 1, chunk(0, 8192), Some(false)),
+        (1, 2, chunk(8192, 8192), Some(false)),
+        (2, 3, chunk(16384, 3616), Some(true)),
+        (3, 4, None, Some(true)),
+    ] {
+        assert_eq!(rt; issue(&mut table, &can, slot, request), want);
+        assert_eq!(rt; table.issued(FIRST), issued);
+    }
+    assert!(rt; table.is_idle());
+    // all is sent, and nothing is back
+    check_tries(&rt, &mut table, &ALL_SENT);
+    Ok(())
+}
+
+/// Of an operation that isn't back, by its own thread and by another one.
+const ALL_SENT: [(Try, Synced); 2] = [
+    (
+        Try {
+            of: Operations::Of(FIRST),
+            ..NOTHING_WORN
+        },
+        Synced::NotReady,
+    ),
+    (
+        Try {
+            of: Operations::Of(FIRST),
+            ..OF_THREAD_1
+        },
+        Synced::NotYours,
+    ),
+];
 
 #[test]
 fn takes_a_reply_back(rt: HostRuntime) -> Result<(), Fail> {
@@ -109,52 +134,171 @@ fn takes_a_reply_back(rt: HostRuntime) -> Result<(), Fail> {
     Ok(())
 }
 
+/// A try of thread 0 or another one, where the numbers of messages for some nodes are worn out.
+#[derive(Clone, Copy)]
+struct Try {
+    worn: [bool; 3],
+    thread: u16,
+    of: Operations,
+}
+
+/// What is synchronised.
+#[derive(Clone, Copy)]
+enum Operations {
+    /// The operations of a handle.
+    Of(Handle),
+    /// Those of all of these handles.
+    AllOf(&'static [Handle]),
+    /// Those of some of them.
+    AnyOf(&'static [Handle]),
+    /// A thread's implicit operations.
+    Implicit(Some3),
+}
+
+/// What the try is answered.
+fn tried(table: &mut Transfers, it: &Try) -> Synced {
+    let Try { worn, thread, of } = *it;
+    match of {
+        Operations::Of(handle) => table.try_sync(&worn, thread, handle),
+        Operations::AllOf(handles) => table.try_sync_all(&worn, thread, handles),
+        Operations::AnyOf(handles) => table.try_sync_some(&worn, thread, handles),
+        Operations::Implicit(which) => table.try_sync_implicit(&worn, thread, which),
+    }
+}
+
+/// Checks what each try is answered.
+fn check_tries(rt: &impl Abort, table: &mut Transfers, rows: &[(Try, Synced)]) {
+    for (row, (it, want)) in rows.iter().enumerate() {
+        assert_eq!(rt; tried(table, it), *want, "row {row}");
+    }
+}
+
+/// A try of thread 0, where no numbers are worn out.
+const NOTHING_WORN: Try = Try {
+    worn: [false, false, false],
+    thread: 0,
+    of: Operations::Of(INVALID),
+};
+
+/// Where those for the other two nodes are.
+const WORN: Try = Try {
+    worn: [false, true, true],
+    ..NOTHING_WORN
+};
+
+/// Of the other thread.
+const OF_THREAD_1: Try = Try {
+    thread: 1,
+    ..NOTHING_WORN
+};
+
+const WITHOUT_OPERATIONS: [(Try, Synced); 2] = [
+    (NOTHING_WORN, Synced::Ok),
+    (
+        Try {
+            of: Operations::Implicit(Some3::All),
+            ..NOTHING_WORN
+        },
+        Synced::Ok,
+    ),
+];
+
+/// With a get under the first handle, and an implicit put, which has the second number.
+const WITH_TWO: [(Try, Synced); 12] = [
+    (
+        Try {
+            of: Operations::Of(FIRST),
+            ..WORN
+        },
+        Synced::WornOut(2),
+    ),
+    (
+        Try {
+            of: Operations::AllOf(&[INVALID, FIRST, SECOND]),
+            ..WORN
+        },
+        Synced::WornOut(1),
+    ),
+    (
+        Try {
+            of: Operations::AllOf(&[FIRST, INVALID]),
+            ..NOTHING_WORN
+        },
+        Synced::NotReady,
+    ),
+    (
+        Try {
+            of: Operations::AllOf(&[INVALID, FIRST]),
+            ..OF_THREAD_1
+        },
+        Synced::NotYours,
+    ),
+    (
+        Try {
+            of: Operations::AllOf(&[Handle { serial: 3 }, FIRST]),
+            ..NOTHING_WORN
+        },
+        Synced::BadHandle,
+    ),
+    (
+        Try {
+            of: Operations::Implicit(Some3::Puts),
+            ..WORN
+        },
+        Synced::WornOut(1),
+    ),
+    (
+        Try {
+            of: Operations::Implicit(Some3::Puts),
+            ..NOTHING_WORN
+        },
+        Synced::NotReady,
+    ),
+    (
+        Try {
+            of: Operations::AnyOf(&[INVALID, FIRST]),
+            ..NOTHING_WORN
+        },
+        Synced::NotReady,
+    ),
+    (
+        Try {
+            of: Operations::AnyOf(&[FIRST, SECOND]),
+            ..WORN
+        },
+        Synced::WornOut(1),
+    ),
+    (
+        Try {
+            of: Operations::AnyOf(&[INVALID]),
+            ..NOTHING_WORN
+        },
+        Synced::Ok,
+    ),
+    // no implicit get, and none of the other thread's
+    (
+        Try {
+            of: Operations::Implicit(Some3::Gets),
+            ..NOTHING_WORN
+        },
+        Synced::Ok,
+    ),
+    (
+        Try {
+            of: Operations::Implicit(Some3::All),
+            ..OF_THREAD_1
+        },
+        Synced::Ok,
+    ),
+];
+
 #[test]
 fn answers_syncs(rt: HostRuntime) -> Result<(), Fail> {
-    let none = [false, false, false];
-    let worn = [false, true, true];
     let mut table = Transfers::new(rt.alloc(), 3, 4)?;
-    assert_eq!(rt; table.try_sync(&none, 0, INVALID), Synced::Ok);
-    assert_eq!(rt; table.try_sync_implicit(&none, 0, Some3::All), Synced::Ok);
+    check_tries(&rt, &mut table, &WITHOUT_OPERATIONS);
     assert_eq!(rt; table.begin(0, FROM_TWO, Mode::Explicit), Ok(FIRST));
     assert_eq!(rt; table.begin(0, TO_ONE, Mode::Implicit), Ok(SECOND));
-    assert_eq!(rt; table.try_sync(&worn, 0, FIRST), Synced::WornOut(2));
-    assert_eq!(rt;
-        table.try_sync_all(&worn, 0, &[INVALID, FIRST, SECOND]),
-        Synced::WornOut(1)
-    );
-    assert_eq!(rt;
-        table.try_sync_all(&none, 0, &[FIRST, INVALID]),
-        Synced::NotReady
-    );
-    assert_eq!(rt;
-        table.try_sync_all(&none, 1, &[INVALID, FIRST]),
-        Synced::NotYours
-    );
-    assert_eq!(rt;
-        table.try_sync_all(&none, 0, &[Handle { serial: 3 }, FIRST]),
-        Synced::BadHandle
-    );
-    assert_eq!(rt;
-        table.try_sync_implicit(&worn, 0, Some3::Puts),
-        Synced::WornOut(1)
-    );
-    assert_eq!(rt;
-        table.try_sync_implicit(&none, 0, Some3::Puts),
-        Synced::NotReady
-    );
-    assert_eq!(rt;
-        table.try_sync_some(&none, 0, &[INVALID, FIRST]),
-        Synced::NotReady
-    );
-    assert_eq!(rt;
-        table.try_sync_some(&worn, 0, &[FIRST, SECOND]),
-        Synced::WornOut(1)
-    );
-    assert_eq!(rt; table.try_sync_some(&none, 0, &[INVALID]), Synced::Ok);
-    // no implicit get, and none of the other thread's
-    assert_eq!(rt; table.try_sync_implicit(&none, 0, Some3::Gets), Synced::Ok);
-    assert_eq!(rt; table.try_sync_implicit(&none, 1, Some3::All), Synced::Ok);
+    check_tries(&rt, &mut table, &WITH_TWO);
     Ok(())
 }
 

@@ -1,0 +1,120 @@
+-- What is left of a text begins with the piece that is written next.
+use Rattle.std.proofs.Common.{◌≡◌, ℕ, ◌+◌, ◌<◌, List, [], ◌∷◌, ◌++◌, length, map, drop, get_or, refl, sym, ap, ◌∙◌}
+use Rattle.std.proofs.Common.{append_assoc, append-nil, codes, decimal}
+use Rattle.std.specs.List.{flat_map}
+use Rattle.std.proofs.lemmas.List.{drop_more}
+use Rattle.std.proofs.lemmas.List.Concat.{flat_map-append}
+use Rattle.job_text.specs.JobText.{Line, handler_lines, head_lines, job_text, pair_line, schedule_lines, script_lines}
+use Rattle.job_text.specs.JobText.{spell}
+use Rattle.job_text.specs.declared.job.Job.{Job}
+use Rattle.job_print.specs.Writing.{spaced_word, word_bytes, words_then}
+use Rattle.job_print.specs.declared.words.Word.{Word}
+
+-- the lines `end` and `done`
+abbrev pub end_line : List ℕ
+end_line = 101 ∷ 110 ∷ 100 ∷ 10 ∷ []
+
+abbrev pub last_line : List ℕ
+last_line = 100 ∷ 111 ∷ 110 ∷ 101 ∷ 10 ∷ []
+
+-- a space and the next word
+pub next_spaced : {A : Type 0} (text : A → List ℕ) (words : List A) (i : ℕ) (d : A) → i < length words
+    → flat_map (λ word. 32 ∷ text word) (drop i words)
+    ≡ (32 ∷ []) ++ (text (get_or words i d) ++ flat_map (λ word. 32 ∷ text word) (drop (i + 1) words))
+next_spaced {A} text words i d low =
+    ap (λ (left : List A). flat_map (λ word. 32 ∷ text word) left) (drop_more words i d low)
+
+pub next_spaced_item : {A : Type 0} (text : A → List ℕ) (words : List A) (i : ℕ) (item : A) → i < length words
+    → item ≡ get_or words i item
+    → flat_map (λ word. 32 ∷ text word) (drop i words)
+    ≡ (32 ∷ []) ++ (text item ++ flat_map (λ word. 32 ∷ text word) (drop (i + 1) words))
+next_spaced_item {A} text words i item low is =
+    next_spaced text words i item low
+    ∙ ap (λ (x : A). (32 ∷ []) ++ (text x ++ flat_map (λ word. 32 ∷ text word) (drop (i + 1) words))) (sym is)
+
+-- the next line, and byte 10
+pub next_line_at : {A : Type 0} (text : A → Line) (items : List A) (i : ℕ) (d : A) → i < length items
+    → spell (map text (drop i items))
+    ≡ text (get_or items i d) ++ ((10 ∷ []) ++ spell (map text (drop (i + 1) items)))
+next_line_at {A} text items i d low =
+    ap (λ (left : List A). spell (map text left)) (drop_more items i d low)
+    ∙ append_assoc (text (get_or items i d)) (10 ∷ []) (spell (map text (drop (i + 1) items)))
+
+pub next_line : {A : Type 0} (text : A → Line) (items : List A) (i : ℕ) (item : A) → i < length items
+    → item ≡ get_or items i item
+    → spell (map text (drop i items)) ≡ text item ++ ((10 ∷ []) ++ spell (map text (drop (i + 1) items)))
+next_line {A} text items i item low is =
+    next_line_at text items i item low
+    ∙ ap (λ (x : A). text x ++ ((10 ∷ []) ++ spell (map text (drop (i + 1) items)))) (sym is)
+
+-- the next lines
+pub next_part : {A : Type 0} (lines : A → List Line) (items : List A) (i : ℕ) (item : A) → i < length items
+    → item ≡ get_or items i item
+    → spell (flat_map lines (drop i items)) ≡ spell (lines item) ++ spell (flat_map lines (drop (i + 1) items))
+next_part {A} lines items i item low is =
+    ap (λ (left : List A). spell (flat_map lines left)) (drop_more items i item low)
+    ∙ flat_map-append (λ (line : Line). line ++ 10 ∷ []) (lines (get_or items i item))
+    (flat_map lines (drop (i + 1) items))
+    ∙ ap (λ (x : A). spell (lines x) ++ spell (flat_map lines (drop (i + 1) items))) (sym is)
+
+-- words, and what stands behind them
+pub words_parts : (words : List Word) (bytes : List ℕ) → words_then words bytes ≡ flat_map spaced_word words ++ bytes
+words_parts [] bytes = refl
+words_parts (word ∷ words) bytes =
+    ap (λ (rest : List ℕ). 32 ∷ (word_bytes word ++ rest)) (words_parts words bytes)
+    ∙ ap (λ (rest : List ℕ). 32 ∷ rest) (sym (append_assoc (word_bytes word) (flat_map spaced_word words) bytes))
+
+-- two words, and what stands behind them
+two_then : (one two rest : List ℕ) → one ++ (32 ∷ (two ++ rest)) ≡ (one ++ (32 ∷ (two ++ []))) ++ rest
+two_then one two rest =
+    sym (append_assoc one (32 ∷ (two ++ [])) rest ∙ ap (λ (x : List ℕ). one ++ (32 ∷ (x ++ rest))) (append-nil two))
+
+-- the word `call` with a node and a thread, and what stands behind them
+pub call_parts : (node thread : ℕ) (text : List ℕ)
+    → codes "call" ++ (32 ∷ (decimal node ++ (32 ∷ (decimal thread ++ (32 ∷ text)))))
+    ≡ (codes "call" ++ (32 ∷ (decimal node ++ (32 ∷ (decimal thread ++ []))))) ++ ((32 ∷ []) ++ text)
+call_parts node thread text =
+    ap (λ (x : List ℕ). codes "call" ++ (32 ∷ x)) (two_then (decimal node) (decimal thread) (32 ∷ text))
+
+-- a line, other lines, and the line `end`
+pub section_parts : (first : Line) (lines : List Line)
+    → spell (first ∷ (lines ++ codes "end" ∷ [])) ≡ (first ++ 10 ∷ []) ++ (spell lines ++ end_line)
+section_parts first lines =
+    ap (λ (rest : List ℕ). (first ++ 10 ∷ []) ++ rest)
+    (flat_map-append (λ (line : Line). line ++ 10 ∷ []) lines (codes "end" ∷ []))
+
+-- lines, and one more
+pub one_more : (lines : List Line) (last : Line) → spell (lines ++ last ∷ []) ≡ spell lines ++ (last ++ 10 ∷ [])
+one_more lines last =
+    flat_map-append (λ (line : Line). line ++ 10 ∷ []) lines (last ∷ [])
+    ∙ ap (λ (rest : List ℕ). spell lines ++ rest) (append-nil (last ++ 10 ∷ []))
+
+-- lines, and other ones behind them
+both : (front back : List Line) → spell (front ++ back) ≡ spell front ++ spell back
+both front back = flat_map-append (λ (line : Line). line ++ 10 ∷ []) front back
+
+both_then : (front back : List Line) (rest : List ℕ)
+    → spell (front ++ back) ++ rest ≡ spell front ++ (spell back ++ rest)
+both_then front back rest =
+    ap (λ (text : List ℕ). text ++ rest) (both front back) ∙ append_assoc (spell front) (spell back) rest
+
+five_parts : (head pairs handlers scripts schedule : List Line)
+    → spell ((((head ++ pairs) ++ handlers) ++ scripts) ++ (schedule ++ codes "done" ∷ []))
+    ≡ spell head ++ (spell pairs ++ (spell handlers ++ (spell scripts ++ (spell schedule ++ last_line))))
+five_parts head pairs handlers scripts schedule =
+    let rest = spell (schedule ++ codes "done" ∷ []) in
+    both (((head ++ pairs) ++ handlers) ++ scripts) (schedule ++ codes "done" ∷ [])
+    ∙ both_then ((head ++ pairs) ++ handlers) scripts rest
+    ∙ both_then (head ++ pairs) handlers (spell scripts ++ rest)
+    ∙ both_then head pairs (spell handlers ++ (spell scripts ++ rest))
+    ∙ ap (λ (text : List ℕ). spell head ++ (spell pairs ++ (spell handlers ++ (spell scripts ++ text))))
+    (both schedule (codes "done" ∷ []))
+
+-- the parts of a job's text
+pub text_parts : (job : Job) → job_text job
+    ≡ spell (head_lines job) ++ (spell (map pair_line job.settings.pairs)
+    ++ (spell (flat_map handler_lines job.handlers) ++ (spell (flat_map script_lines job.scripts)
+    ++ (spell (schedule_lines job.settings job.schedule) ++ last_line))))
+text_parts job =
+    five_parts (head_lines job) (map pair_line job.settings.pairs) (flat_map handler_lines job.handlers)
+    (flat_map script_lines job.scripts) (schedule_lines job.settings job.schedule)

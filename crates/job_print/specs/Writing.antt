@@ -1,0 +1,45 @@
+-- The words of a line, as they are written.
+use Rattle.std.specs.Prelude.{ℕ, List, [], ◌∷◌, ◌++◌, decimal}
+use Rattle.std.specs.Fmt.{signed_decimal}
+use Rattle.std.specs.List.{flat_map}
+use Rattle.job_text.specs.Payloads.{bytes_word, payload_word}
+use Rattle.job_text.specs.Words.{implicit_word, kind_word, operand_word, role_word}
+use Rattle.job_print.specs.declared.head.NumberLine.{NumberLine}
+use Rattle.job_print.specs.declared.words.Word.{Word}
+use Rattle.job_print.specs.declared.words.Word.TheVariants as word
+use Rattle.job_print.specs.declared.forms.Last.{Last}
+use Rattle.job_print.specs.declared.forms.Last.TheVariants as last
+
+-- the bytes of a word
+abbrev pub word_bytes : Word → List ℕ
+word_bytes (word.U8 number) = decimal number
+word_bytes (word.U16 number) = decimal number
+word_bytes (word.U32 number) = decimal number
+word_bytes (word.U64 number) = decimal number
+word_bytes (word.Integer number) = signed_decimal number
+word_bytes (word.Value operand) = operand_word operand
+word_bytes (word.Kind kind) = kind_word kind
+word_bytes (word.Role role) = role_word role
+word_bytes (word.Implicit which) = implicit_word which
+word_bytes (word.Bytes bytes) = bytes_word bytes.now
+word_bytes (word.Payload payload) = payload_word payload.now
+
+-- a space and the bytes of a word
+abbrev pub spaced_word : Word → List ℕ
+spaced_word word = 32 ∷ word_bytes word
+
+-- a space and a word for each of a list
+abbrev pub last_text : Last → List ℕ
+last_text last.Nothing = []
+last_text (last.Operands operands) = flat_map (λ operand. 32 ∷ operand_word operand) operands.now
+last_text (last.Registers registers) = flat_map (λ register. 32 ∷ decimal register) registers.now
+last_text (last.Locks locks) = flat_map (λ lock. 32 ∷ decimal lock) locks.now
+
+-- a space and a word for each, and then these bytes
+abbrev pub words_then : List Word → List ℕ → List ℕ
+words_then [] bytes = bytes
+words_then (word ∷ words) bytes = 32 ∷ (word_bytes word ++ words_then words bytes)
+
+-- a line of a name and a number
+abbrev pub number_line : NumberLine → List ℕ
+number_line line = line.0.now ++ words_then (line.1 ∷ []) []

@@ -1,0 +1,75 @@
+//! The actions of a handler's body.
+
+ghost use Rattle.std.specs.Prelude.{◌∷◌};
+ghost use Rattle.gas_outside.specs.Buffered.{GathersAll, outbox};
+ghost use Rattle.job_text.specs.Bodies.{action_text, reply_text};
+ghost use Rattle.job_text.specs.declared.job.Action.TheVariants as actions;
+
+use crate::forms::{Last, write, write_form};
+use crate::words::Word;
+use gas_outside::{BufferedSink, Sink, Wrote};
+use job_text::{Action, ReplyAction};
+
+/// Writes what stands behind the word `reply`.
+fn write_reply<K: Sink>(reply: &ReplyAction, sink: &mut BufferedSink<K>) -> Wrote
+    ensures { GathersAll (outbox K.taken K.faults sink.old) (outbox K.taken K.faults sink.new)
+        (reply_text reply.now) result }
+{
+    use Word::{Payload, U8, U64};
+    match reply {
+        ReplyAction::Short { handler, operands } => {
+            write_form(b"short", &[U8(*handler)], Last::Operands(operands), sink)
+        }
+        ReplyAction::Medium {
+            handler,
+            payload,
+            operands,
+        } => {
+            let words = [U8(*handler), Payload(payload)];
+            write_form(b"medium", &words, Last::Operands(operands), sink)
+        }
+        ReplyAction::Long {
+            handler,
+            payload,
+            offset,
+            operands,
+        } => {
+            let words = [U8(*handler), Payload(payload), U64(*offset)];
+            write_form(b"long", &words, Last::Operands(operands), sink)
+        }
+    }
+}
+
+/// Writes a reply.
+fn write_replying<K: Sink>(reply: &ReplyAction, sink: &mut BufferedSink<K>) -> Wrote
+    ensures { GathersAll (outbox K.taken K.faults sink.old) (outbox K.taken K.faults sink.new)
+        (action_text (actions.Reply reply.now)) result }
+{
+    if let Wrote::Fault = sink.write_all(b"reply ") {
+        return Wrote::Fault;
+    }
+    write_reply(reply, sink)
+}
+
+/// Writes an action.
+pub(crate) fn write_action<K: Sink>(action: &Action, sink: &mut BufferedSink<K>) -> Wrote
+    ensures { GathersAll (outbox K.taken K.faults sink.old) (outbox K.taken K.faults sink.new)
+        (action_text action.now) result }
+{
+    use Word::{Kind, U8, U64, Value};
+    match action {
+        Action::Add { cell, operand } => write(b"add", &[U8(*cell), Value(*operand)], sink),
+        Action::SetCell { cell, operand } => write(
+            b"set-cell",
+            &[U8(*cell), Value(*operand)],
+            sink,
+        ),
+        Action::Source { cell } => write(b"source", &[U8(*cell)], sink),
+        Action::Sum { cell } => write(b"sum", &[U8(*cell)], sink),
+        Action::Keep { offset } => write(b"keep", &[U64(*offset)], sink),
+        Action::Lock { lock } => write(b"lock", &[U8(*lock)], sink),
+        Action::Unlock { lock } => write(b"unlock", &[U8(*lock)], sink),
+        Action::Attempt { call } => write(b"attempt", &[Kind(*call)], sink),
+        Action::Reply { reply } => write_replying(reply, sink),
+    }
+}

@@ -1,0 +1,196 @@
+//! The calls of a schedule.
+
+ghost use Rattle.std.specs.Prelude.{◌++◌};
+ghost use Rattle.gas_outside.specs.Buffered.{GathersAll, outbox};
+ghost use Rattle.job_text.specs.Calls.{begin_entry, call_text, implicit_entry, long_row, notify_row};
+ghost use Rattle.job_text.specs.Forms.{entry_text, none_text, values_text};
+ghost use Rattle.job_text.specs.declared.job.ScheduledCall.TheVariants as calls;
+
+use crate::forms::{Last, write, write_form, write_list};
+use crate::words::Word;
+use gas_outside::{BufferedSink, Sink, Wrote};
+use job_text::{LongText, MediumText, Operands, ScheduledCall, TransferText};
+
+/// Writes a Short request.
+fn write_short<K: Sink>(
+    to: u16,
+    handler: u8,
+    operands: &Operands,
+    sink: &mut BufferedSink<K>,
+) -> Wrote
+    ensures { GathersAll (outbox K.taken K.faults sink.old) (outbox K.taken K.faults sink.new)
+        (call_text (calls.Short to handler operands.now)) result }
+{
+    let words = [Word::U16(to), Word::U8(handler)];
+    write_form(b"short", &words, Last::Operands(operands), sink)
+}
+
+/// Writes a Medium request.
+fn write_medium<K: Sink>(text: &MediumText, sink: &mut BufferedSink<K>) -> Wrote
+    ensures { GathersAll (outbox K.taken K.faults sink.old) (outbox K.taken K.faults sink.new)
+        (call_text (calls.Medium text.now)) result }
+{
+    let words = [
+        Word::U16(text.to),
+        Word::U8(text.handler),
+        Word::Payload(&text.payload),
+    ];
+    write_form(b"medium", &words, Last::Operands(&text.operands), sink)
+}
+
+/// Writes a Long request of this name.
+fn write_long<K: Sink>(name: &[u8], text: &LongText, sink: &mut BufferedSink<K>) -> Wrote
+    ensures { GathersAll (outbox K.taken K.faults sink.old) (outbox K.taken K.faults sink.new)
+        (name.now ++ values_text none_text long_row.shape (
+          text.now.to,
+          (
+            text.now.handler,
+            (text.now.payload, (text.now.offset, text.now.operands)),
+          ),
+        )) result }
+{
+    let words = [
+        Word::U16(text.to),
+        Word::U8(text.handler),
+        Word::Payload(&text.payload),
+        Word::U64(text.offset),
+    ];
+    write_form(name, &words, Last::Operands(&text.operands), sink)
+}
+
+/// Writes the call that puts the same byte at each place of a range.
+fn write_fill<K: Sink>(offset: u64, len: u64, byte: u8, sink: &mut BufferedSink<K>) -> Wrote
+    ensures { GathersAll (outbox K.taken K.faults sink.old) (outbox K.taken K.faults sink.new)
+        (call_text (calls.Fill offset len byte)) result }
+{
+    let words = [Word::U64(offset), Word::U64(len), Word::U8(byte)];
+    write(b"fill", &words, sink)
+}
+
+/// Writes an explicit transfer, whose handle is put into the register.
+fn write_begin<K: Sink>(register: u8, transfer: &TransferText, sink: &mut BufferedSink<K>) -> Wrote
+    ensures { GathersAll (outbox K.taken K.faults sink.old) (outbox K.taken K.faults sink.new)
+        (entry_text none_text (begin_entry register transfer.now)) result }
+{
+    use Word::{U8, U16, U64};
+    match *transfer {
+        TransferText::Put {
+            to,
+            remote,
+            local,
+            len,
+        } => {
+            let words = [U8(register), U16(to), U64(remote), U64(local), U64(len)];
+            write(b"put-nb-bulk", &words, sink)
+        }
+        TransferText::Get {
+            to,
+            remote,
+            local,
+            len,
+        } => {
+            let words = [U8(register), U16(to), U64(remote), U64(local), U64(len)];
+            write(b"get-nb", &words, sink)
+        }
+        TransferText::Memset {
+            to,
+            remote,
+            len,
+            byte,
+        } => {
+            let words = [U8(register), U16(to), U64(remote), U64(len), U8(byte)];
+            write(b"memset-nb", &words, sink)
+        }
+    }
+}
+
+/// Writes an implicit transfer.
+fn write_implicit<K: Sink>(transfer: &TransferText, sink: &mut BufferedSink<K>) -> Wrote
+    ensures { GathersAll (outbox K.taken K.faults sink.old) (outbox K.taken K.faults sink.new)
+        (entry_text none_text (implicit_entry transfer.now)) result }
+{
+    use Word::{U8, U16, U64};
+    match *transfer {
+        TransferText::Put {
+            to,
+            remote,
+            local,
+            len,
+        } => {
+            let words = [U16(to), U64(remote), U64(local), U64(len)];
+            write(b"put-nbi-bulk", &words, sink)
+        }
+        TransferText::Get {
+            to,
+            remote,
+            local,
+            len,
+        } => {
+            let words = [U16(to), U64(remote), U64(local), U64(len)];
+            write(b"get-nbi", &words, sink)
+        }
+        TransferText::Memset {
+            to,
+            remote,
+            len,
+            byte,
+        } => {
+            let words = [U16(to), U64(remote), U64(len), U8(byte)];
+            write(b"memset-nbi", &words, sink)
+        }
+    }
+}
+
+/// Writes a call on the barrier of this name, by the identifier and the flags.
+pub(crate) fn write_barrier<K: Sink>(
+    name: &[u8],
+    id: i32,
+    flags: u8,
+    sink: &mut BufferedSink<K>,
+) -> Wrote
+    ensures { GathersAll (outbox K.taken K.faults sink.old) (outbox K.taken K.faults sink.new)
+        (name.now ++ values_text none_text notify_row.shape (id, (flags, tt))) result }
+{
+    write(name, &[Word::Integer(id), Word::U8(flags)], sink)
+}
+
+/// Writes a call.
+pub(crate) fn write_call<K: Sink>(call: &ScheduledCall, sink: &mut BufferedSink<K>) -> Wrote
+    ensures { GathersAll (outbox K.taken K.faults sink.old) (outbox K.taken K.faults sink.new)
+        (call_text call.now) result }
+{
+    use ScheduledCall as Call;
+    use Word::{Bytes, Implicit, Kind, U8, U16, U64, Value};
+    match call {
+        Call::Short {
+            to,
+            handler,
+            operands,
+        } => write_short(*to, *handler, operands, sink),
+        Call::Medium { text } => write_medium(text.text(), sink),
+        Call::Long { text } => write_long(b"long", text.text(), sink),
+        Call::LongAsync { text } => write_long(b"async", text.text(), sink),
+        Call::Lock { lock } => write(b"lock", &[U8(*lock)], sink),
+        Call::Unlock { lock } => write(b"unlock", &[U8(*lock)], sink),
+        Call::Poll => write(b"poll", &[], sink),
+        Call::Attempt { call } => write(b"attempt", &[Kind(*call)], sink),
+        Call::Cell { cell } => write(b"cell", &[U8(*cell)], sink),
+        Call::SetCell { cell, operand } => write(b"set-cell", &[U8(*cell), Value(*operand)], sink),
+        Call::Show { offset, len } => write(b"show", &[U64(*offset), U16(*len)], sink),
+        Call::Set { offset, bytes } => write(b"set", &[U64(*offset), Bytes(bytes)], sink),
+        Call::Fill { offset, len, byte } => write_fill(*offset, *len, *byte, sink),
+        Call::Word { offset } => write(b"word", &[U64(*offset)], sink),
+        Call::SetWord { offset, number } => write(b"set-word", &[U64(*offset), U64(*number)], sink),
+        Call::Begin { register, transfer } => write_begin(*register, transfer.text(), sink),
+        Call::BeginImplicit { transfer } => write_implicit(transfer.text(), sink),
+        Call::IsIssued { register } => write(b"issued", &[U8(*register)], sink),
+        Call::Sync { register } => write(b"try", &[U8(*register)], sink),
+        Call::SyncAll { registers } => write_list(b"try-all", registers, sink),
+        Call::SyncSome { registers } => write_list(b"try-some", registers, sink),
+        Call::SyncImplicit { which } => write(b"try-nbi", &[Implicit(*which)], sink),
+        Call::RegionBegin => write(b"region-begin", &[], sink),
+        Call::RegionEnd { register } => write(b"region-end", &[U8(*register)], sink),
+        Call::Notify { id, flags } => write_barrier(b"notify", *id, *flags, sink),
+        Call::TryBarrier { id, flags } => write_barrier(b"try-barrier", *id, *flags, sink),
+    }
+}

@@ -1,0 +1,68 @@
+//! The events of a schedule.
+
+ghost use Rattle.std.specs.Prelude.{ℕ};
+ghost use Rattle.gas_outside.specs.Buffered.{GathersAll, outbox};
+ghost use Rattle.job_text.specs.Events.{event_text, timed_text};
+ghost use Rattle.job_text.specs.declared.job.ScheduledEvent.TheVariants as events;
+
+use crate::calls::write_call;
+use crate::forms::write;
+use crate::numbers::write_number;
+use crate::words::Word;
+use gas_outside::{BufferedSink, Sink, Wrote};
+use job_text::{ScheduledCall, ScheduledEvent, TimedEvent};
+
+/// Writes a call of a thread of a node.
+fn write_thread_call<K: Sink>(
+    node: u16,
+    thread: u16,
+    call: &ScheduledCall,
+    sink: &mut BufferedSink<K>,
+) -> Wrote
+    ensures { (nodes threads : ℕ) → GathersAll (outbox K.taken K.faults sink.old)
+        (outbox K.taken K.faults sink.new)
+        (event_text nodes threads (events.Call node thread call.now)) result }
+{
+    if let Wrote::Fault = write(b"call", &[Word::U16(node), Word::U16(thread)], sink) {
+        return Wrote::Fault;
+    }
+    if let Wrote::Fault = sink.write_all(b" ") {
+        return Wrote::Fault;
+    }
+    write_call(call, sink)
+}
+
+/// Writes an event.
+fn write_event<K: Sink>(event: &ScheduledEvent, sink: &mut BufferedSink<K>) -> Wrote
+    ensures { (nodes threads : ℕ) → GathersAll (outbox K.taken K.faults sink.old)
+        (outbox K.taken K.faults sink.new) (event_text nodes threads event.now) result }
+{
+    use Word::{U16, U32, U64};
+    match event {
+        ScheduledEvent::Call { node, thread, call } => write_thread_call(
+            *node, *thread, call, sink,
+        ),
+        ScheduledEvent::Request { from, to, number } => {
+            write(b"request", &[U16(*from), U16(*to), U64(*number)], sink)
+        }
+        ScheduledEvent::Reply { from, to, number } => {
+            write(b"reply", &[U16(*from), U16(*to), U64(*number)], sink)
+        }
+        ScheduledEvent::Tick { node } => write(b"tick", &[U16(*node)], sink),
+        ScheduledEvent::Settle { rounds } => write(b"settle", &[U32(*rounds)], sink),
+    }
+}
+
+/// Writes what a line of the schedule says.
+pub(crate) fn write_timed<K: Sink>(timed: &TimedEvent, sink: &mut BufferedSink<K>) -> Wrote
+    ensures { (nodes threads : ℕ) → GathersAll (outbox K.taken K.faults sink.old)
+        (outbox K.taken K.faults sink.new) (timed_text nodes threads timed.now) result }
+{
+    if let Wrote::Fault = write_number(timed.time, sink) {
+        return Wrote::Fault;
+    }
+    if let Wrote::Fault = sink.write_all(b" ") {
+        return Wrote::Fault;
+    }
+    write_event(&timed.event, sink)
+}

@@ -1,0 +1,109 @@
+//! Forms of lines: a name, words, and of some a list at the end.
+
+ghost use Rattle.std.specs.Prelude.{◌++◌, ◌∷◌, [], decimal};
+ghost use Rattle.std.specs.List.{flat_map};
+ghost use Rattle.gas_outside.specs.Buffered.{GathersAll, outbox};
+ghost use Rattle.job_text.specs.Words.{operand_word};
+ghost use Rattle.job_print.specs.Writing.{last_text, words_then};
+
+use crate::numbers::{write_number, write_operand};
+use crate::words::{Word, write_spaced};
+use gas_outside::{BufferedSink, Sink, Wrote};
+use job_text::{ListedLocks, Operand, Operands, Registers};
+
+/// The list of words at the end of a line.
+#[derive(Clone, Copy)]
+pub(crate) enum Last<'a> {
+    /// None.
+    Nothing,
+    /// Numbers as an action has them.
+    Operands(&'a Operands),
+    /// Registers.
+    Registers(&'a Registers),
+    /// Locks.
+    Locks(&'a ListedLocks),
+}
+
+/// Writes a space and the word of each operand.
+fn write_operands<K: Sink>(operands: &[Operand], sink: &mut BufferedSink<K>) -> Wrote
+    ensures { GathersAll (outbox K.taken K.faults sink.old) (outbox K.taken K.faults sink.new)
+        (flat_map (λ operand. 32 ∷ operand_word operand) operands.now) result }
+{
+    for operand in operands {
+        if let Wrote::Fault = sink.write_all(b" ") {
+            return Wrote::Fault;
+        }
+        if let Wrote::Fault = write_operand(*operand, sink) {
+            return Wrote::Fault;
+        }
+    }
+    Wrote::Done
+}
+
+/// Writes a space and the digits of each number.
+fn write_numbers<K: Sink>(numbers: &[u8], sink: &mut BufferedSink<K>) -> Wrote
+    ensures { GathersAll (outbox K.taken K.faults sink.old) (outbox K.taken K.faults sink.new)
+        (flat_map (λ number. 32 ∷ decimal number) numbers.now) result }
+{
+    for number in numbers {
+        if let Wrote::Fault = sink.write_all(b" ") {
+            return Wrote::Fault;
+        }
+        if let Wrote::Fault = write_number(u64::from(*number), sink) {
+            return Wrote::Fault;
+        }
+    }
+    Wrote::Done
+}
+
+/// Writes the list at the end of a line.
+fn write_last<K: Sink>(last: Last<'_>, sink: &mut BufferedSink<K>) -> Wrote
+    ensures { GathersAll (outbox K.taken K.faults sink.old) (outbox K.taken K.faults sink.new)
+        (last_text last.entry) result }
+{
+    match last {
+        Last::Nothing => Wrote::Done,
+        Last::Operands(operands) => write_operands(operands.items(), sink),
+        Last::Registers(registers) => write_numbers(registers.items(), sink),
+        Last::Locks(locks) => write_numbers(locks.items(), sink),
+    }
+}
+
+/// Writes a name, a space and a word for each of the words, and a list.
+pub(crate) fn write_form<K: Sink>(
+    name: &[u8],
+    words: &[Word<'_>],
+    last: Last<'_>,
+    sink: &mut BufferedSink<K>,
+) -> Wrote
+    ensures { GathersAll (outbox K.taken K.faults sink.old) (outbox K.taken K.faults sink.new)
+        (name.now ++ words_then words.now (last_text last.entry)) result }
+{
+    if let Wrote::Fault = sink.write_all(name) {
+        return Wrote::Fault;
+    }
+    if let Wrote::Fault = write_spaced(words, sink) {
+        return Wrote::Fault;
+    }
+    write_last(last, sink)
+}
+
+/// Writes a name, and a space and a word for each of the words.
+pub(crate) fn write<K: Sink>(name: &[u8], words: &[Word<'_>], sink: &mut BufferedSink<K>) -> Wrote
+    ensures { GathersAll (outbox K.taken K.faults sink.old) (outbox K.taken K.faults sink.new)
+        (name.now ++ words_then words.now []) result }
+{
+    write_form(name, words, Last::Nothing, sink)
+}
+
+/// Writes a name, and a space and a word for each of the registers.
+pub(crate) fn write_list<K: Sink>(
+    name: &[u8],
+    registers: &Registers,
+    sink: &mut BufferedSink<K>,
+) -> Wrote
+    ensures { GathersAll (outbox K.taken K.faults sink.old) (outbox K.taken K.faults sink.new)
+        (name.now ++ flat_map (λ register. 32 ∷ decimal register) registers.now) result }
+{
+    write_form(name, &[], Last::Registers(registers), sink)
+}

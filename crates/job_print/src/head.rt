@@ -1,0 +1,101 @@
+//! The head of a job: its settings, the sieve, and the pairs with credits of their own.
+
+ghost use Rattle.std.specs.Prelude.{◌++◌, ◌∷◌, [], map};
+ghost use Rattle.gas_outside.specs.Buffered.{GathersAll, outbox};
+ghost use Rattle.job_text.specs.JobText.{all_settings, head_lines, pair_line, setting_line};
+ghost use Rattle.job_text.specs.JobText.{sieve_line, spell};
+ghost use Rattle.job_print.specs.Writing.{number_line};
+
+use crate::forms::write;
+use crate::words::Word;
+use datagram_grammar::PairCredits;
+use gas_outside::{BufferedSink, Sink, Wrote};
+use job_text::{Job, SieveRule};
+
+/// A line of a name and a number.
+#[derive(Clone, Copy)]
+pub(crate) struct NumberLine<'a>(&'a [u8], Word<'a>);
+
+/// Writes lines of a name and a number.
+fn write_number_lines<K: Sink>(lines: &[NumberLine<'_>], sink: &mut BufferedSink<K>) -> Wrote
+    ensures { GathersAll (outbox K.taken K.faults sink.old) (outbox K.taken K.faults sink.new)
+        (spell (map number_line lines.now)) result }
+{
+    for line in lines {
+        if let Wrote::Fault = write(line.0, &[line.1], sink) {
+            return Wrote::Fault;
+        }
+        if let Wrote::Fault = sink.write_all(b"\n") {
+            return Wrote::Fault;
+        }
+    }
+    Wrote::Done
+}
+
+/// Writes the lines of the settings, and of how long a node waits.
+fn write_settings<K: Sink>(job: &Job, sink: &mut BufferedSink<K>) -> Wrote
+    ensures { GathersAll (outbox K.taken K.faults sink.old) (outbox K.taken K.faults sink.new)
+        (spell (map (setting_line job.now) all_settings)) result }
+{
+    let settings = &job.settings;
+    let lines = [
+        NumberLine(b"gasnet", Word::U8(settings.version())),
+        NumberLine(b"job", Word::U64(settings.job())),
+        NumberLine(b"nodes", Word::U16(settings.nodes())),
+        NumberLine(b"credits", Word::U16(settings.base_credits())),
+        NumberLine(b"threads", Word::U16(settings.threads())),
+        NumberLine(b"segment", Word::U64(settings.segment())),
+        NumberLine(b"last", Word::U64(settings.last())),
+        NumberLine(b"resend", Word::U64(settings.resend())),
+        NumberLine(b"patience", Word::U32(job.patience)),
+    ];
+    write_number_lines(&lines, sink)
+}
+
+/// Writes the line of the sieve.
+fn write_sieve<K: Sink>(sieve: SieveRule, sink: &mut BufferedSink<K>) -> Wrote
+    ensures { GathersAll (outbox K.taken K.faults sink.old) (outbox K.taken K.faults sink.new)
+        (sieve_line sieve ++ 10 ∷ []) result }
+{
+    let words = [
+        Word::U32(sieve.lose),
+        Word::U32(sieve.repeat),
+        Word::U32(sieve.swap),
+    ];
+    if let Wrote::Fault = write(b"sieve", &words, sink) {
+        return Wrote::Fault;
+    }
+    sink.write_all(b"\n")
+}
+
+/// Writes the lines before the pairs.
+pub(crate) fn write_head<K: Sink>(job: &Job, sink: &mut BufferedSink<K>) -> Wrote
+    ensures { GathersAll (outbox K.taken K.faults sink.old) (outbox K.taken K.faults sink.new)
+        (spell (head_lines job.now)) result }
+{
+    if let Wrote::Fault = write_settings(job, sink) {
+        return Wrote::Fault;
+    }
+    write_sieve(job.sieve, sink)
+}
+
+/// Writes the lines of pairs, in their order.
+pub(crate) fn write_pairs<K: Sink>(pairs: &[PairCredits], sink: &mut BufferedSink<K>) -> Wrote
+    ensures { GathersAll (outbox K.taken K.faults sink.old) (outbox K.taken K.faults sink.new)
+        (spell (map pair_line pairs.now)) result }
+{
+    for pair in pairs {
+        let words = [
+            Word::U16(pair.from),
+            Word::U16(pair.to),
+            Word::U16(pair.credits),
+        ];
+        if let Wrote::Fault = write(b"pair", &words, sink) {
+            return Wrote::Fault;
+        }
+        if let Wrote::Fault = sink.write_all(b"\n") {
+            return Wrote::Fault;
+        }
+    }
+    Wrote::Done
+}

@@ -1,0 +1,45 @@
+//! The words of kinds of calls, of roles and of implicit operations.
+
+ghost use Rattle.std.specs.Prelude.{◌≡◌};
+ghost use Rattle.job_text.specs.Words.{implicit_word, kind_word, role_word};
+
+use handler_rules::{CallKind, Role};
+use job_text::ImplicitKind;
+
+/// The word of a kind of calls; none of those that no text names.
+pub(crate) fn kind_word(kind: CallKind) -> &'static [u8]
+    ensures { result.now ≡ kind_word kind }
+{
+    match kind {
+        CallKind::Request => b"request",
+        CallKind::Reply => b"reply",
+        CallKind::Poll => b"poll",
+        CallKind::Transfer => b"transfer",
+        CallKind::Sync => b"sync",
+        CallKind::Region => b"region",
+        CallKind::Barrier => b"barrier",
+        CallKind::Source => b"source",
+        CallKind::Lock | CallKind::Unlock | CallKind::Return => b"",
+    }
+}
+
+/// The word of a role.
+pub(crate) fn role_word(role: Role) -> &'static [u8]
+    ensures { result.now ≡ role_word role }
+{
+    match role {
+        Role::Request => b"request",
+        Role::Reply => b"reply",
+    }
+}
+
+/// The word of implicit operations.
+pub(crate) fn implicit_word(which: ImplicitKind) -> &'static [u8]
+    ensures { result.now ≡ implicit_word which }
+{
+    match which {
+        ImplicitKind::Puts => b"puts",
+        ImplicitKind::Gets => b"gets",
+        ImplicitKind::All => b"all",
+    }
+}

@@ -1,0 +1,37 @@
+//! Printing a job.
+
+ghost use Rattle.gas_outside.specs.Buffered.{GathersAll, outbox};
+ghost use Rattle.job_text.specs.JobText.{job_text};
+
+use crate::handlers::write_handlers;
+use crate::head::{write_head, write_pairs};
+use crate::schedules::write_schedule;
+use crate::scripts::write_scripts;
+use gas_outside::{BufferedSink, Sink, Wrote};
+use job_text::Job;
+
+/// Writes the text of a job: the one text that is read as it, where its words are in range. Pairs, handlers and scripts
+/// come in the order in which they stood in the text that was read, and a schedule's section exactly where one was.
+///
+/// `Fault` comes only where the sink failed; a front of the text went in then. It takes no memory.
+pub fn print_job<K: Sink>(job: &Job, sink: &mut BufferedSink<K>) -> Wrote
+    ensures { GathersAll (outbox K.taken K.faults sink.old) (outbox K.taken K.faults sink.new)
+        (job_text job.now) result }
+{
+    if let Wrote::Fault = write_head(job, sink) {
+        return Wrote::Fault;
+    }
+    if let Wrote::Fault = write_pairs(job.settings.pairs(), sink) {
+        return Wrote::Fault;
+    }
+    if let Wrote::Fault = write_handlers(job.handlers.texts(), sink) {
+        return Wrote::Fault;
+    }
+    if let Wrote::Fault = write_scripts(job.scripts.scripts(), sink) {
+        return Wrote::Fault;
+    }
+    if let Wrote::Fault = write_schedule(&job.schedule, sink) {
+        return Wrote::Fault;
+    }
+    sink.write_all(b"done\n")
+}

@@ -1,0 +1,91 @@
+//! The steps of a script.
+
+ghost use Rattle.gas_outside.specs.Buffered.{GathersAll, outbox};
+ghost use Rattle.job_text.specs.Forms.{entry_text, none_text};
+ghost use Rattle.job_text.specs.Scripts.{step_text, transfer_entry, waiting_text};
+
+use crate::calls::{write_barrier, write_call};
+use crate::forms::{write, write_list};
+use crate::words::Word;
+use gas_outside::{BufferedSink, Sink, Wrote};
+use job_text::{PutText, ScriptStep, TransferText, WaitingStep};
+
+/// Writes a transfer that is waited for.
+fn write_transfer<K: Sink>(transfer: &TransferText, sink: &mut BufferedSink<K>) -> Wrote
+    ensures { GathersAll (outbox K.taken K.faults sink.old) (outbox K.taken K.faults sink.new)
+        (entry_text none_text (transfer_entry transfer.now)) result }
+{
+    use Word::{U8, U16, U64};
+    match *transfer {
+        TransferText::Put {
+            to,
+            remote,
+            local,
+            len,
+        } => {
+            let words = [U16(to), U64(remote), U64(local), U64(len)];
+            write(b"put", &words, sink)
+        }
+        TransferText::Get {
+            to,
+            remote,
+            local,
+            len,
+        } => {
+            let words = [U16(to), U64(remote), U64(local), U64(len)];
+            write(b"get", &words, sink)
+        }
+        TransferText::Memset {
+            to,
+            remote,
+            len,
+            byte,
+        } => {
+            let words = [U16(to), U64(remote), U64(len), U8(byte)];
+            write(b"memset", &words, sink)
+        }
+    }
+}
+
+/// Writes a step that scripts alone have.
+fn write_waiting<K: Sink>(step: &WaitingStep, sink: &mut BufferedSink<K>) -> Wrote
+    ensures { GathersAll (outbox K.taken K.faults sink.old) (outbox K.taken K.faults sink.new)
+        (waiting_text step.now) result }
+{
+    use WaitingStep as Step;
+    use Word::{Implicit, U8, U16, U64, Value};
+    match step {
+        Step::Until { cell, operand } => write(b"until", &[U8(*cell), Value(*operand)], sink),
+        Step::Transfer { transfer } => write_transfer(transfer.text(), sink),
+        Step::PutBegin { register, put } => {
+            let PutText {
+                to,
+                remote,
+                local,
+                len,
+            } = *put;
+            let words = [U8(*register), U16(to), U64(remote), U64(local), U64(len)];
+            write(b"put-nb", &words, sink)
+        }
+        Step::PutImplicit { put } => {
+            let words = [U16(put.to), U64(put.remote), U64(put.local), U64(put.len)];
+            write(b"put-nbi", &words, sink)
+        }
+        Step::Wait { register } => write(b"wait", &[U8(*register)], sink),
+        Step::WaitAll { registers } => write_list(b"wait-all", registers, sink),
+        Step::WaitSome { registers } => write_list(b"wait-some", registers, sink),
+        Step::WaitImplicit { which } => write(b"wait-nbi", &[Implicit(*which)], sink),
+        Step::BarrierWait { id, flags } => write_barrier(b"barrier-wait", *id, *flags, sink),
+    }
+}
+
+/// Writes a step.
+pub(crate) fn write_step<K: Sink>(step: &ScriptStep, sink: &mut BufferedSink<K>) -> Wrote
+    ensures { GathersAll (outbox K.taken K.faults sink.old) (outbox K.taken K.faults sink.new)
+        (step_text step.now) result }
+{
+    match step {
+        ScriptStep::Call { call } => write_call(call, sink),
+        ScriptStep::Waiting { step } => write_waiting(step, sink),
+    }
+}

@@ -1,0 +1,75 @@
+//! The words of a line.
+
+ghost use Rattle.gas_outside.specs.Buffered.{GathersAll, outbox};
+ghost use Rattle.std.specs.List.{flat_map};
+ghost use Rattle.job_print.specs.Writing.{spaced_word, word_bytes};
+
+use crate::names::{implicit_word, kind_word, role_word};
+use crate::numbers::{write_integer, write_number, write_operand};
+use crate::payloads::{write_bytes, write_payload};
+use gas_outside::{BufferedSink, Sink, Wrote};
+use handler_rules::{CallKind, Role};
+use job_text::{Bytes, ImplicitKind, Operand, Payload};
+
+/// A word of a line behind its name, by what it says.
+#[derive(Clone, Copy)]
+pub(crate) enum Word<'a> {
+    /// A number of 8 bits.
+    U8(u8),
+    /// A number of 16 bits.
+    U16(u16),
+    /// A number of 32 bits.
+    U32(u32),
+    /// A number of 64 bits.
+    U64(u64),
+    /// A number of 32 bits that may be negative.
+    Integer(i32),
+    /// A number as an action has it.
+    Value(Operand),
+    /// A kind of calls.
+    Kind(CallKind),
+    /// A handler's role.
+    Role(Role),
+    /// Implicit operations.
+    Implicit(ImplicitKind),
+    /// Bytes.
+    Bytes(&'a Bytes),
+    /// A payload.
+    Payload(&'a Payload),
+}
+
+/// Writes a word.
+pub(crate) fn write_word<K: Sink>(word: Word<'_>, sink: &mut BufferedSink<K>) -> Wrote
+    ensures { GathersAll (outbox K.taken K.faults sink.old) (outbox K.taken K.faults sink.new)
+        (word_bytes word.entry) result }
+{
+    match word {
+        Word::U8(number) => write_number(u64::from(number), sink),
+        Word::U16(number) => write_number(u64::from(number), sink),
+        Word::U32(number) => write_number(u64::from(number), sink),
+        Word::U64(number) => write_number(number, sink),
+        Word::Integer(number) => write_integer(number, sink),
+        Word::Value(operand) => write_operand(operand, sink),
+        Word::Kind(kind) => sink.write_all(kind_word(kind)),
+        Word::Role(role) => sink.write_all(role_word(role)),
+        Word::Implicit(which) => sink.write_all(implicit_word(which)),
+        Word::Bytes(bytes) => write_bytes(bytes.items(), sink),
+        Word::Payload(payload) => write_payload(payload, sink),
+    }
+}
+
+/// Writes a space and a word for each.
+pub(crate) fn write_spaced<K: Sink>(words: &[Word<'_>], sink: &mut BufferedSink<K>) -> Wrote
+    ensures { GathersAll (outbox K.taken K.faults sink.old) (outbox K.taken K.faults sink.new)
+        (flat_map spaced_word words.now) result }
+{
+    for word in words {
+        if let Wrote::Fault = sink.write_all(b" ") {
+            return Wrote::Fault;
+        }
+        if let Wrote::Fault = write_word(*word, sink) {
+            return Wrote::Fault;
+        }
+    }
+    Wrote::Done
+}
