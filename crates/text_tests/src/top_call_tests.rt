@@ -482,6 +482,8 @@ fn check_usage(rt: &(impl Abort + AllocGlobal), words: &[&str]) -> Result<(), Fa
 fn other_words_are_refused(rt: HostRuntime) -> Result<(), Fail> {
     check_usage(&rt, &["world", "3"])?;
     check_usage(&rt, &["World"])?;
+    check_usage(&rt, &["upgrade", "2"])?;
+    check_usage(&rt, &["upgrades"])?;
     check_usage(&rt, &[])
 }
 
@@ -523,6 +525,75 @@ fn after_a_fault_of_the_sink_nothing_is_written(rt: HostRuntime) -> Result<(), F
         let count = said.bytes.len();
         assert!(rt; count <= most, "write {write_fails}: {count} bytes");
         assert!(rt; whole.bytes.starts_with(&said.bytes), "write {write_fails}");
+    }
+    Ok(())
+}
+
+/// What `upgrade` says of the long job, with the code 0 and no status line.
+fn upgraded(rt: &(impl Abort + AllocGlobal)) -> Result<Vec<u8>, Fail> {
+    let (code, said) = call(rt.alloc(), &["upgrade"], long_job(rt.alloc())?, 0, 0)?;
+    assert_eq!(rt; code, 0);
+    Ok(said)
+}
+
+#[test]
+fn an_upgraded_job_is_the_same_in_version_2(rt: HostRuntime) -> Result<(), Fail> {
+    let job = long_job(rt.alloc())?;
+    let said = upgraded(&rt)?;
+    let (first, others) = said.split_at(said.len().min(9));
+    let (_, wanted) = job.split_at(job.len().min(9));
+    assert_eq!(rt; first, b"gasnet 2\n".as_slice());
+    assert_eq!(rt; others, wanted);
+    Ok(())
+}
+
+#[test]
+fn an_upgraded_job_runs_as_before(rt: HostRuntime) -> Result<(), Fail> {
+    let (code, before) = call(rt.alloc(), &["world"], long_job(rt.alloc())?, 0, 0)?;
+    assert_eq!(rt; code, 0);
+    let (code, after) = call(rt.alloc(), &["world"], upgraded(&rt)?, 0, 0)?;
+    assert_eq!(rt; code, 0);
+    assert_eq!(rt; after.as_slice(), before.as_slice());
+    Ok(())
+}
+
+#[test]
+fn what_upgrade_cannot_read_is_told(rt: HostRuntime) -> Result<(), Fail> {
+    for (input, read_fails, want, text) in [
+        (
+            b"gasnet 3\n".as_slice(),
+            0,
+            3,
+            b"status 3 bad-job 1 value\n".as_slice(),
+        ),
+        (
+            b"gasnet 1\n".as_slice(),
+            2,
+            4,
+            b"status 4 read-fault\n".as_slice(),
+        ),
+    ] {
+        let input = Vec::from_slice(rt.alloc(), input)?;
+        let (code, said) = call(rt.alloc(), &["upgrade"], input, read_fails, 0)?;
+        assert_eq!(rt; code, want);
+        assert_eq!(rt; said.as_slice(), text);
+    }
+    Ok(())
+}
+
+#[test]
+fn at_a_fault_of_the_sink_a_front_of_the_job_is_written(rt: HostRuntime) -> Result<(), Fail> {
+    let whole = upgraded(&rt)?;
+    for (write_fails, len) in [(1, 0), (2, 8192), (3, 16_384)] {
+        let job = long_job(rt.alloc())?;
+        let (code, said) = call(rt.alloc(), &["upgrade"], job, 0, write_fails)?;
+        assert_eq!(rt; code, 5);
+        assert!(rt;
+            said.len() <= len,
+            "write {write_fails}: {} bytes",
+            said.len()
+        );
+        assert!(rt; whole.starts_with(&said), "write {write_fails}");
     }
     Ok(())
 }

@@ -10,12 +10,17 @@ use Rattle.top_call.specs.declared.words.Command.TheVariants as commands
 pub asks_world : (word : Word) → word ≡ codes "world" → Asks (word ∷ []) commands.World
 asks_world word is = record { in_range = tt; words_are = ap (λ (w : Word). w ∷ []) is }
 
-one_other_by : (word : Word) (command : Command) → (word ≡ codes "world" → ⊥) → Asks (word ∷ []) command → ⊥
-one_other_by word commands.World other asks = let same = asks.words_are in other (cc)
-one_other_by word (commands.Drill seed) other asks = let same = asks.words_are in absurd (cc)
+pub asks_upgrade : (word : Word) → word ≡ codes "upgrade" → Asks (word ∷ []) commands.Upgrade
+asks_upgrade word is = record { in_range = tt; words_are = ap (λ (w : Word). w ∷ []) is }
 
-pub one_other : (word : Word) → (word ≡ codes "world" → ⊥) → AsksNothing (word ∷ [])
-one_other word other command = one_other_by word command other
+one_other_by : (word : Word) (command : Command) → (word ≡ codes "world" → ⊥) → (word ≡ codes "upgrade" → ⊥)
+    → Asks (word ∷ []) command → ⊥
+one_other_by word commands.World world upgrade asks = let same = asks.words_are in world (cc)
+one_other_by word commands.Upgrade world upgrade asks = let same = asks.words_are in upgrade (cc)
+one_other_by word (commands.Drill seed) world upgrade asks = let same = asks.words_are in absurd (cc)
+
+pub one_other : (word : Word) → (word ≡ codes "world" → ⊥) → (word ≡ codes "upgrade" → ⊥) → AsksNothing (word ∷ [])
+one_other word world upgrade command = one_other_by word command world upgrade
 
 -- two words
 pub asks_drill : (name word : Word) (seed : ℕ) → seed < 2 ^ 64 → name ≡ codes "drill" → word ≡ decimal seed
@@ -27,6 +32,7 @@ asks_drill name word seed fits is number = record {
 
 two_other_by : (name word : Word) (command : Command) → (name ≡ codes "drill" → ⊥) → Asks (name ∷ word ∷ []) command → ⊥
 two_other_by name word commands.World other asks = let same = asks.words_are in absurd (cc)
+two_other_by name word commands.Upgrade other asks = let same = asks.words_are in absurd (cc)
 two_other_by name word (commands.Drill seed) other asks = let same = asks.words_are in other (cc)
 
 pub two_other : (name word : Word) → (name ≡ codes "drill" → ⊥) → AsksNothing (name ∷ word ∷ [])
@@ -35,6 +41,7 @@ two_other name word other command = two_other_by name word command other
 no_seed_by : (name word : Word) (command : Command) → ((seed : ℕ) → seed < 2 ^ 64 → word ≡ decimal seed → ⊥)
     → Asks (name ∷ word ∷ []) command → ⊥
 no_seed_by name word commands.World none asks = let same = asks.words_are in absurd (cc)
+no_seed_by name word commands.Upgrade none asks = let same = asks.words_are in absurd (cc)
 no_seed_by name word (commands.Drill seed) none asks =
     let same = asks.words_are in none seed asks.in_range (cc)
 
@@ -46,6 +53,7 @@ no_seed name word none command = no_seed_by name word command none
 other_count_by : (words : List Word) (command : Command) → (length words ≡ 1 → ⊥) → (length words ≡ 2 → ⊥)
     → Asks words command → ⊥
 other_count_by words commands.World one two asks = one (ap length asks.words_are)
+other_count_by words commands.Upgrade one two asks = one (ap length asks.words_are)
 other_count_by words (commands.Drill seed) one two asks = two (ap length asks.words_are)
 
 pub other_count : (words : List Word) → (length words ≡ 1 → ⊥) → (length words ≡ 2 → ⊥) → AsksNothing words

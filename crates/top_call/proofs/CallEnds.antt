@@ -26,14 +26,12 @@ use Rattle.world_run.specs.declared.run.RunEnd.TheVariants as runs
 use Rattle.world_run.proofs.LinesWritten.{one_more}
 use Rattle.drill_run.specs.Rounds.{drill_job}
 use Rattle.drill_run.specs.Summary.{drill_lines}
-use Rattle.top_call.specs.Outsides.{Input, Output, Call, Reading, Takes, read_in, took_in}
+use Rattle.top_call.specs.Outsides.{Output, Call, Reading, Takes, read_in, took_in}
 use Rattle.top_call.specs.Commands.{code_of, end_of, status_line}
 use Rattle.top_call.specs.CommandEnds.{After, EndsHow, EndsRun, GivesJob, LeavesRun, ReadsJob, ReadsNoJob, SaysAlone}
-use Rattle.top_call.specs.CommandEnds.{DrillEnds, Ends, UsageEnds, WorldEnds, gives, said_last, unasked}
+use Rattle.top_call.specs.CommandEnds.{DrillEnds, Ends, UpgradeEnds, UsageEnds, WorldEnds, gives, said_last, unasked}
 use Rattle.top_call.specs.TopCall.{Cut, Told, Means}
-use Rattle.top_call.specs.TopParts.{ReadsOrNot, IsReadJob, Says, SaysRun, GivesOn, EndsBy, cut}
-use Rattle.top_call.specs.declared.command.JobRead.{JobRead}
-use Rattle.top_call.specs.declared.command.JobRead.TheVariants as reads
+use Rattle.top_call.specs.TopParts.{Says, SaysRun, GivesOn, EndsBy, cut}
 use Rattle.top_call.specs.declared.ending.End.{End}
 use Rattle.top_call.specs.declared.ending.End.TheVariants as ends
 use Rattle.top_call.specs.declared.ending.Ended.{Ended}
@@ -94,10 +92,23 @@ weak_drill seed ends.WriteFault world said h = h
 pub weak_usage : Weakens UsageEnds
 weak_usage end world said h = (h.0, weak_alone end world said h.1)
 
+pub weak_upgrade : (reading : Reading) → Weakens (UpgradeEnds reading)
+weak_upgrade reading ends.Done world said h =
+    record { job = h.job; read = h.read; text = h.text; same = h.same; no_world = tt }
+weak_upgrade reading (ends.BadJob line reason) world said h =
+    record { read = h.read; alone = weak_alone (ends.BadJob line reason) world said h.alone }
+weak_upgrade reading ends.ReadFault world said h =
+    record { rose = h.rose; alone = weak_alone ends.ReadFault world said h.alone }
+weak_upgrade reading ends.NoMemory world said h = weak_alone ends.NoMemory world said h
+weak_upgrade reading ends.Violations world said h = h
+weak_upgrade reading ends.Usage world said h = h
+weak_upgrade reading ends.WriteFault world said h = h
+
 -- so of each command
 pub weak_ends : (asked : Option Command) (reading : Reading) → Weakens (Ends asked reading)
 weak_ends None reading = weak_usage
 weak_ends (Some commands.World) reading = weak_world reading
+weak_ends (Some commands.Upgrade) reading = weak_upgrade reading
 weak_ends (Some (commands.Drill seed)) reading = weak_drill seed
 
 -- ---- the last line
@@ -313,14 +324,6 @@ reads_job left left' bytes seen j same h text one = record {
   text = subst (JobText j) same text;
   one = λ other its. one other (subst (JobText other) (sym same) its);
 }
-
--- and so they are where memory sufficed for its handlers
-pub reads_or_not : (old new : Input) (job : JobState) (read : JobRead) → ReadsJob old.left new.left job
-    → IsReadJob job read → ReadsOrNot old new read
-reads_or_not old new job (reads.Job k) h is = subst (λ (x : JobState). ReadsJob old.left new.left x) (sym is) h
-reads_or_not old new job (reads.NoJob line why) h is = absurd is
-reads_or_not old new job reads.Fault h is = absurd is
-reads_or_not old new job reads.NoMemory h is = tt
 
 -- all bytes were read, and they are no job's text
 pub reads_bad : (left left' : Option (List ℕ)) (bytes seen : List ℕ) (fault : JobFault) (line : ℕ) (reason : JobWhy)

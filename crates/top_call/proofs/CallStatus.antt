@@ -7,8 +7,9 @@ use Rattle.node_script.specs.Lines.{Word}
 use Rattle.job_text.specs.declared.fault.JobWhy.{JobWhy}
 use Rattle.top_call.specs.Outsides.{Call, IsFaultless, read_in, took_in}
 use Rattle.top_call.specs.Commands.{Asks, AsksNothing, IsAsked, IsCommand, code_of, command_words}
-use Rattle.top_call.specs.CommandEnds.{DrillEnds, Ends, UsageEnds, WorldEnds, ReadsNoJob}
-use Rattle.top_call.specs.TopCall.{DrillMeans, HoldsJob, IsComplete, Means, StatusMeans, UsageMeans, WorldMeans}
+use Rattle.top_call.specs.CommandEnds.{DrillEnds, Ends, UpgradeEnds, UsageEnds, WorldEnds, ReadsNoJob}
+use Rattle.top_call.specs.TopCall.{DrillMeans, HoldsJob, IsComplete, Means, StatusMeans, UpgradeMeans, UsageMeans}
+use Rattle.top_call.specs.TopCall.{WorldMeans}
 use Rattle.top_call.specs.declared.ending.End.{End}
 use Rattle.top_call.specs.declared.ending.End.TheVariants as ends
 use Rattle.top_call.specs.declared.words.Command.{Command}
@@ -75,6 +76,53 @@ world_means call ends.NoMemory h = record {
 }
 world_means call ends.Usage h = absurd h.ends
 
+-- ---- `upgrade`
+
+upgrade_means : (call : Call) (end : End) → Means (UpgradeEnds (read_in call)) (took_in call) call.world end
+    → UpgradeMeans call (code_of end)
+upgrade_means call ends.Done h = record {
+  is_status = (0, lit< tt, refl);
+  ok = λ e. h;
+  bad_job = λ e. absurd (omega (arith, e));
+  read_fault = λ e. absurd (omega (arith, e));
+  write_fault = λ e. absurd (omega (arith, e));
+  no_memory = λ e. absurd (omega (arith, e));
+}
+upgrade_means call (ends.BadJob line reason) h = record {
+  is_status = (1, lit< tt, refl);
+  ok = λ e. absurd (omega (arith, e));
+  bad_job = λ e. (line, reason, h);
+  read_fault = λ e. absurd (omega (arith, e));
+  write_fault = λ e. absurd (omega (arith, e));
+  no_memory = λ e. absurd (omega (arith, e));
+}
+upgrade_means call ends.ReadFault h = record {
+  is_status = (2, lit< tt, refl);
+  ok = λ e. absurd (omega (arith, e));
+  bad_job = λ e. absurd (omega (arith, e));
+  read_fault = λ e. h;
+  write_fault = λ e. absurd (omega (arith, e));
+  no_memory = λ e. absurd (omega (arith, e));
+}
+upgrade_means call ends.WriteFault h = record {
+  is_status = (3, lit< tt, refl);
+  ok = λ e. absurd (omega (arith, e));
+  bad_job = λ e. absurd (omega (arith, e));
+  read_fault = λ e. absurd (omega (arith, e));
+  write_fault = λ e. h;
+  no_memory = λ e. absurd (omega (arith, e));
+}
+upgrade_means call ends.NoMemory h = record {
+  is_status = (4, lit< tt, refl);
+  ok = λ e. absurd (omega (arith, e));
+  bad_job = λ e. absurd (omega (arith, e));
+  read_fault = λ e. absurd (omega (arith, e));
+  write_fault = λ e. absurd (omega (arith, e));
+  no_memory = λ e. h;
+}
+upgrade_means call ends.Violations h = absurd h.ends
+upgrade_means call ends.Usage h = absurd h.ends
+
 -- ---- `drill`
 
 drill_means : (call : Call) (seed : ℕ) (end : End) → Means (DrillEnds seed) (took_in call) call.world end
@@ -136,8 +184,13 @@ usage_means call ends.NoMemory h = absurd (let other = h.ends.0 in cc)
 one_command : (asked other : Command) → IsCommand asked → IsCommand other
     → command_words asked ≡ command_words other → asked ≡ other
 one_command commands.World commands.World h k same = refl
+one_command commands.World commands.Upgrade h k same = absurd (cc)
 one_command commands.World (commands.Drill seed) h k same = absurd (cc)
+one_command commands.Upgrade commands.World h k same = absurd (cc)
+one_command commands.Upgrade commands.Upgrade h k same = refl
+one_command commands.Upgrade (commands.Drill seed) h k same = absurd (cc)
 one_command (commands.Drill seed) commands.World h k same = absurd (cc)
+one_command (commands.Drill seed) commands.Upgrade h k same = absurd (cc)
 one_command (commands.Drill seed) (commands.Drill other) h k same =
     ap (λ (n : ℕ). commands.Drill n) (decimal_injective seed other h k (cc))
 
@@ -163,6 +216,8 @@ pub status_means : (call : Call) (asked : Option Command) (end : End) → IsAske
 status_means call asked end is h = record {
   world = λ asks.
       world_means call end (subst (EndedAs call end) (is_asked call.words asked commands.World is asks) h);
+  upgrade = λ asks.
+      upgrade_means call end (subst (EndedAs call end) (is_asked call.words asked commands.Upgrade is asks) h);
   drill = λ seed asks.
       drill_means call seed end
       (subst (EndedAs call end) (is_asked call.words asked (commands.Drill seed) is asks) h);
@@ -185,6 +240,20 @@ world_completes call (ends.BadJob line reason) h holds faultless =
     (not_no_job holds.bytes left holds.job line reason holds.text
     (subst (λ (before : Option (List ℕ)). ReadsNoJob before left line reason) holds.told h.ends.read))
 
+upgrade_completes : (call : Call) (end : End) → Means (UpgradeEnds (read_in call)) (took_in call) call.world end
+    → HoldsJob call.before.source → IsFaultless call → Contains (0 ∷ 8 ∷ []) (code_of end)
+upgrade_completes call ends.Done h holds faultless = (0, lit< tt, refl)
+upgrade_completes call ends.NoMemory h holds faultless = (1, lit< tt, refl)
+upgrade_completes call ends.Violations h holds faultless = absurd h.ends
+upgrade_completes call ends.Usage h holds faultless = absurd h.ends
+upgrade_completes call ends.ReadFault h holds faultless = absurd (faultless.source h.ends.rose)
+upgrade_completes call ends.WriteFault h holds faultless = absurd (faultless.sink h.cut.0)
+upgrade_completes call (ends.BadJob line reason) h holds faultless =
+    let left = call.after.source.left in
+    absurd
+    (not_no_job holds.bytes left holds.job line reason holds.text
+    (subst (λ (before : Option (List ℕ)). ReadsNoJob before left line reason) holds.told h.ends.read))
+
 drill_completes : (call : Call) (seed : ℕ) (end : End) → Means (DrillEnds seed) (took_in call) call.world end
     → IsFaultless call → Contains (0 ∷ 1 ∷ 8 ∷ []) (code_of end)
 drill_completes call seed ends.Done h faultless = (0, lit< tt, refl)
@@ -200,6 +269,8 @@ pub completes : (call : Call) (asked : Option Command) (end : End) → IsAsked c
 completes call asked end is h = record {
   world = λ asks.
       world_completes call end (subst (EndedAs call end) (is_asked call.words asked commands.World is asks) h);
+  upgrade = λ asks.
+      upgrade_completes call end (subst (EndedAs call end) (is_asked call.words asked commands.Upgrade is asks) h);
   drill = λ seed asks.
       drill_completes call seed end
       (subst (EndedAs call end) (is_asked call.words asked (commands.Drill seed) is asks) h);

@@ -1,3 +1,4 @@
 pub mod CallEnds
 pub mod CallStatus
 pub mod AskedWords
+pub mod UpgradeText

@@ -15,6 +15,7 @@ use Rattle.world_run.specs.ScheduleRun.{StandsForRun}
 use Rattle.world_run.specs.RunLaws.{RunLaws}
 use Rattle.drill_run.specs.Rounds.{drill_job}
 use Rattle.drill_run.specs.Summary.{drill_lines}
+use Rattle.upgrade_law.specs.Upgraded.{in_version}
 use Rattle.top_call.specs.Outsides.{Input, Reading}
 use Rattle.top_call.specs.Commands.{end_of, status_line}
 use Rattle.top_call.specs.declared.ending.End.{End}
@@ -139,6 +140,30 @@ WorldEnds reading ends.NoMemory after said = SaysAlone ends.NoMemory after said 
 WorldEnds reading ends.Usage after said = ⊥
 WorldEnds reading ends.WriteFault after said = ⊥
 
+-- ---- `upgrade`
+
+-- what `world` says of a job whose run comes to its end
+abbrev pub world_says : JobState → List ℕ
+world_says job = said_last (run_lines job) (end_of (is_violated job))
+
+-- a job was read, and this is the text of the same job with datagrams of version 2, without a status line. `world` says
+-- the same of both
+pub record UpgradesJob (reading : Reading) (after : After) (said : List ℕ) : Type 0 where
+  pub job : JobState
+  pub read : GivesJob reading job
+  pub text : JobText (in_version job 2) said
+  pub same : world_says (in_version job 2) ≡ world_says job
+  pub no_world : after.none
+
+abbrev pub UpgradeEnds : Reading → EndsHow
+UpgradeEnds reading ends.Done after said = UpgradesJob reading after said
+UpgradeEnds reading (ends.BadJob line reason) after said = RefusesJob reading line reason after said
+UpgradeEnds reading ends.ReadFault after said = FailsToRead reading after said
+UpgradeEnds reading ends.NoMemory after said = SaysAlone ends.NoMemory after said
+UpgradeEnds reading ends.Violations after said = ⊥
+UpgradeEnds reading ends.Usage after said = ⊥
+UpgradeEnds reading ends.WriteFault after said = ⊥
+
 -- ---- `drill`
 
 abbrev pub DrillEnds : (seed : ℕ) → EndsHow
@@ -160,4 +185,5 @@ UsageEnds end after said = (end ≡ ends.Usage) × SaysAlone end after said
 abbrev pub Ends : Option Command → Reading → EndsHow
 Ends None reading = UsageEnds
 Ends (Some commands.World) reading = WorldEnds reading
+Ends (Some commands.Upgrade) reading = UpgradeEnds reading
 Ends (Some (commands.Drill seed)) reading = DrillEnds seed

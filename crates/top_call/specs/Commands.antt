@@ -13,11 +13,13 @@ use Rattle.top_call.specs.declared.words.Command.TheVariants as commands
 -- the words of a command
 abbrev pub command_words : Command → List Word
 command_words commands.World = codes "world" ∷ []
+command_words commands.Upgrade = codes "upgrade" ∷ []
 command_words (commands.Drill seed) = codes "drill" ∷ decimal seed ∷ []
 
 -- the command's number is in range
 abbrev pub IsCommand : Command → Type 0
 IsCommand commands.World = Unit {0}
+IsCommand commands.Upgrade = Unit {0}
 IsCommand (commands.Drill seed) = seed < 2 ^ 64
 
 -- the words are those of the command

@@ -9,7 +9,8 @@ use Rattle.job_text.specs.JobText.{JobText}
 use Rattle.job_text.specs.declared.fault.JobWhy.{JobWhy}
 use Rattle.top_call.specs.Outsides.{Input, Call, IsFaultless, read_in, took_in}
 use Rattle.top_call.specs.Commands.{Asks, AsksNothing}
-use Rattle.top_call.specs.CommandEnds.{EndsHow, UsageEnds, WorldEnds, DrillEnds, gives, unasked}
+use Rattle.top_call.specs.CommandEnds.{EndsHow, UsageEnds, WorldEnds, UpgradeEnds, DrillEnds, gives}
+use Rattle.top_call.specs.CommandEnds.{unasked}
 use Rattle.top_call.specs.declared.ending.End.{End}
 use Rattle.top_call.specs.declared.ending.End.TheVariants as ends
 use Rattle.top_call.specs.declared.words.Command.TheVariants as commands
@@ -57,6 +58,16 @@ pub record WorldMeans (call : Call) (code : ℕ) : Type 0 where
   pub write_fault : code ≡ 5 → IsCut call (WorldEnds (read_in call))
   pub no_memory : code ≡ 8 → Tells call (WorldEnds (read_in call)) ends.NoMemory
 
+-- what each exit status of `upgrade` says
+pub record UpgradeMeans (call : Call) (code : ℕ) : Type 0 where
+  pub is_status : Contains (0 ∷ 3 ∷ 4 ∷ 5 ∷ 8 ∷ []) code
+  pub ok : code ≡ 0 → Tells call (UpgradeEnds (read_in call)) ends.Done
+  pub bad_job : code ≡ 3
+      → (line : ℕ) × (reason : JobWhy) × Tells call (UpgradeEnds (read_in call)) (ends.BadJob line reason)
+  pub read_fault : code ≡ 4 → Tells call (UpgradeEnds (read_in call)) ends.ReadFault
+  pub write_fault : code ≡ 5 → IsCut call (UpgradeEnds (read_in call))
+  pub no_memory : code ≡ 8 → Tells call (UpgradeEnds (read_in call)) ends.NoMemory
+
 -- what each exit status of `drill` says
 pub record DrillMeans (call : Call) (seed code : ℕ) : Type 0 where
   pub is_status : Contains (0 ∷ 1 ∷ 5 ∷ 8 ∷ []) code
@@ -74,6 +85,7 @@ pub record UsageMeans (call : Call) (code : ℕ) : Type 0 where
 -- what each exit status says of the call, by its words
 pub record StatusMeans (call : Call) (code : ℕ) : Type 0 where
   pub world : Asks call.words commands.World → WorldMeans call code
+  pub upgrade : Asks call.words commands.Upgrade → UpgradeMeans call code
   pub drill : (seed : ℕ) → Asks call.words (commands.Drill seed) → DrillMeans call seed code
   pub usage : AsksNothing call.words → UsageMeans call code
 
@@ -86,9 +98,12 @@ pub record HoldsJob (source : Input) : Type 0 where
   pub told : source.left ≡ Some bytes
   pub text : JobText job bytes
 
--- where no count of faults rose: a job that could be read was run to its end, or memory ran out; so was the drill
+-- where no count of faults rose: a job that could be read was run to its end, or was written with datagrams of version
+-- 2, or memory ran out; the drill was run to its end, or memory ran out
 pub record IsComplete (call : Call) (code : ℕ) : Type 0 where
   pub world : Asks call.words commands.World → HoldsJob call.before.source → IsFaultless call
       → Contains (0 ∷ 1 ∷ 8 ∷ []) code
+  pub upgrade : Asks call.words commands.Upgrade → HoldsJob call.before.source → IsFaultless call
+      → Contains (0 ∷ 8 ∷ []) code
   pub drill : (seed : ℕ) → Asks call.words (commands.Drill seed) → IsFaultless call
       → Contains (0 ∷ 1 ∷ 8 ∷ []) code

@@ -3,7 +3,6 @@ use Rattle.std.specs.Prelude.{◌≡◌, ◌⊎◌, List, Option, Some, None, �
 use Rattle.gas_outside.specs.Buffered.{Outbox, Gathers, GathersAll, GathersFront, Flushes}
 use Rattle.gas_outside.specs.declared.writing.Wrote.TheVariants as wrote
 use Rattle.gas_world.specs.Worlds.{WorldState}
-use Rattle.job_text.specs.declared.job.Job.{Job as JobState}
 use Rattle.gas_outside.specs.Faults.{Rose}
 use Rattle.node_script.specs.Lines.{Word, line_text}
 use Rattle.world_run.specs.declared.run.RunEnd.{RunEnd}
@@ -29,13 +28,6 @@ ReadsOrNot old new reads.NoMemory = ⊤
 -- how a command ends whose sink failed
 abbrev pub cut : Ended
 cut = record { end = ends.WriteFault; world = None }
-
--- the job, unless memory ran out
-abbrev pub IsReadJob : JobState → JobRead → Type 0
-IsReadJob job (reads.Job read) = read ≡ job
-IsReadJob job (reads.NoJob line why) = ⊥
-IsReadJob job reads.Fault = ⊥
-IsReadJob job reads.NoMemory = ⊤
 
 -- the status line of this end went in, and so the command ended, with this world; or the sink failed, and a front of
 -- that line went in

@@ -9,7 +9,7 @@ use job_text::JobWhy;
 /// How a command ends.
 #[derive(Clone, Copy, Debug, PartialEq, Eq)]
 pub enum End {
-    /// The run came to its end, and no node noted a violation.
+    /// The run came to its end, and no node noted a violation; or the job was written with datagrams of version 2.
     Done,
     /// The run came to its end, and a node noted a violation.
     Violations,
@@ -54,7 +54,7 @@ impl End {
     }
 }
 
-/// How a command ended, and the world after it; there is one after `Done` and `Violations` alone.
+/// How a command ended, and the world after it; there is one after `Done` and `Violations` of a run alone.
 #[derive(Drop)]
 pub struct Ended {
     pub end: End,

@@ -10,6 +10,8 @@ use itoa::Buffer;
 pub enum Command {
     /// A job is read, and run in a world.
     World,
+    /// A job is read, and written with datagrams of version 2.
+    Upgrade,
     /// The drill of a seed is run in a world.
     Drill {
         /// The seed.
@@ -39,6 +41,8 @@ fn of_one(word: &str) -> Option<Command>
 {
     if word == "world" {
         Some(Command::World)
+    } else if word == "upgrade" {
+        Some(Command::Upgrade)
     } else {
         None
     }

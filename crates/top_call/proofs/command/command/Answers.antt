@@ -12,6 +12,13 @@ returns-in-Some-World g c = record {
   ends = c.world_command.ensures;
 }
 
+pub returns-in-Some-Upgrade : goal.returns-in-Some-Upgrade
+returns-in-Some-Upgrade g c = record {
+  asked = Some commands.Upgrade;
+  asked_is = subst (Asks (map string_bytes c.args.words.now)) c.in-Some-Upgrade.field-0-is c.in-Some-Upgrade.ensures;
+  ends = c.upgrade_command.ensures;
+}
+
 pub returns-in-Some-Drill : goal.returns-in-Some-Drill
 returns-in-Some-Drill g c = record {
   asked = Some (commands.Drill c.in-Some-Drill.seed);

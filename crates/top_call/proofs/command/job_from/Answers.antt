@@ -1,11 +1,10 @@
-use Rattle.top_call.proofs.CallEnds.{reads_job, reads_or_not, reads_bad, reads_long}
+use Rattle.top_call.proofs.CallEnds.{reads_job, reads_bad, reads_long}
 use Rattle.top_call.proofs.command.job_from.Goals as goal
 
 pub returns-in-Ok : goal.returns-in-Ok
 returns-in-Ok g c =
-    reads_or_not _ _ _ c.registered.result
-    (reads_job _ _ _ c.deref.result.now _ c.deref.ensures.value c.in-Bytes.ensures.bytes c.in-Ok.ensures.found
-    c.in-Ok.ensures.one) c.registered.ensures
+    reads_job _ _ _ c.deref.result.now _ c.deref.ensures.value c.in-Bytes.ensures.bytes c.in-Ok.ensures.found
+    c.in-Ok.ensures.one
 
 pub returns-in-Err-Bad : goal.returns-in-Err-Bad
 returns-in-Err-Bad g c =

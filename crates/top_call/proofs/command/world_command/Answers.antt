@@ -1,7 +1,6 @@
 use Rattle.std.proofs.Common.{inl}
-use Rattle.world_run.specs.RunText.{run_lines}
 use Rattle.top_call.specs.declared.ending.End.TheVariants as ends
-use Rattle.top_call.proofs.CallEnds.{alone, run_told, says_alone, weak_world, world_runs}
+use Rattle.top_call.proofs.CallEnds.{alone, says_alone, weak_world}
 use Rattle.top_call.proofs.command.world_command.Goals as goal
 
 pub returns-in-NoMemory : goal.returns-in-NoMemory
@@ -20,7 +19,4 @@ returns-in-NoJob g c =
     (record { read = c.in-NoJob.ensures; alone = alone end }) c.say-in-NoJob.ensures
 
 pub returns-in-Job : goal.returns-in-Job
-returns-in-Job g c =
-    let job = c.in-Job.script in
-    run_told _ job (run_lines job) _ _ _ c.run_job-run.result c.say_run.result
-    (world_runs _ job c.in-Job.ensures c.run_job-run.ensures.laws) c.run_job-run.ensures.run c.say_run.ensures
+returns-in-Job g c = c.run_read.ensures _ c.in-Job.ensures
