@@ -389,10 +389,16 @@ fn told_otherwise(desk: &mut Desk<'_>, deeds: &[Deed<'_>]) -> Option<usize>
     None
 }
 
-/// What a handler's run left: its node, its buffer, whose bytes were 9, and its reply.
+/// What a handler's run left.
 #[derive(Drop)]
 struct Handled {
-    node: Node,
+    /// How many violations were noted.
+    count: u64,
+    /// The newest of them, and the one before it.
+    noted: (Option<Violation>, Option<Violation>),
+    /// Whether a handler holds a lock still.
+    holds: bool,
+    /// The buffer, whose bytes were 9.
     buffer: [u8; 8296],
     reply: Option<Reply>,
 }
@@ -424,7 +430,9 @@ fn run_handler(
         return Err(Fail::new("told otherwise"));
     }
     Ok(Handled {
-        node,
+        count: node.log.count(),
+        noted: (node.log.back(0), node.log.back(1)),
+        holds: node.locks.holds(Owner::Handler),
         buffer,
         reply,
     })
@@ -438,9 +446,8 @@ fn a_request_has_one_reply(rt: HostRuntime) -> Result<(), Fail> {
         Deed::Short(130, &[8], second),
     ];
     let it = run_handler(rt.alloc(), 0, message(Role::Request, 0, &[5]), &deeds)?;
-    let log = &it.node.log;
     assert_eq!(rt;
-        (log.count(), log.back(0)),
+        (it.count, it.noted.0),
         (1, of_request(Forbidden::SecondReply))
     );
     let reply = it.reply.ok_or("no reply")?;
@@ -460,7 +467,7 @@ fn a_reply_has_none(rt: HostRuntime) -> Result<(), Fail> {
     let none = Replied::Forbidden(Forbidden::ReplyInReply);
     let deeds = [Deed::Short(130, &[7], none), Deed::Short(130, &[8], none)];
     let it = run_handler(rt.alloc(), 0, message(Role::Reply, 0, &[5]), &deeds)?;
-    assert_eq!(rt; it.node.log.count(), 2);
+    assert_eq!(rt; it.count, 2);
     assert!(rt; it.reply.is_none());
     Ok(())
 }
@@ -548,7 +555,7 @@ const WRONGLY: [Deed<'static>; 6] = [
 fn wrong_parts_of_a_reply(rt: HostRuntime) -> Result<(), Fail> {
     let it = run_handler(rt.alloc(), 0, message(Role::Request, 0, &[5]), &WRONGLY)?;
     assert!(rt; it.reply.is_none());
-    assert_eq!(rt; it.node.log.count(), 0);
+    assert_eq!(rt; it.count, 0);
     Ok(())
 }
 
@@ -608,9 +615,8 @@ const ATTEMPTS: [Deed<'static>; 3] = [
 fn a_desk_answers(rt: HostRuntime) -> Result<(), Fail> {
     let it = run_handler(rt.alloc(), 0, message(Role::Request, 0, &[5]), &ATTEMPTS)?;
     assert!(rt; it.reply.is_some());
-    let log = &it.node.log;
     assert_eq!(rt;
-        (log.count(), log.back(0)),
+        (it.count, it.noted.0),
         (1, of_request(Forbidden::InHandler))
     );
     Ok(())
@@ -629,11 +635,10 @@ const UNDER_LOCK: [Deed<'static>; 5] = [
 fn a_reply_under_a_lock(rt: HostRuntime) -> Result<(), Fail> {
     let it = run_handler(rt.alloc(), 8, message(Role::Request, 0, &[]), &UNDER_LOCK)?;
     assert!(rt; it.reply.is_some());
-    let log = &it.node.log;
-    assert_eq!(rt; log.count(), 2);
-    assert_eq!(rt; log.back(0), of_request(Forbidden::ReplyUnderLock));
+    assert_eq!(rt; it.count, 2);
+    assert_eq!(rt; it.noted.0, of_request(Forbidden::ReplyUnderLock));
     assert_eq!(rt;
-        log.back(1),
+        it.noted.1,
         noted(Context::RequestHandler, Fault::Lock(LockFault::NotListed))
     );
     Ok(())
@@ -651,11 +656,10 @@ fn a_return_under_a_lock(rt: HostRuntime) -> Result<(), Fail> {
     let asked = message(Role::Reply, 0, &[]);
     let it = run_handler(rt.alloc(), 0x8000_0000_0000_0001, asked, &KEEPS_LOCKS)?;
     assert!(rt; it.reply.is_none());
-    assert!(rt; !it.node.locks.holds(Owner::Handler));
-    let log = &it.node.log;
-    assert_eq!(rt; log.count(), 2);
+    assert!(rt; !it.holds);
+    assert_eq!(rt; it.count, 2);
     assert_eq!(rt;
-        log.back(0),
+        it.noted.0,
         noted(
             Context::ReplyHandler,
             Fault::Rule(Forbidden::LockHeldAtReturn)
