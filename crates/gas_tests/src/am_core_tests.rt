@@ -6,7 +6,7 @@ use crate::handlers::{Looks, registered};
 use am_core::{Asked, Asking, Category, Core, Delivered, Payload, Side, SlotRef, Why};
 use datagram_grammar::{Refused, Settings};
 use handler_rules::{CallKind, Cells, Context, Desk, Fault, Forbidden, Handlers, Violation, Which};
-use hsl_locks::{LockAnswer, LockFault, UnlockAnswer};
+use hsl_locks::{LockAnswer, LockFault, Owner, UnlockAnswer};
 use raw_segment::Segment;
 use std::alloc::Global;
 use std::marker::Model;
@@ -117,6 +117,45 @@ impl Node {
         self.core.check(3, call)
     }
 
+    // The free credits of node 0 towards node 1, and whether its numbers are worn out.
+    fn credits(&self) -> (u16, bool)
+        requires { self.now.settings.nodes ≡ 2 }
+    {
+        (self.core.free(1), self.core.worn_out(1))
+    }
+
+    fn held(&self) -> usize {
+        self.core.held()
+    }
+
+    // What cell 0 has.
+    fn cell(&self) -> i32 {
+        self.core.cells().get(0)
+    }
+
+    fn number(&self, at: SlotRef) -> Option<u64> {
+        self.core.number(at)
+    }
+
+    fn is_vacant(&self, at: SlotRef) -> bool {
+        self.core.message(at).is_none()
+    }
+
+    fn is_last_run(&self) -> bool {
+        self.core.is_last_run(0, 0, 1)
+    }
+
+    // How many violations were noted, and the newest.
+    fn noted(&self) -> (u64, Option<Violation>) {
+        let log = self.core.log();
+        (log.count(), log.back(0))
+    }
+
+    // Whether thread 3 holds a lock.
+    fn holds(&self) -> bool {
+        self.core.locks().holds(Owner::Thread(3))
+    }
+
     // Whether the slot has this message.
     fn keeps(&self, at: SlotRef, bytes: &[u8]) -> bool {
         match self.core.message(at) {
@@ -194,12 +233,12 @@ fn accepted(slot: u16, number: u64) -> Asked {
 #[test]
 fn a_request(rt: HostRuntime) -> Result<(), Fail> {
     let mut node = opened(rt.alloc(), 0)?;
-    assert_eq!(rt; (node.core.free(1), node.core.worn_out(1)), (1, false));
+    assert_eq!(rt; node.credits(), (1, false));
     assert_eq!(rt; node.ask(1, 128, &[5]), accepted(0, 1));
     assert_eq!(rt; node.ask(1, 128, &[5]), Asked::NotYet);
     let at = slot(Side::Request, 1);
     assert!(rt; node.keeps(at, &REQUEST));
-    assert_eq!(rt; (node.core.held(), node.core.number(at)), (1, Some(1)));
+    assert_eq!(rt; (node.held(), node.number(at)), (1, Some(1)));
     Ok(())
 }
 
@@ -207,12 +246,12 @@ fn a_request(rt: HostRuntime) -> Result<(), Fail> {
 fn its_run(rt: HostRuntime) -> Result<(), Fail> {
     let mut node = opened(rt.alloc(), 1)?;
     let kept = slot(Side::Reply, 0);
-    assert!(rt; !node.core.is_last_run(0, 0, 1));
+    assert!(rt; !node.is_last_run());
     assert_eq!(rt; node.deliver(&REQUEST), Delivered::Ran(kept));
-    assert!(rt; node.core.is_last_run(0, 0, 1));
+    assert!(rt; node.is_last_run());
     assert_eq!(rt; node.deliver(&REQUEST), Delivered::Again(kept));
     assert!(rt; node.keeps(kept, &REPLY));
-    assert_eq!(rt; (node.core.held(), node.core.cells().get(0)), (1, 7));
+    assert_eq!(rt; (node.held(), node.cell()), (1, 7));
     Ok(())
 }
 
@@ -227,8 +266,8 @@ fn its_reply(rt: HostRuntime) -> Result<(), Fail> {
     };
     assert_eq!(rt; node.deliver(&REPLY), back);
     assert_eq!(rt; node.deliver(&REPLY), Delivered::Late);
-    assert!(rt; node.core.message(slot(Side::Request, 1)).is_none());
-    assert_eq!(rt; (node.core.held(), node.core.log().count()), (0, 1));
+    assert!(rt; node.is_vacant(slot(Side::Request, 1)));
+    assert_eq!(rt; (node.held(), node.noted().0), (0, 1));
     Ok(())
 }
 
@@ -236,13 +275,12 @@ fn its_reply(rt: HostRuntime) -> Result<(), Fail> {
 fn a_request_to_the_own_node(rt: HostRuntime) -> Result<(), Fail> {
     let mut node = opened(rt.alloc(), 1)?;
     assert_eq!(rt; node.ask(1, 129, &[]), Asked::Ran);
-    assert_eq!(rt; (node.core.cells().get(0), node.core.held()), (7, 0));
+    assert_eq!(rt; (node.cell(), node.held()), (7, 0));
     let noted = Violation {
         context: Context::ReplyHandler,
         fault: Fault::Rule(Forbidden::ReplyInReply),
     };
-    let log = node.core.log();
-    assert_eq!(rt; (log.count(), log.back(0)), (1, Some(noted)));
+    assert_eq!(rt; node.noted(), (1, Some(noted)));
     Ok(())
 }
 
@@ -262,7 +300,7 @@ fn calls_of_threads(rt: HostRuntime) -> Result<(), Fail> {
     let mut node = opened(rt.alloc(), 0)?;
     assert_eq!(rt; node.check(CallKind::Poll), Ok(()));
     assert_eq!(rt; node.check(CallKind::Reply), Err(Forbidden::NoToken));
-    assert_eq!(rt; node.core.log().count(), 1);
+    assert_eq!(rt; node.noted().0, 1);
     Ok(())
 }
 
@@ -286,7 +324,7 @@ fn a_long_request(rt: HostRuntime) -> Result<(), Fail> {
 fn a_long_request_to_the_own_node(rt: HostRuntime) -> Result<(), Fail> {
     let mut node = opened(rt.alloc(), 1)?;
     assert_eq!(rt; node.ask_long_async(&[6]), Asked::Ran);
-    assert_eq!(rt; node.core.cells().get(0), 6);
+    assert_eq!(rt; node.cell(), 6);
     let overlapping = Asking {
         payload: Payload::Own { offset: 7, len: 2 },
         ..long(128, &[], 8)
@@ -337,7 +375,7 @@ fn the_order_of_bad_arguments(rt: HostRuntime) -> Result<(), Fail> {
         assert!(rt; !node.would_accept(&asking));
         assert_eq!(rt; node.request(&asking), Asked::BadArg(part));
     }
-    assert_eq!(rt; node.core.held(), 0);
+    assert_eq!(rt; node.held(), 0);
     let last = long_from(128, &[], 4094, 2, 4094);
     assert!(rt; node.would_accept(&last));
     assert_eq!(rt; node.request(&last), accepted(0, 1));
@@ -359,7 +397,7 @@ fn a_lock_of_a_thread(rt: HostRuntime) -> Result<(), Fail> {
         ..long(133, &[], 0)
     };
     assert_eq!(rt; node.request(&own), Asked::LockBusy(3));
-    assert!(rt; node.core.locks().holds(hsl_locks::Owner::Thread(3)));
+    assert!(rt; node.holds());
     let not_held = UnlockAnswer::Refused(LockFault::NotHeld);
     assert_eq!(rt; node.unlock(4), not_held);
     assert_eq!(rt; node.unlock(3), UnlockAnswer::Freed);
@@ -375,7 +413,7 @@ fn deferred_by_a_lock(rt: HostRuntime) -> Result<(), Fail> {
     assert_eq!(rt; node.lock(3), LockAnswer::Taken);
     assert_eq!(rt; node.deliver(&waiting), Delivered::Deferred(3));
     assert!(rt; node.shows(7, &[0, 0, 0, 0]));
-    assert_eq!(rt; node.core.held(), 0);
+    assert_eq!(rt; node.held(), 0);
     assert_eq!(rt; node.unlock(3), UnlockAnswer::Freed);
     let kept = slot(Side::Reply, 0);
     assert_eq!(rt; node.deliver(&waiting), Delivered::Ran(kept));
@@ -389,7 +427,7 @@ fn a_long_message(rt: HostRuntime) -> Result<(), Fail> {
     let mut node = opened(rt.alloc(), 1)?;
     let ran = Delivered::Ran(slot(Side::Reply, 0));
     assert_eq!(rt; node.meets(&Looks, &LONG), ran);
-    assert_eq!(rt; node.core.cells().get(0), 1);
+    assert_eq!(rt; node.cell(), 1);
     assert!(rt; node.shows(7, &[0, 1, 2, 0]));
     Ok(())
 }
@@ -454,7 +492,7 @@ fn forged_addresses(rt: HostRuntime) -> Result<(), Fail> {
         let answer = forged(&mut node, (5, handler), (5, handler));
         assert_eq!(rt; answer, refused(why));
     }
-    assert_eq!(rt; node.core.held(), 0);
+    assert_eq!(rt; node.held(), 0);
     Ok(())
 }
 

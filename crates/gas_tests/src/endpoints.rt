@@ -17,7 +17,7 @@ use std::test::Fail;
 /// An endpoint of a job with two threads, and the slot of the message that its last event sent.
 #[derive(Drop)]
 pub struct Node {
-    pub endpoint: Endpoint,
+    endpoint: Endpoint,
     sent: Option<SlotRef>,
 }
 
@@ -85,6 +85,46 @@ impl Node {
         for (row, (thread, call, want)) in rows.iter().enumerate() {
             assert_eq!(rt; self.call(*thread, *call), Some(*want), "row {row}");
         }
+    }
+
+    /// What a cell has.
+    pub fn cell(&self, cell: u8) -> i32 {
+        self.endpoint.cells().get(cell)
+    }
+
+    /// How many violations were noted.
+    pub fn noted(&self) -> u64 {
+        self.endpoint.log().count()
+    }
+
+    /// How many buffers are in use.
+    pub fn held(&self) -> usize {
+        self.endpoint.held()
+    }
+
+    /// Whether a thread may poll.
+    pub fn polls(&self, thread: u16) -> bool {
+        self.endpoint.polls(thread)
+    }
+
+    /// Whether a slot has neither a number nor a message.
+    pub fn is_vacant(&self, at: SlotRef) -> bool {
+        self.endpoint.number(at).is_none() && self.endpoint.message(at).is_none()
+    }
+
+    /// Whether an event would accept a request, at time 0.
+    pub fn would_accept(&self, event: &Event<'_>) -> bool {
+        self.endpoint.would_accept(0, event)
+    }
+
+    /// Whether request 1 of node 0 is the last one that ran in slot 0.
+    pub fn is_last_run(&self) -> bool {
+        self.endpoint.is_last_run(0, 0, 1)
+    }
+
+    /// The number of the handle in register 0.
+    pub fn register(&self) -> u64 {
+        self.endpoint.register(0).serial
     }
 
     /// Whether these bytes stand there in the segment.

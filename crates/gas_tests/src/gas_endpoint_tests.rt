@@ -38,9 +38,8 @@ const CALLS: [(u16, Call<'static>, Answer); 4] = [
 fn calls_without_messages(rt: HostRuntime) -> Result<(), Fail> {
     let mut node = Node::new(rt.alloc(), 1)?;
     node.check(&rt, &CALLS);
-    let endpoint = &node.endpoint;
-    assert_eq!(rt; (endpoint.cells().get(3), endpoint.polls(0)), (-4, true));
-    assert_eq!(rt; (endpoint.log().count(), endpoint.held()), (1, 0));
+    assert_eq!(rt; (node.cell(3), node.polls(0)), (-4, true));
+    assert_eq!(rt; (node.noted(), node.held()), (1, 0));
     Ok(())
 }
 
@@ -51,8 +50,7 @@ fn bytes_that_are_no_message(rt: HostRuntime) -> Result<(), Fail> {
     let event = Event::Deliver { bytes: &[1] };
     assert_eq!(rt; node.step(1, &event), Some(refused));
     assert!(rt; refused.sends().is_none());
-    assert!(rt; node.endpoint.number(REQUEST).is_none());
-    assert!(rt; node.endpoint.message(REQUEST).is_none());
+    assert!(rt; node.is_vacant(REQUEST));
     Ok(())
 }
 
@@ -67,9 +65,9 @@ fn what_an_endpoint_would_do(rt: HostRuntime) -> Result<(), Fail> {
             args: &[5],
         },
     };
-    assert!(rt; node.endpoint.would_accept(0, &request));
-    assert!(rt; !node.endpoint.would_accept(0, &Event::Tick));
-    assert!(rt; !node.endpoint.is_last_run(0, 0, 1));
+    assert!(rt; node.would_accept(&request));
+    assert!(rt; !node.would_accept(&Event::Tick));
+    assert!(rt; !node.is_last_run());
     let nothing = Answer::Ticked(Ticked::Nothing);
     assert_eq!(rt; node.step(10, &Event::Tick), Some(nothing));
     Ok(())
@@ -105,8 +103,7 @@ const UNDER_A_LOCK: [(u16, Call<'static>, Answer); 5] = [
 fn under_a_lock(rt: HostRuntime) -> Result<(), Fail> {
     let mut node = Node::new(rt.alloc(), 1)?;
     node.check(&rt, &UNDER_A_LOCK);
-    let endpoint = &node.endpoint;
-    assert_eq!(rt; (endpoint.log().count(), endpoint.polls(1)), (3, true));
+    assert_eq!(rt; (node.noted(), node.polls(1)), (3, true));
     Ok(())
 }
 
@@ -277,7 +274,7 @@ fn a_put_without_a_register(rt: HostRuntime) -> Result<(), Fail> {
     let mut two = Two::new(rt.alloc())?;
     two.check(&rt, &PUT);
     assert!(rt; two.other.shows(7, &[0, 5, 6, 0]));
-    assert_eq!(rt; two.node.endpoint.register(0), Handle { serial: 0 });
+    assert_eq!(rt; two.node.register(), 0);
     Ok(())
 }
 

@@ -412,12 +412,11 @@ const FORBIDDEN: [(WorldEvent<'static>, WorldAnswer); 2] = [
 fn forbidden_calls(rt: HostRuntime) -> Result<(), Fail> {
     let mut it = TestWorld::new(rt.alloc(), 1, 2, 1)?;
     it.check(&rt, &Forbids, 0, &FORBIDDEN);
-    let log = it.world.endpoint(1).log();
     let first = Violation {
         context: Context::RequestHandler,
         fault: Fault::Rule(Forbidden::SecondReply),
     };
-    assert_eq!(rt; (log.count(), log.back(2)), (3, Some(first)));
+    assert_eq!(rt; it.noted(1), Some((3, Some(first))));
     Ok(())
 }
 

@@ -10,7 +10,7 @@ use crate::endpoints::has_registers;
 use crate::handlers::{Adds, registered};
 use datagram_grammar::Settings;
 use gas_world::{World, WorldAnswer, WorldEvent};
-use handler_rules::Handlers;
+use handler_rules::{Handlers, Violation};
 use std::alloc::{AllocError, Global};
 use std::marker::Model;
 use std::process::Abort;
@@ -155,5 +155,14 @@ impl TestWorld {
             return None;
         }
         Some(self.world.most_held(node))
+    }
+
+    /// How many violations a node noted, and the third newest; none where there is no such node.
+    pub fn noted(&self, node: u16) -> Option<(u64, Option<Violation>)> {
+        if node >= self.world.nodes() {
+            return None;
+        }
+        let log = self.world.endpoint(node).log();
+        Some((log.count(), log.back(2)))
     }
 }
