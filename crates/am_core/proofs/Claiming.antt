@@ -1,6 +1,6 @@
 -- What is kept of the requests of a peer gives the record's answer, and stands for the record's next requests.
 use Rattle.node_record.specs.Invariant.{address_in}
-use Rattle.std.proofs.Common.{◌≡◌, inl, inr, ℕ, zero, suc, ◌+◌, ◌<◌, ◌≤◌, Bool, true, false, true≢false, not, List, []}
+use Rattle.std.proofs.Common.{◌≡◌, inl, inr, ℕ, zero, suc, ◌+◌, ◌<◌, ◌≤◌, Bool, true, false, not, List, []}
 use Rattle.std.proofs.Common.{◌∷◌, ◌++◌, length, Option, None, Some, refl, sym, ap, ◌∙◌, subst, arith, eqb}
 use Rattle.std.proofs.Common.{length-append, length-set}
 use Rattle.std.specs.List.{list_any, slice_get, position, prefix_len, position_or_len}
@@ -28,6 +28,7 @@ use Rattle.node_record.proofs.Lists.{length-change}
 use Rattle.node_record.proofs.Keeping.{open_taken, none_is, open_new, open_other, least_free, fewer, open_if, open_says}
 use Rattle.node_record.proofs.Keeping.{open_back, open_free, open_sent, open_sent_here}
 use Rattle.node_record.proofs.Orderly.{orderly_sent}
+use Rattle.std.proofs.lemmas.Bool.{not-false}
 
 -- ---- which slots are vacant
 
@@ -80,11 +81,6 @@ vacant_taken s me peer p xs slot S below = (
       ∙ ap not (open_taken slot 1 xs),
 )
 
--- what isn't false is true
-not_false : (b : Bool) → not b ≡ false → b ≡ true
-not_false true e = refl
-not_false false e = absurd (true≢false e)
-
 -- the first slot that is found vacant is vacant
 lowest_vacant : (slots : List SlotState) (k : ℕ) → position is_vacant slots ≡ Some k → (state : SlotState)
     → slice_get slots k ≡ Some state → is_vacant state ≡ true
@@ -112,7 +108,7 @@ not_yet_is s me to p xs last S same left full =
     let c = S.given in
     let all = le-length_from_below (taken xs) (credits_of s me to)
     (λ q below. let it = vacant_taken s me to p xs q S below in
-    not_false _ (sym it.2 ∙ none_passes is_vacant p.slots full q it.0 it.1)) in
+    not-false _ (sym it.2 ∙ none_passes is_vacant p.slots full q it.0 it.1)) in
     grind (arith, nat_tests)
 
 -- a request takes this slot and number
@@ -137,7 +133,7 @@ accepted_is s me to p xs last slot number S O same C e =
     let few = fewer xs (credits_of s me to) slot O.apart O.low below none in
     let is = least_free xs slot none
     (λ q l. let it = vacant_taken s me to p xs q S (omega arith) in
-    not_false _ (sym it.2 ∙ below_taken p.slots slot q C.lowest l it.0 it.1)) in
+    not-false _ (sym it.2 ∙ below_taken p.slots slot q C.lowest l it.0 it.1)) in
     let next : number ≡ suc (length xs) = omega arith in
     let left = C.left in
     record {

@@ -7,7 +7,7 @@ use Rattle.std.specs.List.{slice_get}
 use Rattle.std.specs.Option.{option_map}
 use Rattle.std.proofs.lemmas.Bool.{cases_Bool, cases_eq, cases_lt}
 use Rattle.std.proofs.lemmas.Option.{slice_get-get_or}
-use Rattle.std.proofs.lemmas.List.{get_or-replicate, length-replicate}
+use Rattle.std.proofs.lemmas.List.{length-replicate}
 use Rattle.std.proofs.Math.ListN.{replicate}
 use Rattle.datagram_grammar.specs.Parameters.{Parameters, AreInRange, credits_of}
 use Rattle.node_record.specs.Credits.{limits_of}
@@ -60,6 +60,7 @@ use Rattle.node_record.proofs.Keeping.{fewer}
 use Rattle.node_record.proofs.Runs.{last_new, last_other, last_none, run_at_says}
 use Rattle.am_core.proofs.Claiming.{Takes, worn_is, not_yet_is, accepted_is, stands_accepted, stands_back, stands_sent}
 use Rattle.am_core.proofs.Claiming.{taken_open, open_taken_with}
+use Rattle.lists.proofs.Places.{slice_get-replicate}
 
 -- ---- one peer changed
 
@@ -69,11 +70,6 @@ pub updated : {X : Type 0} (xs : List X) (k : ℕ) (f : X → X) (x : X) → sli
 updated xs k f x e = slice_get-update xs k f ∙ ap (option_map f) e
 
 -- ---- at the opening
-
--- each place of copies has the copy
-pub slice_get-replicate : {X : Type 0} (n i : ℕ) (x : X) → i < n → slice_get (replicate n x) i ≡ Some x
-slice_get-replicate n i x low =
-    slice_get-get_or (replicate n x) i x (rw (length-replicate n x) low) ∙ ap Some (get_or-replicate n i x x low)
 
 -- what is no other node has no slots
 none_new : (e : CoreState) (peer slot : ℕ) (asked : List ℕ) → AreSlots e.settings e.me side.Request asked

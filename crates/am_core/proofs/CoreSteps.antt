@@ -38,8 +38,7 @@ use Rattle.node_record.specs.Record.{Node}
 use Rattle.node_record.specs.Behaviour.{Behaviour, Ask, Asking, Contact, Category, Short, Medium, Long}
 use Rattle.node_record.specs.Transition.{Transition}
 use Rattle.node_record.specs.NodeStep.{NodeAnswer, OfRequest, OfCall, Asks, Does}
-use Rattle.node_record.specs.Step.{Site, after_request}
-use Rattle.node_record.specs.Step.{with_itself, with_local, request_answer}
+use Rattle.node_record.specs.Step.{Site, after_request, with_itself, with_local, request_answer}
 use Rattle.node_record.specs.Step.{unless_forbidden, unless_bad, claim_answer, own_answer, judged_local, ran_here}
 use Rattle.node_record.specs.Step.{with_request}
 use Rattle.node_record.specs.Credits.{limits_of}
@@ -373,7 +372,7 @@ own_run_stands meaning e r c lawful S client fits =
     (own_sendable meaning e c lawful client))
 
 -- the locks of the handler of what a request says
-said_handler : (category : Category) (asking : Asking) (payload : List ℕ)
+pub said_handler : (category : Category) (asking : Asking) (payload : List ℕ)
     → (content_by category asking payload).handler ≡ asking.handler
 said_handler Short asking payload = refl
 said_handler Medium asking payload = refl

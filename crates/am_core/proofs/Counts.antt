@@ -9,10 +9,8 @@ use Rattle.std.proofs.lemmas.List.Sums.{sum_by-cons}
 use Rattle.std.proofs.lemmas.List.{nil_from_length}
 use Rattle.std.proofs.lemmas.Option.{same_Some}
 use Rattle.datagram_grammar.specs.Parameters.{Parameters, credits_of}
-use Rattle.credit_slots.specs.State.{PeerState, is_vacant, is_taken, taken_count}
-use Rattle.credit_slots.specs.State.{held_count}
-use Rattle.reply_slots.specs.State.{ReplyState, run_count}
-use Rattle.reply_slots.specs.State.{has_run as keeps_run, held_count as kept_count}
+use Rattle.credit_slots.specs.State.{PeerState, is_vacant, is_taken, taken_count, held_count}
+use Rattle.reply_slots.specs.State.{ReplyState, run_count, has_run as keeps_run, held_count as kept_count}
 use Rattle.lists.specs.Sums.{sum_below}
 use Rattle.node_record.specs.Record.{Request, Run, Node}
 use Rattle.node_record.specs.Requests.{taken, unreturned}
@@ -30,6 +28,7 @@ use Rattle.am_core.specs.Sizes.{IsSized}
 use Rattle.am_core.specs.Stands.{Stands, StandsForAsked, StandsForRan, reply_state}
 use Rattle.am_core.proofs.Claiming.{vacant_taken}
 use Rattle.am_core.proofs.Readings.{hits, hits_all}
+use Rattle.node_record.proofs.Holding.{no_slots}
 
 -- ---- sums over lists
 
@@ -171,11 +170,6 @@ run_numbered : (e : CoreState) (r : Node Local) (peer place : ℕ) (run : Run) �
     → slice_get (r.ran peer) place ≡ Some run → 1 ≤ run.number
 run_numbered e r peer place run S is = (S.invariant_.replied peer place run is).numbered
 
--- no slot has a run where nothing ran
-no_runs : (n : ℕ) → slots_run [] n ≡ 0
-no_runs zero = refl
-no_runs (suc n) = let ih = no_runs n in omega (arith, ih)
-
 -- the replies that are kept, of all peers
 ran_count : (e : CoreState) (r : Node Local) → Stands e r → IsSized e.settings e.me e.requests e.replies
     → kept_count e.replies ≡ sum_below (λ peer. slots_run (r.ran peer) (credits_of e.settings peer e.me))
@@ -186,7 +180,7 @@ ran_count e r S sized =
       | inl own ↦ (let none : length p ≡ 0 =
           ap kept_at (sym is ∙ ap (λ k. slice_get e.replies.peers k) own) ∙ sized.none_kept in
           none_kept p none ∙ sym (ap (λ rs. slots_run rs (credits_of e.settings peer e.me))
-          (ap r.ran own ∙ S.own_ran) ∙ no_runs (credits_of e.settings peer e.me)))
+          (ap r.ran own ∙ S.own_ran) ∙ no_slots (credits_of e.settings peer e.me)))
       | inr other ↦ (let low : peer < e.settings.nodes =
           subst (λ n. peer < n) sized.responders (slice_get_in e.replies.peers peer p is) in
           let it = S.replies peer low other in

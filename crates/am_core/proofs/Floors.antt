@@ -1,7 +1,6 @@
 -- What runs on a floor finds, and what its reply is as a message.
-use Rattle.std.proofs.Common.{ℕ, zero, suc, ◌≡◌, ◌≤◌, ◌<◌, ◌+◌, ◌++◌, List, [], ◌∷◌, Option, Some, None, length}
-use Rattle.std.proofs.Common.{take, slice_get, slice_set, get_or, ap, sym, ◌∙◌, arith, subst, subst₂}
-use Rattle.std.proofs.Common.{map, false}
+use Rattle.std.proofs.Common.{ℕ, ◌≡◌, ◌<◌, ◌+◌, ◌++◌, List, [], ◌∷◌, Option, Some, length}
+use Rattle.std.proofs.Common.{take, slice_get, slice_set, get_or, ap, sym, ◌∙◌, subst, subst₂, map, false}
 use Rattle.std.proofs.lemmas.List.{take_more, take_more_set}
 use Rattle.std.proofs.lemmas.Option.{slice_get_within, slice_get-get_or}
 use Rattle.handler_rules.specs.declared.message.Reply.{Reply}
@@ -9,8 +8,7 @@ use Rattle.handler_rules.specs.declared.desk.Desk.{Desk}
 use Rattle.handler_rules.specs.declared.rules.CallKind.TheVariants as call
 use Rattle.handler_rules.specs.Logged.{Logged, notes}
 use Rattle.handler_rules.specs.Runs.{Frame, Meaning, IsLawfulMeaning, IsSpelled, violation, closed, refusal}
-use Rattle.handler_rules.specs.Desks.{At, stage, start_of, noting, judged_at, frame_of, reply_after}
-use Rattle.handler_rules.specs.Desks.{buffer_after}
+use Rattle.handler_rules.specs.Desks.{At, stage, start_of, noting, judged_at, frame_of, reply_after, buffer_after}
 use Rattle.hsl_locks.specs.declared.answer.Held.{Held}
 use Rattle.hsl_locks.specs.declared.answer.Owner.TheVariants as owner
 use Rattle.hsl_locks.specs.Locks.{holds, without}
@@ -18,12 +16,6 @@ use Rattle.hsl_locks.proofs.Laws.{without_nothing}
 use Rattle.handler_rules.proofs.Laws.{closed-leaving}
 use Rattle.am_core.specs.declared.floor.Work.{Work}
 use Rattle.am_core.specs.FloorRuns.{Touched, Ran, run_of, start_on}
-
--- a list that has nothing at a place ends there or before
-pub none_past : {A : Type 0} (xs : List A) (k : ℕ) → slice_get xs k ≡ None → length xs ≤ k
-none_past [] k e = omega arith
-none_past (x ∷ xs) zero e = cc
-none_past (x ∷ xs) (suc k) e = let h = none_past xs k e in omega (arith, h)
 
 -- a place with that element, read with any other in its stead
 read_at : {A : Type 0} (xs : List A) (k : ℕ) (x : A) → slice_get xs k ≡ Some x → get_or xs k x ≡ x

@@ -1,5 +1,5 @@
 -- What a thread's calls on locks leave: no handler holds a lock.
-use Rattle.std.proofs.Common.{◌≡◌, ℕ, List, [], ◌∷◌, ◌++◌, Option, Some, None, Bool, true, false, true≢false, not, ◌&&◌, ◌||◌}
+use Rattle.std.proofs.Common.{◌≡◌, ℕ, List, [], ◌∷◌, ◌++◌, Option, Some, None, Bool, false, not, ◌&&◌}
 use Rattle.std.proofs.Common.{inl, inr, refl, sym, subst}
 use Rattle.std.specs.Prelude.{◌==◌, filter}
 use Rattle.std.proofs.lemmas.Bool.{cases_Bool}
@@ -8,21 +8,16 @@ use Rattle.hsl_locks.specs.declared.answer.Held.{Held}
 use Rattle.hsl_locks.specs.declared.answer.LockAnswer.{LockAnswer}
 use Rattle.hsl_locks.specs.declared.answer.LockAnswer.TheVariants as lock_answers
 use Rattle.hsl_locks.specs.declared.answer.LockFault.{LockFault}
-use Rattle.hsl_locks.specs.Locks.{is_of, holds, lock_answer, after_lock}
-use Rattle.hsl_locks.specs.Locks.{unlock_fault, unlock_answer, after_unlock}
+use Rattle.hsl_locks.specs.Locks.{is_of, holds, lock_answer, after_lock, unlock_fault, unlock_answer, after_unlock}
 use Rattle.hsl_locks.proofs.Laws.{after_freed}
-
--- two tests of which neither says yes
-neither : (first second : Bool) → (first || second) ≡ false → (first ≡ false) × (second ≡ false)
-neither true second says = absurd (true≢false says)
-neither false second says = (refl, says)
+use Rattle.std.proofs.lemmas.Bool.{or_parts}
 
 -- of what is left, a handler holds none either
 none_left : (keep : Held → Bool) (held : List Held) → holds Handler held ≡ false
     → holds Handler (filter keep held) ≡ false
 none_left keep [] none = refl
 none_left keep (one ∷ held) none =
-    let parts = neither (is_of Handler one) (holds Handler held) none in
+    let parts = or_parts (is_of Handler one) (holds Handler held) none in
     elim (cases_Bool (keep one)) [
       | inl stays ↦ rw (stays, parts.0) (none_left keep held parts.1)
       | inr goes ↦ rw goes (none_left keep held parts.1)
@@ -33,7 +28,7 @@ one_more : (held : List Held) (thread lock : ℕ) → holds Handler held ≡ fal
     → holds Handler (held ++ record { lock = lock; owner = Thread thread } ∷ []) ≡ false
 one_more [] thread lock none = refl
 one_more (one ∷ held) thread lock none =
-    let parts = neither (is_of Handler one) (holds Handler held) none in
+    let parts = or_parts (is_of Handler one) (holds Handler held) none in
     rw parts.0 (one_more held thread lock parts.1)
 
 -- a thread asked for a lock

@@ -11,12 +11,10 @@ use Rattle.lists.specs.Update.{update}
 use Rattle.lists.specs.Cut.{cut, count_at, total_of}
 use Rattle.lists.proofs.Update.{length-update, slice_get-update, slice_get-update_other, update-on}
 use Rattle.lists.proofs.Cut.{get-part, get-cut, length-cut, length-part, count-inside, cut-update, sum-cut}
-use Rattle.lists.proofs.Cut.{start-inside}
 use Rattle.slot_table.specs.State.{TableState, slot_in, slots_of, place_of, with_change, opened_time}
 use Rattle.credit_slots.specs.State.{SlotState, Vacant, Opened, Sealed, is_vacant, is_taken, PeerState, SlotsState}
 use Rattle.credit_slots.specs.State.{slot_at, slot_count, vacant_count, held_count, is_worn_out}
-use Rattle.credit_slots.specs.State.{with_slot_changed, with_given, with_written, sealed}
-use Rattle.credit_slots.specs.State.{CanClaim}
+use Rattle.credit_slots.specs.State.{with_slot_changed, with_given, with_written, sealed, CanClaim}
 use Rattle.credit_slots.specs.Views.{peers_of, credits_view, Matches, IsCredits}
 use Rattle.credit_slots.specs.declared.order.Due.{Due}
 
@@ -333,15 +331,3 @@ pub not-sealed : (state : SlotState) (len : ℕ) → ((time : ℕ) → opened_ti
 not-sealed Vacant len never = refl
 not-sealed (Opened number time buffer) len never = absurd (never time refl)
 not-sealed (Sealed number time message) len never = refl
-
--- a slot in range is there
-pub place-there : (table : TableState) (node slot : ℕ) → slot < count_at table.counts node
-    → total_of table.counts ≡ length table.slots → (state : SlotState) × (slot_in table node slot ≡ Some state)
-place-there table node slot inside whole =
-    elim ((slice_get_cases table.slots (place_of table node slot)).1) [
-      | inl known ↦ (
-        known.0,
-        known.2,
-      )
-      | inr known ↦ absurd (omega (arith, known.0, start-inside table.counts node slot inside, whole))
-    ]

@@ -14,7 +14,7 @@ use Rattle.endpoint_lock.specs.declared.ends.End.TheVariants.{Over, Stuck, LinkF
 use Rattle.endpoint_lock.specs.declared.ends.TurnEnd.TheVariants.{Went, Idle, Ended}
 use Rattle.endpoint_lock.specs.Stations.{StationState}
 use Rattle.endpoint_lock.specs.Turns.{Asks, Gives, Sends, Turns, Keeps, Goes, Finishes, AreOutgoing, made_entry}
-use Rattle.endpoint_lock.proofs.Sending.{Rose-after}
+use Rattle.gas_outside.proofs.Outboxes.{rose_later}
 
 -- what is known before the datagrams are sent
 pub record Before {M L C : Type 0} (m : MachineGhosts M) (l : LinkGhosts L) (c : ClockGhosts C) (thread : ℕ)
@@ -85,7 +85,7 @@ module _ {M L C : Type 0} (m : MachineGhosts M) (l : LinkGhosts L) (c : ClockGho
       )
   goes Idle new f = absurd f
   goes (Ended LinkFault) new f =
-      let rose = Rose-after (l.faults old.link) (l.faults middle.link) (l.faults new.link) b.gives.faults f.0.5 in
+      let rose = rose_later (l.faults old.link) (l.faults middle.link) (l.faults new.link) b.gives.faults f.0.5 in
       subst (λ w. Goes m l c thread old (Ended LinkFault) w) (sym f.1)
       (inr (
         keeps_at f.0.1 f.0.0 new.link (Some LinkFault) (let below = f.0.2 in omega (arith, below)) f.0.3 f.0.4

@@ -23,7 +23,8 @@ use Rattle.endpoint_lock.specs.declared.ends.TurnEnd.TheVariants.{Went, Idle, En
 use Rattle.endpoint_lock.specs.Stations.{StationState, Opening, ended}
 use Rattle.endpoint_lock.specs.Facts.{entry_limit, IsFull, IsEntry, WentOn, EndIs, Replays, Facts}
 use Rattle.endpoint_lock.specs.Turns.{Keeps, Rests, Fails, Goes, AppendsAtMostOne, made_entry}
-use Rattle.endpoint_lock.proofs.Sending.{Rose-after, WentOn-twice, WentOn-none}
+use Rattle.endpoint_lock.proofs.Sending.{WentOn-twice, WentOn-none}
+use Rattle.gas_outside.proofs.Outboxes.{rose_later}
 
 WentOn-along : {A : Type 0} (first last last' : Option (List A)) (xs xs' : List A) → WentOn first xs last → xs' ≡ xs
     → last' ≡ last → WentOn first xs' last'
@@ -172,7 +173,7 @@ module _ {M L C : Type 0} (m : MachineGhosts M) (l : LinkGhosts L) (c : ClockGho
           times = h.times;
           asked = omega (arith, h.asked, k.asks.asked);
           waiting = λ other. absurd (other refl);
-          end = Rose-after (l.faults opening.link) (l.faults old.link) (l.faults new.link) h.faults k.gives.rose;
+          end = rose_later (l.faults opening.link) (l.faults old.link) (l.faults new.link) h.faults k.gives.rose;
         })
 
     module _ (k : Keeps m l c thread old new) where
@@ -286,7 +287,7 @@ module _ {M L C : Type 0} (m : MachineGhosts M) (l : LinkGhosts L) (c : ClockGho
             end = elim kept [
               | inl none ↦ subst (EndIs m l opening kept_station) (sym none) tt
               | inr f ↦ subst (EndIs m l opening kept_station) (sym f.0)
-                  (Rose-after (l.faults opening.link) (l.faults old.link) (l.faults new.link) h.faults f.1)
+                  (rose_later (l.faults opening.link) (l.faults old.link) (l.faults new.link) h.faults f.1)
             ];
           })
 

@@ -4,7 +4,6 @@ use Rattle.std.proofs.Common.{◌∙◌, arith, append_assoc}
 use Rattle.std.specs.Prelude.{slice_get}
 use Rattle.std.proofs.lemmas.List.{take_more, append-nil}
 use Rattle.std.proofs.lemmas.Option.{slice_get_within, get_or_from_slice_get}
-use Rattle.gas_outside.specs.Faults.{Rose}
 use Rattle.gas_outside.specs.Told.{and_all}
 use Rattle.gas_outside.specs.declared.link.Link.{Ghosts as LinkGhosts}
 use Rattle.machine.specs.declared.turns.Machine.{Ghosts as MachineGhosts}
@@ -21,9 +20,6 @@ WentOn-twice (Some z) middle last xs ys p q = q ∙ ap (λ w. and_all w ys) p �
 pub WentOn-none : {A : Type 0} (first last : Option (List A)) → last ≡ first → WentOn first [] last
 WentOn-none None last p = p
 WentOn-none (Some z) last p = p ∙ ap Some (sym (append-nil z))
-
-pub Rose-after : (first middle last : ℕ) → first ≤ middle → Rose middle last → Rose first last
-Rose-after first middle last h r = omega (arith, h, r)
 
 pub take_one_more : {A : Type 0} (xs : List A) (i : ℕ) (x : A) → Some x ≡ slice_get xs i
     → take i xs ++ x ∷ [] ≡ take (i + 1) xs

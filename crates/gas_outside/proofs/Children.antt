@@ -13,6 +13,7 @@ use Rattle.std.proofs.lemmas.List.{map-append, get_or-map}
 use Rattle.gas_outside.specs.Memory.{is_listed}
 use Rattle.gas_outside.specs.MemorySpawner.{SpawnerState, told_of, calls_of, children_of, output_of, can_end, pending_below, HasRoom}
 use Rattle.gas_outside.specs.declared.spawn_call.SpawnCall.{SpawnCall}
+use Rattle.std.proofs.Math.Bool.{or-false, or-true}
 
 -- a test of the calls, of those in vectors
 pub any_of_calls : (p : ToldCall → Bool) (calls : List SpawnCall) → list_any (λ call. p (told_of call)) calls ≡ list_any p (calls_of calls)
@@ -60,17 +61,13 @@ pending_less (suc ranks) rank old new within was is others =
 same_or_not : (a b : ℕ) → (a ≡ b) ⊎ (a ≢ b)
 same_or_not a b = grind arith
 
-or_false : (b : Bool) → (b || false) ≡ b
-or_false true = refl
-or_false false = refl
-
 started_after : (k : ℕ) (calls : List ToldCall) (call : ToldCall) → was_started k (calls ++ call ∷ []) ≡ (was_started k calls || is_start_of k call)
 started_after k calls call =
-    list_any-append (is_start_of k) calls (call ∷ []) ∙ ap (λ b. was_started k calls || b) (or_false (is_start_of k call))
+    list_any-append (is_start_of k) calls (call ∷ []) ∙ ap (λ b. was_started k calls || b) (or-false (is_start_of k call))
 
 finished_after : (k : ℕ) (calls : List ToldCall) (call : ToldCall) → list_any (is_finish_of k) (calls ++ call ∷ []) ≡ (list_any (is_finish_of k) calls || is_finish_of k call)
 finished_after k calls call =
-    list_any-append (is_finish_of k) calls (call ∷ []) ∙ ap (λ b. list_any (is_finish_of k) calls || b) (or_false (is_finish_of k call))
+    list_any-append (is_finish_of k) calls (call ∷ []) ∙ ap (λ b. list_any (is_finish_of k) calls || b) (or-false (is_finish_of k call))
 
 pending_after : (k : ℕ) (calls : List ToldCall) (call : ToldCall)
     → is_pending k (calls ++ call ∷ []) ≡ ((was_started k calls || is_start_of k call) && not (list_any (is_finish_of k) calls || is_finish_of k call))
@@ -89,19 +86,15 @@ others_start : (k rank port : ℕ) (input : List ℕ) (calls : List ToldCall) �
 others_start k rank port input calls ne =
     pending_after k calls (Start rank port input)
     ∙ ap (λ b. (was_started k calls || b) && not (list_any (is_finish_of k) calls || false)) (other_rank rank k ne)
-    ∙ ap (λ b. b && not (list_any (is_finish_of k) calls || false)) (or_false (was_started k calls))
-    ∙ ap (λ b. was_started k calls && not b) (or_false (list_any (is_finish_of k) calls))
+    ∙ ap (λ b. b && not (list_any (is_finish_of k) calls || false)) (or-false (was_started k calls))
+    ∙ ap (λ b. was_started k calls && not b) (or-false (list_any (is_finish_of k) calls))
 
 others_finish : (k rank : ℕ) (calls : List ToldCall) → k ≢ rank → is_pending k (calls ++ Finish rank ∷ []) ≡ is_pending k calls
 others_finish k rank calls ne =
     pending_after k calls (Finish rank)
     ∙ ap (λ b. (was_started k calls || false) && not (list_any (is_finish_of k) calls || b)) (other_rank rank k ne)
-    ∙ ap (λ b. b && not (list_any (is_finish_of k) calls || false)) (or_false (was_started k calls))
-    ∙ ap (λ b. was_started k calls && not b) (or_false (list_any (is_finish_of k) calls))
-
-or_true : (b : Bool) → (b || true) ≡ true
-or_true true = refl
-or_true false = refl
+    ∙ ap (λ b. b && not (list_any (is_finish_of k) calls || false)) (or-false (was_started k calls))
+    ∙ ap (λ b. was_started k calls && not b) (or-false (list_any (is_finish_of k) calls))
 
 and_not_true : (b : Bool) → (b && not true) ≡ false
 and_not_true true = refl
@@ -112,7 +105,7 @@ not_pending : (rank : ℕ) (calls : List ToldCall) → is_pending rank (calls ++
 not_pending rank calls =
     pending_after rank calls (Finish rank)
     ∙ ap (λ b. (was_started rank calls || false) && not (list_any (is_finish_of rank) calls || b)) (same_rank rank)
-    ∙ ap (λ b. (was_started rank calls || false) && not b) (or_true (list_any (is_finish_of rank) calls))
+    ∙ ap (λ b. (was_started rank calls || false) && not b) (or-true (list_any (is_finish_of rank) calls))
     ∙ and_not_true (was_started rank calls || false)
 
 -- what is pending after a start was so before, or is of its rank; after a finish it was so before

@@ -1,5 +1,5 @@
 -- Each delivery of a message that was sent, by what it did to its scene.
-use Rattle.std.proofs.Common.{◌≡◌, ◌≢◌, inl, inr, ℕ, zero, suc, ◌+◌, ◌*◌, ◌<◌, ◌≤◌, Bool, true, false, true≢false}
+use Rattle.std.proofs.Common.{◌≡◌, ◌≢◌, inl, inr, ℕ, ◌+◌, ◌*◌, ◌<◌, ◌≤◌, Bool, true, false, true≢false}
 use Rattle.std.proofs.Common.{List, [], ◌∷◌, ◌++◌, Option, None, Some, refl, sym, ap, ◌∙◌, subst, subst₂, arith}
 use Rattle.std.specs.Prelude.{is_some, if◌then◌else◌, ◌==◌, nat_lt, ◌&&◌, not}
 use Rattle.std.specs.List.{slice_get}
@@ -17,9 +17,7 @@ use Rattle.node_record.specs.Behaviour.{is_request}
 use Rattle.node_record.specs.Credits.{limits_of}
 use Rattle.node_record.specs.NodeStep.{site_of, Comes}
 use Rattle.node_record.specs.Step.{Site, put, after_delivery, with_run, with_back, with_sender}
-use Rattle.node_record.specs.Step.{request_slot, reply_slot}
-use Rattle.node_record.specs.Step.{Verdict, Runs, Missed, Returns, judged, verdict}
-use Rattle.node_record.specs.Step.{answer_by}
+use Rattle.node_record.specs.Step.{request_slot, reply_slot, Verdict, Runs, Missed, Returns, judged, verdict, answer_by}
 use Rattle.node_record.specs.Invariant.{request_message, reply_message}
 use Rattle.node_record.proofs.Answers.{runs_says, returns_says}
 use Rattle.node_record.proofs.Lists.{numbered_in, run_of_there}
@@ -33,8 +31,7 @@ use Rattle.plain_world.specs.World.{RequestComes, ReplyComes, request_event, rep
 use Rattle.plain_world.specs.Invariant.{WorldInvariant}
 use Rattle.plain_world.proofs.Laws.{none_ran}
 use Rattle.plain_world.proofs.PlainDeliveries.{past, request_judged, reply_judged}
-use Rattle.endpoint_rules.specs.EndpointRules.{transition}
-use Rattle.endpoint_rules.specs.EndpointRules.{Records}
+use Rattle.endpoint_rules.specs.EndpointRules.{transition, Records}
 use Rattle.gas_world.specs.State.{with_ran, with_returned}
 use Rattle.gas_endpoint.specs.Endpoints.{EndpointState}
 use Rattle.gas_world.specs.Worlds.{WorldState}
@@ -53,6 +50,7 @@ use Rattle.gas_world.proofs.Standing.{Falls, Sends, only_asked, only_ran, same_s
 use Rattle.gas_world.proofs.Events.{Stepped, Stepping, scene_node, scene_pair, scene_steps, event_steps, quiet_sends}
 use Rattle.gas_world.proofs.Events.{same_quiet, still_steps, nowhere_steps, most_raised, other_node, at_home}
 use Rattle.gas_world.proofs.Messages.{request_stands, run_says, run_stands, node_invariant, carried}
+use Rattle.lists.proofs.Numbered.{numbered_none}
 
 -- ---- whether a request ran
 
@@ -381,11 +379,6 @@ reply_steps meaning v z now i j k sender world_answers.Unsent old new lawful i_i
         absurd (true≢false (sym (it.2.ran ∙ ap is_some ran) ∙ R.unsent it.0 it.1))
 
 -- ---- a node sends nothing to itself
-
--- nothing is there by a number
-numbered_none : {X : Type 0} (xs : List X) (k : ℕ) → xs ≡ [] → numbered xs k ≡ None
-numbered_none xs zero e = refl
-numbered_none xs (suc k) e = ap (λ ys. slice_get ys k) e
 
 -- a request of a node to itself was never sent
 pub own_request_steps : (meaning : Meaning) (v : WorldState) (now i j k : ℕ) → i ≡ j

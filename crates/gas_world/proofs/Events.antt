@@ -21,8 +21,7 @@ use Rattle.plain_world.specs.Invariant.{WorldInvariant}
 use Rattle.endpoint_rules.specs.EndpointRules.{Records, RecordsEvent, RecordEvent, timed, transition, job_of, told}
 use Rattle.gas_world.specs.Told.{world_told}
 use Rattle.gas_world.specs.Exchanged.{ExchangesState}
-use Rattle.gas_endpoint.specs.Endpoints.{EndpointState, EndpointStands, NodeSteps, sent_to}
-use Rattle.gas_endpoint.specs.Endpoints.{IsNodeOf}
+use Rattle.gas_endpoint.specs.Endpoints.{EndpointState, EndpointStands, NodeSteps, sent_to, IsNodeOf}
 use Rattle.gas_world.specs.Worlds.{WorldState}
 use Rattle.gas_world.specs.Scenes.{Scene, MostIs, IsSame}
 use Rattle.gas_world.specs.Stands.{StandsForPair, Stands}
@@ -36,6 +35,7 @@ use Rattle.endpoint_rules.proofs.Sound.{rules_sound}
 use Rattle.gas_world.proofs.PairStands.{pair_sent}
 use Rattle.gas_world.proofs.Standing.{Falls, Sends as SendsAt, IsQuiet, quiet_pairs, Moves, moves_stand, still_stands, max_same}
 use Rattle.gas_world.proofs.Scenes.{node_kept}
+use Rattle.lists.proofs.Cases.{none_some}
 
 -- the answer is the records', and the world stands for the records' next ones
 abbrev pub Stepped : Meaning → WorldState → (now : ℕ) → RecordsEvent → WorldAnswer → WorldState → Records → (ℕ → ℕ)
@@ -200,9 +200,6 @@ pub choice_quiet : (meaning : Meaning) (v : WorldState) (i now : ℕ) (r : Node 
     → None ≡ sent_to choice → IsQuiet r (after_tick (site_of (job_in meaning v) i) r now choice)
 choice_quiet meaning v i now r (Resends due) none = tick_quiet now r (Some due)
 choice_quiet meaning v i now r (Sends sending) none = absurd (none_some none)
-  where
-    none_some : {X : Type 0} {x : X} → None ≡ Some x → ⊥
-    none_some e = cc
 choice_quiet meaning v i now r Rests none = same_quiet r r refl refl
 
 -- ---- an event that changes no record

@@ -1,5 +1,5 @@
 -- Each tick, by what it did to its scene.
-use Rattle.std.proofs.Common.{◌≡◌, ◌≢◌, inl, inr, ℕ, ◌+◌, ◌*◌, ◌<◌, max, Bool, true, false, true≢false, List, []}
+use Rattle.std.proofs.Common.{◌≡◌, ◌≢◌, inl, inr, ℕ, ◌+◌, ◌*◌, ◌<◌, true, false, true≢false, List, []}
 use Rattle.std.proofs.Common.{◌∷◌, ◌++◌, refl, sym, ap, ◌∙◌, subst, subst₂}
 use Rattle.std.specs.Prelude.{Option, Some, None, is_some, unwrap_or, slice_get, slice_set, ◌==◌}
 use Rattle.std.proofs.lemmas.Bool.{cases_Bool}
@@ -14,9 +14,8 @@ use Rattle.node_record.specs.Behaviour.{Sending}
 use Rattle.node_record.specs.Credits.{limits_of}
 use Rattle.node_record.specs.Requests.{next_claim}
 use Rattle.node_record.specs.Step.{put, new_request, request_slot, tick_choice, tick_answer, after_tick, after_sending}
-use Rattle.node_record.specs.Step.{can_ask, TickChoice, Resends, Sends, Rests}
+use Rattle.node_record.specs.Step.{TickChoice, Resends, Sends, Rests}
 use Rattle.node_record.specs.NodeStep.{OfTick, Ticks as NodeTicks, site_of, node_after}
-use Rattle.node_record.specs.Held.{held}
 use Rattle.node_record.proofs.Puts.{put_same, put_other}
 use Rattle.am_core.specs.ClientRules.{content_refusal}
 use Rattle.am_core.specs.Library.{note_handler}
@@ -26,7 +25,7 @@ use Rattle.endpoint_rules.specs.EndpointRules.{Records, job_of, transition, sent
 use Rattle.endpoint_rules.specs.declared.call.Event.TheVariants as event
 use Rattle.endpoint_rules.specs.declared.answer.Answer.{Answer}
 use Rattle.endpoint_rules.specs.declared.answer.Answer.TheVariants as answers
-use Rattle.gas_endpoint.specs.Endpoints.{EndpointState, EndpointStands, NodeSteps, IsNodeOf, IsTickTarget, sent_to}
+use Rattle.gas_endpoint.specs.Endpoints.{EndpointState, EndpointStands, IsNodeOf, IsTickTarget, sent_to}
 use Rattle.gas_world.specs.Worlds.{WorldState}
 use Rattle.gas_world.specs.Scenes.{Scene, Stage, scene_with, Happens, IsPlanned, asked_list, CallFalls, AloneFallsIn}
 use Rattle.gas_world.specs.Scenes.{AskFalls}
@@ -43,6 +42,7 @@ use Rattle.gas_world.proofs.PairStands.{pair_accepted}
 use Rattle.gas_world.proofs.Standing.{Falls, Sends as SendsAt, only_asked, same_stands}
 use Rattle.gas_world.proofs.Events.{Stepping, scene_node, scene_pair, scene_steps, event_steps, quiet_sends}
 use Rattle.gas_world.proofs.Events.{choice_quiet, most_raised, at_home}
+use Rattle.lists.proofs.Cases.{none_some}
 
 -- ---- what a tick does
 
@@ -64,9 +64,6 @@ pub record IsSending (choice : TickChoice) (to : ℕ) : Type 0 where
   pub sending : Sending
   pub is : choice ≡ Sends sending
   pub to_is : sending.to ≡ to
-
-none_some : {X : Type 0} {x : X} → None ≡ Some x → ⊥
-none_some e = cc
 
 sending_is : (choice : TickChoice) (to : ℕ) → Some to ≡ sent_to choice → IsSending choice to
 sending_is (Resends due) to e = absurd (none_some (sym e))

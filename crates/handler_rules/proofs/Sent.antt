@@ -16,6 +16,7 @@ use Rattle.handler_rules.specs.Rules.{rule, context_of}
 use Rattle.handler_rules.specs.Registered.{entry_at, is_for_replies}
 use Rattle.handler_rules.specs.Runs.{Frame, Outcome, IsGood, IsReplyContent, answer, answer_by, first_fault, passes_end}
 use Rattle.handler_rules.specs.Runs.{reply_faults}
+use Rattle.std.proofs.lemmas.Bool.{not-false}
 
 -- the rule table lets a reply through
 record IsAllowed (r : Role) (is_holding : Bool) (reply : Option Content) : Type 0 where
@@ -49,10 +50,6 @@ right_parts false false true is_past sent = cc
 right_parts false false false true sent = cc
 right_parts false false false false sent = record { registered = refl; few = refl; small = refl; inside = refl }
 
-known : (is_known : Bool) → not is_known ≡ false → is_known ≡ true
-known true e = refl
-known false e = absurd (true≢false e)
-
 second_false : (first second : Bool) → (first && second) ≡ false → first ≡ true → second ≡ false
 second_false true second both is = both
 second_false false second both is = absurd (true≢false (sym is))
@@ -74,7 +71,7 @@ was_sent frame content outcome sent =
       first = judged.0.first;
       good = λ is_reply. record {
         for_request = judged.0.for_request;
-        registered = known (is_for_replies (entry_at frame.table content.handler)) right.registered;
+        registered = not-false (is_for_replies (entry_at frame.table content.handler)) right.registered;
         few = ltb-false 16 (length content.args) right.few;
         small = ltb-false 8192 (length content.payload) right.small;
         inside = λ is_placed.

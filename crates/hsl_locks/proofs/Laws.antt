@@ -1,5 +1,5 @@
 -- What calls on locks leave to the others, and when the locks that a handler lists are free for it.
-use Rattle.std.proofs.Common.{◌≡◌, ◌≢◌, inl, inr, ℕ, List, [], ◌∷◌, ◌++◌, Option, Some, None, Bool, true, false, not, ◌&&◌, ◌||◌}
+use Rattle.std.proofs.Common.{◌≡◌, ◌≢◌, inl, inr, ℕ, List, [], ◌∷◌, ◌++◌, Option, Some, None, Bool, true, false, not, ◌&&◌}
 use Rattle.std.proofs.Common.{true≢false, eqb, eqb-true, eq-eqb, refl, sym, ap, ◌∙◌, arith}
 use Rattle.std.specs.Prelude.{◌==◌, filter, map, min, bit_or, nat_lt}
 use Rattle.std.specs.List.{list_any, reduce}
@@ -17,11 +17,7 @@ use Rattle.hsl_locks.specs.declared.answer.LockAnswer.TheVariants as lock_answer
 use Rattle.hsl_locks.specs.declared.answer.LockFault.{LockFault}
 use Rattle.hsl_locks.specs.Locks.{is_owner, is_thread, is_listed, is_of, is_blocking, holder, holds, without, without_lock}
 use Rattle.hsl_locks.specs.Locks.{blocked, lock_answer, answer_by, after_lock, unlock_fault, unlock_answer, after_unlock}
-
--- two tests of which neither says yes
-neither : (first second : Bool) → (first || second) ≡ false → (first ≡ false) × (second ≡ false)
-neither true second says = absurd (true≢false says)
-neither false second says = (refl, says)
+use Rattle.std.proofs.lemmas.Bool.{or_parts}
 
 -- ---- what is left to the others
 
@@ -83,7 +79,7 @@ without_after_lock held owner lock listed = by_answer (lock_answer held owner lo
   by_answer lock_answers.Held = refl
   by_answer (lock_answers.Refused why) = refl
 
--- neither is a lock that it gives back
+-- or_parts is a lock that it gives back
 pub without_after_unlock : (held : List Held) (owner : Owner) (lock : ℕ)
     → without owner (after_unlock held owner lock) ≡ without owner held
 without_after_unlock held owner lock = by_fault (unlock_fault held owner lock) refl where
@@ -137,7 +133,7 @@ never_held held lock listed free = elim (cases_Bool (nat_lt lock 64)) [
       → answer_by (holder held lock) Handler ≢ lock_answers.Held
   found [] free listed_here = λ same. absurd cc
   found (one ∷ held) free listed_here =
-      let told = neither (is_blocking listed one) (list_any (is_blocking listed) held) free in
+      let told = or_parts (is_blocking listed one) (list_any (is_blocking listed) held) free in
       elim (cases_Bool (eqb one.lock lock)) [
         | inl same ↦
             let here : is_listed listed one.lock ≡ true =
@@ -174,7 +170,7 @@ unblocked_less : (held : List Held) (less more : ℕ)
     → list_any (is_blocking more) held ≡ false → list_any (is_blocking less) held ≡ false
 unblocked_less [] less more within free = refl
 unblocked_less (one ∷ held) less more within free =
-    let told = neither (is_blocking more one) (list_any (is_blocking more) held) free in
+    let told = or_parts (is_blocking more one) (list_any (is_blocking more) held) free in
     let rest = unblocked_less held less more within told.1 in
     elim (cases_Bool (is_blocking less one)) [
       | inl blocks ↦

@@ -1,6 +1,6 @@
 -- What stands at a place of a list, counted from 0.
 use Rattle.std.proofs.Common.{◌≡◌, ◌⊎◌, inl, inr, ℕ, zero, suc, ◌<◌, List, [], ◌∷◌, ◌++◌, length, replicate, Some, refl}
-use Rattle.std.proofs.Common.{arith}
+use Rattle.std.proofs.Common.{arith, None, ◌≤◌}
 use Rattle.std.specs.List.{slice_get}
 pub use Rattle.std.proofs.lemmas.Option.{slice_get_past, slice_get_within as slice_get_in}
 
@@ -39,3 +39,9 @@ pub slice_get-replicate : {X : Type 0} (count place : ℕ) (x : X) → place < c
 slice_get-replicate zero place x low = absurd (omega arith)
 slice_get-replicate (suc count) zero x low = refl
 slice_get-replicate (suc count) (suc place) x low = slice_get-replicate count place x (omega arith)
+
+-- where nothing stands, the list has ended
+pub slice_get_short : {X : Type 0} (xs : List X) (place : ℕ) → slice_get xs place ≡ None → length xs ≤ place
+slice_get_short [] place e = omega arith
+slice_get_short (x ∷ xs) zero e = absurd (cc)
+slice_get_short (x ∷ xs) (suc place) e = let rest = slice_get_short xs place e in omega (arith, rest)

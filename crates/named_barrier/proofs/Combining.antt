@@ -12,6 +12,7 @@ use Rattle.named_barrier.specs.declared.known.Combination.{Combination}
 use Rattle.named_barrier.specs.Masks.{has}
 use Rattle.named_barrier.specs.Combinations.{Notifies, one_notify, no_notify, differ, least, combine, combined_id}
 use Rattle.named_barrier.specs.Combinations.{combined_flags, notified_by, all_of, among}
+use Rattle.std.proofs.Math.Bool.{or-false, or-true}
 
 -- ---- ids
 
@@ -36,14 +37,6 @@ int_eq_same id = (Decides-int_eq id id).1 refl
 
 -- ---- combine
 
-pub or_false : (test : Bool) → (test || false) ≡ test
-or_false true = refl
-or_false false = refl
-
-pub or_true : (test : Bool) → (test || true) ≡ true
-or_true true = refl
-or_true false = refl
-
 pub differ_comm : (first second : Option ℤ) → differ first second ≡ differ second first
 differ_comm None None = refl
 differ_comm None (Some other) = refl
@@ -57,9 +50,9 @@ differ_comm (Some id) (Some other) = elim (int_eq_tells id other) [
 pub differ_assoc : (first second third : Option ℤ)
     → (differ first second || differ (least first second) third)
     ≡ (differ second third || differ first (least second third))
-differ_assoc None second third = sym (or_false (differ second third))
+differ_assoc None second third = sym (or-false (differ second third))
 differ_assoc (Some id) None third = refl
-differ_assoc (Some id) (Some other) None = or_false (differ (Some id) (Some other))
+differ_assoc (Some id) (Some other) None = or-false (differ (Some id) (Some other))
 differ_assoc (Some id) (Some other) (Some more) = elim (int_eq_tells id other) [
   | inl one ↦ rw (one.1, int_eq_same other, int_min_same other) (elim (int_eq_tells other more) [
     | inl two ↦ rw (two.1, int_eq_same more, int_min_same more, int_eq_same more) refl
@@ -87,13 +80,13 @@ shuffle : (one two three first second third fourth : Bool) → (first || second)
     → (one || two || first || three || second) ≡ (one || (two || three || third) || fourth)
 shuffle true two three first second third fourth same = refl
 shuffle false true three first second third fourth same = refl
-shuffle false false true first second third fourth same = rw (or_true first) refl
-shuffle false false false first second third fourth same = rw (or_false first) same
+shuffle false false true first second third fourth same = rw (or-true first) refl
+shuffle false false false first second third fourth same = rw (or-false first) same
 
 swap : (one two three : Bool) → (one || two || three) ≡ (two || one || three)
 swap true true three = refl
 swap true false three = refl
-swap false two three = rw (or_false two) refl
+swap false two three = rw (or-false two) refl
 
 abbrev made : Bool → Option ℤ → Combination
 made is_mismatch named = record { mismatch = is_mismatch; id = named }
@@ -120,7 +113,7 @@ pub combine_none : (combined : Combination) → combine combined no_notify ≡ c
 combine_none combined = combine_comm combined no_notify ∙ none_combine combined
   where
     none_combine : (combined : Combination) → combine no_notify combined ≡ combined
-    none_combine combined = same_combination (or_false combined.mismatch) refl
+    none_combine combined = same_combination (or-false combined.mismatch) refl
 
 pub none_combine : (combined : Combination) → combine no_notify combined ≡ combined
 none_combine combined = combine_comm no_notify combined ∙ combine_none combined

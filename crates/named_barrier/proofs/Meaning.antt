@@ -1,5 +1,5 @@
 -- The notifies of n nodes, combined, say what they must.
-use Rattle.std.proofs.Common.{◌≡◌, ◌≢◌, ◌⊎◌, inl, inr, ℕ, zero, suc, ℤ, ◌≤ℤ◌, Bool, true, false, true≢false, ◌||◌}
+use Rattle.std.proofs.Common.{◌≡◌, ◌≢◌, ◌⊎◌, inl, inr, ℕ, zero, suc, ℤ, ◌≤ℤ◌, true, false, true≢false, ◌||◌}
 use Rattle.std.proofs.Common.{Option, Some, None, refl, sym, ap, ◌∙◌, subst, arith}
 use Rattle.std.specs.Int.{int_min}
 use Rattle.std.proofs.Common.{int_lt}
@@ -12,6 +12,7 @@ use Rattle.named_barrier.specs.Masks.{has}
 use Rattle.named_barrier.specs.Combinations.{Notifies, one_notify, differ, least, combine, notified_by, all_of}
 use Rattle.named_barrier.specs.Together.{HasMismatch, IsNamed, HasClash, AllTogether}
 use Rattle.named_barrier.proofs.Combining.{int_eq_tells, int_min_same}
+use Rattle.std.proofs.lemmas.Bool.{or_parts}
 
 -- a combination says what it must of a flag, and of the identifiers that are named
 record Says (Flag : Type 0) (Named : ℤ → Type 0) (combined : Combination) : Type 0 where
@@ -19,10 +20,6 @@ record Says (Flag : Type 0) (Named : ℤ → Type 0) (combined : Combination) : 
   good : combined.mismatch ≡ false → (Flag → ⊥) × ((id : ℤ) → Named id → combined.id ≡ Some id)
   some : (id : ℤ) → combined.id ≡ Some id → Named id × ((other : ℤ) → Named other → id ≤ℤ other)
   none : combined.id ≡ None → (id : ℤ) → Named id → ⊥
-
-or_none : (first second : Bool) → (first || second) ≡ false → (first ≡ false) × (second ≡ false)
-or_none true second is = absurd (true≢false is)
-or_none false second is = (refl, is)
 
 says_like : (Flag Other_flag : Type 0) (Named Other_named : ℤ → Type 0) (combined : Combination) → (Flag → Other_flag)
     → (Other_flag → Flag) → ((id : ℤ) → Named id → Other_named id) → ((id : ℤ) → Other_named id → Named id)
@@ -122,8 +119,8 @@ combine_says Flag Other_flag Named Other_named first second one two = record {
         ))
   ];
   good = λ is.
-      let which = or_none (first.mismatch || second.mismatch) (differ first.id second.id) is in
-      let both = or_none first.mismatch second.mismatch which.0 in (
+      let which = or_parts (first.mismatch || second.mismatch) (differ first.id second.id) is in
+      let both = or_parts first.mismatch second.mismatch which.0 in (
         λ flag. elim flag [ inl fact ↦ (one.good both.0).0 fact | inr fact ↦ (two.good both.1).0 fact ],
         λ id name. least_same first.id second.id id which.1
             (elim name [ inl fact ↦ inl ((one.good both.0).1 id fact) | inr fact ↦ inr ((two.good both.1).1 id fact) ]),

@@ -15,8 +15,7 @@ use Rattle.named_barrier.specs.World.{Barriers, BarrierEvent, Notifying, Trying,
 use Rattle.named_barrier.specs.World.{happens, barriers_after, all_opened}
 use Rattle.named_barrier.specs.World.{IsAmong, InEveryRun, AreCovered, AllNotified, EndedByAll}
 use Rattle.named_barrier.proofs.Runs.{put_same, put_other, keeps_notify, keeps_try, keeps_send, keeps_hear_sent}
-use Rattle.named_barrier.proofs.Runs.{note_to_routed, routed_covered}
-use Rattle.named_barrier.proofs.Runs.{happens_keeps, opens, inv_tells}
+use Rattle.named_barrier.proofs.Runs.{note_to_routed, routed_covered, happens_keeps, opens, inv_tells}
 
 -- node i goes from barriers i to q, and ends at most a phase that all have notified
 put_ended : (nodes : ℕ) (barriers : Barriers) (node : ℕ) (newer : BarrierRecord) → EndedByAll nodes barriers
@@ -61,11 +60,11 @@ notify_ended kept id flags told.BadFlags = refl
 notify_ended kept id flags told.Twice = refl
 notify_ended kept id flags told.WornOut = refl
 
-send_ended : (kept : BarrierRecord) (to : ℕ) (maybe : Option BarrierNote) → (send kept to maybe).ended ≡ kept.ended
+pub send_ended : (kept : BarrierRecord) (to : ℕ) (maybe : Option BarrierNote) → (send kept to maybe).ended ≡ kept.ended
 send_ended kept to None = refl
 send_ended kept to (Some note) = refl
 
-hear_ended : (kept : BarrierRecord) (note : BarrierNote) → (hear kept note).ended ≡ kept.ended
+pub hear_ended : (kept : BarrierRecord) (note : BarrierNote) → (hear kept note).ended ≡ kept.ended
 hear_ended kept note = elim (cases_Bool (eqb note.phase kept.ended || eqb note.phase
     (suc kept.ended))) [ inl sent_note ↦ rw sent_note refl | inr f ↦ rw f refl ]
 

@@ -1,5 +1,5 @@
 -- The tests of the rounds.
-use Rattle.std.proofs.Common.{◌≡◌, ℕ, zero, suc, ◌+◌, ◌-◌, ◌%◌, ◌^◌, ◌<◌, Bool, ◌*◌, ◌≤◌, true, false, ◌&&◌, ◌||◌}
+use Rattle.std.proofs.Common.{◌≡◌, ℕ, zero, suc, ◌+◌, ◌-◌, ◌%◌, ◌^◌, ◌<◌, ◌*◌, ◌≤◌, true, false}
 use Rattle.std.proofs.Common.{inl, inr, refl, sym, ap, ◌∙◌, arith, eqb, ltb}
 use Rattle.std.proofs.lemmas.Bool.{cases_eq, cases_lt}
 use Rattle.std.proofs.Math.Pow.{pow-lt}
@@ -7,18 +7,7 @@ use Rattle.std.proofs.Math.Nat.{mod-eq_of_lt}
 use Rattle.std.proofs.lemmas.Bool.Decides.{nat_tests}
 use Rattle.named_barrier.specs.Masks.{has, has_all}
 use Rattle.named_barrier.specs.Route.{has_back, is_round, any_round}
-
-and_false : (test : Bool) → (test && false) ≡ false
-and_false true = refl
-and_false false = refl
-
-or_true : (test : Bool) → (test || true) ≡ true
-or_true true = refl
-or_true false = refl
-
-or_false : (test : Bool) → (test || false) ≡ test
-or_false true = refl
-or_false false = refl
+use Rattle.std.proofs.Math.Bool.{or-false, or-true, and-false}
 
 pow_some : (number : ℕ) → 1 ≤ 2 ^ number
 pow_some zero = omega arith
@@ -31,7 +20,7 @@ has_back-false nodes me mask zero back low is = absurd (omega arith)
 has_back-false nodes me mask (suc last) back low is = elim (cases_eq back last) [
   | inl equal ↦ (let at : has mask ((me + nodes - last) % nodes) ≡ false =
       ap (λ place. has mask ((me + nodes - place) % nodes)) (sym equal) ∙ is in
-      rw at (and_false (has_back nodes me mask last)))
+      rw at (and-false (has_back nodes me mask last)))
   | inr unlike ↦ rw (has_back-false nodes me mask last back (omega arith) is) refl
 ]
 
@@ -41,7 +30,7 @@ pub any_round-true : (nodes me mask to rounds_less round : ℕ) → round < roun
 any_round-true nodes me mask to zero round low is = absurd (omega arith)
 any_round-true nodes me mask to (suc rounds_less) round low is = elim (cases_eq round rounds_less) [
   | inl equal ↦ (let at : is_round nodes me mask to rounds_less ≡ true =
-      ap (is_round nodes me mask to) (sym equal) ∙ is in rw at (or_true (any_round nodes me mask to rounds_less)))
+      ap (is_round nodes me mask to) (sym equal) ∙ is in rw at (or-true (any_round nodes me mask to rounds_less)))
   | inr unlike ↦ rw (any_round-true nodes me mask to rounds_less round (omega arith) is) refl
 ]
 
@@ -74,7 +63,7 @@ rounds_end nodes me mask to round (suc rounds) low few = elim (cases_eq round (s
   | inr unlike ↦ (
       let lower : round ≤ rounds = omega arith in
       let none = no_round nodes me mask to rounds (omega (arith, few, pow_up round rounds lower)) in
-      rw (none, rounds_end nodes me mask to round rounds lower few) (or_false (any_round nodes me mask to round))
+      rw (none, rounds_end nodes me mask to round rounds lower few) (or-false (any_round nodes me mask to round))
       )
 ]
 
@@ -101,6 +90,6 @@ pub has_all-false : (mask nodes node : ℕ) → node < nodes → has mask node �
 has_all-false mask zero node low is = absurd (omega arith)
 has_all-false mask (suc last) node low is = elim (cases_eq node last) [
   | inl equal ↦ (let at : has mask last ≡ false = ap (has mask) (sym equal) ∙ is in
-      rw at (and_false (has_all mask last)))
+      rw at (and-false (has_all mask last)))
   | inr unlike ↦ rw (has_all-false mask last node (omega arith) is) refl
 ]

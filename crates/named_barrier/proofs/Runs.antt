@@ -1,8 +1,7 @@
 -- Every run: notes tell what was notified, and a try tells the outcome.
 use Rattle.std.proofs.Common.{◌≡◌, ◌≢◌, ◌⊎◌, inl, inr, ℕ, zero, suc, ◌<◌, ℤ, true, true≢false, Bool, false, cond}
-use Rattle.std.proofs.Common.{◌||◌, Option, Some, None, List, [], ◌∷◌, ◌++◌, refl, sym, ap, ◌∙◌, subst, arith, eqb}
-use Rattle.std.proofs.Common.{◌↔◌}
-use Rattle.std.specs.Prelude.{slice_get, nat_lt, is_some}
+use Rattle.std.proofs.Common.{◌||◌, Option, Some, None, List, [], ◌∷◌, ◌++◌, refl, sym, ap, ◌∙◌, subst, arith, eqb, ◌↔◌}
+use Rattle.std.specs.Prelude.{slice_get, nat_lt}
 use Rattle.std.specs.List.{AllByRecursion}
 use Rattle.std.proofs.lemmas.Bool.Decides.{nat_tests}
 use Rattle.std.proofs.lemmas.Bool.{cases_Bool, cases_eq}
@@ -18,8 +17,7 @@ use Rattle.named_barrier.specs.Combinations.{all_of}
 use Rattle.named_barrier.specs.Record.{BarrierRecord, SentNote, Part, own, own_part, part_of, heard_part, known}
 use Rattle.named_barrier.specs.Record.{Stage, Try, stage, note_of, routed}
 use Rattle.named_barrier.specs.Record.{notify_answer, notify_after, try_answer, try_after, own_try, unready}
-use Rattle.named_barrier.specs.Record.{is_other, hear, due, due_before}
-use Rattle.named_barrier.specs.Record.{or_else, note_to, was_sent, send}
+use Rattle.named_barrier.specs.Record.{is_other, hear, due, due_before, or_else, note_to, was_sent, send}
 use Rattle.named_barrier.specs.Route.{goes_to}
 use Rattle.named_barrier.specs.World.{Barriers, BarrierEvent, Notifying, Trying, Sending, Hearing, put, hear_sent}
 use Rattle.named_barrier.specs.World.{happens, barriers_after, all_opened}
@@ -27,6 +25,7 @@ use Rattle.named_barrier.specs.World.{IsAmong, Covers, IsCovered, AreCovered, Ke
 use Rattle.named_barrier.specs.World.{is_mismatch, notified}
 use Rattle.named_barrier.proofs.Covering.{covers_both, covers_own, covers_grows, covers_heard, covers_note}
 use Rattle.named_barrier.proofs.Covering.{covers_all, has_all-each}
+use Rattle.lists.proofs.Places.{slice_get_kept}
 
 -- ---- lists
 
@@ -36,12 +35,6 @@ slice_get_push [] last zero item e = inr cc
 slice_get_push [] last (suc place) item e = absurd (cc)
 slice_get_push (first ∷ items) last zero item e = inl e
 slice_get_push (first ∷ items) last (suc place) item e = slice_get_push items last place item e
-
-pub slice_get_kept : {Item : Type 0} (items : List Item) (last : Item) (place : ℕ) (item : Item)
-    → slice_get items place ≡ Some item → slice_get (items ++ last ∷ []) place ≡ Some item
-slice_get_kept [] last place item e = absurd (cc)
-slice_get_kept (first ∷ items) last zero item e = e
-slice_get_kept (first ∷ items) last (suc place) item e = slice_get_kept items last place item e
 
 -- ---- the invariant
 

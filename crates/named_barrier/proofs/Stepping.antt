@@ -13,13 +13,13 @@ use Rattle.named_barrier.specs.Masks.{has, has_all}
 use Rattle.named_barrier.specs.Record.{BarrierRecord, SentNote, Part, is_other, own, no_part, join, part_of}
 use Rattle.named_barrier.specs.Record.{own_part, heard_part, known, hear}
 use Rattle.named_barrier.specs.Record.{was_sent, due, due_before, or_else, note_to, send, notify_answer}
-use Rattle.named_barrier.specs.Record.{Stage, Try, stage, notify_after, own_try, try_answer}
-use Rattle.named_barrier.specs.Record.{try_after, routed}
+use Rattle.named_barrier.specs.Record.{Stage, Try, stage, notify_after, own_try, try_answer, try_after, routed}
 use Rattle.named_barrier.specs.State.{State, last_due, now_due, note_at}
 use Rattle.named_barrier.specs.Stands.{sent_mask, before, given, Stands}
 use Rattle.named_barrier.proofs.Runs.{slice_get_push, routed_note}
 use Rattle.named_barrier.proofs.Standing.{join_assoc, none_join, heard_part_push, heard_part_none, sent_mask_push}
 use Rattle.named_barrier.proofs.Standing.{sent_mask_none, sent_mask_has}
+use Rattle.lists.proofs.Places.{slice_get_short}
 
 -- ---- lists
 
@@ -39,12 +39,6 @@ slice_get_last : {Item : Type 0} (items : List Item) (last : Item) (place : ℕ)
 slice_get_last [] last place same = rw same refl
 slice_get_last (item ∷ items) last zero same = absurd (omega arith)
 slice_get_last (item ∷ items) last (suc place) same = slice_get_last items last place (omega arith)
-
-pub slice_get_short : {Item : Type 0} (items : List Item) (place : ℕ) → slice_get items place ≡ None
-    → length items ≤ place
-slice_get_short [] place same = omega arith
-slice_get_short (item ∷ items) zero same = absurd (cc)
-slice_get_short (item ∷ items) (suc place) same = omega (arith, slice_get_short items place same)
 
 slice_get_in : {Item : Type 0} (items : List Item) (place : ℕ) (item : Item) → slice_get items place ≡ Some item
     → place < length items

@@ -30,7 +30,7 @@ use Rattle.named_barrier.specs.Within.{IsWithin, NotesFit, StepsWithin, StaysWit
 use Rattle.named_barrier.proofs.Words.{words_number}
 use Rattle.named_barrier.proofs.RoundLaws.{pow_up}
 use Rattle.named_barrier.proofs.Runs.{routed_note, or_else_is, passes, slice_get_push}
-use Rattle.named_barrier.proofs.Stepping.{slice_get_short}
+use Rattle.lists.proofs.Places.{slice_get_short}
 
 -- an identifier that is named is one of 32 bits
 abbrev IdFits : Option ℤ → Type 0

@@ -1,9 +1,7 @@
 -- The value of the kept replies, by the table of slots.
 use Rattle.std.proofs.Common.{ℕ, ◌≡◌, ◌≢◌, ◌<◌, Option, Some, None, Bool, List, [], ◌∷◌, length, suc, zero}
-use Rattle.std.proofs.Common.{refl, sym, ap, ◌∙◌, inl, inr, arith, cond, replicate, take, ◌-◌}
-use Rattle.std.proofs.Common.{length-set}
-use Rattle.std.specs.Prelude.{slice_get, slice_set, map, not, count_by, option_and_then, IsSomeAnd, ◌==◌}
-use Rattle.std.specs.Prelude.{if◌then◌else◌}
+use Rattle.std.proofs.Common.{refl, sym, ap, ◌∙◌, inl, inr, arith, cond, replicate, take, ◌-◌, length-set}
+use Rattle.std.specs.Prelude.{slice_get, slice_set, map, not, count_by, option_and_then, IsSomeAnd, ◌==◌, if◌then◌else◌}
 use Rattle.std.specs.Option.{option_map, unwrap_or}
 use Rattle.std.proofs.lemmas.Option.{slice_get_cases, slice_get_within, slice_get_past, slice_get-map}
 use Rattle.std.proofs.lemmas.List.{map-set, length-map, drop-replicate, take-replicate}
@@ -12,8 +10,7 @@ use Rattle.std.proofs.lemmas.Bool.Decides.{eqb_tells}
 use Rattle.lists.specs.Update.{update}
 use Rattle.lists.specs.Cut.{cut, start_of, count_at, total_of, part_of}
 use Rattle.lists.proofs.Update.{update-Some, update-None, length-update, slice_get-update, slice_get-update_other}
-use Rattle.lists.proofs.Cut.{get-part, get-cut, length-cut, length-part, count-inside, cut-update, sum-cut}
-use Rattle.lists.proofs.Cut.{start-inside, start-whole}
+use Rattle.lists.proofs.Cut.{get-part, get-cut, length-cut, length-part, count-inside, cut-update, sum-cut, start-whole}
 use Rattle.slot_table.proofs.New.{count-of}
 use Rattle.slot_table.specs.State.{SlotState, Vacant, Opened, Sealed, TableState, slot_in, place_of}
 use Rattle.slot_table.specs.State.{with_change, number_of, message_number, message_of, is_taken, opened_bytes}
@@ -91,17 +88,6 @@ pub in-range : (table : TableState) (seen : RepliesState) (node slot : ℕ) → 
     → slot < slot_count seen node → slot < count_at table.counts node
 in-range table seen node slot view kept inside =
     omega (arith, count-is table node kept.whole, ap (λ (view_of : RepliesState). slot_count view_of node) view, inside)
-
-pub place-there : (table : TableState) (node slot : ℕ) → slot < count_at table.counts node
-    → total_of table.counts ≡ length table.slots → (state : SlotState) × (slot_in table node slot ≡ Some state)
-place-there table node slot inside whole =
-    elim ((slice_get_cases table.slots (place_of table node slot)).1) [
-      | inl known ↦ (
-        known.0,
-        known.2,
-      )
-      | inr known ↦ absurd (omega (arith, known.0, start-inside table.counts node slot inside, whole))
-    ]
 
 -- the last number of a slot
 pub last-is : (state : SlotState) → last_number (reply_of state) ≡ unwrap_or (number_of state) 0

@@ -2,20 +2,21 @@ use Rattle.std.proofs.Common.{ℕ, ◌≡◌, ◌∙◌, sym, subst, arith, rule
 use Rattle.std.proofs.lemmas.Int.{to_z-of_z}
 use Rattle.std.proofs.lemmas.Option.{slice_get_within}
 use Rattle.datagram_grammar.specs.Reading.{viewed_message}
-use Rattle.am_core.proofs.Floors.{none_past, copied_more}
+use Rattle.am_core.proofs.Floors.{copied_more}
 use Rattle.am_core.proofs.arguments.arguments.Goals as goal
+use Rattle.lists.proofs.Places.{slice_get_short}
 
 pub loop-place-init : goal.loop-place-init
 loop-place-init c = record { copied = refl; within = omega arith; room = refl }
 
 pub returns-in-None-clause-count : goal.returns-in-None-clause-count
 returns-in-None-clause-count c =
-    let past = none_past (viewed_message c.args.message.now).args c.loop-place.place (search rules) in
+    let past = slice_get_short (viewed_message c.args.message.now).args c.loop-place.place (search rules) in
     omega (arith, past, c.loop-place.invariant.within)
 
 pub returns-in-None-clause-args : goal.returns-in-None-clause-args
 returns-in-None-clause-args c =
-    let past = none_past (viewed_message c.args.message.now).args c.loop-place.place (search rules) in
+    let past = slice_get_short (viewed_message c.args.message.now).args c.loop-place.place (search rules) in
     c.loop-place.invariant.copied ∙ take_all c.loop-place.place (viewed_message c.args.message.now).args past
 
 pub loop-place-preserved : goal.loop-place-preserved

@@ -1,19 +1,15 @@
-use Rattle.std.proofs.Common.{ℕ, ◌≡◌, ◌<◌, Option, Some, None, List}
-use Rattle.std.proofs.Common.{length, ap, sym, ◌∙◌, subst, refl, length-set}
+use Rattle.std.proofs.Common.{ℕ, ◌≡◌, ◌<◌, Option, Some, None, List, length, ap, sym, ◌∙◌, subst, refl, length-set}
 use Rattle.std.specs.Prelude.{slice_get, slice_set, option_and_then}
 use Rattle.lists.specs.Cut.{count_at}
 use Rattle.slot_table.specs.State.{TableState, slot_in, place_of, with_change, opened_time}
-use Rattle.credit_slots.specs.State.{SlotState, Opened, SlotsState}
-use Rattle.credit_slots.specs.State.{with_slot_changed}
-use Rattle.credit_slots.specs.State.{sealed}
+use Rattle.credit_slots.specs.State.{SlotState, Opened, SlotsState, with_slot_changed, sealed}
 use Rattle.credit_slots.specs.declared.order.Due.{Due}
 use Rattle.credit_slots.specs.Views.{credits_view, Matches, IsCredits}
 use Rattle.std.proofs.lemmas.Option.{slice_get_within}
 use Rattle.lists.proofs.Indexes.{get-set_same, get-set_other}
-use Rattle.credit_slots.proofs.Viewed.{changed-is}
-use Rattle.credit_slots.proofs.Viewed.{credits-after, in-range}
-use Rattle.credit_slots.proofs.Viewed.{time-opened, not-sealed, place-there}
+use Rattle.credit_slots.proofs.Viewed.{changed-is, credits-after, in-range, time-opened, not-sealed}
 use Rattle.credit_slots.proofs.CreditSlots.seal.Goals as goal
+use Rattle.slot_table.proofs.Slots.{place-there}
 
 pub seal-requires-clause-in_range : goal.seal-requires-clause-in_range
 seal-requires-clause-in_range c =

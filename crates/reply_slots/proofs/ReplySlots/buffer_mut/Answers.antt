@@ -1,19 +1,16 @@
-use Rattle.std.proofs.Common.{ℕ, ◌≡◌, ◌<◌, Option, Some, None, List, []}
-use Rattle.std.proofs.Common.{ap, sym, ◌∙◌, subst, refl}
+use Rattle.std.proofs.Common.{ℕ, ◌≡◌, ◌<◌, Option, Some, None, List, [], ap, sym, ◌∙◌, subst, refl}
 use Rattle.std.specs.Prelude.{IsSomeAnd}
 use Rattle.std.specs.Option.{option_map}
 use Rattle.lists.specs.Cut.{count_at}
-use Rattle.slot_table.specs.State.{SlotState}
-use Rattle.slot_table.specs.State.{with_written as slot_written}
+use Rattle.slot_table.specs.State.{SlotState, with_written as slot_written}
 use Rattle.slot_table.specs.State.{IsOpened as SlotOpened, opened_bytes as slot_bytes}
-use Rattle.reply_slots.specs.State.{ReplyState, RepliesState, slot_at}
-use Rattle.reply_slots.specs.State.{with_slot_changed, with_written}
+use Rattle.reply_slots.specs.State.{ReplyState, RepliesState, slot_at, with_slot_changed, with_written}
 use Rattle.reply_slots.specs.State.{IsOpened, opened_bytes}
 use Rattle.reply_slots.specs.Views.{reply_of}
-use Rattle.reply_slots.proofs.Viewed.{changed-is, written-is, slot-is, place-there}
-use Rattle.reply_slots.proofs.Viewed.{bytes-is, opened-is, replies-after, number-written}
-use Rattle.reply_slots.proofs.Viewed.{said-of, slot-there}
+use Rattle.reply_slots.proofs.Viewed.{changed-is, written-is, slot-is}
+use Rattle.reply_slots.proofs.Viewed.{bytes-is, opened-is, replies-after, number-written, said-of, slot-there}
 use Rattle.reply_slots.proofs.ReplySlots.buffer_mut.Goals as goal
+use Rattle.slot_table.proofs.Slots.{place-there}
 
 pub buffer_mut-requires-clause-in_range : goal.buffer_mut-requires-clause-in_range
 buffer_mut-requires-clause-in_range c =

@@ -1,16 +1,14 @@
-use Rattle.std.proofs.Common.{ℕ, ◌≡◌, ◌<◌, Option, Some}
-use Rattle.std.proofs.Common.{ap, sym, ◌∙◌, subst, arith}
+use Rattle.std.proofs.Common.{ℕ, ◌≡◌, ◌<◌, Option, Some, ap, sym, ◌∙◌, subst, arith}
 use Rattle.std.specs.Prelude.{option_and_then, IfSome}
 use Rattle.std.specs.Option.{option_map, unwrap_or}
 use Rattle.lists.specs.Cut.{count_at}
 use Rattle.slot_table.specs.State.{number_of}
-use Rattle.reply_slots.specs.State.{ReplyState, RepliesState, slot_at}
-use Rattle.reply_slots.specs.State.{last_number, Judges}
+use Rattle.reply_slots.specs.State.{ReplyState, RepliesState, slot_at, last_number, Judges}
 use Rattle.reply_slots.specs.declared.Judged.TheVariants.{New, Again, Stale}
 use Rattle.reply_slots.specs.Views.{reply_of}
-use Rattle.reply_slots.proofs.Viewed.{slot-is, in-range, place-there}
-use Rattle.reply_slots.proofs.Viewed.{last-is}
+use Rattle.reply_slots.proofs.Viewed.{slot-is, in-range, last-is}
 use Rattle.reply_slots.proofs.ReplySlots.judge.Goals as goal
+use Rattle.slot_table.proofs.Slots.{place-there}
 
 pub number-requires : goal.number-requires
 number-requires c =

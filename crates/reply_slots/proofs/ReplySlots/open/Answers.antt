@@ -1,13 +1,11 @@
-use Rattle.std.proofs.Common.{◌≡◌, ◌<◌}
-use Rattle.std.proofs.Common.{ap, sym, ◌∙◌, subst, refl, arith}
+use Rattle.std.proofs.Common.{◌≡◌, ◌<◌, ap, sym, ◌∙◌, subst, refl, arith}
 use Rattle.lists.specs.Cut.{count_at}
 use Rattle.slot_table.specs.State.{Opened}
-use Rattle.reply_slots.specs.State.{Opened as Placed, RepliesState}
-use Rattle.reply_slots.specs.State.{with_slot_changed}
+use Rattle.reply_slots.specs.State.{Opened as Placed, RepliesState, with_slot_changed}
 use Rattle.reply_slots.specs.Views.{replies_view, IsReplies}
-use Rattle.reply_slots.proofs.Viewed.{changed-is, in-range, place-there}
-use Rattle.reply_slots.proofs.Viewed.{replies-after}
+use Rattle.reply_slots.proofs.Viewed.{changed-is, in-range, replies-after}
 use Rattle.reply_slots.proofs.ReplySlots.open.Goals as goal
+use Rattle.slot_table.proofs.Slots.{place-there}
 
 pub open-requires : goal.open-requires
 open-requires c =

@@ -1,14 +1,11 @@
-use Rattle.std.proofs.Common.{◌<◌}
-use Rattle.std.proofs.Common.{ap, sym, ◌∙◌, subst}
+use Rattle.std.proofs.Common.{◌<◌, ap, sym, ◌∙◌, subst}
 use Rattle.lists.specs.Cut.{count_at}
 use Rattle.slot_table.specs.State.{sealed as slot_sealed}
-use Rattle.reply_slots.specs.State.{RepliesState}
-use Rattle.reply_slots.specs.State.{with_slot_changed, sealed}
+use Rattle.reply_slots.specs.State.{RepliesState, with_slot_changed, sealed}
 use Rattle.reply_slots.specs.Views.{replies_view, IsReplies}
-use Rattle.reply_slots.proofs.Viewed.{changed-is, sealed-is, in-range, place-there}
-use Rattle.reply_slots.proofs.Viewed.{replies-after}
-use Rattle.reply_slots.proofs.Viewed.{number-sealed}
+use Rattle.reply_slots.proofs.Viewed.{changed-is, sealed-is, in-range, replies-after, number-sealed}
 use Rattle.reply_slots.proofs.ReplySlots.seal.Goals as goal
+use Rattle.slot_table.proofs.Slots.{place-there}
 
 pub seal-requires-clause-in_range : goal.seal-requires-clause-in_range
 seal-requires-clause-in_range c =
