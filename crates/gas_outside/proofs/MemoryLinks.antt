@@ -1,5 +1,6 @@
 -- The link in memory gives the first datagram that waits.
-use Rattle.std.proofs.Common.{◌≡◌, ◌<◌, ℕ, ◌+◌, List, [], ◌∷◌, ◌++◌, length, take, drop, min, sym, ap, ◌∙◌, arith, slice_index_or, slice_set}
+use Rattle.std.proofs.Common.{◌≡◌, ◌<◌, ℕ, ◌+◌, List, [], ◌∷◌, ◌++◌, length, take, drop, min, sym, ap, ◌∙◌, arith}
+use Rattle.std.proofs.Common.{slice_index_or, slice_set}
 use Rattle.std.proofs.lemmas.List.{map-set, get_or-map, take_more_set, drop-set-lt, drop_more}
 use Rattle.std.specs.Global.{Vec}
 use Rattle.gas_outside.specs.Datagrams.{bytes_of}
@@ -8,14 +9,17 @@ use Rattle.gas_outside.specs.MemoryLink.{LinkState, called, GivesAt, ReceivesFir
 -- a datagram is cut in its vector
 pub gives_at : (all : List (Vec ℕ)) (datagram cut : Vec ℕ) (place n : ℕ) (room filled : List ℕ)
     → place < length all → datagram ≡ slice_index_or all place datagram
-    → n ≡ min (length datagram.items) (length room) → filled ≡ take n datagram.items ++ drop n room → cut.items ≡ take n datagram.items
+    → n ≡ min (length datagram.items) (length room) → filled ≡ take n datagram.items ++ drop n room
+    → cut.items ≡ take n datagram.items
     → GivesAt (bytes_of all) (bytes_of (slice_set all place cut)) place n room filled
 gives_at all datagram cut place n room filled within chosen count copied front =
-    let same : slice_index_or (bytes_of all) place [] ≡ datagram.items = get_or-map (λ v. v.items) all place datagram [] within ∙ ap (λ v. v.items) (sym chosen) in
+    let same : slice_index_or (bytes_of all) place [] ≡ datagram.items =
+    get_or-map (λ v. v.items) all place datagram [] within ∙ ap (λ v. v.items) (sym chosen) in
     record {
       count = count ∙ ap (λ first. min (length first) (length room)) (sym same);
       filled_is = copied ∙ ap (λ first. take n first ++ drop n room) (sym same);
-      new_is = map-set (λ v. v.items) all place cut ∙ ap (slice_set (bytes_of all) place) (front ∙ ap (take n) (sym same));
+      new_is = map-set (λ v. v.items) all place cut
+          ∙ ap (slice_set (bytes_of all) place) (front ∙ ap (take n) (sym same));
     }
 
 -- the datagrams up to a place were given, and now the one at that place is
@@ -27,7 +31,8 @@ pub receives_first : (old new : LinkState) (all after : List (List ℕ)) (given 
 receives_first old new all after given n room filled within waiting received h new_is =
     let first = slice_index_or all given [] in
     let taken : take (given + 1) after ≡ old.received ++ take n first ∷ [] =
-    ap (take (given + 1)) h.new_is ∙ take_more_set all given (take n first) within ∙ ap (λ front. front ++ take n first ∷ []) (sym received) in
+    ap (take (given + 1)) h.new_is ∙ take_more_set all given (take n first) within
+    ∙ ap (λ front. front ++ take n first ∷ []) (sym received) in
     let left : drop (given + 1) after ≡ drop (given + 1) all =
     ap (drop (given + 1)) h.new_is ∙ drop-set-lt (given + 1) all given (take n first) (omega arith) in
     record {

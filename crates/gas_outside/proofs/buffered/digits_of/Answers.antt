@@ -7,10 +7,12 @@ pub loop-rest-preserved : goal.loop-rest-preserved
 loop-rest-preserved c =
     let l = c.loop-rest in
     let four = length_four l.rest c.loop-rest-test.true l.auto.rest-fits.fits in
-    let few = length-decimal-le 20 c.args.number (omega arith) (omega (arith, c.ranges.number.fits)) c.ranges.number.fits in
+    let few =
+    length-decimal-le 20 c.args.number (omega arith) (omega (arith, c.ranges.number.fits)) c.ranges.number.fits in
     (omega (arith, four, l.invariant.0), omega (arith, four, few, l.invariant.0))
 
 pub overflow_add-result : goal.overflow_add-result
 overflow_add-result c =
-    let few = length-decimal-le 20 c.args.number (omega arith) (omega (arith, c.ranges.number.fits)) c.ranges.number.fits in
+    let few =
+    length-decimal-le 20 c.args.number (omega arith) (omega (arith, c.ranges.number.fits)) c.ranges.number.fits in
     omega (arith, few, c.few_digits_of.ensures, c.loop-rest.invariant.0)

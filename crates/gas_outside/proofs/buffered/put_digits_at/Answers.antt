@@ -6,12 +6,14 @@ use Rattle.gas_outside.proofs.buffered.put_digits_at.Goals as goal
 
 pub overflow_add-after : goal.overflow_add-after
 overflow_add-after c =
-    let few = length-decimal-le 20 c.args.number (omega arith) (omega (arith, c.ranges.number.fits)) c.ranges.number.fits in
+    let few =
+    length-decimal-le 20 c.args.number (omega arith) (omega (arith, c.ranges.number.fits)) c.ranges.number.fits in
     omega (arith, few, c.digits_of.ensures, c.requires)
 
 pub write_digits-requires : goal.write_digits-requires
 write_digits-requires c =
-    let few = length-decimal-le 20 c.args.number (omega arith) (omega (arith, c.ranges.number.fits)) c.ranges.number.fits in
+    let few =
+    length-decimal-le 20 c.args.number (omega arith) (omega (arith, c.ranges.number.fits)) c.ranges.number.fits in
     (omega (arith, c.digits_of.ensures), omega (arith, few, c.digits_of.ensures, c.requires))
 
 pub returns-clause-written : goal.returns-clause-written

@@ -4,5 +4,7 @@ use Rattle.gas_outside.proofs.memory_link.give_at.Goals as goal
 pub returns : goal.returns
 returns c =
     let front = c.deref.ensures.value in
-    gives_at c.args.datagrams.now.items c.index_mut-datagram.result.now c.truncate.new.self c.args.place c.copy_front-n.result c.args.buf.now c.copy_front-n.new.buf
-    c.requires c.index_mut-datagram.ensures.value (rw front at c.copy_front-n.ensures.count) (rw front at c.copy_front-n.ensures.copied) c.truncate.ensures.items
+    gives_at c.args.datagrams.now.items c.index_mut-datagram.result.now c.truncate.new.self c.args.place
+    c.copy_front-n.result c.args.buf.now c.copy_front-n.new.buf
+    c.requires c.index_mut-datagram.ensures.value (rw front at c.copy_front-n.ensures.count)
+    (rw front at c.copy_front-n.ensures.copied) c.truncate.ensures.items

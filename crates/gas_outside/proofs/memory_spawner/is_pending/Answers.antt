@@ -3,7 +3,8 @@ use Rattle.gas_outside.proofs.memory_spawner.is_pending.Goals as goal
 
 pub returns-then-was_started : goal.returns-then-was_started
 returns-then-was_started c =
-    pending_started c.was_started.result c.was_finished.result c.args.rank c.args.calls.now c.was_started.ensures c.was_finished.ensures c.if-was_started.true
+    pending_started c.was_started.result c.was_finished.result c.args.rank c.args.calls.now c.was_started.ensures
+    c.was_finished.ensures c.if-was_started.true
 
 pub returns-else-was_started : goal.returns-else-was_started
 returns-else-was_started c =

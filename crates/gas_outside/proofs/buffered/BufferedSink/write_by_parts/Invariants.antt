@@ -5,7 +5,8 @@ use Rattle.gas_outside.proofs.buffered.BufferedSink.write_by_parts.Given as goal
 abbrev pub invariant-loop-taken : goal.invariant-loop-taken
 invariant-loop-taken g l = record {
   bound : l.taken ≤ length l.bytes;
-  bytes : Gathers (outbox g.K.Sink.taken g.K.Sink.faults l.initial.self) (outbox g.K.Sink.taken g.K.Sink.faults l.self) (take l.taken l.bytes);
+  bytes : Gathers (outbox g.K.Sink.taken g.K.Sink.faults l.initial.self) (outbox g.K.Sink.taken g.K.Sink.faults l.self)
+      (take l.taken l.bytes);
 }
 
 abbrev pub decreases-loop-taken : goal.decreases-loop-taken

@@ -10,5 +10,8 @@ returns-clause-exact c =
     let all = bytes_of i.datagrams.items in
     let before : i.given < length i.datagrams.items = search rules in
     let within : i.given < length all = rw length-map before in
-    rw (← c.self.view_is)
-    (search rules, receives_first _ _ all (bytes_of c.give_at-n.new.datagrams.items) i.given c.give_at-n.result c.args.buf.now c.give_at-n.new.buf within refl refl c.give_at-n.ensures (search rules))
+    rw (← c.self.view_is) (
+      search rules,
+      receives_first _ _ all (bytes_of c.give_at-n.new.datagrams.items) i.given c.give_at-n.result
+          c.args.buf.now c.give_at-n.new.buf within refl refl c.give_at-n.ensures (search rules),
+    )

@@ -10,7 +10,8 @@ invariant_of-self-in_err-reserve-2 c =
     let told = c.reserve.new.self in
     let ends = c.reserve-2.new.self in
     rw c.reserve.ensures.items
-    (room_more (vec_len i.children) _ (vec_capacity i.told - vec_len i.told) (vec_capacity i.ends - vec_len i.ends) (vec_capacity told - vec_len told) (vec_capacity ends - vec_len ends)
+    (room_more (vec_len i.children) _ (vec_capacity i.told - vec_len i.told) (vec_capacity i.ends - vec_len i.ends)
+    (vec_capacity told - vec_len told) (vec_capacity ends - vec_len ends)
     (omega arith) (omega arith) c.self.invariant)
 
 pub invariant_of-self-in_err-input : goal.invariant_of-self-in_err-input
@@ -19,7 +20,8 @@ invariant_of-self-in_err-input c =
     let told = c.reserve.new.self in
     let ends = c.reserve-2.new.self in
     rw c.reserve.ensures.items
-    (room_more (vec_len i.children) _ (vec_capacity i.told - vec_len i.told) (vec_capacity i.ends - vec_len i.ends) (vec_capacity told - vec_len told) (vec_capacity ends - vec_len ends)
+    (room_more (vec_len i.children) _ (vec_capacity i.told - vec_len i.told) (vec_capacity i.ends - vec_len i.ends)
+    (vec_capacity told - vec_len told) (vec_capacity ends - vec_len ends)
     (omega arith) (omega arith) c.self.invariant)
 
 pub invariant_of-self-2 : goal.invariant_of-self-2
@@ -31,8 +33,11 @@ invariant_of-self-2 c =
     let counted = rw length-map at child in
     let count = i.children.ok.0 in
     let within : c.args.rank < vec_len i.children = omega (arith, counted, count) in
-    subst (λ calls. HasRoom (vec_len i.children) calls (vec_capacity told - vec_len told) (vec_capacity ends - vec_len ends)) (sym (calls_push c.reserve.new.self.items told.items _ c.push_reserved.ensures.items))
+    subst (λ calls. HasRoom (vec_len i.children) calls (vec_capacity told - vec_len told)
+    (vec_capacity ends - vec_len ends))
+    (sym (calls_push c.reserve.new.self.items told.items _ c.push_reserved.ensures.items))
     (rw c.reserve.ensures.items
     (room_start (vec_len i.children) c.args.rank c.args.port _ (calls_of i.told.items)
     (vec_capacity told - vec_len told) (vec_capacity ends - vec_len ends) within
-    (omega (arith, c.in_ok-reserve.ensures.ok, c.len-ranks.ensures)) (omega (arith, c.in_ok-reserve-2.ensures.ok, c.len-ranks.ensures)) c.self.invariant.there))
+    (omega (arith, c.in_ok-reserve.ensures.ok, c.len-ranks.ensures))
+    (omega (arith, c.in_ok-reserve-2.ensures.ok, c.len-ranks.ensures)) c.self.invariant.there))

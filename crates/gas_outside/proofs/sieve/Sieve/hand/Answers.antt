@@ -11,7 +11,15 @@ returns-in-Failed-clause-follows g c =
     rw (← c.self.view_is)
     (repeat_failed g.L.Link (c.args.to, c.args.bytes.now)
     (record { inner = i.inner; lose = i.lose; repeat = i.repeat; swap = i.swap; number = i.number; held = held })
-    (record { inner = c.send.new.self; lose = i.lose; repeat = i.repeat; swap = i.swap; number = n.result; held = held })
+    (record {
+      inner = c.send.new.self;
+      lose = i.lose;
+      repeat = i.repeat;
+      swap = i.swap;
+      number = n.result;
+      held =
+          held;
+    })
     n.result n.ensures (sym c.in-Repeat.ensures) e.sent refl (e.cause tt))
 
 pub returns-in-Done-clause-follows : goal.returns-in-Done-clause-follows
@@ -23,5 +31,14 @@ returns-in-Done-clause-follows g c =
     rw (← c.self.view_is)
     (repeat_sent g.L.Link (c.args.to, c.args.bytes.now)
     (record { inner = i.inner; lose = i.lose; repeat = i.repeat; swap = i.swap; number = i.number; held = held })
-    (record { inner = c.send.new.self; lose = i.lose; repeat = i.repeat; swap = i.swap; number = n.result; held = held })
-    c.pass.new.self n.result c.pass.result n.ensures (sym c.in-Repeat.ensures) e.sent refl e.later c.pass.ensures.follows)
+    (record {
+      inner = c.send.new.self;
+      lose = i.lose;
+      repeat = i.repeat;
+      swap = i.swap;
+      number = n.result;
+      held =
+          held;
+    })
+    c.pass.new.self n.result c.pass.result n.ensures (sym c.in-Repeat.ensures) e.sent refl e.later
+    c.pass.ensures.follows)

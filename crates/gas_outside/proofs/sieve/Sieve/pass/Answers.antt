@@ -10,5 +10,13 @@ returns-in-Done-clause-follows g c =
     rw (← c.self.view_is)
     (own_sent g.L.Link (c.args.to, c.args.bytes.now) [] (option_to_list held) None
     (record { inner = i.inner; lose = i.lose; repeat = i.repeat; swap = i.swap; number = i.number; held = held })
-    (record { inner = c.send.new.self; lose = i.lose; repeat = i.repeat; swap = i.swap; number = i.number; held = held })
+    (record {
+      inner = c.send.new.self;
+      lose = i.lose;
+      repeat = i.repeat;
+      swap = i.swap;
+      number = i.number;
+      held =
+          held;
+    })
     c.send_held.new.self c.send_held.result e.sent refl e.later c.send_held.ensures.follows)
