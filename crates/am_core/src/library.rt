@@ -1,8 +1,11 @@
 //! The library's own requests: what is asked, and their arguments.
 
-ghost use Rattle.std.specs.Prelude.{◌≡◌, ◌≤◌, ◌<◌, ◌+◌, ◌^◌, ◌∷◌, [], length, pos, IfSome, is_none, nat_lt};
-ghost use Rattle.datagram_grammar.specs.Notes.{argument, high_half as high_part, low_half as low_part};
-ghost use Rattle.am_core.specs.Library.{fetch_arguments, fill_arguments, fetch_said, fill_said, is_beyond};
+ghost use Rattle.std.specs.Prelude.{◌≡◌, ◌≤◌, ◌<◌, ◌+◌, ◌^◌, ◌∷◌, [], length, pos, IfSome, is_none};
+ghost use Rattle.std.specs.Prelude.{nat_lt};
+ghost use Rattle.datagram_grammar.specs.Notes.{argument, high_half as high_part};
+ghost use Rattle.datagram_grammar.specs.Notes.{low_half as low_part};
+ghost use Rattle.am_core.specs.Library.{fetch_arguments, fill_arguments, fetch_said, fill_said};
+ghost use Rattle.am_core.specs.Library.{is_beyond};
 ghost use Rattle.am_core.specs.Library.{is_no_fetch, is_no_fill, number_at};
 
 use datagram_grammar::{BarrierNote, high_half, joined, low_half};

@@ -1,6 +1,7 @@
 //! One node's active messages.
 
-ghost use Rattle.std.specs.Prelude.{◌≤◌, ℕ, ◌≡◌, ◌≢◌, ◌<◌, ◌-◌, ◌∷◌, [], nat_le, IfOk, length, option_copied};
+ghost use Rattle.std.specs.Prelude.{◌≤◌, ℕ, ◌≡◌, ◌≢◌, ◌<◌, ◌-◌, ◌∷◌, [], nat_le, IfOk, length};
+ghost use Rattle.std.specs.Prelude.{option_copied};
 ghost use Rattle.datagram_grammar.specs.Parameters.{credits_of};
 ghost use Rattle.handler_rules.specs.Logged.{log_of};
 ghost use Rattle.hsl_locks.specs.Locks.{lock_answer, unlock_answer};
@@ -18,7 +19,8 @@ ghost use Rattle.am_core.specs.ClientRules.{asks_of, short_asking, medium_asking
 ghost use Rattle.am_core.specs.CoreStep.{judged_at, noting};
 ghost use Rattle.am_core.specs.Sizes.{HasSegment};
 ghost use Rattle.am_core.specs.Stands.{Stands};
-ghost use Rattle.am_core.specs.CoreContracts.{CoreSteps, Check, Lock, Unlock, Checked, Locked, Unlocked, Delivers};
+ghost use Rattle.am_core.specs.CoreContracts.{CoreSteps, Check, Lock, Unlock, Checked, Locked};
+ghost use Rattle.am_core.specs.CoreContracts.{Unlocked, Delivers};
 ghost use Rattle.am_core.specs.CoreContracts.{AsksOwn, ForItsRecord, resends};
 
 use crate::answer::{Asked, Delivered, Side, SlotRef, Why};

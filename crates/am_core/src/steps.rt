@@ -12,9 +12,11 @@ ghost use Rattle.am_core.specs.AskedFor.{ask_of, asking_of, content_asked, conte
 ghost use Rattle.raw_segment.specs.Bytes.{part};
 ghost use Rattle.handler_rules.specs.Runs.{IsPlaced, passes_end};
 ghost use Rattle.am_core.specs.ClientRules.{IsFine, busy_lock, content_refusal, is_handled};
-ghost use Rattle.am_core.specs.CoreStep.{AsksFor, Claims, DeliversMessage, IsOurRequest, IsOurReply, IsOurs};
+ghost use Rattle.am_core.specs.CoreStep.{AsksFor, Claims, DeliversMessage, IsOurRequest};
+ghost use Rattle.am_core.specs.CoreStep.{IsOurReply, IsOurs};
 ghost use Rattle.am_core.specs.CoreStep.{IsNewRequest, RunsBy, Resends, after_judgement, judged_at};
-ghost use Rattle.am_core.specs.CoreStep.{CanRunReply, asked_fault, claim_of, lock_at, message_refusal, with_own_run};
+ghost use Rattle.am_core.specs.CoreStep.{CanRunReply, asked_fault, claim_of, lock_at};
+ghost use Rattle.am_core.specs.CoreStep.{message_refusal, with_own_run};
 ghost use Rattle.am_core.specs.CoreStep.{client_delivered, with_reply_ran, with_client_reply_ran};
 ghost use Rattle.am_core.specs.HandlerRuns.{arrival_in, place_of};
 ghost use Rattle.am_core.specs.Sizes.{HasSegment};

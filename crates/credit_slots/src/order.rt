@@ -1,6 +1,7 @@
 //! The order in which messages are sent again.
 
-ghost use Rattle.std.specs.Prelude.{◌≡◌, ◌≢◌, ◌+◌, ◌<◌, ◌≤◌, length, map, slice_get, slice_set, Some, None, IfSome, IfNone, IfOk, true, false, vec_len};
+ghost use Rattle.std.specs.Prelude.{◌≡◌, ◌≢◌, ◌+◌, ◌<◌, ◌≤◌, length, map, slice_get, slice_set};
+ghost use Rattle.std.specs.Prelude.{Some, None, IfSome, IfNone, IfOk, true, false, vec_len};
 ghost use Rattle.std.proofs.Math.ListN.{replicate};
 ghost use Rattle.std.specs.Bool.{OnTrue, OnFalse};
 ghost use Rattle.credit_slots.specs.Ring.{IsBefore};

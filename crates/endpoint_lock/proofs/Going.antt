@@ -72,13 +72,14 @@ module _ {M L C : Type 0} (m : MachineGhosts M) (l : LinkGhosts L) (c : ClockGho
     rest = ap {A = StationState M L C} (λ w. record w { link = link'; kept = kept' }) b.rest;
   }
 
-  pub goes : (result : TurnEnd) (new : StationState M L C) → Finishes m l told.sends middle result new
-      → Goes m l c thread old result new
+  pub goes : (result : TurnEnd) (new : StationState M L C)
+      → Finishes m l (record { sends = told.sends; before = middle; end = result; after = new })
+      → Goes m l c (record { thread = thread; before = old; end = result; after = new })
   goes Went new f =
       let none : middle.kept ≡ None = ap (λ w. w.kept) b.rest ∙ b.begun in
       let new' : new ≡ record middle { link = new.link; kept = None } = f.1
       ∙ ap (λ k. record middle { link = new.link; kept = k }) none in
-      subst (λ w. Goes m l c thread old Went w) (sym new') (
+      subst (λ w. Goes m l c (record { thread = thread; before = old; end = Went; after = w })) (sym new') (
         keeps_at told.sends f.0.0 new.link None (omega arith) f.0.1 f.0.2 (λ _. refl)
             (λ some. absurd (some refl)),
         refl,
@@ -86,7 +87,7 @@ module _ {M L C : Type 0} (m : MachineGhosts M) (l : LinkGhosts L) (c : ClockGho
   goes Idle new f = absurd f
   goes (Ended LinkFault) new f =
       let rose = rose_later (l.faults old.link) (l.faults middle.link) (l.faults new.link) b.gives.faults f.0.5 in
-      subst (λ w. Goes m l c thread old (Ended LinkFault) w) (sym f.1)
+      subst (λ w. Goes m l c (record { thread = thread; before = old; end = Ended LinkFault; after = w })) (sym f.1)
       (inr (
         keeps_at f.0.1 f.0.0 new.link (Some LinkFault) (let below = f.0.2 in omega (arith, below)) f.0.3 f.0.4
             (λ none. absurd (cc none)) (λ _. f.0.2),

@@ -292,7 +292,8 @@ module _ {M L C : Type 0} (m : MachineGhosts M) (l : LinkGhosts L) (c : ClockGho
           })
 
     -- a turn that is begun
-    pub goes_keeps : (result : TurnEnd) → ¬ IsFull old.journal → Goes m l c thread old result new
+    pub goes_keeps : (result : TurnEnd) → ¬ IsFull old.journal
+        → Goes m l c (record { thread = thread; before = old; end = result; after = new })
         → Facts m l c opening new
     goes_keeps Went room k = keeps_keeps k.0 room (inl k.1)
     goes_keeps Idle room k = rests_keeps k
@@ -310,7 +311,8 @@ module _ {M L C : Type 0} (m : MachineGhosts M) (l : LinkGhosts L) (c : ClockGho
 -- a turn that is begun keeps the journal, or adds one entry of its thread
 pub goes_appends : {M L C : Type 0} (m : MachineGhosts M) (l : LinkGhosts L) (c : ClockGhosts C) (thread : ℕ)
     (old new : StationState M L C) (result : TurnEnd)
-    → Goes m l c thread old result new → AppendsAtMostOne thread old.journal new.journal
+    → Goes m l c (record { thread = thread; before = old; end = result; after = new })
+    → AppendsAtMostOne thread old.journal new.journal
 goes_appends m l c thread old new Went k = inr (k.0.now, k.0.got, ap (λ b. b.journal) k.0.rest)
 goes_appends m l c thread old new Idle k = inl (ap (λ b. b.journal) k.rest)
 goes_appends m l c thread old new (Ended LinkFault) k = elim k
@@ -323,7 +325,8 @@ goes_appends m l c thread old new (Ended NoMemory) k = inl (ap (λ b. b.journal)
 -- and the machine's threads
 pub goes_threads : {M L C : Type 0} (m : MachineGhosts M) (l : LinkGhosts L) (c : ClockGhosts C) (thread : ℕ)
     (old new : StationState M L C) (result : TurnEnd)
-    → Goes m l c thread old result new → m.thread_count new.machine ≡ m.thread_count old.machine
+    → Goes m l c (record { thread = thread; before = old; end = result; after = new })
+    → m.thread_count new.machine ≡ m.thread_count old.machine
 goes_threads m l c thread old new Went k = k.0.turns.threads
 goes_threads m l c thread old new Idle k = k.threads
 goes_threads m l c thread old new (Ended LinkFault) k = elim k

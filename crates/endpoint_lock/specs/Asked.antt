@@ -9,8 +9,8 @@ use Rattle.endpoint_lock.specs.Turns.{Gives, GivesNot}
 
 -- by the answer; where nothing was got, the buffer is given back
 abbrev pub AsksFor : {L : Type 0} → LinkGhosts L → (polls : Bool) → L → Asked → L → Type 0
-AsksFor l polls old (Nothing room) new =
-    Gives l polls None old new
+AsksFor links polls old (Nothing room) new =
+    Gives links polls None old new
     × ForSome room (λ buffer. vec_len buffer ≡ receive_limit)
-AsksFor l polls old (Datagram bytes) new = Gives l polls (Some bytes.items) old new
-AsksFor l polls old Fault new = GivesNot l old new
+AsksFor links polls old (Datagram bytes) new = Gives links polls (Some bytes.items) old new
+AsksFor links polls old Fault new = GivesNot links old new

@@ -47,72 +47,81 @@ WentOn before more now = now ≡ and_all before more
 
 -- where they are told, the datagrams sent are those that the turns gave, without the one that failed and those after it
 -- in the last entry
-abbrev pub SentShort : {M L : Type 0} → (m : MachineGhosts M) → LinkGhosts L → m.State → L → List Entry → L → Type 0
-SentShort m l state first journal link =
+abbrev pub SentShort : {M L : Type 0} → (machines : MachineGhosts M) → LinkGhosts L → machines.State → L → List Entry
+    → L → Type 0
+SentShort machines links state first journal link =
     (front last : List Entry) × (count : ℕ)
     × (journal ≡ front ++ last) × (length last ≤ 1)
-    × (length (sent_in (steps_of m) state front) ≤ count)
-    × WentOn (l.sent first) (take count (sent_in (steps_of m) state journal)) (l.sent link)
+    × (length (sent_in (steps_of machines) state front) ≤ count)
+    × WentOn (links.sent first) (take count (sent_in (steps_of machines) state journal)) (links.sent link)
 
 -- the last entry is quiet; or a turn of some thread, at what the clock said last and with nothing got, is empty
-abbrev pub LastWasQuiet : {M C : Type 0} → (m : MachineGhosts M) → ClockGhosts C → m.State → List Entry → M → C → Type 0
-LastWasQuiet m c state journal machine clock =
-    (0 < quiet_tail (steps_of m) state 0 journal)
-    ⊎ ((thread : ℕ) × (thread < m.thread_count machine)
-    × ((m.turned (replayed (steps_of m) state journal) thread (c.said clock) None).changed ≡ false))
+abbrev pub LastWasQuiet : {M C : Type 0} → (machines : MachineGhosts M) → ClockGhosts C → machines.State → List Entry
+    → M → C → Type 0
+LastWasQuiet machines clocks state journal machine clock =
+    (0 < quiet_tail (steps_of machines) state 0 journal)
+    ⊎ ((thread : ℕ) × (thread < machines.thread_count machine)
+    × ((machines.turned (replayed (steps_of machines) state journal) thread (clocks.said clock) None).changed ≡ false))
 
 -- every thread polls
 abbrev pub AllPoll : {M : Type 0} → MachineGhosts M → M → Type 0
-AllPoll m machine = (thread : ℕ) → thread < m.thread_count machine → m.polls_at machine thread ≡ true
+AllPoll machines machine = (thread : ℕ) → thread < machines.thread_count machine
+    → machines.polls_at machine thread ≡ true
 
 -- what a kept end says
 abbrev pub EndIs : {M L C : Type 0} → MachineGhosts M → LinkGhosts L → Opening M L C → StationState M L C → Option End
     → Type 0
-EndIs m l opening station None = Unit {0}
-EndIs m l opening station (Some Over) = (station.quiet ≡ station.patience) × (m.is_over station.machine ≡ true)
-EndIs m l opening station (Some Stuck) = (station.quiet ≡ station.patience) × (m.is_over station.machine ≡ false)
-EndIs m l opening station (Some LinkFault) = Rose (l.faults opening.link) (l.faults station.link)
-EndIs m l opening station (Some JournalFull) = IsFull station.journal
-EndIs m l opening station (Some NoMemory) = Unit {0}
+EndIs machines links opening station None = Unit {0}
+EndIs machines links opening station (Some Over) =
+    (station.quiet ≡ station.patience) × (machines.is_over station.machine ≡ true)
+EndIs machines links opening station (Some Stuck) =
+    (station.quiet ≡ station.patience) × (machines.is_over station.machine ≡ false)
+EndIs machines links opening station (Some LinkFault) = Rose (links.faults opening.link) (links.faults station.link)
+EndIs machines links opening station (Some JournalFull) = IsFull station.journal
+EndIs machines links opening station (Some NoMemory) = Unit {0}
 
 -- machine and datagrams of a station, by the replay of its journal from a state for which the machine stood at first
-pub record Replays {M L C : Type 0} (m : MachineGhosts M) (l : LinkGhosts L) (c : ClockGhosts C)
-    (opening : Opening M L C) (state : m.State) (station : StationState M L C) : Type 0 where
+pub record Replays {M L C : Type 0} (machines : MachineGhosts M) (links : LinkGhosts L) (clocks : ClockGhosts C)
+    (opening : Opening M L C) (state : machines.State) (station : StationState M L C) : Type 0 where
   -- the machine stands for the replay
-  pub machine : m.stands station.machine (replayed (steps_of m) state station.journal)
+  pub machine : machines.stands station.machine (replayed (steps_of machines) state station.journal)
   -- where the link tells them, the datagrams sent are those that the turns of the journal gave
   pub sent : station.kept ≢ Some LinkFault
-      → WentOn (l.sent opening.link) (sent_in (steps_of m) state station.journal) (l.sent station.link)
-  pub sent_short : station.kept ≡ Some LinkFault → SentShort m l state opening.link station.journal station.link
+      → WentOn (links.sent opening.link) (sent_in (steps_of machines) state station.journal) (links.sent station.link)
+  pub sent_short : station.kept ≡ Some LinkFault
+      → SentShort machines links state opening.link station.journal station.link
   -- the quiet turns are at most the quiet entries at the journal's end and the empty turns
   pub quiet : station.kept ≢ Some LinkFault
-      → station.quiet ≤ quiet_tail (steps_of m) state 0 station.journal + station.idle
+      → station.quiet ≤ quiet_tail (steps_of machines) state 0 station.journal + station.idle
   -- where a turn was quiet, the last entry is, or a turn would be empty
   pub last : station.kept ≢ Some LinkFault → 0 < station.quiet
-      → LastWasQuiet m c state station.journal station.machine station.clock
+      → LastWasQuiet machines clocks state station.journal station.machine station.clock
 
 -- what holds of a station that was opened so
-pub record Facts {M L C : Type 0} (m : MachineGhosts M) (l : LinkGhosts L) (c : ClockGhosts C) (opening : Opening M L C)
+pub record Facts {M L C : Type 0} (machines : MachineGhosts M) (links : LinkGhosts L) (clocks : ClockGhosts C)
+    (opening : Opening M L C)
     (station : StationState M L C) : Type 0 where
   -- the machine has as many threads, and patience stays
-  pub threads : m.thread_count station.machine ≡ m.thread_count opening.machine
+  pub threads : machines.thread_count station.machine ≡ machines.thread_count opening.machine
   pub patience : station.patience ≡ opening.patience
   -- the bounds of the journal and of its entries
   pub within : length station.journal ≤ entry_limit
-  pub entries : All (IsEntry (m.thread_count opening.machine)) station.journal
+  pub entries : All (IsEntry (machines.thread_count opening.machine)) station.journal
   -- for each state for which the machine stood, machine and journal are its replay
-  pub replay : (state : m.State) → m.stands opening.machine state → Replays m l c opening state station
+  pub replay : (state : machines.State) → machines.stands opening.machine state
+      → Replays machines links clocks opening state station
   -- where the link tells them, the datagrams received are the journal's; its place stays, its faults never fall
-  pub received : WentOn (l.received opening.link) (got_in station.journal) (l.received station.link)
-  pub bound : l.bound station.link ≡ l.bound opening.link
-  pub faults : l.faults opening.link ≤ l.faults station.link
+  pub received : WentOn (links.received opening.link) (got_in station.journal) (links.received station.link)
+  pub bound : links.bound station.link ≡ links.bound opening.link
+  pub faults : links.faults opening.link ≤ links.faults station.link
   -- where the clock always says one value, each entry has that time
-  pub fixed : c.fixed station.clock ≡ c.fixed opening.clock
-  pub times : ForSome (c.fixed opening.clock) (λ value. All (λ entry. entry.now ≡ value) station.journal)
+  pub fixed : clocks.fixed station.clock ≡ clocks.fixed opening.clock
+  pub times : ForSome (clocks.fixed opening.clock) (λ value. All (λ entry. entry.now ≡ value) station.journal)
   -- the clock was asked at least once for each entry and each empty turn, or its counter stands at its last value
-  pub asked : min (c.asked opening.clock + (length station.journal + station.idle)) last_count ≤ c.asked station.clock
+  pub asked : min (clocks.asked opening.clock + (length station.journal + station.idle)) last_count ≤ clocks.asked
+      station.clock
   -- where the last turn was quiet and every thread polls, nothing waits, where the link tells what waits
-  pub waiting : station.kept ≢ Some LinkFault → 0 < station.quiet → AllPoll m station.machine
-      → IsEmptyWhereTold (l.waiting station.link)
+  pub waiting : station.kept ≢ Some LinkFault → 0 < station.quiet → AllPoll machines station.machine
+      → IsEmptyWhereTold (links.waiting station.link)
   -- the cause of the kept end
-  pub end : EndIs m l opening station station.kept
+  pub end : EndIs machines links opening station station.kept

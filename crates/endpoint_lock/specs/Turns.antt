@@ -13,6 +13,7 @@ use Rattle.machine.specs.declared.turns.Turned.{Turned}
 use Rattle.machine.specs.declared.turns.Machine.{Ghosts as MachineGhosts}
 use Rattle.machine.specs.Replay.{steps_of, after_entry, given_by}
 use Rattle.endpoint_lock.specs.declared.ends.TurnEnd.{TurnEnd}
+use Rattle.endpoint_lock.specs.declared.ends.End.{End}
 use Rattle.endpoint_lock.specs.declared.ends.End.TheVariants.{Over, Stuck, LinkFault, JournalFull, NoMemory}
 use Rattle.endpoint_lock.specs.declared.ends.TurnEnd.TheVariants.{Went, Idle, Ended}
 use Rattle.endpoint_lock.specs.Stations.{StationState, ended}
@@ -22,62 +23,78 @@ abbrev pub made_entry : (thread now : ℕ) → Option (List ℕ) → Entry
 made_entry thread now got = record { thread = thread; now = now; got = got }
 
 -- the clock was asked once
-pub record Asks {C : Type 0} (c : ClockGhosts C) (old new : C) : Type 0 where
-  pub asked : c.asked new ≡ one_more (c.asked old)
-  pub fixed : c.fixed new ≡ c.fixed old
-  pub time : ForSome (c.fixed old) (λ value. c.said new ≡ value)
+pub record Asks {C : Type 0} (clocks : ClockGhosts C) (old new : C) : Type 0 where
+  pub asked : clocks.asked new ≡ one_more (clocks.asked old)
+  pub fixed : clocks.fixed new ≡ clocks.fixed old
+  pub time : ForSome (clocks.fixed old) (λ value. clocks.said new ≡ value)
 
 -- the link gave a datagram, or none: it was asked where the thread polls
-pub record Gives {L : Type 0} (l : LinkGhosts L) (polls : Bool) (got : Option (List ℕ)) (old new : L) : Type 0 where
+pub record Gives {L : Type 0} (links : LinkGhosts L) (polls : Bool) (got : Option (List ℕ)) (old new : L) : Type 0 where
   pub cut : ForSome got (λ bytes. length bytes ≤ receive_limit)
   pub polled : polls ≡ false → got ≡ None
-  pub received : WentOn (l.received old) (option_to_list got) (l.received new)
-  pub first : ForSome got (λ bytes. IsFirstWhereTold (l.waiting old) receive_limit bytes
-      × (l.waiting new ≡ rest_of (l.waiting old)))
-  pub none : polls ≡ true → got ≡ None → IsEmptyWhereTold (l.waiting new)
-  pub sent : l.sent new ≡ l.sent old
-  pub bound : l.bound new ≡ l.bound old
-  pub faults : l.faults old ≤ l.faults new
+  pub received : WentOn (links.received old) (option_to_list got) (links.received new)
+  pub first : ForSome got (λ bytes. IsFirstWhereTold (links.waiting old) receive_limit bytes
+      × (links.waiting new ≡ rest_of (links.waiting old)))
+  pub none : polls ≡ true → got ≡ None → IsEmptyWhereTold (links.waiting new)
+  pub sent : links.sent new ≡ links.sent old
+  pub bound : links.bound new ≡ links.bound old
+  pub faults : links.faults old ≤ links.faults new
 
 -- the link failed as it was asked
-pub record GivesNot {L : Type 0} (l : LinkGhosts L) (old new : L) : Type 0 where
-  pub received : l.received new ≡ l.received old
-  pub waiting : l.waiting new ≡ l.waiting old
-  pub sent : l.sent new ≡ l.sent old
-  pub bound : l.bound new ≡ l.bound old
-  pub rose : Rose (l.faults old) (l.faults new)
-  pub faults : l.faults old ≤ l.faults new
+pub record GivesNot {L : Type 0} (links : LinkGhosts L) (old new : L) : Type 0 where
+  pub received : links.received new ≡ links.received old
+  pub waiting : links.waiting new ≡ links.waiting old
+  pub sent : links.sent new ≡ links.sent old
+  pub bound : links.bound new ≡ links.bound old
+  pub rose : Rose (links.faults old) (links.faults new)
+  pub faults : links.faults old ≤ links.faults new
 
 -- the link was sent these datagrams
-pub record Sends {L : Type 0} (l : LinkGhosts L) (given : List (ℕ × List ℕ)) (old new : L) : Type 0 where
-  pub sent : WentOn (l.sent old) given (l.sent new)
-  pub received : l.received new ≡ l.received old
-  pub waiting : l.waiting new ≡ l.waiting old
-  pub bound : l.bound new ≡ l.bound old
-  pub faults : l.faults old ≤ l.faults new
+pub record Sends {L : Type 0} (links : LinkGhosts L) (given : List (ℕ × List ℕ)) (old new : L) : Type 0 where
+  pub sent : WentOn (links.sent old) given (links.sent new)
+  pub received : links.received new ≡ links.received old
+  pub waiting : links.waiting new ≡ links.waiting old
+  pub bound : links.bound new ≡ links.bound old
+  pub faults : links.faults old ≤ links.faults new
 
 -- the first of the datagrams of the machine's last turn, by each state for which it stands
 abbrev pub AreOutgoing : {M : Type 0} → MachineGhosts M → M → (count : ℕ) → List (ℕ × List ℕ) → Type 0
-AreOutgoing m machine count given = (state : m.State) → m.stands machine state → given ≡ take count (m.sent state)
+AreOutgoing machines machine count given = (state : machines.State) → machines.stands machine state
+    → given ≡ take count (machines.sent state)
+
+-- a machine whose last turn says how many datagrams it sends, the link before, how it answered, and the link after
+pub record OutgoingSent (M L : Type 0) : Type 0 where
+  pub machine : M
+  pub count : ℕ
+  pub before : L
+  pub answer : LinkAnswer
+  pub after : L
+
+-- by the answer: all were sent, or those before the one that failed
+abbrev pub SendsAs : {M L : Type 0} → MachineGhosts M → LinkGhosts L → OutgoingSent M L → LinkAnswer → Type 0
+SendsAs machines links sent Done =
+    (given : List (ℕ × List ℕ)) × AreOutgoing machines sent.machine sent.count given
+    × Sends links given sent.before sent.after
+SendsAs machines links sent Failed =
+    (given : List (ℕ × List ℕ)) × (count : ℕ) × (count < sent.count) × AreOutgoing machines sent.machine count given
+    × Sends links given sent.before sent.after × Rose (links.faults sent.before) (links.faults sent.after)
 
 -- a link that is sent so many datagrams of the machine's last turn: all, or those before the one that failed
-abbrev pub SendsOutgoing : {M L : Type 0} → MachineGhosts M → LinkGhosts L → M → (sends : ℕ) → L → LinkAnswer → L
-    → Type 0
-SendsOutgoing m l machine sends old Done new =
-    (given : List (ℕ × List ℕ)) × AreOutgoing m machine sends given × Sends l given old new
-SendsOutgoing m l machine sends old Failed new =
-    (given : List (ℕ × List ℕ)) × (count : ℕ) × (count < sends) × AreOutgoing m machine count given
-    × Sends l given old new × Rose (l.faults old) (l.faults new)
+abbrev pub SendsOutgoing : {M L : Type 0} → MachineGhosts M → LinkGhosts L → OutgoingSent M L → Type 0
+SendsOutgoing machines links sent = SendsAs machines links sent sent.answer
 
 -- the machine took its turn: what it is then, by each state for which it stood
-pub record Turns {M : Type 0} (m : MachineGhosts M) (entry : Entry) (told : Turned) (old new : M) : Type 0 where
-  pub threads : m.thread_count new ≡ m.thread_count old
-  pub polls : told.stepped ≡ false → (thread : ℕ) → m.polls_at new thread ≡ m.polls_at old thread
-  pub stands : (state : m.State) → m.stands old state → m.stands new (after_entry (steps_of m) state entry)
-  pub told_is : (state : m.State) → m.stands old state → told ≡ m.turned state entry.thread entry.now entry.got
+pub record Turns {M : Type 0} (machines : MachineGhosts M) (entry : Entry) (told : Turned) (old new : M) : Type 0 where
+  pub threads : machines.thread_count new ≡ machines.thread_count old
+  pub polls : told.stepped ≡ false → (thread : ℕ) → machines.polls_at new thread ≡ machines.polls_at old thread
+  pub stands : (state : machines.State) → machines.stands old state
+      → machines.stands new (after_entry (steps_of machines) state entry)
+  pub told_is : (state : machines.State) → machines.stands old state
+      → told ≡ machines.turned state entry.thread entry.now entry.got
 
 -- a turn that keeps its entry: something was got or changed; then its datagrams were sent, all unless one failed
-pub record Keeps {M L C : Type 0} (m : MachineGhosts M) (l : LinkGhosts L) (c : ClockGhosts C) (thread : ℕ)
+pub record Keeps {M L C : Type 0} (machines : MachineGhosts M) (links : LinkGhosts L) (clocks : ClockGhosts C)
+    (thread : ℕ)
     (old new : StationState M L C) : Type 0 where
   pub now : ℕ
   pub got : Option (List ℕ)
@@ -85,14 +102,14 @@ pub record Keeps {M L C : Type 0} (m : MachineGhosts M) (l : LinkGhosts L) (c : 
   pub between : L
   pub count : ℕ
   pub given : List (ℕ × List ℕ)
-  pub asks : Asks c old.clock new.clock
-  pub said : c.said new.clock ≡ now
-  pub gives : Gives l (m.polls_at old.machine thread) got old.link between
+  pub asks : Asks clocks old.clock new.clock
+  pub said : clocks.said new.clock ≡ now
+  pub gives : Gives links (machines.polls_at old.machine thread) got old.link between
   pub whether : (got ≢ None) ⊎ (told.changed ≡ true)
-  pub turns : Turns m (made_entry thread now got) told old.machine new.machine
-  pub sends : Sends l given between new.link
-  pub given_is : (state : m.State) → m.stands old.machine state
-      → given ≡ take count (given_by (steps_of m) state (made_entry thread now got))
+  pub turns : Turns machines (made_entry thread now got) told old.machine new.machine
+  pub sends : Sends links given between new.link
+  pub given_is : (state : machines.State) → machines.stands old.machine state
+      → given ≡ take count (given_by (steps_of machines) state (made_entry thread now got))
   pub all : new.kept ≡ None → count ≡ told.sends
   pub short : new.kept ≢ None → count < told.sends
   pub rest : new ≡ record old {
@@ -105,15 +122,16 @@ pub record Keeps {M L C : Type 0} (m : MachineGhosts M) (l : LinkGhosts L) (c : 
   }
 
 -- an empty turn: nothing was got, and what the machine stands for stays
-pub record Rests {M L C : Type 0} (m : MachineGhosts M) (l : LinkGhosts L) (c : ClockGhosts C) (thread : ℕ)
+pub record Rests {M L C : Type 0} (machines : MachineGhosts M) (links : LinkGhosts L) (clocks : ClockGhosts C)
+    (thread : ℕ)
     (old new : StationState M L C) : Type 0 where
-  pub asks : Asks c old.clock new.clock
-  pub gives : Gives l (m.polls_at old.machine thread) None old.link new.link
-  pub threads : m.thread_count new.machine ≡ m.thread_count old.machine
-  pub polls : (k : ℕ) → m.polls_at new.machine k ≡ m.polls_at old.machine k
-  pub stands : (state : m.State) → m.stands old.machine state → m.stands new.machine state
-  pub empty : (state : m.State) → m.stands old.machine state
-      → (m.turned state thread (c.said new.clock) None).changed ≡ false
+  pub asks : Asks clocks old.clock new.clock
+  pub gives : Gives links (machines.polls_at old.machine thread) None old.link new.link
+  pub threads : machines.thread_count new.machine ≡ machines.thread_count old.machine
+  pub polls : (any : ℕ) → machines.polls_at new.machine any ≡ machines.polls_at old.machine any
+  pub stands : (state : machines.State) → machines.stands old.machine state → machines.stands new.machine state
+  pub empty : (state : machines.State) → machines.stands old.machine state
+      → (machines.turned state thread (clocks.said new.clock) None).changed ≡ false
   pub small : old.quiet < 2 ^ 32
   pub rest : new ≡ record old {
     machine = new.machine;
@@ -124,37 +142,77 @@ pub record Rests {M L C : Type 0} (m : MachineGhosts M) (l : LinkGhosts L) (c : 
   }
 
 -- the link failed as it was asked, and the turn ended there
-pub record Fails {M L C : Type 0} (l : LinkGhosts L) (c : ClockGhosts C) (old new : StationState M L C) : Type 0 where
-  pub asks : Asks c old.clock new.clock
-  pub gives : GivesNot l old.link new.link
+pub record Fails {M L C : Type 0} (links : LinkGhosts L) (clocks : ClockGhosts C) (old new : StationState M L C) : Type
+    0 where
+  pub asks : Asks clocks old.clock new.clock
+  pub gives : GivesNot links old.link new.link
   pub rest : new ≡ record old { link = new.link; clock = new.clock; kept = Some LinkFault }
 
+-- one turn: its thread, the station before, how the turn ended, and the station after
+pub record StationTurn (M L C : Type 0) : Type 0 where
+  pub thread : ℕ
+  pub before : StationState M L C
+  pub end : TurnEnd
+  pub after : StationState M L C
+
+-- a turn that is begun and meets an end
+abbrev pub MeetsEnd : {M L C : Type 0} → MachineGhosts M → LinkGhosts L → ClockGhosts C → StationTurn M L C → End
+    → Type 0
+MeetsEnd machines links clocks turn LinkFault =
+    Fails links clocks turn.before turn.after
+    ⊎ (Keeps machines links clocks turn.thread turn.before turn.after × (turn.after.kept ≡ Some LinkFault)
+    × Rose (links.faults turn.before.link) (links.faults turn.after.link))
+MeetsEnd machines links clocks turn Over = ⊥
+MeetsEnd machines links clocks turn Stuck = ⊥
+MeetsEnd machines links clocks turn JournalFull = ⊥
+MeetsEnd machines links clocks turn NoMemory = turn.after ≡ ended turn.before NoMemory
+
+-- a turn that is begun and ends so
+abbrev pub GoesAs : {M L C : Type 0} → MachineGhosts M → LinkGhosts L → ClockGhosts C → StationTurn M L C → TurnEnd
+    → Type 0
+GoesAs machines links clocks turn Went =
+    Keeps machines links clocks turn.thread turn.before turn.after × (turn.after.kept ≡ None)
+GoesAs machines links clocks turn Idle = Rests machines links clocks turn.thread turn.before turn.after
+GoesAs machines links clocks turn (Ended end) = MeetsEnd machines links clocks turn end
+
 -- a turn that is begun, by its answer
-abbrev pub Goes : {M L C : Type 0} → MachineGhosts M → LinkGhosts L → ClockGhosts C → (thread : ℕ)
-    → StationState M L C → TurnEnd → StationState M L C → Type 0
-Goes m l c thread old Went new = Keeps m l c thread old new × (new.kept ≡ None)
-Goes m l c thread old Idle new = Rests m l c thread old new
-Goes m l c thread old (Ended LinkFault) new =
-    Fails l c old new
-    ⊎ (Keeps m l c thread old new × (new.kept ≡ Some LinkFault) × Rose (l.faults old.link) (l.faults new.link))
-Goes m l c thread old (Ended Over) new = ⊥
-Goes m l c thread old (Ended Stuck) new = ⊥
-Goes m l c thread old (Ended JournalFull) new = ⊥
-Goes m l c thread old (Ended NoMemory) new = new ≡ ended old NoMemory
+abbrev pub Goes : {M L C : Type 0} → MachineGhosts M → LinkGhosts L → ClockGhosts C → StationTurn M L C → Type 0
+Goes machines links clocks turn = GoesAs machines links clocks turn turn.end
+
+-- the datagrams of a turn, as many as it sends: the station before, how sending ended, and the station after
+pub record SendingTurn (M L C : Type 0) : Type 0 where
+  pub sends : ℕ
+  pub before : StationState M L C
+  pub end : TurnEnd
+  pub after : StationState M L C
+
+-- what the link was sent of it, and how it answered
+abbrev pub sent_at : {M L C : Type 0} → SendingTurn M L C → LinkAnswer → OutgoingSent M L
+sent_at turn answer = record {
+  machine = turn.before.machine;
+  count = turn.sends;
+  before = turn.before.link;
+  answer = answer;
+  after = turn.after.link;
+}
+
+-- sending that ended so
+abbrev pub FinishesAs : {M L C : Type 0} → MachineGhosts M → LinkGhosts L → SendingTurn M L C → TurnEnd → Type 0
+FinishesAs machines links turn Went =
+    SendsOutgoing machines links (sent_at turn Done)
+    × (turn.after ≡ record turn.before { link = turn.after.link })
+FinishesAs machines links turn Idle = ⊥
+FinishesAs machines links turn (Ended LinkFault) =
+    SendsOutgoing machines links (sent_at turn Failed)
+    × (turn.after ≡ record turn.before { link = turn.after.link; kept = Some LinkFault })
+FinishesAs machines links turn (Ended Over) = ⊥
+FinishesAs machines links turn (Ended Stuck) = ⊥
+FinishesAs machines links turn (Ended JournalFull) = ⊥
+FinishesAs machines links turn (Ended NoMemory) = ⊥
 
 -- the datagrams of a turn were sent, or one failed
-abbrev pub Finishes : {M L C : Type 0} → MachineGhosts M → LinkGhosts L → (sends : ℕ) → StationState M L C → TurnEnd
-    → StationState M L C → Type 0
-Finishes m l sends old Went new =
-    SendsOutgoing m l old.machine sends old.link Done new.link × (new ≡ record old { link = new.link })
-Finishes m l sends old Idle new = ⊥
-Finishes m l sends old (Ended LinkFault) new =
-    SendsOutgoing m l old.machine sends old.link Failed new.link
-    × (new ≡ record old { link = new.link; kept = Some LinkFault })
-Finishes m l sends old (Ended Over) new = ⊥
-Finishes m l sends old (Ended Stuck) new = ⊥
-Finishes m l sends old (Ended JournalFull) new = ⊥
-Finishes m l sends old (Ended NoMemory) new = ⊥
+abbrev pub Finishes : {M L C : Type 0} → MachineGhosts M → LinkGhosts L → SendingTurn M L C → Type 0
+Finishes machines links turn = FinishesAs machines links turn turn.end
 
 -- a journal that stays, or has one entry more, of this thread
 abbrev pub AppendsAtMostOne : (thread : ℕ) → List Entry → List Entry → Type 0
@@ -162,11 +220,13 @@ AppendsAtMostOne thread old new =
     (new ≡ old) ⊎ ((now : ℕ) × (got : Option (List ℕ)) × (new ≡ old ++ made_entry thread now got ∷ []))
 
 -- a turn, by the first of its steps that ends it
-pub record TakesTurn {M L C : Type 0} (m : MachineGhosts M) (l : LinkGhosts L) (c : ClockGhosts C) (thread : ℕ)
-    (old : StationState M L C) (result : TurnEnd) (new : StationState M L C) : Type 0 where
-  pub again : ForSome old.kept (λ end. (result ≡ Ended end) × (new ≡ old))
-  pub spent : old.kept ≡ None → old.quiet ≡ old.patience
-      → let end = if m.is_over old.machine then Over else Stuck in (result ≡ Ended end) × (new ≡ ended old end)
-  pub full : old.kept ≡ None → old.quiet ≢ old.patience → IsFull old.journal
-      → (result ≡ Ended JournalFull) × (new ≡ ended old JournalFull)
-  pub goes : old.kept ≡ None → old.quiet ≢ old.patience → ¬ IsFull old.journal → Goes m l c thread old result new
+pub record TakesTurn {M L C : Type 0} (machines : MachineGhosts M) (links : LinkGhosts L) (clocks : ClockGhosts C)
+    (turn : StationTurn M L C) : Type 0 where
+  pub again : ForSome turn.before.kept (λ end. (turn.end ≡ Ended end) × (turn.after ≡ turn.before))
+  pub spent : turn.before.kept ≡ None → turn.before.quiet ≡ turn.before.patience
+      → let end = if machines.is_over turn.before.machine then Over else Stuck in
+      (turn.end ≡ Ended end) × (turn.after ≡ ended turn.before end)
+  pub full : turn.before.kept ≡ None → turn.before.quiet ≢ turn.before.patience → IsFull turn.before.journal
+      → (turn.end ≡ Ended JournalFull) × (turn.after ≡ ended turn.before JournalFull)
+  pub goes : turn.before.kept ≡ None → turn.before.quiet ≢ turn.before.patience → ¬ IsFull turn.before.journal
+      → Goes machines links clocks turn

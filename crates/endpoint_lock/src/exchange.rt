@@ -71,7 +71,13 @@ pub fn ask<L: Link>(link: &mut L, room: Option<Vec<u8>>, polls: bool) -> Asked
 
 // Sends the datagrams of the machine's last turn, at most so many, in order, up to one that fails.
 pub fn send_outgoing<M: Machine, L: Link>(machine: &M, link: &mut L, sends: u8) -> LinkAnswer
-    ensures { SendsOutgoing M.Machine L.Link machine.now sends link.old result link.new }
+    ensures { SendsOutgoing M.Machine L.Link (record {
+      machine = machine.now;
+      count = sends;
+      before = link.old;
+      answer = result;
+      after = link.new;
+    }) }
 {
     for i in 0..sends {
         let Some((to, bytes)) = machine.outgoing(i) else {

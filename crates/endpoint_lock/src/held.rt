@@ -81,7 +81,12 @@ impl<N: StationName<M, L, C>, M: Machine, L: Link, C: Clock> Held<N, M, L, C> {
     pub fn turn(&mut self, thread: u16, mine: &mut Share<N>) -> TurnEnd
         requires thread { thread < N.threads }
         requires part { 0 < mine.old.parts }
-        ensures turn { TakesTurn M.Machine L.Link C.Clock thread self.old result self.new }
+        ensures turn { TakesTurn M.Machine L.Link C.Clock (record {
+          thread = thread;
+          before = self.old;
+          end = result;
+          after = self.new;
+        }) }
         ensures journal { AppendsAtMostOne thread self.old.journal self.new.journal }
         ensures booked { mine.new.amount + length self.old.journal
             ≡ mine.old.amount + length self.new.journal }

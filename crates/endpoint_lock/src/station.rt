@@ -179,7 +179,12 @@ impl<M: Machine, L: Link, C: Clock> Station<M, L, C> {
         requires patience { self.old.quiet < self.old.patience }
         requires begun { self.old.kept ≡ None }
         requires full { ¬ IsFull self.old.journal }
-        ensures { Goes M.Machine L.Link C.Clock thread self.old result self.new }
+        ensures { Goes M.Machine L.Link C.Clock (record {
+          thread = thread;
+          before = self.old;
+          end = result;
+          after = self.new;
+        }) }
     {
         let Ok(room) = buffer_for(polls, self.spare.take(), self.alloc) else {
             return self.keep(End::NoMemory);
@@ -224,7 +229,12 @@ impl<M: Machine, L: Link, C: Clock> Station<M, L, C> {
 
     // Sends the datagrams of the last turn.
     fn finish(&mut self, sends: u8) -> TurnEnd
-        ensures { Finishes M.Machine L.Link sends self.old result self.new }
+        ensures { Finishes M.Machine L.Link (record {
+          sends = sends;
+          before = self.old;
+          end = result;
+          after = self.new;
+        }) }
     {
         match send_outgoing(&self.machine, &mut self.link, sends) {
             LinkAnswer::Done => TurnEnd::Went,
@@ -256,10 +266,16 @@ impl<M: Machine, L: Link, C: Clock> Station<M, L, C> {
             (result ≡ TurnEnd.Ended end) × (self.new ≡ ended self.old end) }
         ensures full { self.old.kept ≡ None → self.old.quiet ≢ self.old.patience
             → IsFull self.old.journal
-            → (result ≡ TurnEnd.Ended End.JournalFull) × (self.new ≡ ended self.old End.JournalFull) }
+            → (result ≡ TurnEnd.Ended End.JournalFull)
+            × (self.new ≡ ended self.old End.JournalFull) }
         ensures goes { self.old.kept ≡ None → self.old.quiet ≢ self.old.patience
             → ¬ IsFull self.old.journal
-            → Goes M.Machine L.Link C.Clock thread self.old result self.new }
+            → Goes M.Machine L.Link C.Clock (record {
+              thread = thread;
+              before = self.old;
+              end = result;
+              after = self.new;
+            }) }
     {
         if let Some(end) = self.kept {
             return TurnEnd::Ended(end);

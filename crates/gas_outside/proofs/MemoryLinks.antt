@@ -11,7 +11,14 @@ pub gives_at : (all : List (Vec ℕ)) (datagram cut : Vec ℕ) (place n : ℕ) (
     → place < length all → datagram ≡ slice_index_or all place datagram
     → n ≡ min (length datagram.items) (length room) → filled ≡ take n datagram.items ++ drop n room
     → cut.items ≡ take n datagram.items
-    → GivesAt (bytes_of all) (bytes_of (slice_set all place cut)) place n room filled
+    → GivesAt (record {
+      place = place;
+      count = n;
+      old = bytes_of all;
+      new = bytes_of (slice_set all place cut);
+      room = room;
+      filled = filled;
+    })
 gives_at all datagram cut place n room filled within chosen count copied front =
     let same : slice_index_or (bytes_of all) place [] ≡ datagram.items =
     get_or-map (λ v. v.items) all place datagram [] within ∙ ap (λ v. v.items) (sym chosen) in
@@ -25,7 +32,7 @@ gives_at all datagram cut place n room filled within chosen count copied front =
 -- the datagrams up to a place were given, and now the one at that place is
 pub receives_first : (old new : LinkState) (all after : List (List ℕ)) (given n : ℕ) (room filled : List ℕ)
     → given < length all → old.waiting ≡ drop given all → old.received ≡ take given all
-    → GivesAt all after given n room filled
+    → GivesAt (record { place = given; count = n; old = all; new = after; room = room; filled = filled })
     → new ≡ record (called old) { received = take (given + 1) after; waiting = drop (given + 1) after }
     → ReceivesFirst old new n room filled
 receives_first old new all after given n room filled within waiting received h new_is =

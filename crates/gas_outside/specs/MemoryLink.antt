@@ -1,5 +1,6 @@
 -- What the link in memory is, and what each of its calls does, exactly.
-use Rattle.std.specs.Prelude.{◌≡◌, ℕ, true, false, List, [], ◌∷◌, ◌++◌, length, take, drop, min, Option, Some, slice_index_or, slice_set}
+use Rattle.std.specs.Prelude.{◌≡◌, ℕ, true, false, List, [], ◌∷◌, ◌++◌, length, take, drop, min, Option, Some}
+use Rattle.std.specs.Prelude.{slice_index_or, slice_set}
 use Rattle.gas_outside.specs.Faults.{one_more}
 use Rattle.gas_outside.specs.Memory.{is_listed}
 use Rattle.gas_outside.specs.declared.link.LinkAnswer.{LinkAnswer}
@@ -58,8 +59,20 @@ ReceivesNext old new received.Empty room filled =
 ReceivesNext old new received.Failed room filled =
     (is_listed old.fail (one_more old.calls) ≡ true) × (new ≡ call_failed old) × (filled ≡ room)
 
+-- a datagram that is given out: its place among the datagrams and how many bytes of it go, with the datagrams and the
+-- buffer before and after
+pub record Giving : Type 0 where
+  pub place : ℕ
+  pub count : ℕ
+  pub old : List (List ℕ)
+  pub new : List (List ℕ)
+  pub room : List ℕ
+  pub filled : List ℕ
+
 -- the datagram at this place is cut to so many bytes, and they go into the front of the buffer
-pub record GivesAt (old new : List (List ℕ)) (place n : ℕ) (room filled : List ℕ) : Type 0 where
-  pub count : n ≡ min (length (slice_index_or old place [])) (length room)
-  pub filled_is : filled ≡ take n (slice_index_or old place []) ++ drop n room
-  pub new_is : new ≡ slice_set old place (take n (slice_index_or old place []))
+pub record GivesAt (giving : Giving) : Type 0 where
+  pub count : giving.count ≡ min (length (slice_index_or giving.old giving.place [])) (length giving.room)
+  pub filled_is : giving.filled
+      ≡ take giving.count (slice_index_or giving.old giving.place []) ++ drop giving.count giving.room
+  pub new_is : giving.new
+      ≡ slice_set giving.old giving.place (take giving.count (slice_index_or giving.old giving.place []))

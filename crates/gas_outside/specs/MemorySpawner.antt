@@ -1,5 +1,6 @@
 -- What the spawner in memory is, and what each of its calls does, exactly.
-use Rattle.std.specs.Prelude.{◌≡◌, ◌≤◌, ◌<◌, ◌+◌, ℕ, zero, suc, Bool, true, false, not, nat_le, ◌&&◌, if◌then◌else◌, List, [], ◌++◌, map, length, slice_index_or}
+use Rattle.std.specs.Prelude.{◌≡◌, ◌≤◌, ◌<◌, ◌+◌, ℕ, zero, suc, Bool, true, false, not, nat_le, ◌&&◌, if◌then◌else◌}
+use Rattle.std.specs.Prelude.{List, [], ◌++◌, map, length, slice_index_or}
 use Rattle.std.specs.Global.{Vec}
 use Rattle.gas_outside.specs.Faults.{one_more}
 use Rattle.gas_outside.specs.Memory.{is_listed}
@@ -12,8 +13,8 @@ use Rattle.gas_outside.specs.declared.spawner.Finished.TheVariants as finished
 use Rattle.gas_outside.specs.declared.spawn_call.SpawnCall.{SpawnCall}
 use Rattle.gas_outside.specs.declared.spawn_call.SpawnCall.TheVariants as call
 
--- a spawner in memory: the output and the exit status of each rank's child, what it tells, the numbers of the calls that
--- are to fail, the calls so far, and the faults
+-- a spawner in memory: the output and the exit status of each rank's child, what it tells, the numbers of the calls
+-- that are to fail, the calls so far, and the faults
 pub record SpawnerState : Type 0 where
   pub children : List (List ℕ × ℕ)
   pub told : SpawnTold
@@ -85,13 +86,15 @@ StartsNext rank start old started.Failed new = new ≡ call_failed old
 -- a finish of this rank doesn't fail as the call with the last number
 abbrev pub can_end : ℕ → SpawnerState → Bool
 can_end rank state =
-    not (is_listed state.fail state.calls) && is_pending rank state.told.calls && nat_le (length (output_of state.children rank)) 67108864
+    not (is_listed state.fail state.calls) && is_pending rank state.told.calls
+    && nat_le (length (output_of state.children rank)) 67108864
 
--- the end of the child of a rank, by what stands in the vector before and after: the child's output is appended; `Failed`
--- exactly where it can't end, and `NoMemory` for want of memory
+-- the end of the child of a rank, by what stands in the vector before and after: the child's output is appended;
+-- `Failed` exactly where it can't end, and `NoMemory` for want of memory
 abbrev pub EndsAs : ℕ → SpawnerState → Finished → (before after : List ℕ) → Type 0
 EndsAs rank state (finished.Ended status) before after =
-    (can_end rank state ≡ true) × (status ≡ status_of state.children rank) × (after ≡ before ++ output_of state.children rank)
+    (can_end rank state ≡ true) × (status ≡ status_of state.children rank)
+    × (after ≡ before ++ output_of state.children rank)
 EndsAs rank state finished.Failed before after = (can_end rank state ≡ false) × (after ≡ before)
 EndsAs rank state finished.NoMemory before after = (can_end rank state ≡ true) × (after ≡ before)
 

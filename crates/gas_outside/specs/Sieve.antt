@@ -1,5 +1,6 @@
 -- What a sieve makes of the datagrams that are handed to it.
-use Rattle.std.specs.Prelude.{◌≡◌, ℕ, ◌<◌, ◌≤◌, ◌%◌, ◌==◌, nat_lt, nat_le, Bool, not, ◌&&◌, if◌then◌else◌, List, [], ◌∷◌, ◌++◌, length, take, Option, Some, None, option_to_list}
+use Rattle.std.specs.Prelude.{◌≡◌, ℕ, ◌<◌, ◌≤◌, ◌%◌, ◌==◌, nat_lt, nat_le, Bool, not, ◌&&◌, if◌then◌else◌, List, []}
+use Rattle.std.specs.Prelude.{◌∷◌, ◌++◌, length, take, Option, Some, None, option_to_list}
 use Rattle.gas_outside.specs.Faults.{one_more, Rose}
 use Rattle.gas_outside.specs.Told.{and_all}
 use Rattle.gas_outside.specs.declared.link.Link.{Ghosts}

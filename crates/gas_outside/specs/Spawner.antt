@@ -1,5 +1,6 @@
 -- What a spawner tells of its children, after each of its answers.
-use Rattle.std.specs.Prelude.{◌≡◌, ◌≤◌, ℕ, ◌==◌, Bool, true, false, not, ◌&&◌, if◌then◌else◌, List, [], ◌∷◌, ◌++◌, length, take, drop, Option, option_map, ⊤}
+use Rattle.std.specs.Prelude.{◌≡◌, ◌≤◌, ℕ, ◌==◌, Bool, true, false, not, ◌&&◌, if◌then◌else◌, List, [], ◌∷◌, ◌++◌}
+use Rattle.std.specs.Prelude.{length, take, drop, Option, option_map, ⊤}
 use Rattle.std.specs.Option.{ForSome}
 use Rattle.std.specs.List.{list_any}
 use Rattle.gas_outside.specs.declared.spawner.Started.{Started}

@@ -2,7 +2,8 @@
 
 ghost use Rattle.std.specs.Prelude.{◌≡◌, ◌≤◌, ◌<◌, ◌+◌, ◌-◌, ◌++◌, [], decimal, length, min, take};
 ghost use Rattle.std.specs.Io.KnownBytes.{append_known};
-ghost use Rattle.gas_outside.specs.Buffered.{Flushes, Gathers, GathersAll, GathersPut, HasRoom, outbox};
+ghost use Rattle.gas_outside.specs.Buffered.{Flushes, Gathers, GathersAll, GathersPut, HasRoom};
+ghost use Rattle.gas_outside.specs.Buffered.{outbox};
 ghost use Rattle.gas_outside.specs.Faults.{Rose};
 ghost use Rattle.gas_outside.specs.Sink.{Takes, TakesSome, IsFailed};
 

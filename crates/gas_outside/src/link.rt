@@ -2,7 +2,8 @@
 
 ghost use Rattle.std.specs.Prelude.{◌≡◌, ◌≤◌, ℕ, List, Option};
 ghost use Rattle.gas_outside.specs.Faults.{Rose};
-ghost use Rattle.gas_outside.specs.Link.{BoundTold, SentTold, ReceivedTold, WaitingTold, IsFailed, IsReceiveFailed};
+ghost use Rattle.gas_outside.specs.Link.{BoundTold, SentTold, ReceivedTold, WaitingTold, IsFailed};
+ghost use Rattle.gas_outside.specs.Link.{IsReceiveFailed};
 
 /// What a link answers to `bind` and `send`.
 #[derive(Clone, Copy, Debug, PartialEq, Eq)]

@@ -3,8 +3,10 @@
 ghost use Rattle.std.specs.Prelude.{◌≡◌, ◌≤◌, ◌++◌, ◌∷◌, [], ◌<◌, length, None, Some, OnOk, OnErr};
 ghost use Rattle.gas_outside.specs.Datagrams.{bytes_of, sent_of};
 ghost use Rattle.gas_outside.specs.Faults.{Rose};
-ghost use Rattle.gas_outside.specs.Link.{BoundTold, SentTold, ReceivedTold, WaitingTold, IsFailed, IsReceiveFailed};
-ghost use Rattle.gas_outside.specs.MemoryLink.{LinkState, BindsNext, SendsNext, ReceivesNext, GivesAt};
+ghost use Rattle.gas_outside.specs.Link.{BoundTold, SentTold, ReceivedTold, WaitingTold, IsFailed};
+ghost use Rattle.gas_outside.specs.Link.{IsReceiveFailed};
+ghost use Rattle.gas_outside.specs.MemoryLink.{LinkState, BindsNext, SendsNext, ReceivesNext};
+ghost use Rattle.gas_outside.specs.MemoryLink.{GivesAt};
 
 use crate::link::{Link, LinkAnswer, Received};
 use crate::memory::copy_front;
@@ -94,7 +96,8 @@ fn keep(
     to: u16,
     bytes: &[u8],
 ) -> Result<(), AllocError>
-    ensures ok { OnOk result (sent_of sent.new.items ≡ sent_of sent.old.items ++ (to, bytes.now) ∷ []) }
+    ensures ok { OnOk result
+        (sent_of sent.new.items ≡ sent_of sent.old.items ++ (to, bytes.now) ∷ []) }
     ensures err { OnErr result (sent_of sent.new.items ≡ sent_of sent.old.items) }
 {
     let copy = bytes.to_vec(alloc)?;
@@ -155,8 +158,10 @@ impl Link for MemoryLink {
     /// The first datagram that waits, or as much of it as there is room for; `Failed` exactly where this call's number is
     /// listed, and else `Empty` exactly where none waits.
     fn receive(&mut self, buf: &mut [u8]) -> Received
-        ensures received { ReceivedTold result buf.new (Some self.old.received) (Some self.new.received) }
-        ensures waiting { WaitingTold result buf.new (Some self.old.waiting) (Some self.new.waiting) }
+        ensures received { ReceivedTold result buf.new
+            (Some self.old.received) (Some self.new.received) }
+        ensures waiting { WaitingTold result buf.new
+            (Some self.old.waiting) (Some self.new.waiting) }
         ensures bound { self.new.bound ≡ self.old.bound }
         ensures sent { Some self.new.sent ≡ Some self.old.sent }
         ensures later { self.old.faults ≤ self.new.faults }
@@ -180,7 +185,14 @@ impl Link for MemoryLink {
 /// Gives as much of the datagram at this place as there is room for, cuts it to that, and answers how much it is.
 fn give_at(datagrams: &mut Vec<Vec<u8>>, place: usize, buf: &mut [u8]) -> usize
     requires { place < length datagrams.old.items }
-    ensures { GivesAt (bytes_of datagrams.old.items) (bytes_of datagrams.new.items) place result buf.old buf.new }
+    ensures { GivesAt (record {
+      place = place;
+      count = result;
+      old = bytes_of datagrams.old.items;
+      new = bytes_of datagrams.new.items;
+      room = buf.old;
+      filled = buf.new;
+    }) }
 {
     let datagram = &mut datagrams[place];
     let n = copy_front(datagram, buf);

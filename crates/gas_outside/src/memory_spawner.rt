@@ -1,10 +1,17 @@
 //! A spawner in memory, which tells all and fails where it is told to.
 
-ghost use Rattle.std.specs.Prelude.{◌≡◌, ◌≤◌, ◌<◌, [], true, false, Some, OnOk, OnErr, IsTrue, ◌↔◌, length, option_map};
+ghost use Rattle.std.specs.Prelude.{◌≡◌, ◌≤◌, ◌<◌, [], true, false, Some, OnOk, OnErr, IsTrue, ◌↔◌};
+ghost use Rattle.std.specs.Prelude.{length, option_map};
 ghost use Rattle.std.specs.List.{list_any};
 ghost use Rattle.gas_outside.specs.Faults.{Rose};
-ghost use Rattle.gas_outside.specs.MemorySpawner.{SpawnerState, StartsNext, EndsAs, called, ended_as, finished_as, calls_of, children_of, told_of};
-ghost use Rattle.gas_outside.specs.Spawner.{SpawnTold, StartTold, AppendsOutput, EndsPending, IsStartFailed, IsFinishFailed, child_end, told_end, told_call, was_started as was_told_started, is_pending as is_told_pending, is_start_of, is_finish_of};
+ghost use Rattle.gas_outside.specs.MemorySpawner.{SpawnerState, StartsNext, EndsAs, called};
+ghost use Rattle.gas_outside.specs.MemorySpawner.{ended_as, finished_as, calls_of, children_of};
+ghost use Rattle.gas_outside.specs.MemorySpawner.{told_of};
+ghost use Rattle.gas_outside.specs.Spawner.{SpawnTold, StartTold, AppendsOutput, EndsPending};
+ghost use Rattle.gas_outside.specs.Spawner.{IsStartFailed, IsFinishFailed, child_end, told_end};
+ghost use Rattle.gas_outside.specs.Spawner.{told_call, was_started as was_told_started};
+ghost use Rattle.gas_outside.specs.Spawner.{is_pending as is_told_pending, is_start_of};
+ghost use Rattle.gas_outside.specs.Spawner.{is_finish_of};
 ghost use Rattle.gas_outside.specs.Spawner.ToldCall.{Start};
 
 use crate::spawn_call::SpawnCall;
@@ -30,7 +37,8 @@ pub struct MemorySpawner {
 
 impl Model for MemorySpawner {
     ghost use Rattle.std.specs.Prelude.{◌-◌, vec_capacity, vec_len};
-    ghost use Rattle.gas_outside.specs.MemorySpawner.{SpawnerState, HasRoom, calls_of, children_of, ends_of};
+    ghost use Rattle.gas_outside.specs.MemorySpawner.{SpawnerState, HasRoom, calls_of, children_of};
+    ghost use Rattle.gas_outside.specs.MemorySpawner.{ends_of};
 
     ghost Value = { SpawnerState };
 

@@ -1,7 +1,9 @@
 //! A link before another link that loses, repeats and swaps datagrams, by their numbers.
 
-ghost use Rattle.std.specs.Prelude.{◌≡◌, ◌≢◌, ◌≤◌, ◌∷◌, [], length, None, Some, MatchResult, option_to_list};
-ghost use Rattle.gas_outside.specs.Sieve.{Sieving, Plan, Follows, KeepsInner, next_plan, numbered, rule_for, divides as divides_exactly};
+ghost use Rattle.std.specs.Prelude.{◌≡◌, ◌≢◌, ◌≤◌, ◌∷◌, [], length, None, Some, MatchResult};
+ghost use Rattle.std.specs.Prelude.{option_to_list};
+ghost use Rattle.gas_outside.specs.Sieve.{Sieving, Plan, Follows, KeepsInner, next_plan, numbered};
+ghost use Rattle.gas_outside.specs.Sieve.{rule_for, divides as divides_exactly};
 
 use crate::link::{Link, LinkAnswer, Received};
 use crate::sieve_rule::SieveRule;

@@ -31,7 +31,9 @@ pub const MAX_OUTPUT: usize = 67_108_864;
 /// Each `Failed` comes only where the count of faults rose in that call, or stands at its last value. No call changes what was
 /// told before.
 pub trait Spawner {
-    ghost use Rattle.gas_outside.specs.Spawner.{SpawnTold, ToldCall, StartTold, AppendsOutput, EndsPending, IsStartFailed, IsFinishFailed, child_end, told_end};
+    ghost use Rattle.gas_outside.specs.Spawner.{SpawnTold, ToldCall, StartTold, AppendsOutput};
+    ghost use Rattle.gas_outside.specs.Spawner.{EndsPending, IsStartFailed, IsFinishFailed};
+    ghost use Rattle.gas_outside.specs.Spawner.{child_end, told_end};
     ghost use Rattle.gas_outside.specs.Spawner.ToldCall.{Start};
 
     /// Its starts and finishes in order, with what each child was given and gave, where it tells them.
@@ -43,7 +45,8 @@ pub trait Spawner {
     ///
     /// It makes the room in which the child's finish is told.
     fn start(&mut self, rank: u16, port: u16, input: &[u8]) -> Started
-        ensures told { StartTold result (Start rank port input.now) (told self.old) (told self.new) }
+        ensures told { StartTold result (Start rank port input.now)
+            (told self.old) (told self.new) }
         ensures later { faults self.old ≤ faults self.new }
         ensures cause { IsStartFailed result → Rose (faults self.old) (faults self.new) };
 
@@ -52,8 +55,8 @@ pub trait Spawner {
     /// A longer output is a fault. The first finish of a child that was started is told, with its answer, whatever that is; and
     /// only such a finish ends as `Ended`. After another answer nothing was appended.
     fn finish(&mut self, rank: u16, into: &mut Vec<u8>) -> Finished
-        ensures told { told self.new
-            ≡ option_map (told_end (child_end rank result into.old.items into.new.items)) (told self.old) }
+        ensures told { let end = child_end rank result into.old.items into.new.items in
+            told self.new ≡ option_map (told_end end) (told self.old) }
         ensures output { AppendsOutput result into.old.items into.new.items }
         ensures pending { EndsPending result rank (told self.old) }
         ensures later { faults self.old ≤ faults self.new }

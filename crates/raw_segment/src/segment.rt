@@ -83,7 +83,8 @@ impl Drop for Segment {
 }
 
 impl Segment {
-    ghost use Rattle.std.specs.Prelude.{◌⊎◌, ℕ, ◌%◌, ◌<◌, length, replicate, IfOk, IfErr, IfSome, IfNone, OnErr, OnOk};
+    ghost use Rattle.std.specs.Prelude.{◌⊎◌, ℕ, ◌%◌, ◌<◌, length, replicate, IfOk, IfErr, IfSome};
+    ghost use Rattle.std.specs.Prelude.{IfNone, OnErr, OnOk};
     ghost use Rattle.std.specs.Borrow.{sem, Lends, Array, u8 as byte};
     ghost use Rattle.raw_segment.specs.Bytes.{IsInside, part, with_part, refilled, with_lent};
     ghost use Rattle.raw_segment.specs.Faults.{RefusesTyped};

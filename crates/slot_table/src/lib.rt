@@ -8,7 +8,8 @@
 //! opened is left open. No call after `new` takes memory.
 #![tactic(auto)]
 
-ghost use Rattle.std.specs.Prelude.{◌≡◌, ℕ, ◌+◌, ◌<◌, ◌≤◌, ◌^◌, length, slice_get, slice_set, IfOk, Some, map, position, count_by, All, if◌then◌else◌, ◌==◌};
+ghost use Rattle.std.specs.Prelude.{◌≡◌, ℕ, ◌+◌, ◌<◌, ◌≤◌, ◌^◌, length, slice_get, slice_set, IfOk};
+ghost use Rattle.std.specs.Prelude.{Some, map, position, count_by, All, if◌then◌else◌, ◌==◌};
 ghost use Rattle.std.specs.Option.{option_copied};
 ghost use Rattle.std.specs.Borrow.{sem, Lends, Array, u8 as byte};
 ghost use Rattle.slot_table.specs.Views.{is_nothing, peer_counts, IsLaid, IsCounted, bit, one};
@@ -162,7 +163,11 @@ fn put(
 }
 
 impl SlotTable {
-    ghost use Rattle.slot_table.specs.State.{is_vacant, is_taken, HasSlot, slot_in, slots_of, number_of, message_number, message_of, opened_time, place_of, IsOpened, OpensSlot, with_change, sealed, sent_again, with_written, opened_bytes_in, Vacant, new_table, counts_of};
+    ghost use Rattle.slot_table.specs.State.{is_vacant, is_taken, HasSlot, slot_in, slots_of};
+    ghost use Rattle.slot_table.specs.State.{number_of, message_number, message_of, opened_time};
+    ghost use Rattle.slot_table.specs.State.{place_of, IsOpened, OpensSlot, with_change, sealed};
+    ghost use Rattle.slot_table.specs.State.{sent_again, with_written, opened_bytes_in, Vacant};
+    ghost use Rattle.slot_table.specs.State.{new_table, counts_of};
     ghost use Rattle.slot_table.specs.Lending.{table_row};
     ghost use Rattle.std.specs.Prelude.{IsSomeAnd, option_and_then};
 
