@@ -89,8 +89,8 @@ fn run_at_desk<H: Handlers>(
     desk.close()
 }
 
-/// Runs the handler of a request of another node at a desk over the buffer, and leaves the datagram of its reply at the front of the
-/// buffer, or that of an Ack where it sent none; tells the datagram's length.
+/// Runs the handler of a request of another node at a desk over the buffer, and leaves the datagram of its reply at the
+/// front of the buffer, or that of an Ack where it sent none; tells the datagram's length.
 fn answer_at_desk<H: Handlers>(
     handlers: &H,
     work: &Work<'_>,
@@ -275,8 +275,8 @@ impl<'a> Floor<'a> {
         }
     }
 
-    /// Runs the handler of a request of another node that is new in its slot, and keeps its reply there, or an Ack where it sent
-    /// none.
+    /// Runs the handler of a request of another node that is new in its slot, and keeps its reply there, or an Ack
+    /// where it sent none.
     pub fn answer<H: Handlers>(
         self,
         handlers: &H,

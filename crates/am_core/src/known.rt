@@ -12,8 +12,8 @@ use handler_rules::{CallKind, Context, allowed};
 use reply_slots::Judged;
 
 impl Core {
-    /// Whether a request of this number is the last one that ran in a slot of the node `from`: false where that is no other node,
-    /// or its pair has no such slot. It changes nothing.
+    /// Whether a request of this number is the last one that ran in a slot of the node `from`: false where that is no
+    /// other node, or its pair has no such slot. It changes nothing.
     pub fn is_last_run(&self, from: u16, slot: u16, number: u64) -> bool
         ensures { IsLastRun self.now from slot number result }
     {
@@ -52,8 +52,8 @@ impl Core {
         self.free(asking.to) > 0
     }
 
-    /// Whether a request of the library to this node would be accepted: it is another node, a number of the pair is left, and a
-    /// credit is free. It changes nothing.
+    /// Whether a request of the library to this node would be accepted: it is another node, a number of the pair is
+    /// left, and a credit is free. It changes nothing.
     pub fn can_ask(&self, to: u16) -> bool
         ensures { CanAsk self.now to result }
     {

@@ -56,8 +56,8 @@ pub fn payload_of<'a>(segment: &'a Segment, payload: &Payload<'a>) -> &'a [u8]
     }
 }
 
-/// Puts the payload of an own request where its handler finds it: a Long's at its place of the segment, a Medium's at the front of
-/// the buffer. Tells how many bytes stand there for the handler.
+/// Puts the payload of an own request where its handler finds it: a Long's at its place of the segment, a Medium's at
+/// the front of the buffer. Tells how many bytes stand there for the handler.
 pub fn lend_own(segment: &mut Segment, buffer: &mut [u8], asking: &Asking<'_>) -> usize
     requires fine { IsFine (length segment.old) (asking_of asking.now) }
     requires room { length buffer.old ≡ 8296 }
@@ -95,8 +95,8 @@ fn copy(segment: &mut Segment, from: u64, to: u64, len: u64)
     }
 }
 
-/// Puts the payload of a reply of the own node, which stands at the front of the buffer, where its handler finds it: a Long's at
-/// its place of the segment. Tells how many bytes of the buffer are the handler's.
+/// Puts the payload of a reply of the own node, which stands at the front of the buffer, where its handler finds it: a
+/// Long's at its place of the segment. Tells how many bytes of the buffer are the handler's.
 pub fn land_reply(segment: &mut Segment, buffer: &[u8], reply: &Reply) -> usize
     requires len { reply.now.len ≤ length buffer.now }
     requires placed { IsPlaced (length segment.old) (place_of (content_at buffer.now reply.now)) }

@@ -28,8 +28,8 @@ pub(crate) const GET_REPLY: u8 = 68;
 /// The greatest index that is the library's: those above are clients'.
 pub(crate) const LAST_OWN: u8 = 127;
 
-/// What the library asks of another node (GASNet 1.8.1, extended API): a chunk of a transfer, 1 to 8,192 bytes (profile), or a
-/// note of the barrier.
+/// What the library asks of another node (GASNet 1.8.1, extended API): a chunk of a transfer, 1 to 8,192 bytes
+/// (profile), or a note of the barrier.
 #[derive(Clone, Copy, PartialEq, Eq, Debug)]
 pub enum Library {
     /// Bytes of the own segment go to the other's.
@@ -138,8 +138,8 @@ fn passes(segment: u64, offset: u64, len: u64) -> bool
     offset > segment || segment - offset < len
 }
 
-/// The get that arguments spell; None exactly where they aren't five, or the length isn't 0 to 8,192, or a range passes the end of
-/// a segment of this length.
+/// The get that arguments spell; None exactly where they aren't five, or the length isn't 0 to 8,192, or a range passes
+/// the end of a segment of this length.
 pub(crate) fn read_fetch(args: &[i32], segment: u64) -> Option<Fetch>
     ensures refused { is_none result ≡ is_no_fetch segment args.now }
     ensures found { IfSome result (λ fetch. fetch ≡ fetch_said args.now) }
@@ -157,8 +157,8 @@ pub(crate) fn read_fetch(args: &[i32], segment: u64) -> Option<Fetch>
     Some(Fetch { remote, len, local })
 }
 
-/// The memset that arguments spell; None exactly where they aren't four, or the length isn't 0 to 8,192, or the byte isn't 0 to
-/// 255, or the range passes the end of a segment of this length.
+/// The memset that arguments spell; None exactly where they aren't four, or the length isn't 0 to 8,192, or the byte
+/// isn't 0 to 255, or the range passes the end of a segment of this length.
 pub(crate) fn read_fill(args: &[i32], segment: u64) -> Option<Fill>
     ensures refused { is_none result ≡ is_no_fill segment args.now }
     ensures found { IfSome result (λ fill. fill ≡ fill_said args.now) }

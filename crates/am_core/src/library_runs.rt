@@ -59,8 +59,8 @@ fn has_wrong_args(settings: &Settings, message: &View<'_>) -> bool
     count != 0
 }
 
-/// What is wrong with a message for which no handler of a client is registered, beside its place: the library has no handler of its
-/// kind for its index; or its arguments are wrong for that handler.
+/// What is wrong with a message for which no handler of a client is registered, beside its place: the library has no
+/// handler of its kind for its index; or its arguments are wrong for that handler.
 pub(crate) fn library_fault(settings: &Settings, message: &View<'_>) -> Option<Why>
     requires { length (viewed_message message.now).args ≤ 16 }
     ensures { result ≡ library_fault settings.now (content_of (viewed_message message.now)) }
@@ -130,8 +130,8 @@ impl Core {
         }
     }
 
-    /// Keeps the reply to a request of the library that is new in its slot: to a get the bytes that it asks for, written into the
-    /// slot straight out of the segment, to all others an Ack.
+    /// Keeps the reply to a request of the library that is new in its slot: to a get the bytes that it asks for,
+    /// written into the slot straight out of the segment, to all others an Ack.
     #[tactic(auto, unfolding(crate::specs::CoreStep::message_refusal))]
     fn answer_library(&mut self, message: &View<'_>)
         requires segment { HasSegment self.old }

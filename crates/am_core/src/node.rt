@@ -36,8 +36,8 @@ use reply_slots::ReplySlots;
 use std::alloc::{AllocError, Global};
 use std::marker::Model;
 
-/// The active messages of one node (GASNet 1.8.1, core API): its requests that aren't back, the replies that it keeps, its
-/// segment, the handler-safe locks, the handlers' cells, and the violations of the rules.
+/// The active messages of one node (GASNet 1.8.1, core API): its requests that aren't back, the replies that it keeps,
+/// its segment, the handler-safe locks, the handlers' cells, and the violations of the rules.
 ///
 /// All memory is taken by `new`.
 #[derive(Drop)]
@@ -51,8 +51,8 @@ pub struct Core {
     pub(crate) locks: Locks,
     pub(crate) cells: Cells,
     pub(crate) log: Log,
-    // For a call on the own node: the payload of its request, and its reply. Each is the one part of a block, whose memory is
-    // reserved, and touched at the first such call.
+    // For a call on the own node: the payload of its request, and its reply. Each is the one part of a block, whose
+    // memory is reserved, and touched at the first such call.
     pub(crate) lent: Block,
     pub(crate) desk: Block,
 }
@@ -84,8 +84,8 @@ impl Model for Core {
 }
 
 impl Core {
-    /// The core of node `me`, which asked and ran nothing: a segment of zeros, of the settings' length; all locks free; 256 cells
-    /// that are 0, and no violation. It keeps a copy of the table.
+    /// The core of node `me`, which asked and ran nothing: a segment of zeros, of the settings' length; all locks free;
+    /// 256 cells that are 0, and no violation. It keeps a copy of the table.
     ///
     /// It is refused for want of memory alone. After it no call on a core takes memory.
     pub fn new(
@@ -121,14 +121,15 @@ impl Core {
 
     /// A request of a client's thread for a handler of a node (GASNet 1.8.1, core API, active messages).
     ///
-    /// The answer is the first of these that applies: `Forbidden` by the rule table, where the thread holds a handler-safe lock;
-    /// `BadArg` with `Node` where `to` is no node, with `Handler` where no handler of requests is registered for the index, with
-    /// `Count` where there are more than 16 arguments, with `Payload` where there are more than 8,192 bytes, with `Source` where
-    /// the payload is a range that passes the end of the own segment, with `Offset` where its place passes the end of the
-    /// target's; for the own node `LockBusy` with the smallest lock that a thread holds among those of the handler and of all
-    /// handlers of replies, else `Ran`, where the handler runs at once and then that of its reply; `WornOut` where the numbers of
-    /// the pair are used up; `NotYet` where all its credits are out; else `Accepted`. `now` is the time of its sending, in any one
-    /// unit. After a refusal the core stands for the same record, but that `Forbidden` is noted as a violation.
+    /// The answer is the first of these that applies: `Forbidden` by the rule table, where the thread holds a
+    /// handler-safe lock; `BadArg` with `Node` where `to` is no node, with `Handler` where no handler of requests is
+    /// registered for the index, with `Count` where there are more than 16 arguments, with `Payload` where there are
+    /// more than 8,192 bytes, with `Source` where the payload is a range that passes the end of the own segment, with
+    /// `Offset` where its place passes the end of the target's; for the own node `LockBusy` with the smallest lock that
+    /// a thread holds among those of the handler and of all handlers of replies, else `Ran`, where the handler runs at
+    /// once and then that of its reply; `WornOut` where the numbers of the pair are used up; `NotYet` where all its
+    /// credits are out; else `Accepted`. `now` is the time of its sending, in any one unit. After a refusal the core
+    /// stands for the same record, but that `Forbidden` is noted as a violation.
     ///
     /// The segment is as long as the settings say.
     pub fn request<H: Handlers>(&mut self, handlers: &H, now: u64, asking: &Asking<'_>) -> Asked
@@ -175,8 +176,8 @@ impl Core {
         self.request(handlers, now, &asking)
     }
 
-    /// A Medium request (GASNet 1.8.1, core API, `gasnet_AMRequestMedium`), answered as `request` says: the handler sees the payload in
-    /// a buffer.
+    /// A Medium request (GASNet 1.8.1, core API, `gasnet_AMRequestMedium`), answered as `request` says: the handler
+    /// sees the payload in a buffer.
     pub fn request_medium<H: Handlers>(
         &mut self,
         handlers: &H,
@@ -209,8 +210,8 @@ impl Core {
         self.request(handlers, now, &asking)
     }
 
-    /// A Long request (GASNet 1.8.1, core API, `gasnet_AMRequestLong`), answered as `request` says: the payload goes to the target's
-    /// segment, from the byte `offset` on.
+    /// A Long request (GASNet 1.8.1, core API, `gasnet_AMRequestLong`), answered as `request` says: the payload goes to
+    /// the target's segment, from the byte `offset` on.
     pub fn request_long<H: Handlers>(
         &mut self,
         handlers: &H,
@@ -244,8 +245,8 @@ impl Core {
         self.request(handlers, now, &asking)
     }
 
-    /// A Long request whose payload might be read after the call (GASNet 1.8.1, core API, `gasnet_AMRequestLongAsync`); it is copied at
-    /// the call, as `request_long` does (profile).
+    /// A Long request whose payload might be read after the call (GASNet 1.8.1, core API, `gasnet_AMRequestLongAsync`);
+    /// it is copied at the call, as `request_long` does (profile).
     pub fn request_long_async<H: Handlers>(
         &mut self,
         handlers: &H,
@@ -279,14 +280,14 @@ impl Core {
         self.request(handlers, now, &asking)
     }
 
-    /// A request of the library to another node, of the node's own accord (GASNet 1.8.1, extended API): a chunk of a transfer, or a
-    /// note of the barrier. A put's bytes are copied out of the own segment as it is now.
+    /// A request of the library to another node, of the node's own accord (GASNet 1.8.1, extended API): a chunk of a
+    /// transfer, or a note of the barrier. A put's bytes are copied out of the own segment as it is now.
     ///
-    /// `WornOut` exactly where the numbers of the pair are used up, then `NotYet` where all its credits are out, else `Accepted`.
-    /// `now` is the time of its sending.
+    /// `WornOut` exactly where the numbers of the pair are used up, then `NotYet` where all its credits are out, else
+    /// `Accepted`. `now` is the time of its sending.
     ///
-    /// Ranges are of 1 to 8,192 bytes inside the segments, a note's mask is within the nodes and its flags 0 to 3, and the own
-    /// segment is as long as the settings say.
+    /// Ranges are of 1 to 8,192 bytes inside the segments, a note's mask is within the nodes and its flags 0 to 3, and
+    /// the own segment is as long as the settings say.
     pub fn ask(&mut self, now: u64, to: u16, work: &Library) -> Asked
         requires node { to < self.old.settings.nodes }
         requires other { to ≢ self.old.me }
@@ -300,12 +301,13 @@ impl Core {
 
     /// A datagram that was delivered: any bytes.
     ///
-    /// The answer is the first of these that applies. `Refused`, with the first of the reasons in the order of `Why`. For a request
-    /// `Again` where its number is the last one run in its slot, `Stale` where it is less, `Deferred` with the smallest lock that
-    /// a thread holds among those of its handler, else `Ran`: its handler ran, and its reply is kept in that slot, or an Ack where
-    /// the handler sent none. For a reply `Late` where no request that isn't back has that node, slot and number, `Deferred` as
-    /// for a request, else `Returned`: its handler ran, if it is no Ack, and the credit came back. The payload of a Long that runs
-    /// stands at its place of the segment before its handler runs; for any other answer nothing is written.
+    /// The answer is the first of these that applies. `Refused`, with the first of the reasons in the order of `Why`.
+    /// For a request `Again` where its number is the last one run in its slot, `Stale` where it is less, `Deferred`
+    /// with the smallest lock that a thread holds among those of its handler, else `Ran`: its handler ran, and its
+    /// reply is kept in that slot, or an Ack where the handler sent none. For a reply `Late` where no request that
+    /// isn't back has that node, slot and number, `Deferred` as for a request, else `Returned`: its handler ran, if it
+    /// is no Ack, and the credit came back. The payload of a Long that runs stands at its place of the segment before
+    /// its handler runs; for any other answer nothing is written.
     ///
     /// The segment is as long as the settings say.
     pub fn deliver<H: Handlers>(&mut self, handlers: &H, bytes: &[u8]) -> Delivered
@@ -318,9 +320,9 @@ impl Core {
         }
     }
 
-    /// Notes that the request which is due at `now` is sent again, and tells its slot: of those that aren't back and were last sent
-    /// `resend` or more before, the one that was sent earliest, then the one to the lower node, then the one in the lower slot.
-    /// None exactly where none is due.
+    /// Notes that the request which is due at `now` is sent again, and tells its slot: of those that aren't back and
+    /// were last sent `resend` or more before, the one that was sent earliest, then the one to the lower node, then the
+    /// one in the lower slot. None exactly where none is due.
     pub fn tick(&mut self, now: u64) -> Option<SlotRef>
         ensures { (meaning : Meaning) → CoreSteps meaning self.old
             (record { now = now; event = Ticks; answer = OfTick (resends result) }) self.new }
@@ -346,11 +348,11 @@ impl Core {
         self.judge(thread, call)
     }
 
-    /// Takes a handler-safe lock for a thread (GASNet 1.8.1, core API, `gasnet_hsl_trylock`; `gasnet_hsl_lock` tries again where it
-    /// is held).
+    /// Takes a handler-safe lock for a thread (GASNet 1.8.1, core API, `gasnet_hsl_trylock`; `gasnet_hsl_lock` tries
+    /// again where it is held).
     ///
-    /// `Refused` with `BadIndex` exactly where `lock` is 64 or more, then with `Recursive` where the thread holds it; these are
-    /// noted as violations. `Held` where another thread does; else `Taken`.
+    /// `Refused` with `BadIndex` exactly where `lock` is 64 or more, then with `Recursive` where the thread holds it;
+    /// these are noted as violations. `Held` where another thread does; else `Taken`.
     pub fn lock(&mut self, thread: u16, lock: u8) -> LockAnswer
         ensures answer { result ≡ lock_answer self.old.locks (Owner.Thread thread) lock 0 }
         ensures steps { (meaning : Meaning) (now : ℕ) → CoreSteps meaning self.old
@@ -369,8 +371,9 @@ impl Core {
 
     /// Gives a handler-safe lock of a thread back (GASNet 1.8.1, core API, `gasnet_hsl_unlock`).
     ///
-    /// `Refused` with `BadIndex` exactly where `lock` is 64 or more, then with `NotHeld` where the thread doesn't hold it, then
-    /// with `OutOfOrder` where it isn't the latest of its locks (profile); these are noted as violations. Else `Freed`.
+    /// `Refused` with `BadIndex` exactly where `lock` is 64 or more, then with `NotHeld` where the thread doesn't hold
+    /// it, then with `OutOfOrder` where it isn't the latest of its locks (profile); these are noted as violations. Else
+    /// `Freed`.
     pub fn unlock(&mut self, thread: u16, lock: u8) -> UnlockAnswer
         ensures answer { result ≡ unlock_answer self.old.locks (Owner.Thread thread) lock }
         ensures steps { (meaning : Meaning) (now : ℕ) → CoreSteps meaning self.old
@@ -399,8 +402,9 @@ impl Core {
 }
 
 impl Core {
-    /// The datagram of a slot: None exactly where the peer is no other node, the slot isn't among those of its pair, or it has
-    /// no message. A request's slot has its message until it is back; a reply's slot has the reply to the last request run in it.
+    /// The datagram of a slot: None exactly where the peer is no other node, the slot isn't among those of its pair, or
+    /// it has no message. A request's slot has its message until it is back; a reply's slot has the reply to the last
+    /// request run in it.
     pub fn message(&self, at: SlotRef) -> Option<&[u8]>
         ensures { ForItsRecord self.now (λ node.
             option_copied result ≡ message_at self.now.settings self.now.me node at) }
@@ -434,8 +438,8 @@ impl Core {
         }
     }
 
-    /// How many message buffers are in use: one for each request that isn't back, and one for each slot with a reply; at most the
-    /// sum over the peers of the credits both ways.
+    /// How many message buffers are in use: one for each request that isn't back, and one for each slot with a reply;
+    /// at most the sum over the peers of the credits both ways.
     pub fn held(&self) -> usize
         ensures is { ForItsRecord self.now (λ node.
             result ≡ held self.now.settings self.now.me node) }
@@ -502,8 +506,8 @@ impl Core {
     ghost use Rattle.raw_segment.specs.Lending.{segment_row};
     ghost use Rattle.am_core.specs.Lending.{core_row, cells_row, with_cells, with_segment};
 
-    /// The segment, to be written: the core is then as it was, with the bytes that were written. Whoever writes leaves its length,
-    /// which the requests and `deliver` need.
+    /// The segment, to be written: the core is then as it was, with the bytes that were written. Whoever writes leaves
+    /// its length, which the requests and `deliver` need.
     pub fn segment_mut(&mut self) -> &mut Segment
         ensures* writes_back { sem 𝓛 (Lends core_row segment_row self.entry result
             (with_segment self.old)) }

@@ -201,7 +201,8 @@ impl Core {
         }
     }
 
-    /// A request to another node with a range of the own segment as its payload, which is written straight into its slot.
+    /// A request to another node with a range of the own segment as its payload, which is written straight into its
+    /// slot.
     pub(crate) fn claim_own(
         &mut self,
         now: u64,
@@ -363,7 +364,8 @@ impl Core {
         self.locks.blocked(listed_for(&self.table, message.handler))
     }
 
-    /// A request that was delivered: unless it ran before, or waits for a lock, its handler runs, and its reply is kept.
+    /// A request that was delivered: unless it ran before, or waits for a lock, its handler runs, and its reply is
+    /// kept.
     fn run<H: Handlers>(&mut self, handlers: &H, message: &View<'_>) -> Delivered
         requires segment { HasSegment self.old }
         requires ours { IsOurRequest self.old (viewed_message message.now) }
@@ -392,7 +394,8 @@ impl Core {
         }
     }
 
-    /// Runs a request for a client's handler whose number is greater than the last one of its slot, and keeps its reply there.
+    /// Runs a request for a client's handler whose number is greater than the last one of its slot, and keeps its reply
+    /// there.
     fn run_new<H: Handlers>(&mut self, handlers: &H, message: &View<'_>)
         requires segment { HasSegment self.old }
         requires new { IsNewRequest self.old (viewed_message message.now) }
@@ -417,8 +420,8 @@ impl Core {
         floor.answer(handlers, message.handler, incoming, &mut self.replies);
     }
 
-    /// A message of another node, with these as its arguments. Its payload, where it isn't a Long's, is lent out of the bytes that
-    /// were delivered.
+    /// A message of another node, with these as its arguments. Its payload, where it isn't a Long's, is lent out of the
+    /// bytes that were delivered.
     fn received<'a>(
         &self,
         role: Role,
@@ -451,8 +454,8 @@ impl Core {
         }
     }
 
-    /// A reply that was delivered: where its request isn't back, and it waits for no lock, its handler runs, and the credit is
-    /// back.
+    /// A reply that was delivered: where its request isn't back, and it waits for no lock, its handler runs, and the
+    /// credit is back.
     fn take<H: Handlers>(&mut self, handlers: &H, message: &View<'_>) -> Delivered
         requires segment { HasSegment self.old }
         requires ours { IsOurReply self.old (viewed_message message.now) }
@@ -480,7 +483,8 @@ impl Core {
         }
     }
 
-    /// Runs the handler of a reply. The library's own has nothing to do but to put the bytes that a get asked for in their place.
+    /// Runs the handler of a reply. The library's own has nothing to do but to put the bytes that a get asked for in
+    /// their place.
     fn run_reply<H: Handlers>(&mut self, handlers: &H, reply: &View<'_>)
         requires segment { HasSegment self.old }
         requires reply { CanRunReply self.old (viewed_message reply.now) }

@@ -95,8 +95,8 @@ fn unlink(entries: &mut Vec<Entry>, place: usize)
     entries[place].listed = false;
 }
 
-/// The places whose messages may be sent again, in the order of their last sending and then of the places. Its value is, for each
-/// place, what is due there, if anything is.
+/// The places whose messages may be sent again, in the order of their last sending and then of the places. Its value
+/// is, for each place, what is due there, if anything is.
 #[derive(Drop)]
 pub(crate) struct Order {
     // The last entry is no place: there the ring begins and ends.

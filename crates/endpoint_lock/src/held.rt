@@ -40,8 +40,8 @@ impl<M, L, C> StationName<M, L, C> for Brand {
 
 /// A station with the book of its node's ledger. Contracts see it as the station.
 ///
-/// Whenever the lock is free the facts hold of it, for what its name says that it was opened with, and its journal is as long as the
-/// book's total says.
+/// Whenever the lock is free the facts hold of it, for what its name says that it was opened with, and its journal is
+/// as long as the book's total says.
 pub struct Held<N: StationName<M, L, C>, M: Machine, L: Link, C: Clock> {
     station: Station<M, L, C>,
     book: Book<N>,
@@ -77,7 +77,8 @@ impl<N: StationName<M, L, C>, M: Machine, L: Link, C: Clock> Held<N, M, L, C> {
         (Held { station, book }, all)
     }
 
-    /// One turn of a thread under the lock, as `Station::turn` says. Where it keeps an entry, the share that it is handed has one more.
+    /// One turn of a thread under the lock, as `Station::turn` says. Where it keeps an entry, the share that it is
+    /// handed has one more.
     pub fn turn(&mut self, thread: u16, mine: &mut Share<N>) -> TurnEnd
         requires thread { thread < N.threads }
         requires part { 0 < mine.old.parts }
@@ -107,7 +108,8 @@ impl<N: StationName<M, L, C>, M: Machine, L: Link, C: Clock> Held<N, M, L, C> {
         self.station.quiet() > 0
     }
 
-    /// Takes the station out, once the share has all parts again. The facts hold of it, and its journal is as long as the share says.
+    /// Takes the station out, once the share has all parts again. The facts hold of it, and its journal is as long as
+    /// the share says.
     pub fn close(self, all: &mut Share<N>) -> Station<M, L, C>
         requires { all.old.parts ≡ N.parts }
         ensures held { result ≡ self }

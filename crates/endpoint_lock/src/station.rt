@@ -17,8 +17,8 @@ use std::marker::Model;
 
 /// A node's machine with its link, its clock, and the journal of its turns.
 ///
-/// Contracts see it as a `StationState`. It counts the quiet turns, in which nothing was got and no script step ended, and the
-/// empty ones, in which nothing was got and nothing changed; and it keeps the end that a turn met.
+/// Contracts see it as a `StationState`. It counts the quiet turns, in which nothing was got and no script step ended,
+/// and the empty ones, in which nothing was got and nothing changed; and it keeps the end that a turn met.
 #[derive(Drop)]
 pub struct Station<M, L, C> {
     alloc: Global,
@@ -244,14 +244,15 @@ impl<M: Machine, L: Link, C: Clock> Station<M, L, C> {
 
     /// One turn of a thread.
     ///
-    /// An end that was kept is answered again. Where `patience` quiet turns came in a row the end is `Over` if all scripts are over,
-    /// else `Stuck`; where the journal is full it is `JournalFull`; where there is no memory for one entry it is `NoMemory`, and all
-    /// else stays. Then the clock is asked; where the thread polls, the link is asked for one datagram; and the machine takes its turn.
-    /// Where something was got or changed, an entry is kept, and then the datagrams of the turn are sent: `Went`. Else the turn is
-    /// `Idle`, and sends nothing.
+    /// An end that was kept is answered again. Where `patience` quiet turns came in a row the end is `Over` if all
+    /// scripts are over, else `Stuck`; where the journal is full it is `JournalFull`; where there is no memory for one
+    /// entry it is `NoMemory`, and all else stays. Then the clock is asked; where the thread polls, the link is asked
+    /// for one datagram; and the machine takes its turn. Where something was got or changed, an entry is kept, and then
+    /// the datagrams of the turn are sent: `Went`. Else the turn is `Idle`, and sends nothing.
     ///
-    /// `LinkFault` comes only where the link's count of faults rose in this turn: as it was asked, and then machine and journal stay;
-    /// or as a datagram was sent, and then the entry stays, and neither this datagram nor those after it are sent. Each end is kept.
+    /// `LinkFault` comes only where the link's count of faults rose in this turn: as it was asked, and then machine and
+    /// journal stay; or as a datagram was sent, and then the entry stays, and neither this datagram nor those after it
+    /// are sent. Each end is kept.
     pub fn turn(&mut self, thread: u16) -> TurnEnd
         requires { thread < M.thread_count self.old.machine }
         ensures facts { (opening : Opening M L C)

@@ -169,12 +169,13 @@ fn run_named<
 
 /// Runs the threads of a new station until an end, and waits for them.
 ///
-/// Each thread calls the gate without the lock, tells it whether its last turn was quiet, and then takes a turn under the lock, until a
-/// turn answers an end. A thread whose script is over goes on taking turns. Where a thread can't be started, its turns are taken here
-/// after the others were started. `threads` is the machine's number of threads.
+/// Each thread calls the gate without the lock, tells it whether its last turn was quiet, and then takes a turn under
+/// the lock, until a turn answers an end. A thread whose script is over goes on taking turns. Where a thread can't be
+/// started, its turns are taken here after the others were started. `threads` is the machine's number of threads.
 ///
-/// While it runs, each thread holds a share of the node's ledger; `Held::turn` says what a turn does to it, `Held::close` what all shares
-/// are together. Where memory for the list of threads can't be taken, no turn is taken, and the end is `NoMemory`.
+/// While it runs, each thread holds a share of the node's ledger; `Held::turn` says what a turn does to it,
+/// `Held::close` what all shares are together. Where memory for the list of threads can't be taken, no turn is taken,
+/// and the end is `NoMemory`.
 pub fn run_threads<
     R: Threads + Wait + Sync,
     M: Machine + Send,

@@ -16,9 +16,9 @@ const CAPACITY: usize = 8192;
 
 /// A sink that holds bytes back, at most 8,192 of them, and gives them on to the sink behind it in large pieces.
 ///
-/// What it tells as taken are the bytes that the sink behind it took, and then those that it still holds back. Its faults are
-/// those of the sink behind it. It takes no memory beyond its own size. What it holds back is given on by `flush` alone, and
-/// is lost where it is dropped or taken apart before.
+/// What it tells as taken are the bytes that the sink behind it took, and then those that it still holds back. Its
+/// faults are those of the sink behind it. It takes no memory beyond its own size. What it holds back is given on by
+/// `flush` alone, and is lost where it is dropped or taken apart before.
 #[derive(Drop)]
 pub struct BufferedSink<K: Sink> {
     inner: K,
@@ -58,8 +58,8 @@ impl<K: Sink> BufferedSink<K> {
 
     /// Gives on what is held back.
     ///
-    /// After `Done` nothing is held back. `Fault` comes only where the count of faults of the sink behind rose (or stands at
-    /// its last value); a front of what was held back was given on then, and the rest is still held back.
+    /// After `Done` nothing is held back. `Fault` comes only where the count of faults of the sink behind rose (or
+    /// stands at its last value); a front of what was held back was given on then, and the rest is still held back.
     pub fn flush(&mut self) -> Wrote
         ensures flushes { Flushes (outbox K.taken K.faults self.old)
             (outbox K.taken K.faults self.new) result }
@@ -79,8 +79,8 @@ impl<K: Sink> BufferedSink<K> {
 
     /// Writes all of the bytes, in order, as `write_all` does; in the words of what was given on and what is held back.
     ///
-    /// `Done` means that all of them went in. `Fault` comes only where the count of faults of the sink behind rose (or stands
-    /// at its last value); a front of them went in then.
+    /// `Done` means that all of them went in. `Fault` comes only where the count of faults of the sink behind rose (or
+    /// stands at its last value); a front of them went in then.
     pub fn write_all(&mut self, bytes: &[u8]) -> Wrote
         ensures { GathersAll (outbox K.taken K.faults self.old)
             (outbox K.taken K.faults self.new) bytes.now result }
@@ -110,8 +110,8 @@ impl<K: Sink> BufferedSink<K> {
 
     /// Makes room for so many bytes: where there isn't so much, what is held back is given on.
     ///
-    /// `Fault` comes only where the count of faults of the sink behind rose (or stands at its last value); a front of what
-    /// was held back was given on then.
+    /// `Fault` comes only where the count of faults of the sink behind rose (or stands at its last value); a front of
+    /// what was held back was given on then.
     #[inline(always)]
     pub fn make_room(&mut self, count: usize) -> Wrote
         requires { count ≤ 8192 }
@@ -213,7 +213,8 @@ fn few_digits_of(number: u64) -> usize
     4
 }
 
-/// Copies as many of the bytes as there is room for behind those up to `end`, moves `end` on, and answers how many they are.
+/// Copies as many of the bytes as there is room for behind those up to `end`, moves `end` on, and answers how many they
+/// are.
 fn gather(buffer: &mut [u8], end: &mut usize, bytes: &[u8]) -> usize
     requires { end.old ≤ length buffer.old }
     ensures count { result ≡ min (length bytes.now) (length buffer.old - end.old) }
@@ -234,8 +235,8 @@ impl<K: Sink> Sink for BufferedSink<K> {
 
     ghost faults = { λ s. K.faults s.inner };
 
-    /// Holds the bytes back, or as many as there is room for; where they don't fit behind those that are held back, these are
-    /// given on first. `Failed` where that failed: nothing of `bytes` was taken then.
+    /// Holds the bytes back, or as many as there is room for; where they don't fit behind those that are held back,
+    /// these are given on first. `Failed` where that failed: nothing of `bytes` was taken then.
     fn write(&mut self, bytes: &[u8]) -> Put
         ensures bound { TakesSome result (length bytes.now) }
         ensures bytes { Takes (append_known (K.taken self.old.inner) self.old.pending)

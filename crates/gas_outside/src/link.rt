@@ -27,9 +27,9 @@ pub enum Received {
 
 /// A link of a node that carries datagrams from and to the nodes of its job, and counts its faults.
 ///
-/// A datagram may be lost, come more than once and come late. What waits, where the link tells it, changes by `receive` alone.
-/// Each `Failed` comes only where the count of faults rose in that call, or stands at its last value; what the link tells,
-/// beside that count, then stays as before.
+/// A datagram may be lost, come more than once and come late. What waits, where the link tells it, changes by `receive`
+/// alone. Each `Failed` comes only where the count of faults rose in that call, or stands at its last value; what the
+/// link tells, beside that count, then stays as before.
 pub trait Link {
     /// What it was bound to last: the rank of its node, the number of nodes, and the port of rank 0.
     ghost bound: { Self → Option (ℕ × ℕ × ℕ) };
@@ -60,7 +60,8 @@ pub trait Link {
         ensures later { faults self.old ≤ faults self.new }
         ensures cause { IsFailed result → Rose (faults self.old) (faults self.new) };
 
-    /// Receives one datagram into the front of the buffer, without waiting for it. One that is longer than the buffer is cut.
+    /// Receives one datagram into the front of the buffer, without waiting for it. One that is longer than the buffer
+    /// is cut.
     ///
     /// Where the link tells what waits, `Got` gives the first of it, and `Empty` comes only where nothing waits.
     fn receive(&mut self, buf: &mut [u8]) -> Received

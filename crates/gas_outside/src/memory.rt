@@ -101,8 +101,8 @@ pub(crate) fn copy_front(from: &[u8], buf: &mut [u8]) -> usize
 
 /// A sink that keeps the bytes that it takes.
 ///
-/// It numbers its writes from 1, up to 2^64 - 1, and fails at exactly those whose numbers it was given, and where memory runs
-/// out.
+/// It numbers its writes from 1, up to 2^64 - 1, and fails at exactly those whose numbers it was given, and where
+/// memory runs out.
 #[derive(Debug, Drop)]
 pub struct MemorySink {
     bytes: Vec<u8>,

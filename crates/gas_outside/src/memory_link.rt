@@ -15,8 +15,8 @@ use std::marker::Model;
 
 /// A link that keeps the datagrams that it is sent, and gives those that it was made with.
 ///
-/// It numbers its calls from 1, whatever their kind, up to 2^64 - 1, and fails at exactly those whose numbers it was given, and
-/// where memory runs out for a datagram that is sent.
+/// It numbers its calls from 1, whatever their kind, up to 2^64 - 1, and fails at exactly those whose numbers it was
+/// given, and where memory runs out for a datagram that is sent.
 #[derive(Debug, Drop)]
 pub struct MemoryLink {
     alloc: Global,
@@ -50,8 +50,8 @@ impl Model for MemoryLink {
 }
 
 impl MemoryLink {
-    /// A link that isn't bound yet, where these datagrams wait, in order, and that fails at the calls with the numbers of
-    /// `fail`, from 1.
+    /// A link that isn't bound yet, where these datagrams wait, in order, and that fails at the calls with the numbers
+    /// of `fail`, from 1.
     ///
     /// It takes no memory yet, and so is never refused.
     pub fn new(
@@ -155,8 +155,8 @@ impl Link for MemoryLink {
         LinkAnswer::Done
     }
 
-    /// The first datagram that waits, or as much of it as there is room for; `Failed` exactly where this call's number is
-    /// listed, and else `Empty` exactly where none waits.
+    /// The first datagram that waits, or as much of it as there is room for; `Failed` exactly where this call's number
+    /// is listed, and else `Empty` exactly where none waits.
     fn receive(&mut self, buf: &mut [u8]) -> Received
         ensures received { ReceivedTold result buf.new
             (Some self.old.received) (Some self.new.received) }

@@ -21,9 +21,9 @@ use std::marker::Model;
 
 /// A spawner whose children are outputs and exit statuses that it was made with.
 ///
-/// It numbers its calls from 1, whatever their kind, up to 2^64 - 1, and fails at those whose numbers it was given. The rank of a
-/// child is its place. A start of a rank past the children, or of one that was started before, is a fault, and so are want of
-/// memory in a start and a finish of a child that wasn't started or was finished before.
+/// It numbers its calls from 1, whatever their kind, up to 2^64 - 1, and fails at those whose numbers it was given. The
+/// rank of a child is its place. A start of a rank past the children, or of one that was started before, is a fault,
+/// and so are want of memory in a start and a finish of a child that wasn't started or was finished before.
 #[derive(Debug, Drop)]
 pub struct MemorySpawner {
     alloc: Global,
@@ -58,7 +58,8 @@ impl Model for MemorySpawner {
 }
 
 impl MemorySpawner {
-    /// A spawner of these children, each an output and an exit status, that fails at the calls with the numbers of `fail`, from 1.
+    /// A spawner of these children, each an output and an exit status, that fails at the calls with the numbers of
+    /// `fail`, from 1.
     ///
     /// It takes no memory yet, and so is never refused.
     pub fn new(
@@ -188,8 +189,8 @@ impl Spawner for MemorySpawner {
 
     ghost faults = { λ s. s.faults };
 
-    /// `Failed` where this call's number is listed, the rank has no child, or the child was started before, or where memory ran
-    /// out.
+    /// `Failed` where this call's number is listed, the rank has no child, or the child was started before, or where
+    /// memory ran out.
     fn start(&mut self, rank: u16, port: u16, input: &[u8]) -> Started
         ensures told { StartTold result (Start rank port input.now)
             (Some self.old.told) (Some self.new.told) }
@@ -209,8 +210,8 @@ impl Spawner for MemorySpawner {
         Started::Started
     }
 
-    /// `Failed` exactly where this call's number is listed, the child wasn't started or was finished before, or its output is
-    /// over the limit.
+    /// `Failed` exactly where this call's number is listed, the child wasn't started or was finished before, or its
+    /// output is over the limit.
     fn finish(&mut self, rank: u16, into: &mut Vec<u8>) -> Finished
         ensures told { Some self.new.told ≡ option_map
             (told_end (child_end rank result into.old.items into.new.items)) (Some self.old.told) }

@@ -23,9 +23,9 @@ pub enum ReadAll {
 /// Reads all the bytes that are left, up to a limit, which is a number of bytes.
 ///
 /// `Bytes` are all the bytes that were read, at most `limit`, and nothing is left where the source tells what is left.
-/// `TooLong` comes exactly where more than `limit` bytes were read. `Fault` comes only where the source's count of faults rose
-/// (or stands at its last value), and `NoMemory` where memory ran out; in both cases at most `limit` bytes were read and are
-/// lost.
+/// `TooLong` comes exactly where more than `limit` bytes were read. `Fault` comes only where the source's count of
+/// faults rose (or stands at its last value), and `NoMemory` where memory ran out; in both cases at most `limit` bytes
+/// were read and are lost.
 pub fn read_all<S: Source>(alloc: Global, source: &mut S, limit: usize) -> ReadAll
     ensures bytes { ReadsAll (S.left source.old) (S.left source.new) limit result }
     ensures later { S.faults source.old ≤ S.faults source.new }

@@ -15,16 +15,17 @@ const ROOM: usize = 8296;
 
 /// A link that loses, repeats and swaps some of the datagrams that it sends by the link behind it.
 ///
-/// It numbers the datagrams that are handed to it from 1, up to 2^64 - 1. The first of these rules that applies to datagram c
-/// decides.
+/// It numbers the datagrams that are handed to it from 1, up to 2^64 - 1. The first of these rules that applies to
+/// datagram c decides.
 ///
 /// 1. Where `lose` isn't 0 and divides c, it is lost.
 /// 2. Where `repeat` isn't 0 and divides c, it is sent twice.
-/// 3. Where `swap` isn't 0 and divides c, and it has at most 8,296 bytes, it is held back; one that was held before is sent first.
+/// 3. Where `swap` isn't 0 and divides c, and it has at most 8,296 bytes, it is held back; one that was held before is
+///    sent first.
 /// 4. Else it is sent once.
 ///
-/// A datagram that is held is sent after the next one that rule 2 or rule 4 sends. What a sieve tells is what the link behind
-/// tells, and so is its count of faults; but what was sent it tells only where the three numbers are 0.
+/// A datagram that is held is sent after the next one that rule 2 or rule 4 sends. What a sieve tells is what the link
+/// behind tells, and so is its count of faults; but what was sent it tells only where the three numbers are 0.
 #[derive(Drop)]
 pub struct Sieve<L: Link> {
     inner: L,
@@ -89,8 +90,8 @@ impl<L: Link> Sieve<L> {
 
     /// Sends a datagram by the rule for its number, as `send` does.
     ///
-    /// The first send of the link behind that fails ends the call as `Failed`: that datagram is dropped, the one handed in isn't
-    /// held back, and an earlier one that is still held stays held. Where `swap` is 0 none is ever held.
+    /// The first send of the link behind that fails ends the call as `Failed`: that datagram is dropped, the one handed
+    /// in isn't held back, and an earlier one that is still held stays held. Where `swap` is 0 none is ever held.
     pub fn hand(&mut self, to: u16, bytes: &[u8]) -> LinkAnswer
         ensures follows { Follows L.Link (next_plan self.old (to, bytes.now))
             (numbered self.old) result self.new }

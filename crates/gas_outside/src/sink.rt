@@ -22,8 +22,8 @@ pub trait Sink {
 
     /// Takes some of the bytes, from the front; at least one where there is one.
     ///
-    /// `Failed` comes only where the count of faults rose in this call, or stands at its last value; the bytes taken then
-    /// stay as before.
+    /// `Failed` comes only where the count of faults rose in this call, or stands at its last value; the bytes taken
+    /// then stay as before.
     fn write(&mut self, bytes: &[u8]) -> Put
         ensures bound { TakesSome result (length bytes.now) }
         ensures bytes { Takes (taken self.old) (taken self.new) result bytes.now }

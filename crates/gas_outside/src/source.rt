@@ -24,9 +24,9 @@ pub trait Source {
 
     /// Reads some bytes into the front of the buffer.
     ///
-    /// At most as many as the buffer has are given, and the first of those that are left. `End`, or no byte for a buffer that
-    /// isn't empty, comes only where nothing is left. `Failed` comes only where the count of faults rose in this call, or
-    /// stands at its last value; what is left then stays as before.
+    /// At most as many as the buffer has are given, and the first of those that are left. `End`, or no byte for a
+    /// buffer that isn't empty, comes only where nothing is left. `Failed` comes only where the count of faults rose in
+    /// this call, or stands at its last value; what is left then stays as before.
     fn read(&mut self, buf: &mut [u8]) -> Got
         ensures bound { GivesAtMost result (length buf.new) }
         ensures bytes { Gives (left self.old) (left self.new) result buf.new }

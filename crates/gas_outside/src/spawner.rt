@@ -28,8 +28,8 @@ pub const MAX_OUTPUT: usize = 67_108_864;
 
 /// Starts the nodes of a job as children, finishes them, and counts its faults.
 ///
-/// Each `Failed` comes only where the count of faults rose in that call, or stands at its last value. No call changes what was
-/// told before.
+/// Each `Failed` comes only where the count of faults rose in that call, or stands at its last value. No call changes
+/// what was told before.
 pub trait Spawner {
     ghost use Rattle.gas_outside.specs.Spawner.{SpawnTold, ToldCall, StartTold, AppendsOutput};
     ghost use Rattle.gas_outside.specs.Spawner.{EndsPending, IsStartFailed, IsFinishFailed};
@@ -52,8 +52,8 @@ pub trait Spawner {
 
     /// Waits until the child of a rank ends, and appends its output, of at most 67,108,864 bytes.
     ///
-    /// A longer output is a fault. The first finish of a child that was started is told, with its answer, whatever that is; and
-    /// only such a finish ends as `Ended`. After another answer nothing was appended.
+    /// A longer output is a fault. The first finish of a child that was started is told, with its answer, whatever that
+    /// is; and only such a finish ends as `Ended`. After another answer nothing was appended.
     fn finish(&mut self, rank: u16, into: &mut Vec<u8>) -> Finished
         ensures told { let end = child_end rank result into.old.items into.new.items in
             told self.new ≡ option_map (told_end end) (told self.old) }

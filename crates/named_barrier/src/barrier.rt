@@ -198,8 +198,8 @@ impl Barrier {
         }
     }
 
-    /// Whether this node has notified nothing so far: then no note must go to any node. A node whose job has no barrier needs no more
-    /// than that at each tick (profile).
+    /// Whether this node has notified nothing so far: then no note must go to any node. A node whose job has no barrier
+    /// needs no more than that at each tick (profile).
     pub fn is_quiet(&self) -> bool
         ensures { IsTrue result → (nodes me : ℕ) (kept : BarrierRecord)
             → Stands nodes me self.now kept → (to : ℕ) → note_to nodes me kept to ≡ None }

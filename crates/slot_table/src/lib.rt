@@ -1,11 +1,11 @@
 //! A table of the slots of several peers, each with a buffer that is lent while the slot is written.
 //!
-//! The peers' slots stand one after another, and so do their buffers, in one block. How many slots are taken, which slots of a peer
-//! are vacant and where its slots begin is kept, and costs no search.
+//! The peers' slots stand one after another, and so do their buffers, in one block. How many slots are taken, which
+//! slots of a peer are vacant and where its slots begin is kept, and costs no search.
 //!
-//! What is proved: the table is a list of slots of each peer, each with a state (vacant, being written, with a message) and a buffer
-//! of 8,296 bytes; each call is one equation on it (`specs/State.antt`). Only what stands in the buffer of a slot that was just
-//! opened is left open. No call after `new` takes memory.
+//! What is proved: the table is a list of slots of each peer, each with a state (vacant, being written, with a message)
+//! and a buffer of 8,296 bytes; each call is one equation on it (`specs/State.antt`). Only what stands in the buffer of
+//! a slot that was just opened is left open. No call after `new` takes memory.
 #![tactic(auto)]
 
 ghost use Rattle.std.specs.Prelude.{◌≡◌, ℕ, ◌+◌, ◌<◌, ◌≤◌, ◌^◌, length, slice_get, slice_set, IfOk};
