@@ -248,7 +248,8 @@ invariant_accepts e to now slot number r p c S other T spelled =
     let xs = r.asked to in
     let asked : Request = record { slot = slot; content = c; time = now; back = false } in
     let O = S.invariant_.orderly to in
-    asked_keeps e.settings (IsKept e.settings) e.me to r (with_request r now to slot c) (xs ++ asked ∷ []) S.invariant_ refl refl S.invariant_.kept
+    asked_keeps e.settings (IsKept e.settings) e.me to r (with_request r now to slot c) (xs ++ asked ∷ []) S.invariant_
+    refl refl S.invariant_.kept
     (λ h. absurd (other (sym h)))
     (subst (λ q. IsOrderly (limits_of e.settings e.me to) (xs ++ new_request now q c ∷ [])) (sym T.lowest)
     (orderly_accepts (limits_of e.settings e.me to) xs c now O
@@ -354,7 +355,8 @@ node_not_taken from slot number e r S low other below h =
 pub invariant_back : (e : CoreState) (from number : ℕ) (r : Node Local) → Stands e r
     → NodeInvariant e.settings (IsKept e.settings) e.me (with_back r from number r.local)
 invariant_back e from number r S =
-    asked_keeps e.settings (IsKept e.settings) e.me from r (with_back r from number r.local) (change as_back (r.asked from) number)
+    asked_keeps e.settings (IsKept e.settings) e.me from r (with_back r from number r.local)
+    (change as_back (r.asked from) number)
     S.invariant_ refl refl S.invariant_.kept
     (λ h. change_none number (r.asked from) (ap r.asked (sym h) ∙ S.invariant_.own))
     (orderly_back (limits_of e.settings e.me from) (r.asked from) number (S.invariant_.orderly from))

@@ -256,7 +256,8 @@ run_fits : (meaning : Meaning) (e : CoreState) (which : Role) (contact : Contact
 run_fits meaning e which contact c lawful sized stays = elim (cases_Bool (is_library c.handler)) [
   | inl own ↦ rw own stays.written
   | inr client ↦ rw client
-      (subst (λ (len : ℕ). AllFit len (client_outcome (handlers_at meaning e) which contact c (start_at e)).writes) sized
+      (subst (λ (len : ℕ). AllFit len (client_outcome (handlers_at meaning e) which contact c (start_at e)).writes)
+      sized
       (lawful c.handler (frame_of_run (handlers_at meaning e) which contact c) (start_at e)).writes)
 ]
 
@@ -386,7 +387,8 @@ passed_answer e r ask =
     else claim_answer (limits_of e.settings e.me ask.to) ask.to (r.asked ask.to)
 
 -- a request that the table allows
-allowed_answer : (meaning : Meaning) (e : CoreState) (r : Node Local) (ask : Ask) (judgement : Result (Unit {0}) Forbidden)
+allowed_answer : (meaning : Meaning) (e : CoreState) (r : Node Local) (ask : Ask)
+    (judgement : Result (Unit {0}) Forbidden)
     → Stands e r → judged_at e ask.thread call.Request ≡ judgement
     → request_answer (site_at meaning e) r ask
     ≡ unless_forbidden judgement (unless_bad (asked_fault e ask) (passed_answer e r ask))

@@ -351,7 +351,8 @@ delivers_step meaning e version bytes m a new lawful sized same only fine h = re
   same = (message_comes meaning e m a new 0 (message_step meaning e m a new lawful sized h)).same;
   comes = λ other is spelled now.
       subst (λ (n : Message). CoreSteps meaning e (record { now = now; event = Comes n; answer = OfDelivery a }) new)
-      (only other (is ∙ sym same) spelled) (message_comes meaning e m a new now (message_step meaning e m a new lawful sized h));
+      (only other (is ∙ sym same) spelled)
+      (message_comes meaning e m a new now (message_step meaning e m a new lawful sized h));
   refused = λ reason is. absurd (some_none reason (fine ∙ ap (λ v. first_refusal v bytes) same ∙ is));
 }
   where

@@ -98,7 +98,8 @@ no_library kind.Ack index client = refl
 -- other contents are refused for what is wrong with them as the library's, and then for their place
 pub unhandled_refusal : (settings : Parameters) (table : List (Option Entry)) (content : Content)
     → is_handled table content ≡ false
-    → content_refusal settings table content ≡ first_why (library_fault settings content) (range_refusal settings content)
+    → content_refusal settings table content ≡ first_why (library_fault settings content)
+    (range_refusal settings content)
 unhandled_refusal settings table content none =
     by_index (is_library content.handler) refl
   where

@@ -1,5 +1,6 @@
 -- The buffers of a core for calls on its own node, each the one part of a block.
-use Rattle.std.proofs.Common.{◌≡◌, ◌∙◌, ℕ, List, [], ◌∷◌, Option, Some, ap, unwrap_or, drop, length, sym, arith, slice_get}
+use Rattle.std.proofs.Common.{◌≡◌, ◌∙◌, ℕ, List, [], ◌∷◌, Option, Some, ap, unwrap_or, drop, length, sym, arith}
+use Rattle.std.proofs.Common.{slice_get}
 use Rattle.std.specs.List.{refill}
 use Rattle.std.proofs.lemmas.List.{take_at}
 use Rattle.raw_segment.specs.Blocks.{with_part}

@@ -1,6 +1,8 @@
 -- What the reply of a request of the own node is, for the run of its handler.
-use Rattle.std.proofs.Common.{ℕ, zero, suc, ◌≡◌, ◌+◌, ◌-◌, ◌≤◌, ◌++◌, List, [], ◌∷◌, Option, Some, None, Bool, true, false}
-use Rattle.std.proofs.Common.{length, take, drop, refl, sym, ap, ap₂, ◌∙◌, subst, arith, inl, inr, eq-eqb, take_all, pos, ℤ}
+use Rattle.std.proofs.Common.{ℕ, zero, suc, ◌≡◌, ◌+◌, ◌-◌, ◌≤◌, ◌++◌, List, [], ◌∷◌, Option, Some, None, Bool, true}
+use Rattle.std.proofs.Common.{false}
+use Rattle.std.proofs.Common.{length, take, drop, refl, sym, ap, ap₂, ◌∙◌, subst, arith, inl, inr, eq-eqb, take_all}
+use Rattle.std.proofs.Common.{pos, ℤ}
 use Rattle.std.specs.Prelude.{if◌then◌else◌, nat_lt, slice_get, option_and_then, replicate, map}
 use Rattle.std.proofs.lemmas.Bool.{cases_Bool, ltb-false, lt-leb}
 use Rattle.std.proofs.lemmas.Option.{same_Some}
@@ -369,7 +371,8 @@ pub own_found : (meaning : Meaning) (core : CoreState) (asking : Asking) (listed
     → a_run meaning asking.handler (a_frame core listed asking.args shown_bytes place)
     (a_touched core.cells new_segment core.locks core.log)
     ≡ own_request_run meaning core (said_in core.segment asking)
-own_found meaning core asking listed shown new_segment buffer shown_bytes place fine listed_is landed shown_is place_is =
+own_found meaning core asking listed shown new_segment buffer shown_bytes place fine listed_is landed shown_is
+    place_is =
     let content = said_in core.segment asking in
     let payload = payload_in core.segment asking.payload in
     let args = asking.args in

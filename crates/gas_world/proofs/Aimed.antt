@@ -1,5 +1,6 @@
 -- Each event of a world, by where it falls.
-use Rattle.std.proofs.Common.{◌≡◌, ℕ, ◌+◌, ◌*◌, ◌<◌, Some, None, refl, sym, ◌∙◌, subst, subst₂, List, length, get_or, set}
+use Rattle.std.proofs.Common.{◌≡◌, ℕ, ◌+◌, ◌*◌, ◌<◌, Some, None, refl, sym, ◌∙◌, subst, subst₂, List, length, get_or}
+use Rattle.std.proofs.Common.{set}
 use Rattle.std.specs.Prelude.{Option, is_some, unwrap_or}
 use Rattle.std.specs.List.{slice_get}
 use Rattle.std.proofs.lemmas.Option.{slice_get_read}

@@ -70,7 +70,8 @@ no_run e = cc
 
 -- what didn't run isn't back
 pub not_back : (s : Parameters) (refuses : Content → Option Why) (w : Records) (i j k : ℕ) (x : Request)
-    → WorldInvariant s refuses (IsEndpointKept s) w → numbered ((w i).asked j) k ≡ Some x → run_of k ((w j).ran i) ≡ None
+    → WorldInvariant s refuses (IsEndpointKept s) w → numbered ((w i).asked j) k ≡ Some x
+    → run_of k ((w j).ran i) ≡ None
     → x.back ≡ false
 not_back s refuses w i j k x holds at none = elim (cases_Bool x.back) [
   | inl back ↦ (let ran = (holds.pair i j).back_ran k x at back in absurd (no_run (sym none ∙ ran.1)))
@@ -149,7 +150,8 @@ first_steps : (meaning : Meaning) (v z : WorldState) (now i j k : ℕ) (x : Requ
     → i < v.settings.nodes → j < v.settings.nodes → i ≢ j → Falls v z j (i * v.settings.nodes + j) old new
     → slice_get v.endpoints i ≡ Some sender → numbered ((w i).asked j) k ≡ Some x
     → run_of k ((w j).ran i) ≡ None
-    → RequestRuns meaning (record { sender = sender; slot = x.slot }) old (transition now (request_letter i j k) answer) new
+    → RequestRuns meaning (record { sender = sender; slot = x.slot }) old (transition now (request_letter i j k) answer)
+    new
     → Stepped meaning v now (RequestComes i j k) (world_answers.Node answer) z w most
 first_steps meaning v z now i j k x sender answer old new w most lawful S i_in j_in apart F lent sent none R =
     let s = v.settings in
@@ -170,7 +172,8 @@ first_steps meaning v z now i j k x sender answer old new w most lawful S i_in j
     refl)
 
 -- a number that isn't above the greatest one is answered by the numbers alone, and changes nothing
-repeats_by : (site : Site EndpointLocal) (r : Node EndpointLocal) (m : Message) (top : ℕ) (lock : Option ℕ) → m.number ≤ top
+repeats_by : (site : Site EndpointLocal) (r : Node EndpointLocal) (m : Message) (top : ℕ) (lock : Option ℕ)
+    → m.number ≤ top
     → (answer_by site.behaviour m (judged m.number top lock) ≡ repeated m.from m.slot (m.number == top))
     × (after_delivery site r m (judged m.number top lock) ≡ r)
 repeats_by site r m top lock low = elim (cases_order m.number top) [
@@ -232,7 +235,8 @@ request_steps meaning v z now i j k sender (world_answers.Node answer) old new l
           (subst (λ q. RequestRepeats q old step new) it.stands.slot (R.repeats ran)))
       | inr new_one ↦ first_steps meaning v z now i j k it.x sender answer old new w most lawful S i_in j_in apart F
           lent it.at (not_ran (run_of k ((w j).ran i)) (sym new_one ∙ it.stands.ran))
-          (subst (λ q. RequestRuns meaning (record { sender = sender; slot = q }) old step new) it.stands.slot (R.runs new_one))
+          (subst (λ q. RequestRuns meaning (record { sender = sender; slot = q }) old step new) it.stands.slot
+          (R.runs new_one))
     ]
 request_steps meaning v z now i j k sender world_answers.NoMemory old new lawful i_in j_in apart F lent R = absurd R
 request_steps meaning v z now i j k sender world_answers.Unsent old new lawful i_in j_in apart F lent R = λ w most S.
@@ -301,7 +305,8 @@ take_steps : (meaning : Meaning) (v z : WorldState) (now i j k : ℕ) (x : Reque
     → i < v.settings.nodes → j < v.settings.nodes → i ≢ j → Falls v z i (i * v.settings.nodes + j) old new
     → slice_get v.endpoints j ≡ Some sender → numbered ((w i).asked j) k ≡ Some x → x.back ≡ false
     → run_of k ((w j).ran i) ≡ Some r
-    → ReplyReturns meaning (record { sender = sender; slot = x.slot }) old (transition now (reply_letter i j k) answer) new
+    → ReplyReturns meaning (record { sender = sender; slot = x.slot }) old (transition now (reply_letter i j k) answer)
+    new
     → Stepped meaning v now (ReplyComes i j k) (world_answers.Node answer) z w most
 take_steps meaning v z now i j k x r sender answer old new w most lawful S i_in j_in apart F lent sent out ran R =
     let s = v.settings in
@@ -360,7 +365,8 @@ reply_steps meaning v z now i j k sender (world_answers.Node answer) old new law
           (sym it.stands.back ∙ back) r.1 (R.late back)
       | inr out ↦ take_steps meaning v z now i j k it.x r.0 sender answer old new w most lawful S i_in j_in apart F
           lent it.at (sym it.stands.back ∙ out) r.1
-          (subst (λ q. ReplyReturns meaning (record { sender = sender; slot = q }) old step new) it.stands.slot (R.returns out))
+          (subst (λ q. ReplyReturns meaning (record { sender = sender; slot = q }) old step new) it.stands.slot
+          (R.returns out))
     ]
 reply_steps meaning v z now i j k sender world_answers.NoMemory old new lawful i_in j_in apart F lent R = absurd R
 reply_steps meaning v z now i j k sender world_answers.Unsent old new lawful i_in j_in apart F lent R = λ w most S.

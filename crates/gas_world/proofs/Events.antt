@@ -33,7 +33,8 @@ use Rattle.gas_world.specs.declared.exchanges.Exchange.{Exchange}
 use Rattle.plain_world.proofs.Worlds.{step_keeps}
 use Rattle.endpoint_rules.proofs.Sound.{rules_sound}
 use Rattle.gas_world.proofs.PairStands.{pair_sent}
-use Rattle.gas_world.proofs.Standing.{Falls, Sends as SendsAt, IsQuiet, quiet_pairs, Moves, moves_stand, still_stands, max_same}
+use Rattle.gas_world.proofs.Standing.{Falls, Sends as SendsAt, IsQuiet, quiet_pairs, Moves, moves_stand, still_stands}
+use Rattle.gas_world.proofs.Standing.{max_same}
 use Rattle.gas_world.proofs.Scenes.{node_kept}
 use Rattle.lists.proofs.Cases.{none_some}
 
@@ -134,8 +135,10 @@ event_steps meaning v z now e i a b ne answer old new w most lawful S among i_in
     let after_is : world_after job w (timed now e) ≡ put w i x = ap (after_at job w now) at in
     let M : Moves v w most i x new = record {
       invariant_ =
-          subst (λ (y : Records). WorldInvariant s (content_refusal v.settings v.table) (IsEndpointKept v.settings) y) after_is
-          (step_keeps job (IsEndpointKept v.settings) w (timed now e) (rules_sound s v.table meaning S.range lawful) S.invariant_ among);
+          subst (λ (y : Records). WorldInvariant s (content_refusal v.settings v.table) (IsEndpointKept v.settings) y)
+          after_is
+          (step_keeps job (IsEndpointKept v.settings) w (timed now e) (rules_sound s v.table meaning S.range lawful)
+          S.invariant_ among);
       node = N.node;
       stands = N.stands;
       most_is =
@@ -221,7 +224,9 @@ still_steps meaning v z now e i a b ne answer old new w most lawful S among i_in
     let most_was = scene_most v z w most i place old new S F i_in in
     let N : Stepping meaning v w now i ne answer new.endpoint = record {
       answer_is = answers;
-      stands = subst₂ (λ (d : EndpointState) (r : Node EndpointLocal). EndpointStands d r) (sym I.endpoint) (sym after) node.1;
+      stands =
+          subst₂ (λ (d : EndpointState) (r : Node EndpointLocal). EndpointStands d r) (sym I.endpoint) (sym after)
+          node.1;
       node = subst (λ (d : EndpointState). IsNodeOf s v.table i d) (sym I.endpoint) node.0;
     } in
     let highest : old.most ≡ max old.most (held s i x) =
@@ -230,7 +235,8 @@ still_steps meaning v z now e i a b ne answer old new w most lawful S among i_in
     event_steps meaning v z now e i a b ne answer old new w most lawful S among i_in b_in F at N
     (I.most_is ∙ highest)
     (quiet_sends v z w most i a b x old new S a_in b_in F I.list
-    (same_quiet (w i) x (ap (λ (r : Node EndpointLocal). r.asked) after) (ap (λ (r : Node EndpointLocal). r.ran) after)))
+    (same_quiet (w i) x (ap (λ (r : Node EndpointLocal). r.asked) after)
+    (ap (λ (r : Node EndpointLocal). r.ran) after)))
 
 -- ---- a message that was never sent
 

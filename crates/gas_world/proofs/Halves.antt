@@ -23,7 +23,8 @@ set_right {X = X} (x ∷ xs) ys k (suc n) v e = ap (λ (zs : List X). x ∷ zs) 
 -- what stands in the first part, or in the second, stands in the whole
 pub here_left : {X : Type 0} (all xs ys : List X) (k : ℕ) (x : X) → all ≡ xs ++ ys → k < length xs
     → slice_get xs k ≡ Some x → slice_get all k ≡ Some x
-here_left {X = X} all xs ys k x split lt at = ap (λ (zs : List X). slice_get zs k) split ∙ (get-append_left xs ys k lt ∙ at)
+here_left {X = X} all xs ys k x split lt at = ap (λ (zs : List X). slice_get zs k) split
+    ∙ (get-append_left xs ys k lt ∙ at)
 
 pub here_right : {X : Type 0} (all xs ys : List X) (k n : ℕ) (x : X) → all ≡ xs ++ ys → n ≡ length xs + k
     → slice_get ys k ≡ Some x → slice_get all n ≡ Some x

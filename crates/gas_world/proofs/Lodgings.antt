@@ -63,12 +63,14 @@ reply_held meaning v w most i j k exchanges sender lawful S i_in j_in pair lent 
     (pair_there v w most i j exchanges S i_in j_in pair) at in
     let here = other_node v w most j sender S lent j_in in
     let r = did_run (run_of k ((w j).ran i)) (sym did ∙ it.stands.ran) in
-    let found = run_stands meaning v w i j k it.x r.0 S.range lawful S.invariant_ it.at (sym it.stands.back ∙ out) r.1 in
+    let found =
+    run_stands meaning v w i j k it.x r.0 S.range lawful S.invariant_ it.at (sym it.stands.back ∙ out) r.1 in
     subst (λ q. HoldsMessage sender (reply_slot i q)) (sym it.stands.slot)
     (held_there s v.table j sender (w j) (reply_slot i it.x.slot) _ here.0 here.1 found)
 
 -- what an event delivers, where it falls on this pair
-pub event_held : (meaning : Meaning) (v : WorldState) (w : Records) (most : ℕ → ℕ) (e : WorldEvent) (now : ℕ) (aim : Aim)
+pub event_held : (meaning : Meaning) (v : WorldState) (w : Records) (most : ℕ → ℕ) (e : WorldEvent) (now : ℕ)
+    (aim : Aim)
     (exchanges : ExchangesState) → IsLawfulMeaning meaning → Stands v w most → IsAmong v.settings (event_of e)
     → FallsAt v now e aim
     → slice_get v.exchanges (aim.from * v.settings.nodes + aim.to) ≡ Some exchanges

@@ -65,7 +65,8 @@ request_stands s refuses w i j k x holds apart at out =
 
 -- a run of a request, by its number and its slot
 pub run_says : (s : Parameters) (refuses : Content → Option Why) (w : Records) (i j k : ℕ) (x : Request) (r : Run)
-    → WorldInvariant s refuses (IsEndpointKept s) w → numbered ((w i).asked j) k ≡ Some x → run_of k ((w j).ran i) ≡ Some r
+    → WorldInvariant s refuses (IsEndpointKept s) w → numbered ((w i).asked j) k ≡ Some x
+    → run_of k ((w j).ran i) ≡ Some r
     → (r.number ≡ k) × (x.slot ≡ r.slot)
 run_says s refuses w i j k x r holds at ran =
     let there = run_of_there k ((w j).ran i) r ran in
@@ -119,7 +120,8 @@ carried s table i sender r at m meaning old now answer new N S found fits versio
     })
 
 -- what stands in a slot by the world's record is held there
-pub held_there : (s : Parameters) (table : List (Option Entry)) (i : ℕ) (sender : EndpointState) (r : Node EndpointLocal)
+pub held_there : (s : Parameters) (table : List (Option Entry)) (i : ℕ) (sender : EndpointState)
+    (r : Node EndpointLocal)
     (at : SlotRef) (message : List ℕ) → IsNodeOf s table i sender → EndpointStands sender r
     → message_at s i r at ≡ Some message → HoldsMessage sender at
 held_there s table i sender r at message N S found =

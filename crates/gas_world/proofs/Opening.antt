@@ -47,9 +47,11 @@ pub stands_opening : (s : Parameters) (table : List (Option Entry)) (es : List E
     (at_the_opening s) (λ i. 0)
 stands_opening s table es xs most range count A pairs E zeros = record {
   range = range;
-  invariant_ = opening_keeps s (content_refusal s table) (IsEndpointKept s) (λ i. nothing_begun s) (λ i. opening_kept s i);
+  invariant_ =
+      opening_keeps s (content_refusal s table) (IsEndpointKept s) (λ i. nothing_begun s) (λ i. opening_kept s i);
   endpoints =
-      λ i low. let it = slice_get_there es i (omega (arith, low, count)) in let at = A i it.0 it.1 in (it.0, it.1, at.0, at.1);
+      λ i low. let it = slice_get_there es i (omega (arith, low, count)) in let at = A i it.0 it.1 in
+      (it.0, it.1, at.0, at.1);
   exchanges = λ i j i_in j_in.
       let it = slice_get_there xs (i * s.nodes + j)
       (subst (λ n. i * s.nodes + j < n) (sym pairs) (pair_place s.nodes i j i_in j_in)) in

@@ -26,7 +26,8 @@ answers_plainly : (meaning : Meaning) (v : WorldState) (now : ℕ) (e : RecordsE
     (plain_of (world_after (job_in meaning v) w (timed now e)))
 answers_plainly meaning v now e a w most lawful S is = (
   is,
-  step_plain (job_in meaning v) (IsEndpointKept v.settings) w (timed now e) (rules_sound v.settings v.table meaning S.range lawful)
+  step_plain (job_in meaning v) (IsEndpointKept v.settings) w (timed now e)
+      (rules_sound v.settings v.table meaning S.range lawful)
       S.invariant_,
 )
 
@@ -44,4 +45,5 @@ plainly meaning old now e answers.Unsent new sound steps =
 pub stands_lawful : (meaning : Meaning) (v : WorldState) (w : Records) (most : ℕ → ℕ) → IsLawfulMeaning meaning
     → Stands v w most → IsLawful (job_in meaning v) w
 stands_lawful meaning v w most sound S =
-    lawful (job_in meaning v) (IsEndpointKept v.settings) w (rules_sound v.settings v.table meaning S.range sound) S.invariant_
+    lawful (job_in meaning v) (IsEndpointKept v.settings) w (rules_sound v.settings v.table meaning S.range sound)
+    S.invariant_

@@ -134,11 +134,13 @@ sending_sends meaning v z now i sending old new w most S i_in to_in other F list
     let xs = r.asked j in
     let y = new_request now (next_claim xs).slot sending.content in
     let x = after_sending (site_of (job_in meaning v) i) r now sending in
-    let pair = pair_accepted (limits_of s i j) (content_refusal v.settings v.table) old.exchanges.list xs ((w j).ran i) y
+    let pair =
+    pair_accepted (limits_of s i j) (content_refusal v.settings v.table) old.exchanges.list xs ((w j).ran i) y
     (S.invariant_.pair i j) (scene_pair v z w most i i j old new S F i_in to_in) refl in
     let asked_now : (put w i x i).asked j ≡ xs ++ y ∷ [] = ap (λ (t : Node EndpointLocal). t.asked j) (put_same w i x)
     ∙ put_same r.asked j (xs ++ y ∷ []) in
-    let ran_now : (put w i x j).ran i ≡ (w j).ran i = ap (λ (t : Node EndpointLocal). t.ran i) (put_other w i x j other) in
+    let ran_now : (put w i x j).ran i ≡ (w j).ran i =
+    ap (λ (t : Node EndpointLocal). t.ran i) (put_other w i x j other) in
     record {
       pair = subst₂ (λ A R. StandsForPair new.exchanges.list A R) (sym asked_now) (sym ran_now)
           (subst (λ (l : List Exchange). StandsForPair l (xs ++ y ∷ []) ((w j).ran i)) (sym list) pair);

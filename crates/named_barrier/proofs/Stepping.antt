@@ -314,7 +314,8 @@ stands_next nodes me state kept note stood same =
 last_is : (nodes me : ℕ) (kept : BarrierRecord) (to ended : ℕ) → ended ≤ length kept.notifies
     → (if (ended == 0) || has
     (before 0 (λ phase. sent_mask phase kept.sent) ended) to then None else routed nodes me
-    (record { phase = ended - 1; notified = true; part = before no_part (known me kept) ended }) to) ≡ due_before nodes me kept ended to
+    (record { phase = ended - 1; notified = true; part = before no_part (known me kept) ended }) to)
+    ≡ due_before nodes me kept ended to
 last_is nodes me kept to zero low = refl
 last_is nodes me kept to (suc phase) low =
     let one_less : suc phase - 1 ≡ phase = omega arith in

@@ -7,7 +7,8 @@ use Rattle.am_core.proofs.floor.run_at_desk.Goals as goal
 pub returns : goal.returns
 returns g c =
     let made = c.new-desk.ensures in
-    let ran = ran_is (g.H.Handlers.meaning c.args.handlers.now) c.args.work.now _ _ c.new-desk.result c.run.new.desk _ _ _
+    let ran =
+    ran_is (g.H.Handlers.meaning c.args.handlers.now) c.args.work.now _ _ c.new-desk.result c.run.new.desk _ _ _
     (g.met.H.Handlers.is_lawful c.args.handlers.now) c.requires.free.unheld c.run.ensures
     (ap (λ (desk : Desk). frame_of desk) made) (ap (λ (desk : Desk). desk.locks.now) made)
     (ap (λ (desk : Desk). desk.log.now) made) (ap (λ (desk : Desk). desk.buffer.now) made)

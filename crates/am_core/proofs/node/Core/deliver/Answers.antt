@@ -8,7 +8,8 @@ returns-in-Ok g c =
     let same : c.version.result ≡ c.args.self.now.settings.version = search rules in
     delivers_step (g.H.Handlers.meaning c.args.handlers.now) c.args.self.now c.version.result c.args.bytes.now
     (viewed_message c.in-Ok.message) c.receive.result c.receive.new.self
-    (g.met.H.Handlers.is_lawful c.args.handlers.now) c.requires same c.in-Ok.ensures.only c.in-Ok.ensures.refused c.receive.ensures
+    (g.met.H.Handlers.is_lawful c.args.handlers.now) c.requires same c.in-Ok.ensures.only c.in-Ok.ensures.refused
+    c.receive.ensures
 
 pub returns-in-Err : goal.returns-in-Err
 returns-in-Err g c =

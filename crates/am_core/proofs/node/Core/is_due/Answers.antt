@@ -5,5 +5,6 @@ use Rattle.am_core.proofs.node.Core.is_due.Goals as goal
 
 pub returns : goal.returns
 returns c =
-    let told : SlotsDue c.args.self.now.requests c.args.now c.args.self.now.settings.resend c.is_due.result = search rules in
+    let told : SlotsDue c.args.self.now.requests c.args.now c.args.self.now.settings.resend c.is_due.result =
+    search rules in
     due_told c.args.self.now c.args.now c.is_due.result told

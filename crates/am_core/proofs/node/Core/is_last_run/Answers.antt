@@ -6,7 +6,8 @@ use Rattle.am_core.proofs.node.Core.is_last_run.Goals as goal
 pub returns-in-Again : goal.returns-in-Again
 returns-in-Again c =
     last_found c.args.self.now _ c.args.from c.args.slot c.args.number judged.Again c.judge.result c.self.view_is
-    c.in-Again.is (subst (λ nodes. c.args.from < nodes) c.nodes.ensures.nodes c.if-from-nodes.false) c.if-from-self.false
+    c.in-Again.is (subst (λ nodes. c.args.from < nodes) c.nodes.ensures.nodes c.if-from-nodes.false)
+    c.if-from-self.false
     (subst (λ slots. c.args.slot < slots) c.slots_of.ensures c.if-slot-slots_of.false) c.judge.ensures
 
 pub returns-in-New : goal.returns-in-New
@@ -18,5 +19,6 @@ returns-in-New c =
 pub returns-in-Stale : goal.returns-in-Stale
 returns-in-Stale c =
     last_found c.args.self.now _ c.args.from c.args.slot c.args.number judged.Stale c.judge.result c.self.view_is
-    c.in-Stale.is (subst (λ nodes. c.args.from < nodes) c.nodes.ensures.nodes c.if-from-nodes.false) c.if-from-self.false
+    c.in-Stale.is (subst (λ nodes. c.args.from < nodes) c.nodes.ensures.nodes c.if-from-nodes.false)
+    c.if-from-self.false
     (subst (λ slots. c.args.slot < slots) c.slots_of.ensures c.if-slot-slots_of.false) c.judge.ensures
