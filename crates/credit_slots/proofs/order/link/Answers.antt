@@ -32,8 +32,7 @@ returns-clause-order c =
       time = c.args.due.time;
       node = c.args.due.node;
       slot = c.args.due.slot;
-      previous =
-          at;
+      previous = at;
       next = found.next;
       listed = true;
     } in
@@ -66,8 +65,7 @@ returns-clause-listed c =
       time = c.args.due.time;
       node = c.args.due.node;
       slot = c.args.due.slot;
-      previous =
-          at;
+      previous = at;
       next = found.next;
       listed = true;
     } in
