@@ -48,6 +48,16 @@ touched floor = record {
   log = floor.log.now;
 }
 
+-- the same references, whatever was written behind them
+pub record IsSameFloor (old new : Floor) : Type 0 where
+  pub cells_name : new.cells.ghost_name ≡ old.cells.ghost_name
+  pub segment_name : new.segment.ghost_name ≡ old.segment.ghost_name
+  pub locks_name : new.locks.ghost_name ≡ old.locks.ghost_name
+  pub log_name : new.log.ghost_name ≡ old.log.ghost_name
+  pub settings_same : new.settings ≡ old.settings
+  pub table_same : new.table ≡ old.table
+  pub listed_same : new.listed ≡ old.listed
+
 -- what a handler finds
 abbrev pub start_on : Touched → Start
 start_on found = record { cells = found.cells; segment = found.segment; locks = found.locks }

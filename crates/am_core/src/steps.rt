@@ -139,7 +139,7 @@ impl Core {
             payload: &self.lent.part(0)[..shown],
             place: place_asked(asking),
         };
-        let floor = Floor {
+        let mut floor = Floor {
             cells: &mut self.cells,
             segment: &mut self.segment,
             locks: &mut self.locks,
@@ -408,7 +408,7 @@ impl Core {
         let listed = listed_for(&self.table, message.handler);
         let incoming = self.received(Role::Request, message, &args[..count], message.payload);
         land(&mut self.segment, message);
-        let floor = Floor {
+        let mut floor = Floor {
             cells: &mut self.cells,
             segment: &mut self.segment,
             locks: &mut self.locks,
@@ -511,7 +511,7 @@ impl Core {
         let listed = listed_for(&self.table, reply.handler);
         let incoming = self.received(Role::Reply, reply, &args[..count], reply.payload);
         land(&mut self.segment, reply);
-        let floor = Floor {
+        let mut floor = Floor {
             cells: &mut self.cells,
             segment: &mut self.segment,
             locks: &mut self.locks,
