@@ -121,7 +121,15 @@ impl<'a> Floor<'a> {
             listed: self.listed,
             message,
         };
-        run_at_desk(handlers, &work, self.segment, self.cells, self.locks, self.log, buffer)
+        run_at_desk(
+            handlers,
+            &work,
+            self.segment,
+            self.cells,
+            self.locks,
+            self.log,
+            buffer,
+        )
     }
 
     /// Runs the handler of a request of the own node, and then that of its reply, where it sent one.
@@ -179,7 +187,15 @@ impl<'a> Floor<'a> {
                 place: place_replied(&reply),
             },
         };
-        let _ = run_at_desk(handlers, &work, self.segment, self.cells, self.locks, self.log, &mut []);
+        let _ = run_at_desk(
+            handlers,
+            &work,
+            self.segment,
+            self.cells,
+            self.locks,
+            self.log,
+            &mut [],
+        );
     }
 
     /// Runs the handler of a request of another node that is new in its slot, and keeps its reply there, or an Ack

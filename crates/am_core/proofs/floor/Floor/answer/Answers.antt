@@ -5,12 +5,12 @@ use Rattle.am_core.proofs.floor.Floor.answer.Goals as goal
 
 pub seal-requires-clause-some : goal.seal-requires-clause-some
 seal-requires-clause-some g c =
-    let fits = spelling_fits _ c.answer_at_desk-len.ensures.message in
-    omega (arith, c.answer_at_desk-len.ensures.len_is, fits.header)
+    let fits = spelling_fits _ c.answer_into-len.ensures.left.message in
+    omega (arith, c.answer_into-len.ensures.left.len_is, fits.header)
 
-pub returns : goal.returns
-returns g c =
-    let ran = c.answer_at_desk-len.ensures in
+pub returns-clause-kept : goal.returns-clause-kept
+returns-clause-kept g c =
+    let ran = c.answer_into-len.ensures.left in
     let sealed = rw (← ran.len_is) at
     (reply_sealed _ _ _ c.place-place.ensures.placed ran.buffer_is (spelling_fits _ ran.message).buffer) in
     record {

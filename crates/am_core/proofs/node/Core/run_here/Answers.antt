@@ -56,10 +56,10 @@ returns g c =
       log = c.self.inside.log;
     } in
     let after : Touched = record {
-      cells = c.run_own.new.self.0;
-      segment = c.run_own.new.self.1.0;
-      locks = c.run_own.new.self.1.1.0;
-      log = c.run_own.new.self.1.1.1.0;
+      cells = c.run_own.new.self.cells.now;
+      segment = c.run_own.new.self.segment.now;
+      locks = c.run_own.new.self.locks.now;
+      log = c.run_own.new.self.log.now;
     } in
     let asking = asking_of c.args.asking.now in
     let fine : IsFine (length inside.segment) asking =
@@ -75,4 +75,4 @@ returns g c =
     (own_found meaning inside asking c.listed_for-listed.result c.lend_own-shown.result
     c.lend_own-shown.new.segment c.lend_own-shown.new.buffer (take c.lend_own-shown.result c.part.result.now)
     c.place_asked.result fine c.listed_for-listed.ensures c.lend_own-shown.ensures.landed
-    (ap (take c.lend_own-shown.result) whole) c.place_asked.ensures) c.run_own.ensures))
+    (ap (take c.lend_own-shown.result) whole) c.place_asked.ensures) c.run_own.ensures.ran))
