@@ -162,7 +162,7 @@ impl<'a> Floor<'a> {
     }
 
     /// Runs the handler of the reply of an own request, whose payload stands at the front of the buffer.
-    fn run_own_reply<H: Handlers>(&mut self, handlers: &H, own: &OwnReply<'_>, buffer: &[u8])
+    fn run_own_reply<'b, H: Handlers>(&mut self, handlers: &H, own: &OwnReply<'b>, buffer: &'b [u8])
         requires { CanRunOwnReply own.now self.old.segment.now self.old.locks.now buffer.now }
         ensures same { IsSameFloor self.old self.new }
         ensures ran { let content = content_at buffer.now own.now.reply in
