@@ -11,7 +11,7 @@ returns-then-eq c =
 pub returns-then-eq-2 : goal.returns-then-eq-2
 returns-then-eq-2 c =
     asks_upgrade c.args.word.now
-    ((bytes_eq-Decides c.args.word.now (codes "upgrade")).0 (sym c.eq-2.ensures ∙ c.if-eq-2.true))
+    ((bytes_eq-Decides c.args.word.now (codes "upgrade")).0 (sym c.eq-else-eq.ensures ∙ c.if-eq-2.true))
 
 pub returns-else-eq-2 : goal.returns-else-eq-2
 returns-else-eq-2 c =
@@ -21,6 +21,6 @@ returns-else-eq-2 c =
     let no = c.if-eq.false in
     absurd (cc))
     (λ is.
-    let yes = c.eq-2.ensures ∙ (bytes_eq-Decides c.args.word.now (codes "upgrade")).1 is in
+    let yes = c.eq-else-eq.ensures ∙ (bytes_eq-Decides c.args.word.now (codes "upgrade")).1 is in
     let no = c.if-eq-2.false in
     absurd (cc))
