@@ -1,6 +1,7 @@
 -- The text of a job with datagrams of version 2.
 use Rattle.std.proofs.Common.{◌≡◌, ℕ, ◌≤◌, ◌+◌, List, [], ◌∷◌, ◌++◌, length, drop, Bool, true, Option, Some, None, refl}
-use Rattle.std.proofs.Common.{sym, ap, ◌∙◌, arith, codes, length-append, append-nil}
+use Rattle.std.proofs.Common.{sym, ap, ◌∙◌, arith, codes, length-append, append-nil, lit<}
+use Rattle.std.proofs.lemmas.Fmt.{decimal_digit}
 use Rattle.std.specs.Prelude.{decimal}
 use Rattle.datagram_grammar.specs.Content.{is_version}
 use Rattle.datagram_grammar.specs.Parameters.{Parameters, credits_in_all, credits_of, upgraded}
@@ -56,7 +57,9 @@ job_in_range job is = record {
 
 -- both versions have one digit
 one_digit : (version : ℕ) → is_version version ≡ true → length (decimal version) ≡ 1
-one_digit version known = each_version (λ (n : ℕ). length (decimal n) ≡ 1) version known refl refl
+one_digit version known =
+    each_version (λ (n : ℕ). length (decimal n) ≡ 1) version known (ap length (decimal_digit 1 (lit< tt)))
+    (ap length (decimal_digit 2 (lit< tt)))
 
 -- the first line with this number, and the others
 abbrev begun : (number rest : List ℕ) → List ℕ
