@@ -1,11 +1,30 @@
 //! Tests of what no clause says: texts written out, and each public call once with ample memory.
 
-use crate::calls::{call, call_with_faults};
+use gas_outside::{MemorySink, MemorySource};
 use std::alloc::Global;
 use std::io::{self, Read};
 use std::process::{Abort, ExitCode};
 use std::test::Fail;
-use top_call::run_streams;
+use top_call::{Outside, gasnet, run_streams};
+
+/// Calls `gasnet` with these words, and answers the code and the bytes taken; one read and one write are to fail, or
+/// none for 0.
+fn call(
+    alloc: Global,
+    words: &[&str],
+    input: Vec<u8>,
+    read_fails: u64,
+    write_fails: u64,
+) -> Result<(u8, Vec<u8>), Fail> {
+    let mut all = Vec::new(alloc);
+    for word in words {
+        all.push(String::from_str(alloc, word)?)?;
+    }
+    let source = MemorySource::new(input, Vec::from_slice(alloc, &[read_fails])?)?;
+    let sink = MemorySink::new(alloc, Vec::from_slice(alloc, &[write_fails])?)?;
+    let (status, after) = gasnet(alloc, &all, Outside { source, sink });
+    Ok((status.code, Vec::from_slice(alloc, after.sink.taken())?))
+}
 
 /// The first ten lines of a job with this many nodes, credits and numbers.
 fn head(text: &mut String, nodes: u16, credits: u16, last: u64) -> Result<(), Fail> {
@@ -337,9 +356,9 @@ fn check(rt: &(impl Abort + AllocGlobal), row: &Row) -> Result<(), Fail> {
         row.handlers, row.schedule
     )?;
     let input = Vec::from_slice(rt.alloc(), text.as_bytes())?;
-    let said = call(rt.alloc(), &["world"], input)?;
-    assert_eq!(rt; said.code, row.code, "{}", row.name);
-    assert_eq!(rt; said.bytes.as_slice(), row.said.as_bytes(), "{}", row.name);
+    let (code, said) = call(rt.alloc(), &["world"], input, 0, 0)?;
+    assert_eq!(rt; code, row.code, "{}", row.name);
+    assert_eq!(rt; said.as_slice(), row.said.as_bytes(), "{}", row.name);
     Ok(())
 }
 
@@ -449,9 +468,9 @@ fn refused_bytes(alloc: Global, row: &Refused) -> Result<Vec<u8>, Fail> {
 fn the_first_bad_line_is_told(rt: HostRuntime) -> Result<(), Fail> {
     for row in &REFUSED {
         let bytes = refused_bytes(rt.alloc(), row)?;
-        let said = call(rt.alloc(), &["world"], bytes)?;
-        assert_eq!(rt; said.code, 3, "{}", row.text);
-        assert_eq!(rt; said.bytes.as_slice(), row.said.as_bytes(), "{}", row.text);
+        let (code, said) = call(rt.alloc(), &["world"], bytes, 0, 0)?;
+        assert_eq!(rt; code, 3, "{}", row.text);
+        assert_eq!(rt; said.as_slice(), row.said.as_bytes(), "{}", row.text);
     }
     Ok(())
 }
@@ -463,18 +482,18 @@ fn too_many_bytes_are_refused(rt: HostRuntime) -> Result<(), Fail> {
         (4_194_305, "status 3 bad-job 0 size\n"),
     ] {
         let input = vec![in rt.alloc(); b'\n'; len]?;
-        let said = call(rt.alloc(), &["world"], input)?;
-        assert_eq!(rt; said.code, 3);
-        assert_eq!(rt; said.bytes.as_slice(), want.as_bytes());
+        let (code, said) = call(rt.alloc(), &["world"], input, 0, 0)?;
+        assert_eq!(rt; code, 3);
+        assert_eq!(rt; said.as_slice(), want.as_bytes());
     }
     Ok(())
 }
 
 /// Checks that these words are no command.
 fn check_usage(rt: &(impl Abort + AllocGlobal), words: &[&str]) -> Result<(), Fail> {
-    let said = call(rt.alloc(), words, Vec::new(rt.alloc()))?;
-    assert_eq!(rt; said.code, 2);
-    assert_eq!(rt; said.bytes.as_slice(), b"status 2 usage\n".as_slice());
+    let (code, said) = call(rt.alloc(), words, Vec::new(rt.alloc()), 0, 0)?;
+    assert_eq!(rt; code, 2);
+    assert_eq!(rt; said.as_slice(), b"status 2 usage\n".as_slice());
     Ok(())
 }
 
@@ -492,9 +511,9 @@ fn faults_of_the_outside_are_told(rt: HostRuntime) -> Result<(), Fail> {
         (0, 1, 5, b"".as_slice()),
     ] {
         let input = vec![in rt.alloc(); b'\n'; 9]?;
-        let said = call_with_faults(rt.alloc(), &["world"], input, (read_fails, write_fails))?;
-        assert_eq!(rt; said.code, want);
-        assert_eq!(rt; said.bytes.as_slice(), text);
+        let (code, said) = call(rt.alloc(), &["world"], input, read_fails, write_fails)?;
+        assert_eq!(rt; code, want);
+        assert_eq!(rt; said.as_slice(), text);
     }
     Ok(())
 }
@@ -514,15 +533,23 @@ fn long_job(alloc: Global) -> Result<Vec<u8>, Fail> {
 // A write fails, and the sink would take all that came after it.
 #[test]
 fn after_a_fault_of_the_sink_nothing_is_written(rt: HostRuntime) -> Result<(), Fail> {
-    let whole = call(rt.alloc(), &["world"], long_job(rt.alloc())?)?;
-    assert_eq!(rt; whole.code, 0);
+    let (code, whole) = call(rt.alloc(), &["world"], long_job(rt.alloc())?, 0, 0)?;
+    assert_eq!(rt; code, 0);
     for (write_fails, most) in [(1, 0), (2, 8192), (3, 16_384)] {
-        let job = long_job(rt.alloc())?;
-        let said = call_with_faults(rt.alloc(), &["world"], job, (0, write_fails))?;
-        assert_eq!(rt; said.code, 5);
-        let count = said.bytes.len();
-        assert!(rt; count <= most, "write {write_fails}: {count} bytes");
-        assert!(rt; whole.bytes.starts_with(&said.bytes), "write {write_fails}");
+        let (code, said) = call(
+            rt.alloc(),
+            &["world"],
+            long_job(rt.alloc())?,
+            0,
+            write_fails,
+        )?;
+        assert_eq!(rt; code, 5);
+        assert!(rt;
+            said.len() <= most,
+            "write {write_fails}: {} bytes",
+            said.len()
+        );
+        assert!(rt; whole.starts_with(&said), "write {write_fails}");
     }
     Ok(())
 }
@@ -544,33 +571,39 @@ impl Read for Broken {
     }
 }
 
-/// What `run_streams` ends with over a reader, as text, and what its writer holds.
-fn streamed<R: Read + Drop>(alloc: Global, reader: R) -> Result<(String, Vec<u8>), Fail> {
-    let words = vec![in alloc; String::from_str(alloc, "world")?]?;
-    let mut written = Vec::new(alloc);
-    let (status, _) = run_streams(alloc, &words, reader, &mut written);
-    Ok((status_of(alloc, status)?, written))
+// What `run_streams` ends with, and what its writer holds.
+#[test]
+fn the_exit_status_is_the_code(rt: HostRuntime) -> Result<(), Fail> {
+    let words = vec![in rt.alloc(); String::from_str(rt.alloc(), "world")?]?;
+    let job = long_job(rt.alloc())?;
+    let mut written = Vec::new(rt.alloc());
+    let (status, _) = run_streams(rt.alloc(), &words, job.as_slice(), &mut written);
+    assert_eq!(rt;
+        status_of(rt.alloc(), status)?.as_str(),
+        "ExitCode(unix_exit_status(0))"
+    );
+    assert!(rt; written.ends_with(b"violations 0\nstatus 0 ok\n"));
+    let mut written = Vec::new(rt.alloc());
+    let (status, _) = run_streams(rt.alloc(), &words, b"gasnet 3\n".as_slice(), &mut written);
+    assert_eq!(rt;
+        status_of(rt.alloc(), status)?.as_str(),
+        "ExitCode(unix_exit_status(3))"
+    );
+    assert_eq!(rt;
+        written.as_slice(),
+        b"status 3 bad-job 1 value\n".as_slice()
+    );
+    let mut written = Vec::new(rt.alloc());
+    let (status, _) = run_streams(rt.alloc(), &words, Broken { gave: false }, &mut written);
+    assert_eq!(rt;
+        status_of(rt.alloc(), status)?.as_str(),
+        "ExitCode(unix_exit_status(4))"
+    );
+    assert_eq!(rt; written.as_slice(), b"status 4 read-fault\n".as_slice());
+    Ok(())
 }
 
 /// An exit status as text.
 fn status_of(alloc: Global, status: ExitCode) -> Result<String, Fail> {
     Ok(format!(in alloc; "{status:?}")?)
-}
-
-#[test]
-fn the_exit_status_is_the_code(rt: HostRuntime) -> Result<(), Fail> {
-    let job = long_job(rt.alloc())?;
-    let (status, written) = streamed(rt.alloc(), job.as_slice())?;
-    assert_eq!(rt; status.as_str(), "ExitCode(unix_exit_status(0))");
-    assert!(rt; written.ends_with(b"violations 0\nstatus 0 ok\n"));
-    let (status, written) = streamed(rt.alloc(), b"gasnet 3\n".as_slice())?;
-    assert_eq!(rt; status.as_str(), "ExitCode(unix_exit_status(3))");
-    assert_eq!(rt;
-        written.as_slice(),
-        b"status 3 bad-job 1 value\n".as_slice()
-    );
-    let (status, written) = streamed(rt.alloc(), Broken { gave: false })?;
-    assert_eq!(rt; status.as_str(), "ExitCode(unix_exit_status(4))");
-    assert_eq!(rt; written.as_slice(), b"status 4 read-fault\n".as_slice());
-    Ok(())
 }
