@@ -1,9 +1,10 @@
 //! The access regions of a node's threads (GASNet 1.8.1, extended API, implicit access regions).
 //!
-//! A thread begins a region, makes implicit operations, and ends the region; then one handle stands for all of them. This crate knows
-//! which thread has begun a region, and under which name: the number of the first operation that joined it (profile). Proved of it: what
-//! each call answers and leaves, as a function of the list of regions by thread; a begun region's name is its first operation's
-//! number, whatever joins it later. After `new` no call takes memory.
+//! A thread begins a region, makes implicit operations, and ends the region; then one handle stands for all of them.
+//! This crate knows which thread has begun a region, and under which name: the number of the first operation that
+//! joined it (profile). Proved of it: what each call answers and leaves, as a function of the list of regions by
+//! thread; a begun region's name is its first operation's number, whatever joins it later. After `new` no call takes
+//! memory.
 #![tactic(auto)]
 
 ghost use Rattle.std.specs.Prelude.{◌≡◌, ◌<◌, IfOk, OnErr, length, replicate, slice_set};
@@ -101,7 +102,8 @@ impl Regions {
         self.threads[thread as usize]?.name
     }
 
-    /// An operation of the thread has this number: its region gets it as a name, where it has begun one that is empty. Else nothing changes.
+    /// An operation of the thread has this number: its region gets it as a name, where it has begun one that is empty.
+    /// Else nothing changes.
     pub fn note(&mut self, thread: u16, serial: u64)
         requires { thread < length self.old }
         ensures { self.new ≡ after_operation self.old thread serial }

@@ -16,19 +16,19 @@ use Rattle.datagram_grammar.specs.Message.{IsMessage, spelling}
 use Rattle.datagram_grammar.specs.Content.{Content, addressed}
 use Rattle.lists.specs.Update.{update}
 use Rattle.lists.proofs.Update.{slice_get-update, slice_get-update_other, length-update}
-use Rattle.credit_slots.specs.State.{Vacant, Sealed, PeerState, CanClaim, Refuses, IsNew, IsTakenAt, IsTakenWith}
-use Rattle.credit_slots.specs.State.{new_peer, with_slot, with_slot_changed, with_given_in, slot_at}
+use Rattle.credit_slots.specs.SlotsState.{Vacant, Sealed, PeerState, CanClaim, Refuses, IsNew, IsTakenAt, IsTakenWith}
+use Rattle.credit_slots.specs.SlotsState.{new_peer, with_slot, with_slot_changed, with_given_in, slot_at}
 use Rattle.credit_slots.specs.Due.{sent_again}
 use Rattle.credit_slots.proofs.Lookups.{slot_at-given_node, slot_at-slot_node, slot_at-changed_node}
 use Rattle.credit_slots.specs.declared.NoClaim.TheVariants as claims
-use Rattle.reply_slots.specs.State.{ReplyState, Unused, Kept, last_number, JudgesAt, Judges, with_reply}
-use Rattle.reply_slots.specs.State.{slot_at as reply_at}
+use Rattle.reply_slots.specs.RepliesState.{ReplyState, Unused, Kept, last_number, JudgesAt, Judges, with_reply}
+use Rattle.reply_slots.specs.RepliesState.{slot_at as reply_at}
 use Rattle.reply_slots.specs.declared.Judged.{Judged}
 use Rattle.reply_slots.specs.declared.Judged.TheVariants.{New, Again, Stale}
 use Rattle.handler_rules.specs.declared.table.Entry.{Entry}
 use Rattle.handler_rules.specs.declared.rules.Role.{Role}
 use Rattle.handler_rules.specs.declared.rules.Violation.{Violation}
-use Rattle.handler_rules.specs.Logged.{log_of, notes}
+use Rattle.handler_rules.specs.LogState.{log_of, notes}
 use Rattle.handler_rules.specs.Runs.{Outcome, violation}
 use Rattle.handler_rules.proofs.Logs.{notes-log_of}
 use Rattle.node_record.specs.declared.answer.Asked.TheVariants as asked

@@ -16,7 +16,7 @@ use Rattle.handler_rules.specs.declared.rules.Role.TheVariants as role
 use Rattle.handler_rules.specs.declared.message.Which.{Which}
 use Rattle.handler_rules.specs.Rules.{rule}
 use Rattle.handler_rules.specs.Runs.{Frame, Start, Outcome, IsLawful, lock_refusal, unlock_refusal}
-use Rattle.handler_rules.specs.Logged.{notes}
+use Rattle.handler_rules.specs.LogState.{notes}
 use Rattle.handler_rules.specs.declared.rules.Role.{Role}
 use Rattle.handler_rules.specs.declared.rules.Fault.{Fault}
 use Rattle.handler_rules.specs.declared.rules.Fault.TheVariants as fault

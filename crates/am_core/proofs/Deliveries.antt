@@ -9,8 +9,8 @@ use Rattle.datagram_grammar.specs.Message.{Message, IsMessage, Spells, spelling,
 use Rattle.datagram_grammar.specs.Content.{content_of}
 use Rattle.datagram_grammar.specs.Refusals.{first_refusal}
 use Rattle.datagram_grammar.specs.declared.refused.Refused.{Refused}
-use Rattle.credit_slots.specs.State.{Vacant, with_slot}
-use Rattle.reply_slots.specs.State.{with_reply}
+use Rattle.credit_slots.specs.SlotsState.{Vacant, with_slot}
+use Rattle.reply_slots.specs.RepliesState.{with_reply}
 use Rattle.reply_slots.specs.declared.Judged.TheVariants as judged
 use Rattle.handler_rules.specs.declared.rules.Role.TheVariants as role
 use Rattle.node_record.specs.declared.answer.Why.{Why}

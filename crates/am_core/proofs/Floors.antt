@@ -6,7 +6,7 @@ use Rattle.std.proofs.lemmas.Option.{slice_get_within, slice_get-get_or}
 use Rattle.handler_rules.specs.declared.message.Reply.{Reply}
 use Rattle.handler_rules.specs.declared.desk.Desk.{Desk}
 use Rattle.handler_rules.specs.declared.rules.CallKind.TheVariants as call
-use Rattle.handler_rules.specs.Logged.{Logged, notes}
+use Rattle.handler_rules.specs.LogState.{Logged, notes}
 use Rattle.handler_rules.specs.Runs.{Frame, Meaning, IsLawfulMeaning, IsSpelled, violation, closed, refusal}
 use Rattle.handler_rules.specs.Desks.{At, stage, start_of, noting, judged_at, frame_of, reply_after, buffer_after}
 use Rattle.hsl_locks.specs.declared.answer.Held.{Held}

@@ -2,7 +2,7 @@
 use Rattle.std.proofs.Common.{◌≡◌, ◌≢◌, ◌<◌, ℕ, [], Bool, true, false, refl, subst, arith, eq-eqb, ne_eqb}
 use Rattle.std.specs.Prelude.{◌==◌, nat_lt}
 use Rattle.std.proofs.lemmas.Bool.Decides.{nat_tests}
-use Rattle.reply_slots.specs.State.{JudgesAt, Judges, Kept}
+use Rattle.reply_slots.specs.RepliesState.{JudgesAt, Judges, Kept}
 use Rattle.reply_slots.specs.declared.Judged.{Judged}
 use Rattle.reply_slots.specs.declared.Judged.TheVariants.{New, Again, Stale}
 use Rattle.datagram_grammar.specs.Parameters.{credits_of}

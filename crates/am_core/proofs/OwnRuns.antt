@@ -29,7 +29,7 @@ use Rattle.am_core.specs.declared.floor.OwnReply.{OwnReply}
 use Rattle.am_core.specs.FloorRuns.{FloorRun, OwnFrame, Touched, Ran, Leaves, RunsReply, RunsOwn, CanRunOwnReply}
 use Rattle.am_core.specs.FloorRuns.{own_reply_run, landed_on, start_on}
 use Rattle.handler_rules.specs.declared.rules.Role.TheVariants as role
-use Rattle.handler_rules.specs.Logged.{Logged, notes}
+use Rattle.handler_rules.specs.LogState.{Logged, notes}
 use Rattle.handler_rules.specs.Runs.{closed, violation}
 use Rattle.raw_segment.specs.Image.{written_by}
 use Rattle.node_record.specs.Step.{with_itself}

@@ -7,7 +7,7 @@ use Rattle.std.proofs.lemmas.Option.{slice_get-get_or}
 use Rattle.std.proofs.lemmas.List.{length-take-le, length-set, get_or-set_same, get_or-set_other}
 use Rattle.std.proofs.lemmas.Option.{slice_get_within, same_Some}
 use Rattle.std.specs.Prelude.{All}
-use Rattle.credit_slots.specs.State.{counts_of}
+use Rattle.credit_slots.specs.SlotsState.{counts_of}
 use Rattle.credit_slots.proofs.New.{narrow-others}
 use Rattle.datagram_grammar.specs.Parameters.{Parameters, AreInRange}
 use Rattle.datagram_grammar.proofs.Credits.{few_credits}

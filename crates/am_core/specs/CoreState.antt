@@ -1,11 +1,11 @@
 -- What a core is, as a value.
 use Rattle.std.specs.Prelude.{ℕ, ℤ, List, Option}
 use Rattle.datagram_grammar.specs.Parameters.{Parameters}
-use Rattle.credit_slots.specs.State.{SlotsState}
-use Rattle.reply_slots.specs.State.{RepliesState}
+use Rattle.credit_slots.specs.SlotsState.{SlotsState}
+use Rattle.reply_slots.specs.RepliesState.{RepliesState}
 use Rattle.handler_rules.specs.declared.table.Entry.{Entry}
 use Rattle.hsl_locks.specs.declared.answer.Held.{Held}
-use Rattle.handler_rules.specs.Logged.{Logged}
+use Rattle.handler_rules.specs.LogState.{Logged}
 
 pub record CoreState : Type 0 where
   pub settings : Parameters

@@ -7,13 +7,13 @@ use Rattle.datagram_grammar.specs.Parameters.{Parameters, credits_of}
 use Rattle.datagram_grammar.specs.Message.{Message, IsMessage, spelling, code, is_ack}
 use Rattle.datagram_grammar.specs.declared.content.Address.{Address}
 use Rattle.datagram_grammar.specs.Content.{Content, addressed, content_of}
-use Rattle.credit_slots.specs.State.{CanClaim, Refuses, IsNew, IsTakenAt, Vacant, with_request, with_slot}
-use Rattle.credit_slots.specs.State.{with_slot_changed}
+use Rattle.credit_slots.specs.SlotsState.{CanClaim, Refuses, IsNew, IsTakenAt, Vacant, with_request, with_slot}
+use Rattle.credit_slots.specs.SlotsState.{with_slot_changed}
 use Rattle.credit_slots.specs.Due.{IsDueNext, sent_again}
 use Rattle.credit_slots.specs.declared.NoClaim.TheVariants as claims
-use Rattle.reply_slots.specs.State.{JudgesAt, with_reply}
+use Rattle.reply_slots.specs.RepliesState.{JudgesAt, with_reply}
 use Rattle.reply_slots.specs.declared.Judged.TheVariants.{New, Again, Stale}
-use Rattle.reply_slots.specs.State.{IsNew as IsNewReplies}
+use Rattle.reply_slots.specs.RepliesState.{IsNew as IsNewReplies}
 use Rattle.handler_rules.specs.declared.table.Entry.{Entry}
 use Rattle.handler_rules.specs.declared.rules.Role.{Role}
 use Rattle.handler_rules.specs.declared.rules.Role.TheVariants as role
@@ -23,7 +23,7 @@ use Rattle.handler_rules.specs.declared.message.Which.TheVariants as which
 use Rattle.handler_rules.specs.declared.rules.CallKind.TheVariants as call
 use Rattle.handler_rules.specs.declared.rules.Context.TheVariants.{Thread}
 use Rattle.handler_rules.specs.Rules.{rule}
-use Rattle.handler_rules.specs.Logged.{log_of, notes}
+use Rattle.handler_rules.specs.LogState.{log_of, notes}
 use Rattle.handler_rules.specs.declared.rules.Fault.{Fault}
 use Rattle.handler_rules.specs.declared.rules.Fault.TheVariants as fault
 use Rattle.handler_rules.specs.declared.rules.CallKind.{CallKind}

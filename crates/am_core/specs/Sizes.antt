@@ -1,9 +1,9 @@
 -- How many slots the tables of a core have.
 use Rattle.std.specs.Prelude.{ℕ, ◌≡◌, ◌≢◌, ◌<◌, List, length, Some, slice_get}
 use Rattle.datagram_grammar.specs.Parameters.{Parameters, AreInRange, credits_of}
-use Rattle.credit_slots.specs.State.{SlotsState, slot_count}
-use Rattle.reply_slots.specs.State.{RepliesState}
-use Rattle.reply_slots.specs.State.{slot_count as reply_count}
+use Rattle.credit_slots.specs.SlotsState.{SlotsState, slot_count}
+use Rattle.reply_slots.specs.RepliesState.{RepliesState}
+use Rattle.reply_slots.specs.RepliesState.{slot_count as reply_count}
 use Rattle.node_record.specs.declared.answer.Side.{Side}
 use Rattle.node_record.specs.SlotMessages.{slots_of}
 use Rattle.am_core.specs.CoreState.{CoreState}

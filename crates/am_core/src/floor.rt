@@ -1,7 +1,7 @@
 //! What the runs of handlers touch.
 
 ghost use Rattle.std.specs.Prelude.{◌≡◌, ◌≢◌, ◌<◌, ◌≤◌, None, length};
-ghost use Rattle.reply_slots.specs.State.{JudgesAt, slot_count};
+ghost use Rattle.reply_slots.specs.RepliesState.{JudgesAt, slot_count};
 ghost use Rattle.handler_rules.specs.declared.rules.Role.TheVariants as role;
 ghost use Rattle.handler_rules.specs.Desks.{arrival_of};
 ghost use Rattle.am_core.specs.FloorRuns.{CanRun, CanAnswer, Ran, LeavesReply, KeepsReply};

@@ -3,7 +3,7 @@
 ghost use Rattle.std.specs.Prelude.{◌≤◌, ℕ, ◌≡◌, ◌≢◌, ◌<◌, ◌-◌, ◌∷◌, [], nat_le, IfOk, length};
 ghost use Rattle.std.specs.Prelude.{option_copied};
 ghost use Rattle.datagram_grammar.specs.Parameters.{credits_of};
-ghost use Rattle.handler_rules.specs.Logged.{log_of};
+ghost use Rattle.handler_rules.specs.LogState.{log_of};
 ghost use Rattle.hsl_locks.specs.Locks.{lock_answer, unlock_answer};
 ghost use Rattle.handler_rules.specs.Runs.{Meaning};
 ghost use Rattle.node_record.specs.Record.{opening_node};

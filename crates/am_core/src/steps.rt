@@ -6,7 +6,7 @@ ghost use Rattle.datagram_grammar.specs.Reading.{viewed_message};
 ghost use Rattle.node_record.specs.Step.{slots_for, with_sender};
 ghost use Rattle.handler_rules.specs.Desks.{arrival_of};
 ghost use Rattle.handler_rules.specs.declared.rules.Role.TheVariants as role;
-ghost use Rattle.reply_slots.specs.State.{JudgesAt};
+ghost use Rattle.reply_slots.specs.RepliesState.{JudgesAt};
 ghost use Rattle.reply_slots.specs.declared.Judged.TheVariants as judged;
 ghost use Rattle.am_core.specs.AskedFor.{ask_of, asking_of, content_asked, content_with};
 ghost use Rattle.raw_segment.specs.Bytes.{part};

@@ -1,5 +1,5 @@
 -- What each event does to the barrier of the node on which it falls.
-use Rattle.std.proofs.Common.{◌≡◌, ◌≢◌, ◌⊎◌, inl, inr, ℕ, zero, suc, ◌<◌, ◌≤◌, List, [], length, Option, Some, None}
+use Rattle.std.proofs.Common.{◌≡◌, ◌≢◌, ◌⊎◌, inl, inr, ℕ, zero, suc, ◌<◌, List, [], length, Option, Some, None}
 use Rattle.std.proofs.Common.{Bool, true, Result, Ok, Err, refl, sym, ap, ◌∙◌, subst, arith, true≢false, eq-eqb}
 use Rattle.std.proofs.Common.{ne_eqb, eqb, ltb, ◌&&◌, cond, ℤ}
 use Rattle.std.specs.Prelude.{slice_get, not}
@@ -12,7 +12,6 @@ use Rattle.datagram_grammar.specs.Parameters.{Parameters, AreInRange}
 use Rattle.datagram_grammar.specs.Content.{Content, content_of}
 use Rattle.datagram_grammar.specs.Message.{Message}
 use Rattle.datagram_grammar.specs.declared.note.BarrierNote.{BarrierNote}
-use Rattle.datagram_grammar.specs.Notes.{most_nodes}
 use Rattle.access_region.specs.declared.Region.{Region as BegunRegion}
 use Rattle.access_region.specs.Regions.{has_begun, region_of}
 use Rattle.put_get.specs.declared.operation.Mode.{Mode}
@@ -30,7 +29,7 @@ use Rattle.node_record.specs.declared.answer.Asked.TheVariants as asked
 use Rattle.node_record.specs.Record.{Request, Run}
 use Rattle.node_record.specs.Requests.{as_back, sent_at}
 use Rattle.node_record.specs.Executed.{run_of}
-use Rattle.node_record.specs.Behaviour.{Asking, Ask, Category, Short, Medium, Long, Contact, Sending}
+use Rattle.node_record.specs.Behaviour.{Asking, Ask, Contact, Sending}
 use Rattle.node_record.specs.Step.{request_answer, after_request, Verdict, Runs, Returns, verdict, after_delivery}
 use Rattle.node_record.specs.Step.{with_sender, with_local, next_due, can_ask, TickChoice, Resends, Sends, Rests}
 use Rattle.node_record.specs.Step.{tick_choice, after_tick, with_asked, is_worn_out}
@@ -47,7 +46,7 @@ use Rattle.named_barrier.specs.Record.{Try, notify_answer, notify_after, try_ans
 use Rattle.named_barrier.specs.Record.{hear, note_to, send}
 use Rattle.named_barrier.proofs.Within.{notes_fit}
 use Rattle.am_core.specs.Kept.{segment_of}
-use Rattle.am_core.specs.ClientRules.{asking_fault, content_by, payload_in, said_in}
+use Rattle.am_core.specs.ClientRules.{asking_fault, payload_in, said_in}
 use Rattle.am_core.specs.Library.{Note, work_content, note_said, note_handler}
 use Rattle.endpoint_rules.specs.EndpointLocal.{EndpointLocal}
 use Rattle.endpoint_rules.specs.TransferCalls.{TransferCall, Begin, BeginImplicit, IsIssued, Sync, SyncHandle}
@@ -66,8 +65,11 @@ use Rattle.barrier_laws.specs.BarrierLaws.{barriers_of, notify_told, ends_told}
 use Rattle.barrier_laws.proofs.Said.{IsSaid, AllSaid, said_grows, said_put, said_push, said_change}
 use Rattle.barrier_laws.proofs.Steps.{Added, nothing_added, Steps, notify_adds, try_adds, step_same, step_notify}
 use Rattle.barrier_laws.proofs.Steps.{step_try, step_hear, step_send}
-use Rattle.barrier_laws.proofs.NoteAgain.{note_again}
 use Rattle.barrier_laws.proofs.Nodes.{NodeHolds, NodeSteps, stepping, replied_push, run_replies}
+use Rattle.am_core.proofs.LibraryLaws.{nodes_few}
+use Rattle.am_core.proofs.CoreSteps.{said_handler}
+use Rattle.am_core.proofs.LibraryLaws.{note_again}
+use Rattle.lists.proofs.Tests.{some_none}
 
 -- a request that is no note changes nothing
 after_other : (settings : Parameters) (content : Content) (barrier : BarrierRecord) → content.handler ≢ note_handler
@@ -76,22 +78,13 @@ after_other settings content barrier apart = rw (ne_eqb content.handler note_han
 
 -- ---- requests of clients
 
-no_some : {X : Type 0} {x : X} → Some x ≡ None → ⊥
-no_some e = cc
-
 -- a request without a fault is for a handler of a client
 not_asked : (settings : Parameters) (table : List (Option Entry)) (asking : Asking)
     → asking_fault settings table asking ≡ None → asking.handler ≢ note_handler
 not_asked settings table asking faultless is =
     let none : not (is_for_requests (entry_at table asking.handler)) ≡ true =
     ap (λ (handler : ℕ). not (is_for_requests (entry_at table handler))) is in
-    no_some (rw none at faultless)
-
-said_handler : (category : Category) (asking : Asking) (payload : List ℕ)
-    → (content_by category asking payload).handler ≡ asking.handler
-said_handler Short asking payload = refl
-said_handler Medium asking payload = refl
-said_handler Long asking payload = refl
+    some_none (rw none at faultless)
 
 not_said : (settings : Parameters) (table : List (Option Entry)) (asking : Asking) (segment : List ℕ)
     → asking_fault settings table asking ≡ None → (said_in segment asking).handler ≢ note_handler
@@ -280,13 +273,6 @@ delivery_step settings table meaning records node message _ lawful holds runs =
     stepping settings records node nothing_added _
     (step_same settings.nodes (barriers_of records) node _ holds.within refl) holds.said holds.replied
 
--- what a version has room for
-few_nodes : (settings : Parameters) → AreInRange settings → settings.nodes ≤ most_nodes settings.version
-few_nodes settings range = elim (cases_eq settings.version 1) [
-  | inl first ↦ rw (eq-eqb settings.version 1 first) (range.nodes_at_first first)
-  | inr second ↦ rw (ne_eqb settings.version 1 second) range.nodes
-]
-
 -- a note runs that was sent
 note_comes : (settings : Parameters) (content : Content) (barrier : BarrierRecord) (sent : List SentNote)
     → AreInRange settings → content.handler ≡ note_handler → (said : IsSaid settings sent content)
@@ -297,7 +283,7 @@ note_comes settings content barrier sent range is said =
   where
     again : note_said settings.version content.args ≡ said.one.note
     again = ap (note_said settings.version) said.args
-        ∙ note_again settings.version settings.nodes said.one.note range.version (few_nodes settings range) said.note
+        ∙ note_again settings.version settings.nodes said.one.note range.version (nodes_few settings range) said.note
 
     heard : eqb content.handler note_handler && has_ranges (note_said settings.version content.args) ≡ true
     heard = and_from _ _ (eq-eqb content.handler note_handler is)

@@ -1,11 +1,10 @@
 -- The law of the barrier over every run.
 use Rattle.std.proofs.Common.{◌≡◌, ◌⊎◌, ℕ, ◌<◌, List, [], ◌∷◌, Option, Some, None, Result, Ok, Err, inl, inr, ◌≢◌}
-use Rattle.std.proofs.Common.{◌↔◌, zero, suc, ◌++◌, ◌+◌, true, eq-eqb, ne_eqb, refl, sym, ap, ◌∙◌, subst, arith}
+use Rattle.std.proofs.Common.{◌↔◌, ◌++◌, ◌+◌, true, eq-eqb, ne_eqb, refl, sym, ap, ◌∙◌, subst, arith}
 use Rattle.std.specs.Prelude.{slice_get}
 use Rattle.std.proofs.lemmas.Bool.{cases_eq}
 use Rattle.std.proofs.lemmas.List.{append-nil, append_assoc}
 use Rattle.lists.specs.Put.{put}
-use Rattle.lists.proofs.Cases.{none_some}
 use Rattle.lists.proofs.Put.{put_same, put_other}
 use Rattle.lists.specs.Numbered.{numbered}
 use Rattle.datagram_grammar.specs.Parameters.{Parameters, AreInRange}
@@ -43,6 +42,7 @@ use Rattle.barrier_laws.proofs.Steps.{Added, nothing_added}
 use Rattle.barrier_laws.proofs.Nodes.{NodeSteps, Holds, opening_holds, put_holds}
 use Rattle.barrier_laws.proofs.Events.{caller_at, call_adds, asks_step, does_step, request_step, reply_step}
 use Rattle.barrier_laws.proofs.Events.{tick_step}
+use Rattle.lists.proofs.Appended.{get-append_kept}
 
 -- ---- every event of the world
 
@@ -206,12 +206,6 @@ run_more settings table meaning [] later records = refl
 run_more settings table meaning (timed ∷ events) later records =
     run_more settings table meaning events later (world_after (job_of settings table meaning) records timed)
 
-slice_get_more : {X : Type 0} (xs ys : List X) (place : ℕ) (x : X) → slice_get xs place ≡ Some x
-    → slice_get (xs ++ ys) place ≡ Some x
-slice_get_more [] ys place x there = absurd (none_some there)
-slice_get_more (first ∷ xs) ys zero x there = there
-slice_get_more (first ∷ xs) ys (suc place) x there = slice_get_more xs ys place x there
-
 -- where all have notified a phase, more notifies don't change its outcome
 same_outcome : (nodes : ℕ) (before after : Barriers) (more : ℕ → List Notify) (phase : ℕ)
     → ((node : ℕ) → (after node).notifies ≡ (before node).notifies ++ more node) → AllNotified nodes before phase
@@ -221,7 +215,7 @@ same_outcome nodes before after more phase grows all =
     (all_of-same (notified after phase) (notified before phase) nodes
     (λ node there. let notify = all node there in
     ap (λ notifies. slice_get notifies phase) (grows node)
-    ∙ (slice_get_more (before node).notifies (more node) phase notify.0 notify.1 ∙ sym notify.1)))
+    ∙ (get-append_kept (before node).notifies (more node) phase notify.0 notify.1 ∙ sym notify.1)))
 
 -- ---- the law
 

@@ -2,7 +2,6 @@ pub mod Alone
 pub mod Abreast
 pub mod Said
 pub mod Steps
-pub mod NoteAgain
 pub mod Nodes
 pub mod Events
 pub mod Laws

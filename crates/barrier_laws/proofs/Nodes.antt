@@ -1,7 +1,7 @@
 -- What holds of each node: the notes of its barrier can be written, its requests for the handler of notes say notes
 -- that its barrier sent, and its replies are no requests.
 use Rattle.std.proofs.Common.{◌≡◌, inl, inr, ℕ, List, [], ◌∷◌, ◌++◌, Option, Some, None, true, false, Bool, refl, sym}
-use Rattle.std.proofs.Common.{ap, ◌∙◌, subst, true≢false, eqb, cond}
+use Rattle.std.proofs.Common.{ap, ◌∙◌, subst, eqb, cond}
 use Rattle.std.specs.Prelude.{slice_get}
 use Rattle.std.proofs.lemmas.Bool.{cases_Bool, cases_eq}
 use Rattle.lists.specs.Put.{put}
@@ -11,11 +11,10 @@ use Rattle.lists.proofs.Places.{slice_get_push}
 use Rattle.lists.proofs.Put.{put_same, put_other}
 use Rattle.datagram_grammar.specs.Parameters.{Parameters}
 use Rattle.datagram_grammar.specs.Content.{Content, is_request}
-use Rattle.datagram_grammar.specs.declared.kind.Kind.{Kind}
 use Rattle.datagram_grammar.specs.declared.kind.Kind.TheVariants as kind
 use Rattle.handler_rules.specs.declared.table.Entry.{Entry}
 use Rattle.handler_rules.specs.declared.rules.Role.TheVariants as role
-use Rattle.handler_rules.specs.Runs.{Meaning, Frame, Start, IsLawfulMeaning, IsLawful, is_reply_kind}
+use Rattle.handler_rules.specs.Runs.{Meaning, Frame, Start, IsLawfulMeaning, IsLawful}
 use Rattle.node_record.specs.Record.{Run, Node}
 use Rattle.node_record.specs.Behaviour.{Contact}
 use Rattle.named_barrier.proofs.Within.{stays_within}
@@ -29,6 +28,7 @@ use Rattle.barrier_laws.specs.BarrierLaws.{barriers_of}
 use Rattle.barrier_laws.proofs.Alone.{IsAlone, alone_opened, alone_changes, barriers_put}
 use Rattle.barrier_laws.proofs.Said.{AllSaid, said_grows}
 use Rattle.barrier_laws.proofs.Steps.{Added, Steps}
+use Rattle.endpoint_rules.proofs.Handled.{reply_asks_none}
 
 -- ---- replies
 
@@ -54,21 +54,11 @@ replied_push ran peer last replied new from = elim (cases_eq from peer) [
       | inr is ↦ subst (λ (any : Run). is_request any.reply.kind ≡ false) is.1 new
     ]
 
--- the kind of a reply is that of no request
-no_request : (which : Kind) → is_reply_kind which ≡ true → is_request which ≡ false
-no_request kind.ShortRequest e = absurd (true≢false (sym e))
-no_request kind.MediumRequest e = absurd (true≢false (sym e))
-no_request kind.LongRequest e = absurd (true≢false (sym e))
-no_request kind.ShortReply e = refl
-no_request kind.MediumReply e = refl
-no_request kind.LongReply e = refl
-no_request kind.Ack e = refl
-
 -- what a handler of a client replies, or an Ack
 lawful_reply : (frame : Frame) (reply : Option Content) → IsLawful frame reply
     → is_request (reply_or_ack reply).kind ≡ false
 lawful_reply frame None lawful = refl
-lawful_reply frame (Some content) lawful = no_request content.kind lawful.reply.kind
+lawful_reply frame (Some content) lawful = reply_asks_none content.kind lawful.reply.kind
 
 -- what a handler of the library replies
 library_replies : (segment : List ℕ) (content : Content)

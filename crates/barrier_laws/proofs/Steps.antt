@@ -21,6 +21,7 @@ use Rattle.endpoint_rules.specs.BarrierCalls.{identifier}
 use Rattle.endpoint_rules.proofs.Noting.{identifier_fits}
 use Rattle.barrier_laws.proofs.Alone.{Changes}
 use Rattle.barrier_laws.proofs.Said.{Grows}
+use Rattle.named_barrier.proofs.Phases.{hear_ended, send_ended}
 
 -- what an event adds: notifies, and phases that ended
 pub record Added : Type 0 where
@@ -148,12 +149,6 @@ hear_notifies kept note = elim (cases_Bool (eqb note.phase kept.ended || eqb not
   | inr drops ↦ rw drops refl
 ]
 
-hear_ended : (kept : BarrierRecord) (note : BarrierNote) → (hear kept note).ended ≡ kept.ended
-hear_ended kept note = elim (cases_Bool (eqb note.phase kept.ended || eqb note.phase (suc kept.ended))) [
-  | inl takes ↦ rw takes refl
-  | inr drops ↦ rw drops refl
-]
-
 -- a note comes that the other node sent
 pub step_hear : (nodes : ℕ) (barriers : Barriers) (node other place : ℕ) (one : SentNote) → node < nodes
     → IsWithin nodes (barriers node) → IsNote nodes one.note → slice_get (barriers other).sent place ≡ Some one
@@ -178,10 +173,6 @@ send_notifies : (kept : BarrierRecord) (to : ℕ) (note : Option BarrierNote)
     → (send kept to note).notifies ≡ kept.notifies
 send_notifies kept to None = refl
 send_notifies kept to (Some note) = refl
-
-send_ended : (kept : BarrierRecord) (to : ℕ) (note : Option BarrierNote) → (send kept to note).ended ≡ kept.ended
-send_ended kept to None = refl
-send_ended kept to (Some note) = refl
 
 pub step_send : (nodes : ℕ) (barriers : Barriers) (node to : ℕ) → node < nodes → IsWithin nodes (barriers node)
     → Steps nodes barriers node nothing_added (send (barriers node) to (note_to nodes node (barriers node) to))

@@ -6,8 +6,9 @@ use Rattle.std.proofs.lemmas.Option.{slice_get_cases}
 use borrow.Author.Tests.{le-leb, lt-leb}
 use Rattle.lists.specs.Cut.{start_of, count_at}
 use Rattle.lists.proofs.Cut.{place_order}
-use Rattle.slot_table.specs.State.{TableState, place_of}
-use Rattle.credit_slots.specs.State.{SlotState, Vacant, Opened, Sealed, SlotsState, slot_at, IsTakenWith, number_of}
+use Rattle.slot_table.specs.TableState.{TableState, place_of}
+use Rattle.credit_slots.specs.SlotsState.{SlotState, Vacant, Opened, Sealed, SlotsState, slot_at, IsTakenWith}
+use Rattle.credit_slots.specs.SlotsState.{number_of}
 use Rattle.credit_slots.specs.Due.{due_time, IsFirstDue, NoneIsDue}
 use Rattle.credit_slots.specs.Order.{IsFirst}
 use Rattle.credit_slots.specs.Views.{credits_view, Matches, IsCredits}
@@ -90,21 +91,30 @@ first-due last given table order seen now resend place due view kept at inside f
           ∙ ap (λ (b : Bool). cond b (Some due.time) None) (le-leb (due.time + resend) now early);
       first = λ other_node slot other_time is.
           let message_there = due_at-sealed seen now resend other_node slot other_time is in
-          let listed_there = slot-listed last given table order seen other_node slot message_there.0 other_time message_there.1 view kept message_there.2 in
+          let listed_there =
+          slot-listed last given table order seen other_node slot message_there.0 other_time message_there.1 view
+          kept message_there.2 in
           let not_after = first (start_of table.counts other_node + slot) listed_there.0 listed_there.1 in
-          let after : other_time ≡ due.time → start_of table.counts due.node + due.slot ≤ start_of table.counts other_node + slot =
+          let after : other_time ≡ due.time
+          → start_of table.counts due.node + due.slot ≤ start_of table.counts other_node + slot =
           λ same. let at_most : place ≤ start_of table.counts other_node + slot = not_after.1 (listed_there.2
           ∙ same) in omega (arith, at_most, known.4) in
           record {
             earlier = omega (arith, not_after.0, listed_there.2);
-            lower_node = λ same. (place_order table.counts due.node due.slot other_node slot known.3 listed_there.3 (after same)).0;
-            lower_slot = λ same nodes. (place_order table.counts due.node due.slot other_node slot known.3 listed_there.3 (after same)).1 nodes;
+            lower_node =
+                λ same. (place_order table.counts due.node due.slot other_node slot known.3 listed_there.3
+                (after same)).0;
+            lower_slot =
+                λ same nodes.
+                (place_order table.counts due.node due.slot other_node slot known.3 listed_there.3 (after same)).1
+                nodes;
           };
     }
 
 -- which number a slot is taken with
 pub taken-no : (found : Option SlotState) (wanted : ℕ)
-    → ((number : ℕ) → option_and_then number_of found ≡ Some number → number ≢ wanted) → IsSomeAnd found (IsTakenWith wanted) → ⊥
+    → ((number : ℕ) → option_and_then number_of found ≡ Some number → number ≢ wanted)
+    → IsSomeAnd found (IsTakenWith wanted) → ⊥
 taken-no None wanted other taken = taken
 taken-no (Some Vacant) wanted other taken = taken
 taken-no (Some (Opened number time buffer)) wanted other taken = other number refl taken

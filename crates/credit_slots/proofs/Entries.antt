@@ -13,7 +13,8 @@ use Rattle.credit_slots.specs.declared.order.Entry.{Entry}
 use Rattle.credit_slots.specs.Ring.{put, IsOn, IsBefore, IsRing}
 use Rattle.lists.proofs.Put.{put_other}
 use Rattle.std.proofs.Math.Path.{fun_ext}
-use Rattle.credit_slots.specs.Order.{due_of, due_view, next_at, previous_at, time_at, listed_at, head_of, IsOrder, IsSpot}
+use Rattle.credit_slots.specs.Order.{due_of, due_view, next_at, previous_at, time_at, listed_at, head_of, IsOrder}
+use Rattle.credit_slots.specs.Order.{IsSpot}
 use Rattle.credit_slots.proofs.Ring.{put-same, same?, ring-without, ring-with, ring-first}
 
 -- a field of each entry
@@ -80,7 +81,8 @@ reads-entry entries place entry next previous time listed inside before = record
 
 -- a field that an entry keeps
 kept : {X : Type 0} (field_of : Entry → X) (blank : X) (entries : List Entry) (index : ℕ) (old : Entry) (values : ℕ → X)
-    → slice_get entries index ≡ Some old → field field_of blank entries ≡ values → put values index (field_of old) ≡ values
+    → slice_get entries index ≡ Some old → field field_of blank entries ≡ values
+    → put values index (field_of old) ≡ values
 kept {X = X} field_of blank entries index old values at is = put-self values index (field_of old)
     (ap (λ (each : ℕ → X). each index) (sym is) ∙ field-at field_of blank entries index old at)
 
@@ -209,7 +211,8 @@ unlinked entries place entry first_read second_read third_read first_written sec
     (put listed_of place false) =
     subst (λ (index : ℕ). IsRing (head_of entries) (put next_of left index) (put previous_of index left) time_of
     (put listed_of place false)) (field-at (λ y. y.next) 0 entries place entry at)
-    (subst (λ (index : ℕ). IsRing (head_of entries) (put next_of index (next_of place)) (put previous_of (next_of place) index)
+    (subst (λ (index : ℕ). IsRing (head_of entries) (put next_of index (next_of place))
+    (put previous_of (next_of place) index)
     time_of (put listed_of place false)) (field-at (λ y. y.previous) 0 entries place entry at)
     (ring-without (head_of entries) next_of previous_of time_of listed_of place order.ring on)) in
     let view₁ : map due_view first_written ≡ map due_view entries =
@@ -307,12 +310,14 @@ pub record IsBehind (entries : List Entry) (place time at : ℕ) : Type 0 where
 -- what is listed, by the order's value
 pub listed-view : (entries : List Entry) (index : ℕ) (due : Due)
     → slice_get (map due_view entries) index ≡ Some (Some due)
-    → (listed_at entries index ≡ true) × ((entry : Entry) × (slice_get entries index ≡ Some entry) × ((due_of entry) ≡ due))
+    → (listed_at entries index ≡ true)
+    × ((entry : Entry) × (slice_get entries index ≡ Some entry) × ((due_of entry) ≡ due))
 listed-view entries index due at = found (slice_get entries index) refl where
   tells : (entry : Entry) (b : Bool) → entry.listed ≡ b → due_view entry ≡ Some due
       → (entry.listed ≡ true) × ((due_of entry) ≡ due)
   tells entry true is seen =
-      let shown : due_view entry ≡ Some (due_of entry) = ap (λ (flag : Bool). cond flag (Some (due_of entry)) None) is in
+      let shown : due_view entry ≡ Some (due_of entry) =
+      ap (λ (flag : Bool). cond flag (Some (due_of entry)) None) is in
       let same : (due_of entry) ≡ due = cc in (is, same)
   tells entry false is seen =
       let shown : due_view entry ≡ None = ap (λ (flag : Bool). cond flag (Some (due_of entry)) None) is in absurd cc
@@ -336,7 +341,8 @@ pub unlisted-view : (entries : List Entry) (index : ℕ) → slice_get (map due_
 unlisted-view entries index at = found (slice_get entries index) refl where
   tells : (entry : Entry) (b : Bool) → entry.listed ≡ b → due_view entry ≡ None → entry.listed ≡ false
   tells entry true is seen =
-      let shown : due_view entry ≡ Some (due_of entry) = ap (λ (flag : Bool). cond flag (Some (due_of entry)) None) is in
+      let shown : due_view entry ≡ Some (due_of entry) =
+      ap (λ (flag : Bool). cond flag (Some (due_of entry)) None) is in
       absurd cc
   tells entry false is seen = is
 
@@ -383,7 +389,8 @@ first-view entries entry order ne at =
           subst (λ (left : ℕ). time_at entries left ≤ time_at entries index) is_next first.1 in (
             omega (arith, low, time_i),
             λ same.
-                subst (λ (left : ℕ). left ≤ index) is_next (first.2 (time_i ∙ (same ∙ ap (time_at entries) (sym is_next)))),
+                subst (λ (left : ℕ). left ≤ index) is_next
+                (first.2 (time_i ∙ (same ∙ ap (time_at entries) (sym is_next)))),
           ),
     )
 

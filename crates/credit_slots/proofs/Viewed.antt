@@ -11,12 +11,13 @@ use Rattle.lists.specs.Update.{update}
 use Rattle.lists.specs.Cut.{cut, count_at, total_of}
 use Rattle.lists.proofs.Update.{length-update, slice_get-update, slice_get-update_other, update-on}
 use Rattle.lists.proofs.Cut.{get-part, get-cut, length-cut, length-part, count-inside, cut-update, sum-cut}
-use Rattle.slot_table.specs.State.{TableState, slot_in, slots_of, place_of, with_change, opened_time}
-use Rattle.credit_slots.specs.State.{SlotState, Vacant, Opened, Sealed, is_vacant, is_taken, PeerState, SlotsState}
-use Rattle.credit_slots.specs.State.{slot_at, slot_count, vacant_count, held_count, is_worn_out}
-use Rattle.credit_slots.specs.State.{with_slot_changed, with_given, with_written, sealed, CanClaim}
+use Rattle.slot_table.specs.TableState.{TableState, slot_in, slots_of, place_of, with_change, opened_time}
+use Rattle.credit_slots.specs.SlotsState.{SlotState, Vacant, Opened, Sealed, is_vacant, is_taken, PeerState, SlotsState}
+use Rattle.credit_slots.specs.SlotsState.{slot_at, slot_count, vacant_count, held_count, is_worn_out}
+use Rattle.credit_slots.specs.SlotsState.{with_slot_changed, with_given, with_written, sealed, CanClaim}
 use Rattle.credit_slots.specs.Views.{peers_of, credits_view, Matches, IsCredits}
 use Rattle.credit_slots.specs.declared.order.Due.{Due}
+use Rattle.credit_slots.proofs.Vacancy.{vacant}
 
 abbrev pub peer : ℕ → List SlotState → PeerState
 peer number slots = record { given = number; slots = slots }
@@ -290,12 +291,6 @@ pub matches-written : (counts : List ℕ) (place : ℕ) (state : SlotState) (kno
 matches-written counts place Vacant known found kept = kept
 matches-written counts place (Opened number time buffer) known found kept = kept
 matches-written counts place (Sealed number time message) known found kept = kept
-
--- the slot that the next claim takes is vacant
-vacant : (state : SlotState) → is_vacant state ≡ true → state ≡ Vacant
-vacant Vacant same = refl
-vacant (Opened number time buffer) same = absurd cc
-vacant (Sealed number time message) same = absurd cc
 
 pub next-vacant : (seen : SlotsState) (to slot number : ℕ) → to < length seen.peers
     → IfSome (slice_get seen.peers to) (λ peer. CanClaim peer seen.last slot × (number ≡ peer.given + 1))

@@ -1,8 +1,8 @@
 -- How the value of a table is read off what it keeps.
 use Rattle.std.specs.Prelude.{ℕ, ◌≡◌, ◌+◌, ◌<◌, List, [], ◌∷◌, length, Option, Some, None, slice_get}
 use Rattle.lists.specs.Cut.{cut, start_of, count_at, total_of}
-use Rattle.slot_table.specs.State.{TableState}
-use Rattle.credit_slots.specs.State.{SlotState, Vacant, Opened, Sealed, PeerState, SlotsState}
+use Rattle.slot_table.specs.TableState.{TableState}
+use Rattle.credit_slots.specs.SlotsState.{SlotState, Vacant, Opened, Sealed, PeerState, SlotsState}
 use Rattle.credit_slots.specs.declared.order.Due.{Due}
 
 -- each peer, by its given numbers and its slots

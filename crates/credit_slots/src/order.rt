@@ -1,6 +1,7 @@
 //! The order in which messages are sent again.
 
-ghost use Rattle.std.specs.Prelude.{◌≡◌, ◌≢◌, ◌+◌, ◌<◌, ◌≤◌, length, map, slice_get, slice_set, Some, None, IfSome, IfNone, IfOk, true, false, vec_len};
+ghost use Rattle.std.specs.Prelude.{◌≡◌, ◌≢◌, ◌+◌, ◌<◌, ◌≤◌, length, map, slice_get, slice_set};
+ghost use Rattle.std.specs.Prelude.{Some, None, IfSome, IfNone, IfOk, true, false, vec_len};
 ghost use Rattle.std.proofs.Math.ListN.{replicate};
 ghost use Rattle.std.specs.Bool.{OnTrue, OnFalse};
 ghost use Rattle.credit_slots.specs.Ring.{IsBefore};
@@ -94,8 +95,8 @@ fn unlink(entries: &mut Vec<Entry>, place: usize)
     entries[place].listed = false;
 }
 
-/// The places whose messages may be sent again, in the order of their last sending and then of the places. Its value is, for each
-/// place, what is due there, if anything is.
+/// The places whose messages may be sent again, in the order of their last sending and then of the places. Its value
+/// is, for each place, what is due there, if anything is.
 #[derive(Drop)]
 pub(crate) struct Order {
     // The last entry is no place: there the ring begins and ends.

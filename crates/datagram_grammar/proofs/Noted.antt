@@ -139,7 +139,8 @@ one_note version nodes first second known few one two same =
 pub is_stray : (version nodes : ℕ) (args : List ℤ)
     → ltb (mask_number (mask_of version args)) (2 ^ nodes) ≡ false → is_no_note version nodes args ≡ true
 is_stray version nodes args stray =
-    ap (λ test. not (eqb (length args) (note_count version)) || is_wrong_flags (argument args (length args - 1)) || not test)
+    ap (λ test. not (eqb (length args) (note_count version)) || is_wrong_flags (argument args (length args - 1))
+    || not test)
     stray ∙ or-true _
 
 -- what the code knows of it

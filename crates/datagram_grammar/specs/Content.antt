@@ -1,5 +1,6 @@
 -- What messages say, where they go, and the one spelling of each.
--- Origin: GASNet 1.8.1, core API, active messages: Short, Medium and Long requests and replies. The Ack, which answers a
+-- Origin: GASNet 1.8.1, core API, active messages: Short, Medium and Long requests and replies. The Ack, which answers
+-- a
 -- request whose handler sent no reply, the layout and the limits are this project's profile.
 use Rattle.std.specs.Prelude.{◌≡◌, ◌≢◌, ℕ, ◌+◌, ◌<◌, ◌≤◌, ◌^◌, ◌==◌, ◌||◌, Bool, true, false, nat_lt, List, [], ◌∷◌}
 use Rattle.std.specs.Prelude.{◌++◌, length, slice_index, ℤ}

@@ -8,8 +8,8 @@ use Rattle.endpoint_rules.specs.EndpointRules.{OtherCall, Records, RecordsEvent,
 use Rattle.gas_world.specs.Events.{ForItsRecords, Steps, job_in}
 use Rattle.gas_world.specs.Settling.{WorldJob}
 use Rattle.gas_world.specs.Stands.{Stands}
-use Rattle.gas_world.specs.Told.{world_told}
-use Rattle.gas_world.specs.Worlds.{WorldState}
+use Rattle.gas_world.specs.WorldTold.{world_told}
+use Rattle.gas_world.specs.WorldState.{WorldState}
 use Rattle.gas_world.specs.declared.event.WorldAnswer.{WorldAnswer}
 use Rattle.gas_world.specs.declared.event.WorldAnswer.TheVariants as answers
 use Rattle.gas_world.proofs.Moving.{run_append, same_job, stands_both}

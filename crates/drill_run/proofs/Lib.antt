@@ -6,3 +6,4 @@ pub mod SummaryText
 pub mod Drilled
 pub mod BareJob
 pub mod DrillLaws
+pub mod Calm

@@ -6,7 +6,7 @@ use Rattle.plain_world.specs.World.{Timed, run}
 use Rattle.endpoint_rules.specs.EndpointRules.{OtherCall, Records}
 use Rattle.gas_world.specs.Events.{ForItsRecords, job_in}
 use Rattle.gas_world.specs.Settling.{WorldJob}
-use Rattle.gas_world.specs.Worlds.{WorldState}
+use Rattle.gas_world.specs.WorldState.{WorldState}
 use Rattle.job_text.specs.declared.job.Job.{Job as JobState}
 use Rattle.job_text.specs.declared.job.TimedEvent.{TimedEvent}
 use Rattle.node_script.specs.Bodies.{script_meaning}

@@ -1,6 +1,7 @@
 //! The run of the drill.
 
-ghost use Rattle.std.specs.Prelude.{◌≡◌, ◌<◌, ◌+◌, ◌-◌, ◌^◌, ℕ, IfOk, OnOk};
+ghost use Rattle.std.specs.Prelude.{◌≡◌, ◌<◌, ◌+◌, ◌-◌, ◌^◌, ℕ, false, IfOk, OnOk};
+ghost use Rattle.datagram_grammar.specs.Parameters.{Parameters};
 ghost use Rattle.gas_outside.specs.Buffered.{outbox};
 ghost use Rattle.endpoint_rules.specs.EndpointRules.{at_the_opening, timed};
 ghost use Rattle.gas_world.specs.Aims.{MayFall};
@@ -10,6 +11,7 @@ ghost use Rattle.plain_world.specs.World.{IsAmong};
 ghost use Rattle.node_script.specs.Schedules.{world_job};
 ghost use Rattle.world_run.specs.LinesWritten.{Says, OnDone};
 ghost use Rattle.world_run.specs.RunLaws.{RunLaws};
+ghost use Rattle.world_run.specs.RunText.{is_violated};
 ghost use Rattle.world_run.specs.ScheduleRun.{StandsForRun};
 ghost use Rattle.drill_run.specs.Counting.{AreAtMost};
 ghost use Rattle.drill_run.specs.DrillEnds.{DrillEnds};
@@ -303,11 +305,13 @@ fn drill_in<K: Sink>(
 /// the lines of each node.
 ///
 /// Want of memory may end it before it wrote. The laws hold of its run, however far it came.
-#[tactic(auto, using(crate::proofs::DrillLaws::drill_laws))]
+#[tactic(auto, using(crate::proofs::DrillLaws::drill_laws, crate::proofs::Calm::drill_calm))]
 pub fn run_drill<K: Sink>(alloc: Global, seed: u64, sink: &mut BufferedSink<K>) -> RunEnd
     ensures run { DrillEnds seed (outbox K.taken K.faults sink.old)
         (outbox K.taken K.faults sink.new) result }
     ensures laws { RunLaws (drill_job seed) }
+    // No node notes a violation.
+    ensures calm { is_violated (drill_job seed) ≡ false }
 {
     let Ok(script) = drill_script(alloc) else {
         return RunEnd::NoMemory;

@@ -11,6 +11,7 @@
 //!   world that it gives stands for the end of the run; or the sink failed, and a front of their text went in; or memory ran
 //!   out, and whole lines of them did.
 //! - **The laws of the run** [`laws`: `RunLaws` of `world_run`]: as of any job's.
+//! - **No violation** [`calm`]: no call of it is forbidden, and nothing is refused to its handlers, so no node notes one.
 //! - `Draws::draw` gives the numbers that are drawn [`state`, `drawn`].
 #![tactic(auto)]
 

@@ -12,7 +12,7 @@ use Rattle.endpoint_lock.specs.declared.ends.End.{End}
 use Rattle.endpoint_lock.specs.declared.ends.TurnEnd.{TurnEnd}
 use Rattle.endpoint_lock.specs.declared.ends.End.TheVariants.{Over, Stuck, LinkFault, JournalFull, NoMemory}
 use Rattle.endpoint_lock.specs.declared.ends.TurnEnd.TheVariants.{Went, Idle, Ended}
-use Rattle.endpoint_lock.specs.Stations.{StationState}
+use Rattle.endpoint_lock.specs.StationState.{StationState}
 use Rattle.endpoint_lock.specs.Turns.{Asks, Gives, Sends, Turns, Keeps, Goes, Finishes, AreOutgoing, made_entry}
 use Rattle.gas_outside.proofs.Outboxes.{rose_later}
 

@@ -20,7 +20,7 @@ use Rattle.endpoint_lock.specs.declared.ends.End.{End}
 use Rattle.endpoint_lock.specs.declared.ends.End.TheVariants.{Over, Stuck, LinkFault, JournalFull, NoMemory}
 use Rattle.endpoint_lock.specs.declared.ends.TurnEnd.{TurnEnd}
 use Rattle.endpoint_lock.specs.declared.ends.TurnEnd.TheVariants.{Went, Idle, Ended}
-use Rattle.endpoint_lock.specs.Stations.{StationState, Opening, ended}
+use Rattle.endpoint_lock.specs.StationState.{StationState, Opening, ended}
 use Rattle.endpoint_lock.specs.Facts.{entry_limit, IsFull, IsEntry, WentOn, EndIs, Replays, Facts}
 use Rattle.endpoint_lock.specs.Turns.{Keeps, Rests, Fails, Goes, AppendsAtMostOne, made_entry}
 use Rattle.endpoint_lock.proofs.Sending.{WentOn-twice, WentOn-none}

@@ -9,7 +9,7 @@ use Rattle.machine.specs.declared.turns.Machine.{Ghosts as MachineGhosts}
 use Rattle.machine.specs.Replay.{steps_of, quiet_tail}
 use Rattle.endpoint_lock.specs.declared.ends.End.{End}
 use Rattle.endpoint_lock.specs.declared.ends.End.TheVariants.{Over, Stuck, LinkFault, JournalFull, NoMemory}
-use Rattle.endpoint_lock.specs.Stations.{StationState, Opening}
+use Rattle.endpoint_lock.specs.StationState.{StationState, Opening}
 use Rattle.endpoint_lock.specs.Facts.{last_count, EndIs, Facts}
 use Rattle.endpoint_lock.specs.Leaving.{IsSpent, LeavesReplay, Leaves, left_by}
 

@@ -11,7 +11,7 @@ use Rattle.machine.specs.declared.turns.Machine.{Ghosts as MachineGhosts}
 use Rattle.machine.specs.Replay.{steps_of, replayed, got_in, sent_in, quiet_tail}
 use Rattle.endpoint_lock.specs.declared.ends.End.{End}
 use Rattle.endpoint_lock.specs.declared.ends.End.TheVariants.{Over, Stuck, LinkFault, JournalFull, NoMemory}
-use Rattle.endpoint_lock.specs.Stations.{StationState, Opening}
+use Rattle.endpoint_lock.specs.StationState.{StationState, Opening}
 
 -- the last value of a count of 64 bits
 abbrev pub last_count : ℕ

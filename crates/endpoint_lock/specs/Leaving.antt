@@ -10,7 +10,7 @@ use Rattle.machine.specs.Replay.{steps_of, replayed, got_in, sent_in, quiet_tail
 use Rattle.endpoint_lock.specs.declared.ends.End.{End}
 use Rattle.endpoint_lock.specs.declared.ends.End.TheVariants.{Over, Stuck, LinkFault, JournalFull, NoMemory}
 use Rattle.endpoint_lock.specs.declared.ends.Ended.{Ended}
-use Rattle.endpoint_lock.specs.Stations.{StationState, Opening}
+use Rattle.endpoint_lock.specs.StationState.{StationState, Opening}
 use Rattle.endpoint_lock.specs.Facts.{entry_limit, last_count, IsFull, IsEntry, WentOn, SentShort, LastWasQuiet}
 use Rattle.endpoint_lock.specs.Facts.{AllPoll}
 

@@ -16,7 +16,7 @@ use Rattle.endpoint_lock.specs.declared.ends.TurnEnd.{TurnEnd}
 use Rattle.endpoint_lock.specs.declared.ends.End.{End}
 use Rattle.endpoint_lock.specs.declared.ends.End.TheVariants.{Over, Stuck, LinkFault, JournalFull, NoMemory}
 use Rattle.endpoint_lock.specs.declared.ends.TurnEnd.TheVariants.{Went, Idle, Ended}
-use Rattle.endpoint_lock.specs.Stations.{StationState, ended}
+use Rattle.endpoint_lock.specs.StationState.{StationState, ended}
 use Rattle.endpoint_lock.specs.Facts.{WentOn, IsFull, receive_limit}
 
 abbrev pub made_entry : (thread now : ℕ) → Option (List ℕ) → Entry

@@ -2,7 +2,7 @@
 
 ghost use Rattle.std.specs.Prelude.{◌≡◌, ◌+◌, ◌<◌, ◌↔◌, ℕ, length, IsSomeAnd, IsTrue};
 ghost use Rattle.std.specs.Option.{ForSome};
-ghost use Rattle.endpoint_lock.specs.Stations.{opened};
+ghost use Rattle.endpoint_lock.specs.StationState.{opened};
 ghost use Rattle.endpoint_lock.specs.Facts.{Facts};
 ghost use Rattle.endpoint_lock.specs.Turns.{AppendsAtMostOne, TakesTurn};
 
@@ -26,7 +26,7 @@ impl Crew for Brand {
 /// The name that a station under its lock, its book and its shares carry.
 pub trait StationName<M, L, C>: Crew {
     ghost use Rattle.std.specs.Prelude.{Option};
-    ghost use Rattle.endpoint_lock.specs.Stations.{Opening};
+    ghost use Rattle.endpoint_lock.specs.StationState.{Opening};
 
     /// What the station was opened with.
     ghost opening: { Option (Opening M L C) };
@@ -50,7 +50,7 @@ pub struct Held<N: StationName<M, L, C>, M: Machine, L: Link, C: Clock> {
 impl<N: StationName<M, L, C>, M: Machine, L: Link, C: Clock> Model for Held<N, M, L, C> {
     ghost use Rattle.std.specs.Prelude.{◌≡◌, length};
     ghost use Rattle.std.specs.Option.{ForSome};
-    ghost use Rattle.endpoint_lock.specs.Stations.{StationState};
+    ghost use Rattle.endpoint_lock.specs.StationState.{StationState};
     ghost use Rattle.endpoint_lock.specs.Facts.{Facts};
 
     ghost Value = { StationState M L C };

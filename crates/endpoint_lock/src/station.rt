@@ -3,7 +3,7 @@
 ghost use Rattle.std.specs.Prelude.{◌≡◌, ◌≢◌, ◌≤◌, ◌<◌, length, true, false, if◌then◌else◌};
 ghost use Rattle.std.specs.Prelude.{None, IfOk, MatchResult};
 ghost use Rattle.std.specs.Option.{ForSome};
-ghost use Rattle.endpoint_lock.specs.Stations.{Opening, opened_with, opened, ended};
+ghost use Rattle.endpoint_lock.specs.StationState.{Opening, opened_with, opened, ended};
 ghost use Rattle.endpoint_lock.specs.Facts.{Facts, IsFull};
 ghost use Rattle.endpoint_lock.specs.Turns.{Goes, Finishes, AppendsAtMostOne};
 ghost use Rattle.endpoint_lock.specs.Leaving.{left_by};
@@ -39,7 +39,7 @@ pub struct Station<M, L, C> {
 impl<M, L, C> Model for Station<M, L, C> {
     ghost use Rattle.std.specs.Prelude.{◌≡◌, ◌≤◌, vec_len};
     ghost use Rattle.std.specs.Option.{ForSome};
-    ghost use Rattle.endpoint_lock.specs.Stations.{StationState};
+    ghost use Rattle.endpoint_lock.specs.StationState.{StationState};
     ghost use Rattle.endpoint_lock.specs.Facts.{bytes_in, receive_limit};
 
     ghost Value = { StationState M L C };

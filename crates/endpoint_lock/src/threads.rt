@@ -2,7 +2,7 @@
 
 ghost use Rattle.std.specs.Prelude.{◌≡◌, ◌+◌, ◌≤◌, ◌<◌, IsSomeAnd};
 ghost use Rattle.std.specs.Option.{ForSome};
-ghost use Rattle.endpoint_lock.specs.Stations.{opened, opening_of};
+ghost use Rattle.endpoint_lock.specs.StationState.{opened, opening_of};
 ghost use Rattle.endpoint_lock.specs.Facts.{Facts};
 ghost use Rattle.endpoint_lock.specs.Leaving.{Leaves};
 

@@ -20,9 +20,8 @@ use Rattle.handler_rules.specs.declared.message.Which.{Which}
 use Rattle.handler_rules.specs.Registered.{entry_at, is_for_requests, is_for_replies}
 use Rattle.handler_rules.specs.Runs.{Frame, IsLawful, Meaning, IsLawfulMeaning, passes_end, is_reply_kind}
 use Rattle.node_record.specs.declared.answer.Why.TheVariants as why
-use Rattle.node_record.specs.Behaviour.{asks_well, replies_well, Asking, Category, Short, Medium, Long, PayloadFrom}
-use Rattle.node_record.specs.Behaviour.{Lent}
-use Rattle.node_record.specs.Behaviour.{Own, Contact}
+use Rattle.node_record.specs.Behaviour.{asks_well, replies_well, Asking, Category, Short, Medium, Long}
+use Rattle.node_record.specs.Behaviour.{Contact}
 use Rattle.am_core.specs.Kept.{Local, IsKept, start_of, with_writes}
 use Rattle.am_core.specs.Library.{is_library, has_library, has_wrong_args, library_refusal, library_writes}
 use Rattle.am_core.specs.Library.{library_reply}
@@ -33,8 +32,9 @@ use Rattle.am_core.specs.ClientRules.{asking_fault}
 use Rattle.am_core.specs.ClientRules.{first_bad, asking_faults, has_handler}
 use Rattle.am_core.specs.HandlerRuns.{handlers_of, reply_or_ack, frame_of_run, landing}
 use Rattle.am_core.specs.HandlerRuns.{run_request, run_reply}
-use Rattle.am_core.proofs.Landings.{client_request, client_reply, client_stays, StaysInside}
+use Rattle.am_core.proofs.Landings.{client_request, client_reply, client_stays, StaysInside, payload_small}
 use Rattle.am_core.proofs.LocalKept.{request_kept as core_request, reply_kept as core_reply}
+use Rattle.lists.proofs.Tests.{not_false, some_none}
 
 -- ---- clients' handlers, and the library's
 
@@ -104,21 +104,13 @@ well_is settings table content other well = elim (cases_Bool (is_library content
 -- ---- requests of clients
 
 -- no line of a list applies
-none_bad : (lines : List (Bool × Which)) → first_bad lines ≡ None
+pub none_bad : (lines : List (Bool × Which)) → first_bad lines ≡ None
     → AllByRecursion (λ (line : Bool × Which). line.0 ≡ false) lines
 none_bad [] e = tt
 none_bad (line ∷ rest) e = elim (cases_Bool line.0) [
   | inl bad ↦ absurd (some_none (rw bad at e))
   | inr good ↦ (good, none_bad rest (rw good at e))
 ]
-  where
-    some_none : {X : Type 0} {x : X} → Some x ≡ None → ⊥
-    some_none h = cc
-
--- a payload that is a range has at most its length
-payload_short : (segment : List ℕ) (payload : PayloadFrom) → length (payload_in segment payload) ≤ payload_len payload
-payload_short segment (Lent bytes) = omega arith
-payload_short segment (Own offset len) = omega (arith, length-take len (drop offset segment))
 
 -- the content of a client's request is well, where its handler and its place are
 well_by : (settings : Parameters) (table : List (Option Entry)) (content : Content) → is_request content.kind ≡ true
@@ -137,11 +129,6 @@ not_past : (len offset bytes most : ℕ) → bytes ≤ most → nat_lt len (offs
     → nat_lt len (offset + bytes) ≡ false
 not_past len offset bytes most less inside =
     le-ltb len (offset + bytes) (omega (arith, less, ltb-false len (offset + most) inside))
-
--- a test that says yes
-not_false : (b : Bool) → not b ≡ false → b ≡ true
-not_false true e = refl
-not_false false e = absurd (true≢false e)
 
 -- a request without a fault may be delivered
 pub asking_well : (settings : Parameters) (table : List (Option Entry)) (segment : List ℕ) (category : Category)
@@ -168,12 +155,12 @@ asking_well settings table segment category asking is e =
         rw same at good.1.1.1.1.0 in
         well_by settings table (content_by Long asking (payload_in segment asking.payload)) refl registered
         (not_past settings.segment asking.offset (length (payload_in segment asking.payload))
-        (payload_len asking.payload) (payload_short segment asking.payload) placed)
+        (payload_len asking.payload) (payload_small segment asking.payload) placed)
 
 -- ---- replies
 
 -- the kind of a reply that a handler sends is no request's
-reply_asks_none : (k : Kind) → is_reply_kind k ≡ true → is_request k ≡ false
+pub reply_asks_none : (k : Kind) → is_reply_kind k ≡ true → is_request k ≡ false
 reply_asks_none kind.ShortRequest e = absurd (true≢false (sym e))
 reply_asks_none kind.MediumRequest e = absurd (true≢false (sym e))
 reply_asks_none kind.LongRequest e = absurd (true≢false (sym e))

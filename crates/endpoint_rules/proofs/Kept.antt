@@ -131,7 +131,7 @@ handle_says caller transfer operations handle says =
     by_parts None true begins fault_is once_is e = absurd (cc)
     by_parts (Some part) at_once begins fault_is once_is e = absurd (cc)
 
-done_says : (caller : Caller) (transfer : Transfer) (operations : List Operation)
+pub done_says : (caller : Caller) (transfer : Transfer) (operations : List Operation)
     → begin_says caller transfer operations ≡ begun.Done → IsFaultless caller.settings transfer
 done_says caller transfer operations says =
     by_fault (transfer_fault caller.settings transfer) _ refl says

@@ -1,5 +1,5 @@
 -- Notes of the barrier: which are heard, and that those can be sent on.
-use Rattle.std.proofs.Common.{◌≡◌, inl, inr, ℕ, zero, suc, ◌^◌, ◌-◌, ◌<◌, ◌≤◌, ◌||◌, not, Bool, true, false, List, []}
+use Rattle.std.proofs.Common.{◌≡◌, inl, inr, ℕ, zero, suc, ◌^◌, ◌-◌, ◌<◌, ◌≤◌, ◌||◌, not, true, false, List, []}
 use Rattle.std.proofs.Common.{◌∷◌}
 use Rattle.std.proofs.Common.{rules, ℤ, pos, negsuc, length, refl, subst, arith, ltb, nat_lt, true≢false}
 use Rattle.std.specs.Prelude.{◌==◌, slice_index}
@@ -14,6 +14,7 @@ use Rattle.datagram_grammar.specs.declared.note.BarrierNote.{BarrierNote}
 use Rattle.datagram_grammar.specs.Notes.{IsNote, mask_number, mask_of, is_no_note, is_wrong_flags, argument, note_count}
 use Rattle.am_core.specs.Library.{note_said, natural}
 use Rattle.endpoint_rules.specs.BarrierCalls.{identifier, has_ranges}
+use Rattle.lists.proofs.Tests.{not_false}
 
 -- an identifier is one of 32 bits
 pub identifier_fits : (id : ℤ) → FitsSigned w32 (identifier id)
@@ -55,10 +56,6 @@ four_words version args = elim (cases_Bool (version == 1)) [ inl first ↦ rw fi
 right_flags : (flags : ℤ) → is_wrong_flags flags ≡ false → natural flags ≤ 3
 right_flags (pos flags) right = ltb-false 3 flags right
 right_flags (negsuc number) right = absurd (true≢false right)
-
-not_false : (test : Bool) → not test ≡ false → test ≡ true
-not_false true e = refl
-not_false false e = absurd (true≢false e)
 
 -- a note whose arguments aren't refused, and whose numbers are in range, can be sent on
 pub heard_note : (version nodes : ℕ) (args : List ℤ) → is_no_note version nodes args ≡ false

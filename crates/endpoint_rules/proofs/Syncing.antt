@@ -37,21 +37,21 @@ complete_by choice operations all zero operation at is = absurd (none_some at)
 complete_by choice operations all (suc place) operation at is =
     chosen_complete choice 1 operations place operation all at (ap (λ n. choice n operation) (omega arith) ∙ is)
 
-not_worn : (worn : Option ℕ) → worn_or worn ≡ synced.Ok → ⊥
+pub not_worn : (worn : Option ℕ) → worn_or worn ≡ synced.Ok → ⊥
 not_worn None e = cc
 not_worn (Some node) e = cc
 
-sync_all : (worn : ℕ → Bool) (operations : List Operation) → sync_answer worn operations ≡ synced.Ok
+pub sync_all : (worn : ℕ → Bool) (operations : List Operation) → sync_answer worn operations ≡ synced.Ok
     → list_all is_complete operations ≡ true
 sync_all worn operations e = elim (cases_Bool (list_all is_complete operations)) [
   | inl all ↦ all
   | inr some ↦ absurd (not_worn (worn_of worn operations) (rw some at e))
 ]
 
-bad_handle : synced.BadHandle ≡ synced.Ok → ⊥
+pub bad_handle : synced.BadHandle ≡ synced.Ok → ⊥
 bad_handle e = cc
 
-not_yours : synced.NotYours ≡ synced.Ok → ⊥
+pub not_yours : synced.NotYours ≡ synced.Ok → ⊥
 not_yours e = cc
 
 members_all : (worn : ℕ → Bool) (thread : ℕ) (operations : List Operation)

@@ -1,8 +1,9 @@
 -- The calls on the barrier are those of the record.
 use Rattle.std.proofs.lemmas.Bool.{cases_Bool}
-use Rattle.std.proofs.Common.{add-one, zero, inl, inr, ◌≡◌, ℕ, suc, ◌+◌, ℤ, Bool, true, false, Option, None, Some, refl, ap, ◌∙◌, subst}
+use Rattle.std.proofs.Common.{add-one, zero, inl, inr, ◌≡◌, ℕ, suc, ◌+◌, ℤ, Bool, true, false, Option, None, Some, refl}
+use Rattle.std.proofs.Common.{ap, ◌∙◌, subst}
 use Rattle.datagram_grammar.specs.declared.note.BarrierNote.{BarrierNote}
-use Rattle.named_barrier.specs.State.{State as BarrierState}
+use Rattle.named_barrier.specs.BarrierState.{BarrierState}
 use Rattle.named_barrier.specs.Record.{BarrierRecord, notify_answer, notify_after, try_answer, try_after}
 use Rattle.named_barrier.specs.Stands.{Stands as BarrierStands}
 use Rattle.named_barrier.specs.declared.answer.Notified.{Notified}
@@ -16,7 +17,7 @@ use Rattle.endpoint_rules.proofs.Noting.{identifier_fits}
 use Rattle.endpoint_rules.specs.declared.answer.Answer.{Answer}
 use Rattle.endpoint_rules.specs.declared.answer.Answer.TheVariants as answers
 use Rattle.gas_endpoint.specs.declared.extended.Extended.{Extended}
-use Rattle.gas_endpoint.specs.Endpoints.{ForItsRecord}
+use Rattle.gas_endpoint.specs.EndpointState.{ForItsRecord}
 use Rattle.gas_endpoint.specs.Parts.{Parts, PartDoes, endpoint_of, caller_in}
 use Rattle.gas_endpoint.proofs.Syncs.{same_core}
 
@@ -25,7 +26,8 @@ pub notify_does : (core : CoreState) (extended : Extended) (barrier : BarrierSta
     → ((nodes me : ℕ) (kept : BarrierRecord) → BarrierStands nodes me extended.barrier kept
     → says ≡ notify_answer kept (identifier id) flags)
     → ((nodes me : ℕ) (kept : BarrierRecord) → BarrierStands nodes me extended.barrier kept
-    → BarrierStands nodes me barrier (notify_after kept (identifier id) flags (notify_answer kept (identifier id) flags)))
+    → BarrierStands nodes me barrier
+    (notify_after kept (identifier id) flags (notify_answer kept (identifier id) flags)))
     → PartDoes (record { core = core; extended = extended }) thread
     (λ caller kept. with_barrier kept (barrier_does caller (Notify id flags) kept.barrier)) (answers.Notified says)
     (record { core = core; extended = record extended { barrier = barrier } })

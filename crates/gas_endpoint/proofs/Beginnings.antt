@@ -1,5 +1,6 @@
 -- The beginnings of transfers are those of the record.
-use Rattle.std.proofs.Common.{inl, inr, ◌≡◌, ◌≢◌, ℕ, true, false, List, [], ◌∷◌, Option, None, Some, length, refl, sym, ap, ◌∙◌, subst}
+use Rattle.std.proofs.Common.{inl, inr, ◌≡◌, ◌≢◌, ℕ, true, false, List, [], ◌∷◌, Option, None, Some, length, refl, sym}
+use Rattle.std.proofs.Common.{ap, ◌∙◌, subst}
 use Rattle.std.specs.Prelude.{◌==◌, Result, Ok, Err}
 use Rattle.std.proofs.lemmas.Bool.{cases_Bool, ne_eqb, eq-eqb}
 use Rattle.raw_segment.specs.Image.{AllFit, written_by}
@@ -32,7 +33,7 @@ use Rattle.endpoint_rules.specs.declared.answer.Begun.{Begun}
 use Rattle.endpoint_rules.specs.declared.answer.Begun.TheVariants as begun
 use Rattle.endpoint_rules.proofs.Kept.{IsFaultless, faultless, at_once_fits}
 use Rattle.gas_endpoint.specs.declared.extended.Extended.{Extended}
-use Rattle.gas_endpoint.specs.Endpoints.{EndpointStands}
+use Rattle.gas_endpoint.specs.EndpointState.{EndpointStands}
 use Rattle.gas_endpoint.specs.Parts.{Keeps, Parts, PartBegins, PartDoes, whole, caller_in, endpoint_of}
 use Rattle.gas_endpoint.proofs.Calling.{keeps_with, local_stands}
 use Rattle.gas_endpoint.proofs.Syncs.{same_core}
@@ -139,7 +140,8 @@ chunks_begin core extended transfers thread transfer mode result fine some other
     }
     left (Err many) node S e T = record {
       core = S.core;
-      transfers = subst (λ os. TransfersStand transfers os) (unchanged thread transfer mode node.local.operations many e) T;
+      transfers = subst (λ os. TransfersStand transfers os)
+          (unchanged thread transfer mode node.local.operations many e) T;
       regions_are = S.regions_are;
       registers_are = S.registers_are;
       barrier = S.barrier;
@@ -208,9 +210,11 @@ implicit_begins old mid thread transfer mode says regions mode_is B named_so = r
       let modes = implicit_mode node.local.regions thread in
       let mode_so : mode ≡ modes = mode_is ∙ ap (λ rs. implicit_mode rs thread) S.regions_are in
       let spoken = begin_says caller transfer node.local.operations in
-      let left = subst (λ (m : Mode). Keeps (whole mid) (with_local node (after_beginning caller transfer m says node.local)))
+      let left = subst
+      (λ (m : Mode). Keeps (whole mid) (with_local node (after_beginning caller transfer m says node.local)))
       mode_so it.1 in
-      let K = subst (λ (b : Begun). Keeps (whole mid) (with_local node (after_beginning caller transfer modes b node.local)))
+      let K = subst
+      (λ (b : Begun). Keeps (whole mid) (with_local node (after_beginning caller transfer modes b node.local)))
       it.0 left in (
         ap (λ (b : Begun). answers.Started b) it.0,
         record {

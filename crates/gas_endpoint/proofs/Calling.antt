@@ -7,7 +7,7 @@ use Rattle.raw_segment.specs.Image.{written_by}
 use Rattle.raw_segment.proofs.Images.{all_fit-append, length-written_by, image-append}
 use Rattle.hsl_locks.specs.declared.answer.LockAnswer.{LockAnswer}
 use Rattle.hsl_locks.specs.declared.answer.UnlockAnswer.{UnlockAnswer}
-use Rattle.handler_rules.specs.Logged.{log_of}
+use Rattle.handler_rules.specs.LogState.{log_of}
 use Rattle.handler_rules.specs.Runs.{Meaning}
 use Rattle.handler_rules.specs.declared.rules.CallKind.{CallKind}
 use Rattle.handler_rules.specs.declared.rules.Forbidden.{Forbidden}
@@ -21,7 +21,8 @@ use Rattle.am_core.specs.Kept.{Local, IsKept, segment_of, with_writes}
 use Rattle.am_core.specs.ClientRules.{rules}
 use Rattle.am_core.specs.CoreState.{CoreState}
 use Rattle.am_core.specs.Stands.{Stands}
-use Rattle.am_core.specs.CoreContracts.{Check, Lock as CoreLock, Unlock as CoreUnlock, CoreTold, Checked, Locked, Unlocked}
+use Rattle.am_core.specs.CoreContracts.{Check, Lock as CoreLock, Unlock as CoreUnlock, CoreTold, Checked, Locked}
+use Rattle.am_core.specs.CoreContracts.{Unlocked}
 use Rattle.am_core.specs.CoreContracts.{CoreSteps, IsSameNode}
 use Rattle.endpoint_rules.specs.EndpointLocal.{EndpointLocal, IsEndpointKept, core_of, with_core}
 use Rattle.endpoint_rules.specs.EndpointRules.{OtherCall, OnCore, OnTransfers, OnBarrier, does_call, unless_forbidden}
@@ -39,11 +40,12 @@ use Rattle.endpoint_rules.specs.declared.answer.Local.{Local as LocalAnswer}
 use Rattle.endpoint_rules.specs.declared.answer.Local.TheVariants as local
 use Rattle.endpoint_rules.proofs.CoreKept.{segment_fits, written_fits}
 use Rattle.gas_endpoint.specs.declared.extended.Extended.{Extended}
-use Rattle.gas_endpoint.specs.Endpoints.{EndpointStands, NodeSteps}
+use Rattle.gas_endpoint.specs.EndpointState.{EndpointStands, NodeSteps}
 use Rattle.gas_endpoint.specs.Parts.{Keeps, Parts, PartDoes, endpoint_of, whole, caller_in, kind_of, judged_as}
 use Rattle.gas_endpoint.specs.Parts.{allowed_does, CallSteps, IsWhole, IsSameExtended}
 use Rattle.gas_endpoint.proofs.Stepping.{steps_by, stands_by, keeps_of, barrier_of, nothing_runs, nothing_lawful}
 use Rattle.gas_endpoint.proofs.Stepping.{same_node, caller_same, stays_whole, has_next}
+use Rattle.gas_endpoint.proofs.Syncs.{same_core}
 
 -- ---- calls that the rule table judges
 
@@ -61,7 +63,8 @@ judged_core own behaviour thread (Err forbidden) answer kept notes = notes forbi
 -- what such a call does, by how the table judges it
 abbrev DoesBy : Meaning → CoreState → Caller → OtherCall → CallKind → EndpointLocal → Type 0
 DoesBy meaning core caller call kind kept =
-    does_call (endpoint_rules core.settings core.table meaning) (rules core.settings core.table meaning) caller call kept
+    does_call (endpoint_rules core.settings core.table meaning) (rules core.settings core.table meaning) caller call
+    kept
     ≡ unless_forbidden (endpoint_rules core.settings core.table meaning) caller.thread
     ((endpoint_rules core.settings core.table meaning).judges caller.thread kind kept) kept
     (allowed_does (Performs call) caller kept)
@@ -154,7 +157,8 @@ forbidden_steps core new extended thread kind forbidden call is C meaning lawful
         let judged : Err forbidden ≡ own.judges thread kind node.local.core = ap judgement it.0 in
         let does = does_by meaning core caller other kind node.local e
         ∙ ap (λ (j : Result (Unit {0}) Forbidden).
-        unless_forbidden behaviour thread j node.local (allowed_does (Performs other) caller node.local)) (sym judged) in
+        unless_forbidden behaviour thread j node.local (allowed_does (Performs other) caller node.local))
+        (sym judged) in
         let left = subst (λ (j : Result (Unit {0}) Forbidden).
         Stands new (with_local (under core_of node) (judged_local own thread j node.local.core))) (sym judged) it.1 in (
           ap (λ (o : Answer × EndpointLocal). o.0) (sym does),
@@ -187,13 +191,15 @@ allowed_steps core mid extended thread kind call answer new is C P meaning lawfu
         let judged : Ok tt ≡ own.judges thread kind node.local.core = ap judgement it.0 in
         let does = does_by meaning core caller other kind node.local e
         ∙ ap (λ (j : Result (Unit {0}) Forbidden).
-        unless_forbidden behaviour thread j node.local (allowed_does (Performs other) caller node.local)) (sym judged) in
+        unless_forbidden behaviour thread j node.local (allowed_does (Performs other) caller node.local))
+        (sym judged) in
         let did = D.steps node (allowed_stands core mid extended thread kind node C S) in
         let callers = caller_same core mid node thread same in (
           did.0 ∙ (ap (λ (c : Caller). (allowed_does (Performs other) c node.local).0) callers
               ∙ ap (λ (o : Answer × EndpointLocal). o.0) (sym does)),
           subst (λ (o : Answer × EndpointLocal). Keeps (whole new) (with_local node o.1)) (sym does)
-              (subst (λ (c : Caller). Keeps (whole new) (with_local node (allowed_does (Performs other) c node.local).1))
+              (subst (λ (c : Caller). Keeps (whole new)
+              (with_local node (allowed_does (Performs other) c node.local).1))
               callers did.1),
         ))
 
@@ -250,9 +256,6 @@ local_stands core node cells segment kept S good cells_are segment_is locks viol
   log_is = S.log_is ∙ ap log_of (sym violations);
 }
 
-same_self : (core : CoreState) → IsSameNode core core
-same_self core = record { settings = refl; me_is = refl; table = refl; segment_length = refl }
-
 -- the number in a cell
 pub cell_steps : (core : CoreState) (extended : Extended) (thread cell : ℕ) (value : ℤ)
     → ((node : Node Local) → Stands core node → value ≡ slice_index_or node.local.cells cell (pos 0))
@@ -260,7 +263,7 @@ pub cell_steps : (core : CoreState) (extended : Extended) (thread cell : ℕ) (v
     (endpoint_of core extended)
 cell_steps core extended thread cell value is meaning lawful now =
     steps_by meaning (endpoint_of core extended) (endpoint_of core extended) now (Does thread (OnCore (Cell cell))) _
-    lawful (same_self core)
+    lawful (same_core core)
     (λ node S. (
       ap (λ (v : ℤ). answers.Local (local.Cell v)) (is (under core_of node) S.core),
       keeps_of (endpoint_of core extended) node S,

@@ -36,7 +36,7 @@ use Rattle.endpoint_rules.specs.EndpointRules.{transition, after_note}
 use Rattle.endpoint_rules.specs.declared.answer.Answer.TheVariants as answers
 use Rattle.endpoint_rules.proofs.Over.{endpoint_over}
 use Rattle.gas_endpoint.specs.declared.extended.Extended.{Extended}
-use Rattle.gas_endpoint.specs.Endpoints.{EndpointState, NodeSteps, BytesCome, job_here}
+use Rattle.gas_endpoint.specs.EndpointState.{EndpointState, NodeSteps, BytesCome, job_here}
 use Rattle.gas_endpoint.specs.Parts.{IsWhole, Hears, endpoint_of, after_answer, heard_by}
 use Rattle.gas_endpoint.proofs.Stepping.{steps_by, barrier_of, stays_whole, has_next}
 

@@ -13,7 +13,7 @@ use Rattle.node_record.specs.Step.{is_worn_out}
 use Rattle.am_core.specs.CoreState.{CoreState}
 use Rattle.endpoint_rules.specs.EndpointLocal.{EndpointLocal}
 use Rattle.gas_endpoint.specs.declared.extended.Extended.{Extended}
-use Rattle.gas_endpoint.specs.Endpoints.{EndpointStands}
+use Rattle.gas_endpoint.specs.EndpointState.{EndpointStands}
 use Rattle.gas_endpoint.specs.Parts.{endpoint_of}
 
 pub flag-none : (count node : ℕ) → flag_at (replicate count false) node ≡ false

@@ -26,7 +26,8 @@ pub opens_whole : (core : CoreState) (extended : Extended) (settings : Parameter
     → extended.regions ≡ replicate settings.threads None → extended.registers ≡ replicate 256 invalid
     → BarrierStands settings.nodes me extended.barrier opened → extended.barrier.nodes ≡ settings.nodes
     → AreInRange settings → IsWhole core extended
-opens_whole core extended settings me low settings_are me_are segment stands nodes me_is transfers room_nodes room regions registers barrier barrier_nodes range =
+opens_whole core extended settings me low settings_are me_are segment stands nodes me_is transfers room_nodes room
+    regions registers barrier barrier_nodes range =
     by settings_are me_are low nodes me_is room_nodes room regions barrier barrier_nodes range
   where
     by : {s : Parameters} {m : ℕ} → core.settings ≡ s → core.me ≡ m → m < s.nodes → extended.nodes ≡ s.nodes

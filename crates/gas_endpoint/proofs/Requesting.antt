@@ -34,7 +34,7 @@ use Rattle.endpoint_rules.specs.Called.{called, node_event, IsMeantBy}
 use Rattle.endpoint_rules.specs.declared.call.Call.{Call}
 use Rattle.endpoint_rules.proofs.Over.{endpoint_over}
 use Rattle.gas_endpoint.specs.declared.extended.Extended.{Extended}
-use Rattle.gas_endpoint.specs.Endpoints.{EndpointState, NodeSteps, job_here}
+use Rattle.gas_endpoint.specs.EndpointState.{EndpointState, NodeSteps, job_here}
 use Rattle.gas_endpoint.specs.Parts.{endpoint_of}
 use Rattle.gas_endpoint.proofs.Stepping.{steps_by, barrier_of}
 

@@ -1,10 +1,9 @@
 -- What an event sends stands in the slot that its answer names.
-use Rattle.std.proofs.Common.{◌≡◌, inl, inr, ℕ, zero, suc, ◌≤◌, Bool, true, false, ◌&&◌, eqb, List, [], ◌∷◌, Option, None}
+use Rattle.std.proofs.Common.{◌≡◌, inl, inr, ℕ, ◌≤◌, Bool, true, false, eqb, List, [], Option}
+use Rattle.std.proofs.Common.{None}
 use Rattle.std.proofs.Common.{Some, refl, sym, ap, ap₂, ◌∙◌, subst, arith}
-use Rattle.std.specs.List.{slice_get}
 use Rattle.std.specs.Prelude.{nat_lt, if◌then◌else◌, Result, Ok, Err}
-use Rattle.std.proofs.lemmas.Bool.{cases_Bool, eq-eqb, eqb-true}
-use Rattle.std.proofs.lemmas.Option.{same_Some}
+use Rattle.std.proofs.lemmas.Bool.{cases_Bool, eqb-true}
 use Rattle.datagram_grammar.specs.Message.{Message}
 use Rattle.datagram_grammar.specs.Content.{content_of}
 use Rattle.handler_rules.specs.Runs.{Meaning}
@@ -21,7 +20,7 @@ use Rattle.node_record.specs.Step.{request_answer, request_slot, reply_slot, nex
 use Rattle.node_record.specs.Step.{unless_refused, unless_waiting, judged, taken_back, refusal}
 use Rattle.node_record.specs.NodeStep.{Job, site_of}
 use Rattle.node_record.proofs.Answers.{accepted_says}
-use Rattle.node_record.proofs.Runs.{greatest_there, run_at_says}
+use Rattle.node_record.proofs.Runs.{greatest_there, run_at_says, run_at_from}
 use Rattle.plain_world.specs.Sent.{Packet, asking, replying, asked_sends, delivered_sends, ticked_sends}
 use Rattle.plain_world.proofs.PlainTicks.{IsOpenAt, all_dues_open, earliest_has}
 use Rattle.endpoint_rules.specs.EndpointRules.{OtherCall, transition, asked_answer, does_call}
@@ -30,9 +29,12 @@ use Rattle.endpoint_rules.specs.CoreCalls.{OnSegment}
 use Rattle.am_core.specs.Kept.{Local}
 use Rattle.am_core.specs.ClientRules.{rules}
 use Rattle.endpoint_rules.specs.EndpointLocal.{EndpointLocal}
-use Rattle.endpoint_rules.specs.EndpointRules.{OnCore, OnTransfers, OnBarrier, unless_forbidden, endpoint_rules, sent_as, with_barrier}
-use Rattle.endpoint_rules.specs.TransferCalls.{Caller, TransferCall, transfer_kind, transfer_does, ended, Begin, BeginImplicit, IsIssued}
-use Rattle.endpoint_rules.specs.TransferCalls.{Sync, SyncHandle, SyncAll, SyncSome, SyncImplicit, RegionBegin, RegionEnd}
+use Rattle.endpoint_rules.specs.EndpointRules.{OnCore, OnTransfers, OnBarrier, unless_forbidden, endpoint_rules}
+use Rattle.endpoint_rules.specs.EndpointRules.{sent_as, with_barrier}
+use Rattle.endpoint_rules.specs.TransferCalls.{Caller, TransferCall, transfer_kind, transfer_does, ended, Begin}
+use Rattle.endpoint_rules.specs.TransferCalls.{BeginImplicit, IsIssued}
+use Rattle.endpoint_rules.specs.TransferCalls.{Sync, SyncHandle, SyncAll, SyncSome, SyncImplicit, RegionBegin}
+use Rattle.endpoint_rules.specs.TransferCalls.{RegionEnd}
 use Rattle.access_region.specs.Regions.{has_begun, region_of}
 use Rattle.access_region.specs.declared.Region.{Region as BegunRegion}
 use Rattle.am_core.specs.Library.{note_handler, run_answer}
@@ -46,7 +48,7 @@ use Rattle.gas_endpoint.specs.Parts.{caller_in}
 use Rattle.endpoint_rules.specs.BarrierCalls.{BarrierCall, Notify, TryBarrier, barrier_does}
 use Rattle.endpoint_rules.specs.Sends.{sends}
 use Rattle.endpoint_rules.specs.Called.{Meant, Requests, Performs, meant, node_event}
-use Rattle.gas_endpoint.specs.Endpoints.{EndpointState, EndpointSteps, NodeSteps, job_here}
+use Rattle.gas_endpoint.specs.EndpointState.{EndpointState, EndpointSteps, NodeSteps, job_here}
 use Rattle.gas_endpoint.specs.Sends.{AreThatOf, NodeSends, StepSends}
 use Rattle.endpoint_rules.specs.declared.call.Event.{Event}
 use Rattle.endpoint_rules.specs.declared.call.Event.TheVariants as event
@@ -59,25 +61,14 @@ at_answer : (answer told_is : Answer) (packets : List Packet) → answer ≡ tol
 at_answer answer told_is packets same holds = subst (λ a. AreThatOf (sends a) packets) (sym same) holds
 
 -- a request of a thread
-asked_slot : (job : Job EndpointLocal OtherCall Answer) (me : ℕ) (node : Node EndpointLocal) (ask : Ask) (a : AskedAnswer)
+asked_slot : (job : Job EndpointLocal OtherCall Answer) (me : ℕ) (node : Node EndpointLocal) (ask : Ask)
+    (a : AskedAnswer)
     → request_answer (site_of job me) node ask ≡ a
     → AreThatOf (sends (asked_answer a)) (asked_sends (site_of job me) node ask a)
 asked_slot job me node ask (asked.Accepted to slot number) e =
     let says = accepted_says (site_of job me) node ask to slot number e in
     (_, refl, ap (λ t. request_slot t slot) (sym says.peer_is))
 asked_slot job me node ask _ e = refl
-
--- a run of the slot with the greatest number is found
-run_at_from : (runs : List Run) (place : ℕ) (run : Run) → slice_get runs place ≡ Some run
-    → (t : Run) × (run_at run.slot run.number runs ≡ Some t)
-run_at_from [] place run e = absurd (cc)
-run_at_from (u ∷ runs) zero run e =
-    let same : u ≡ run = same_Some u run e in
-    (u, rw (same, eq-eqb run.number run.number refl, eq-eqb run.slot run.slot refl) refl)
-run_at_from (u ∷ runs) (suc place) run e = elim (cases_Bool (eqb u.number run.number && eqb u.slot run.slot)) [
-  | inl here ↦ (u, rw here refl)
-  | inr there ↦ (let later = run_at_from runs place run e in (later.0, rw there later.1))
-]
 
 -- a request that comes again
 repeated_slot : (me from slot number : ℕ) (runs : List Run) → 1 ≤ number → number ≡ greatest slot runs

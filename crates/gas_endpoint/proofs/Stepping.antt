@@ -8,7 +8,7 @@ use Rattle.node_record.specs.NodeStep.{node_answer, node_after}
 use Rattle.node_record.specs.Step.{is_worn_out}
 use Rattle.node_record.proofs.LocalKept.{event_kept}
 use Rattle.named_barrier.specs.Record.{BarrierRecord}
-use Rattle.named_barrier.specs.State.{State as BarrierState}
+use Rattle.named_barrier.specs.BarrierState.{BarrierState}
 use Rattle.named_barrier.specs.Stands.{Stands as BarrierStands}
 use Rattle.put_get.specs.Stands.{room_of}
 use Rattle.am_core.specs.CoreState.{CoreState}
@@ -19,7 +19,7 @@ use Rattle.endpoint_rules.specs.Tracking.{NodeTracks}
 use Rattle.endpoint_rules.specs.declared.answer.Answer.{Answer}
 use Rattle.endpoint_rules.proofs.Sound.{rules_sound}
 use Rattle.endpoint_rules.proofs.Tracking.{event_tracks}
-use Rattle.gas_endpoint.specs.Endpoints.{EndpointState, EndpointStands, ForItsRecord, NodeSteps, job_here}
+use Rattle.gas_endpoint.specs.EndpointState.{EndpointState, EndpointStands, ForItsRecord, NodeSteps, job_here}
 use Rattle.gas_endpoint.specs.Parts.{Keeps, Parts, whole, HasRecord, IsWhole, IsSameExtended, caller_in}
 
 -- a meaning under which no handler does anything

@@ -26,7 +26,7 @@ use Rattle.endpoint_rules.specs.TransferCalls.{SyncHandle, SyncImplicit, transfe
 use Rattle.endpoint_rules.specs.TransferCalls.{emptied_by, whole_registers}
 use Rattle.endpoint_rules.specs.declared.answer.Answer.TheVariants as answers
 use Rattle.gas_endpoint.specs.declared.extended.Extended.{Extended}
-use Rattle.gas_endpoint.specs.Endpoints.{EndpointStands, ForItsRecord}
+use Rattle.gas_endpoint.specs.EndpointState.{EndpointStands, ForItsRecord}
 use Rattle.gas_endpoint.specs.Parts.{Outcome, PartDoes, endpoint_of}
 
 -- the next chunk, by the nodes that can be asked

@@ -1,5 +1,6 @@
 -- A tick, as its parts made it, is the endpoint's.
-use Rattle.std.proofs.Common.{inl, inr, eqb, ◌≡◌, ℕ, suc, ◌<◌, Bool, true, false, List, Option, None, Some, length, true≢false}
+use Rattle.std.proofs.Common.{inl, inr, eqb, ◌≡◌, ℕ, suc, ◌<◌, Bool, true, false, List, Option, None, Some, length}
+use Rattle.std.proofs.Common.{true≢false}
 use Rattle.std.proofs.Common.{refl, sym, ap, ◌∙◌, subst, arith}
 use Rattle.std.specs.List.{list_any}
 use Rattle.std.proofs.lemmas.Bool.{cases_Bool, lt-leb}
@@ -11,7 +12,8 @@ use Rattle.node_record.specs.Record.{Node}
 use Rattle.node_record.specs.Requests.{Due, free_slot, next_claim, taken, unreturned}
 use Rattle.node_record.specs.Credits.{limits_of}
 use Rattle.node_record.specs.Behaviour.{Sending}
-use Rattle.node_record.specs.Step.{next_due, choice_of, tick_choice, tick_answer, after_tick, can_ask, TickChoice, Sends}
+use Rattle.node_record.specs.Step.{next_due, choice_of, tick_choice, tick_answer, after_tick, can_ask, TickChoice}
+use Rattle.node_record.specs.Step.{Sends}
 use Rattle.node_record.specs.Step.{Rests, claim_answer, request_slot, after_sending, with_request}
 use Rattle.node_record.specs.NodeStep.{site_of, Ticks, OfTick, NodeAnswer}
 use Rattle.node_record.specs.Under.{under}
@@ -23,7 +25,7 @@ use Rattle.node_record.specs.declared.answer.Ticked.TheVariants as ticked
 use Rattle.node_record.proofs.Answers.{CanAsk, can_says}
 use Rattle.node_record.proofs.Slots.{taken_numbered, free_outside, free_le}
 use Rattle.named_barrier.specs.Record.{BarrierRecord, SentNote, send, note_to}
-use Rattle.named_barrier.specs.State.{State as BarrierState}
+use Rattle.named_barrier.specs.BarrierState.{BarrierState}
 use Rattle.named_barrier.specs.Stands.{Stands as BarrierStands}
 use Rattle.put_get.specs.declared.transfers.Transfers.{Transfers}
 use Rattle.put_get.specs.declared.operation.Next.{Next}
@@ -44,8 +46,9 @@ use Rattle.endpoint_rules.proofs.Sending.{chunk_no_note}
 use Rattle.endpoint_rules.proofs.Works.{sending_well, note_work_fits, chunk_work_fits}
 use Rattle.gas_endpoint.specs.declared.extended.Extended.{Extended}
 use Rattle.std.specs.Prelude.{is_some}
-use Rattle.gas_endpoint.specs.Endpoints.{EndpointState, EndpointStands, ForItsRecord, NodeSteps, job_here, IsTickTarget}
-use Rattle.gas_endpoint.specs.Endpoints.{sent_to}
+use Rattle.gas_endpoint.specs.EndpointState.{EndpointState, EndpointStands, ForItsRecord, NodeSteps, job_here}
+use Rattle.gas_endpoint.specs.EndpointState.{IsTickTarget}
+use Rattle.gas_endpoint.specs.EndpointState.{sent_to}
 use Rattle.gas_endpoint.specs.Parts.{Keeps, Parts, IsWhole, CanSend, PartSends, endpoint_of, whole, found_note}
 use Rattle.gas_endpoint.specs.Parts.{HasRecord}
 use Rattle.gas_endpoint.proofs.Stepping.{steps_by, keeps_of, nothing_runs, barrier_of, stays_whole}

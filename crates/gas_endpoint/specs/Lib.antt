@@ -1,3 +1,3 @@
-pub mod Endpoints
+pub mod EndpointState
 pub mod Sends
 pub mod Parts

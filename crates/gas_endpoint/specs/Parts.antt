@@ -29,7 +29,8 @@ use Rattle.am_core.specs.Sizes.{HasSegment}
 use Rattle.am_core.specs.Stands.{Stands}
 use Rattle.am_core.specs.CoreContracts.{IsSameNode}
 use Rattle.endpoint_rules.specs.EndpointLocal.{EndpointLocal, core_of}
-use Rattle.endpoint_rules.specs.EndpointRules.{OtherCall, OnCore, OnTransfers, OnBarrier, with_barrier, sending_of, transition}
+use Rattle.endpoint_rules.specs.EndpointRules.{OtherCall, OnCore, OnTransfers, OnBarrier, with_barrier, sending_of}
+use Rattle.endpoint_rules.specs.EndpointRules.{transition}
 use Rattle.endpoint_rules.specs.CoreCalls.{Poll, Attempt}
 use Rattle.endpoint_rules.specs.TransferCalls.{Caller, transfer_does, transfer_kind, begin_says, after_beginning}
 use Rattle.endpoint_rules.specs.BarrierCalls.{barrier_does, has_ranges}
@@ -39,7 +40,7 @@ use Rattle.endpoint_rules.specs.declared.answer.Answer.{Answer}
 use Rattle.endpoint_rules.specs.declared.answer.Answer.TheVariants as answers
 use Rattle.endpoint_rules.specs.declared.answer.Begun.{Begun}
 use Rattle.gas_endpoint.specs.declared.extended.Extended.{Extended}
-use Rattle.gas_endpoint.specs.Endpoints.{EndpointState, EndpointStands, ForItsRecord, NodeSteps, job_here}
+use Rattle.gas_endpoint.specs.EndpointState.{EndpointState, EndpointStands, ForItsRecord, NodeSteps, job_here}
 
 -- the endpoint of these two parts
 abbrev pub endpoint_of : CoreState → Extended → EndpointState

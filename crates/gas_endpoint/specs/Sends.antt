@@ -10,7 +10,7 @@ use Rattle.plain_world.specs.Sent.{Packet, Asking, Replying, sends as sent_by}
 use Rattle.endpoint_rules.specs.Called.{called}
 use Rattle.endpoint_rules.specs.Sends.{sends}
 use Rattle.endpoint_rules.specs.EndpointRules.{RecordEvent, transition}
-use Rattle.gas_endpoint.specs.Endpoints.{EndpointState, ForItsRecord, job_here}
+use Rattle.gas_endpoint.specs.EndpointState.{EndpointState, ForItsRecord, job_here}
 use Rattle.endpoint_rules.specs.declared.call.Event.{Event}
 use Rattle.endpoint_rules.specs.declared.call.Event.TheVariants as event
 use Rattle.endpoint_rules.specs.declared.answer.Answer.{Answer}

@@ -4,10 +4,10 @@ ghost use Rattle.std.specs.Prelude.{◌≡◌, ◌<◌, ◌≤◌, ℕ, Some, If
 ghost use Rattle.handler_rules.specs.Runs.{Meaning};
 ghost use Rattle.node_record.specs.Step.{can_ask};
 ghost use Rattle.node_record.specs.NodeStep.{site_of};
-ghost use Rattle.named_barrier.specs.State.{note_at};
+ghost use Rattle.named_barrier.specs.BarrierState.{note_at};
 ghost use Rattle.endpoint_rules.specs.BarrierCalls.{Notify, TryBarrier, barrier_does, worn_out_for};
 ghost use Rattle.endpoint_rules.specs.EndpointRules.{with_barrier, next_note};
-ghost use Rattle.gas_endpoint.specs.Endpoints.{ForItsRecord, job_here};
+ghost use Rattle.gas_endpoint.specs.EndpointState.{ForItsRecord, job_here};
 ghost use Rattle.gas_endpoint.specs.Parts.{IsWhole, PartDoes, endpoint_of, caller_in, found_note};
 
 use crate::extended::Extended;
@@ -20,7 +20,8 @@ impl Extended {
     pub(crate) fn notify(&mut self, core: &Core, id: i32, flags: u8) -> Answer
         requires { IsWhole core.now self.old }
         ensures { (thread : ℕ) → PartDoes (record { core = core.now; extended = self.old }) thread
-            (λ caller local. with_barrier local (barrier_does caller (Notify id flags) local.barrier))
+            (λ caller local. with_barrier local
+            (barrier_does caller (Notify id flags) local.barrier))
             result (record { core = core.now; extended = self.new }) }
     {
         Answer::Notified(self.barrier.notify(id, flags))

@@ -5,7 +5,8 @@ ghost use Rattle.datagram_grammar.specs.Parameters.{Parameters};
 ghost use Rattle.raw_segment.specs.Image.{written_by};
 ghost use Rattle.put_get.specs.declared.operation.Mode.TheVariants.{Explicit};
 ghost use Rattle.endpoint_rules.specs.EndpointLocal.{own_end, remote_end, has_byte};
-ghost use Rattle.endpoint_rules.specs.TransferCalls.{Begin, BeginImplicit, transfer_fault, transfer_does, own_write, with_name};
+ghost use Rattle.endpoint_rules.specs.TransferCalls.{Begin, BeginImplicit, transfer_fault, transfer_does, own_write};
+ghost use Rattle.endpoint_rules.specs.TransferCalls.{with_name};
 ghost use Rattle.gas_endpoint.specs.Parts.{IsWhole, PartDoes, PartBegins};
 
 use crate::extended::Extended;

@@ -2,7 +2,7 @@
 
 ghost use Rattle.std.specs.Prelude.{◌≡◌, ◌<◌, ◌≤◌, ◌≢◌, Some, None};
 ghost use Rattle.endpoint_rules.specs.Called.{meant};
-ghost use Rattle.gas_endpoint.specs.Endpoints.{MayBeCalled};
+ghost use Rattle.gas_endpoint.specs.EndpointState.{MayBeCalled};
 ghost use Rattle.gas_endpoint.specs.Parts.{IsWhole, PartDoes, kind_of, allowed_does};
 
 use crate::extended::Extended;

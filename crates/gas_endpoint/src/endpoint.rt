@@ -1,7 +1,7 @@
 //! One node: its active messages, and the other calls of its threads.
 
 ghost use Rattle.std.specs.Prelude.{◌≤◌, ℕ, ◌≡◌, ◌≢◌, ◌<◌, IfOk, IfSome, None, Some, option_copied, not};
-ghost use Rattle.handler_rules.specs.Logged.{log_of};
+ghost use Rattle.handler_rules.specs.LogState.{log_of};
 ghost use Rattle.handler_rules.specs.Runs.{Meaning, IsLawfulMeaning};
 ghost use Rattle.hsl_locks.specs.Locks.{holds};
 ghost use Rattle.node_record.specs.Credits.{greatest_holding};
@@ -17,9 +17,9 @@ ghost use Rattle.endpoint_rules.specs.EndpointLocal.{nothing_begun};
 ghost use Rattle.endpoint_rules.specs.EndpointRules.{transition};
 ghost use Rattle.endpoint_rules.specs.Called.{meant, called, IsMeantBy};
 ghost use Rattle.endpoint_rules.specs.TransferCalls.{handle_in};
-ghost use Rattle.gas_endpoint.specs.Endpoints.{EndpointStands, ForItsRecord, EndpointSteps, NodeSteps};
-ghost use Rattle.gas_endpoint.specs.Endpoints.{IsNodeOf, MayHappen, MayBeCalled, BytesCome};
-ghost use Rattle.gas_endpoint.specs.Endpoints.{IsTickTarget, WouldAcceptAt};
+ghost use Rattle.gas_endpoint.specs.EndpointState.{EndpointStands, ForItsRecord, EndpointSteps, NodeSteps};
+ghost use Rattle.gas_endpoint.specs.EndpointState.{IsNodeOf, MayHappen, MayBeCalled, BytesCome};
+ghost use Rattle.gas_endpoint.specs.EndpointState.{IsTickTarget, WouldAcceptAt};
 ghost use Rattle.gas_endpoint.specs.Parts.{CallSteps, kind_of};
 ghost use Rattle.gas_endpoint.specs.Sends.{StepSends};
 
@@ -47,7 +47,7 @@ pub struct Endpoint {
 }
 
 impl Model for Endpoint {
-    ghost use Rattle.gas_endpoint.specs.Endpoints.{EndpointState};
+    ghost use Rattle.gas_endpoint.specs.EndpointState.{EndpointState};
 
     ghost Value = { EndpointState };
 
@@ -125,8 +125,8 @@ impl Endpoint {
         self.core.is_last_run(from, slot, number)
     }
 
-    /// Whether a request to another node would be accepted at the time `now`: one that a thread makes, or the one that a
-    /// tick sends of the node's own accord; false for every other event. It changes nothing.
+    /// Whether a request to another node would be accepted at the time `now`: one that a thread makes, or the one that
+    /// a tick sends of the node's own accord; false for every other event. It changes nothing.
     pub fn would_accept(&self, now: u64, event: &Event<'_>) -> bool
         ensures { WouldAcceptAt self.now (transition now event.now result) }
     {
@@ -168,8 +168,8 @@ impl Endpoint {
         self.extended.transfers.issued(handle)
     }
 
-    /// Whether some chunk of the operation with the handle's number is unissued: of that one alone, also where it is in an
-    /// access region. False where no operation has the number, as it is for the invalid handle. gasnet_put_nb and
+    /// Whether some chunk of the operation with the handle's number is unissued: of that one alone, also where it is in
+    /// an access region. False where no operation has the number, as it is for the invalid handle. gasnet_put_nb and
     /// gasnet_put_nbi wait while it is true of what they began.
     pub fn has_unissued(&self, handle: Handle) -> bool
         ensures { ForItsRecord self.now (λ node.

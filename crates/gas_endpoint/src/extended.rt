@@ -10,7 +10,7 @@ ghost use Rattle.node_record.specs.Step.{is_worn_out};
 ghost use Rattle.put_get.specs.Syncs.{flag_at};
 ghost use Rattle.endpoint_rules.specs.BarrierCalls.{has_ranges};
 ghost use Rattle.endpoint_rules.specs.EndpointLocal.{invalid};
-ghost use Rattle.gas_endpoint.specs.Endpoints.{ForItsRecord};
+ghost use Rattle.gas_endpoint.specs.EndpointState.{ForItsRecord};
 ghost use Rattle.gas_endpoint.specs.Parts.{IsWhole, Hears, endpoint_of};
 
 use access_region::Regions;
@@ -34,7 +34,8 @@ pub struct Extended {
 
 /// The greatest number of credits that a node has towards another one.
 fn most_credits(settings: &Settings, me: u16) -> u16
-    ensures { (to : ℕ) → to < settings.now.nodes → to ≢ me → credits_of settings.now me to ≤ result }
+    ensures { (to : ℕ) → to < settings.now.nodes → to ≢ me
+        → credits_of settings.now me to ≤ result }
 {
     let mut most = 0;
     for to in 0..settings.nodes() {

@@ -2,17 +2,19 @@
 //!
 //! What is proved is said of every record for which the endpoint stood before the call (`EndpointStands`).
 //!
-//! - `Endpoint::step` [`steps`: `EndpointSteps`], for a thread of the job and lists of at most 256 registers (`MayHappen`): the answer
-//!   is the one of the record of the node (`endpoint_rules`), and the endpoint stands for the record's next one. That is so for each
-//!   call of a thread, for a tick, and for any bytes that are delivered: those that spell a message of the job's version come as that
-//!   message, and others are refused by the first reason of the grammar. What the rule table forbids is answered `Forbidden`, whatever
-//!   the call, and noted once. The message that the step sends is that of the slot which `Answer::sends` names [`sends`: `StepSends`];
-//!   `Endpoint::message` gives it, `Endpoint::number` its number.
-//! - A tick sends a request again that is due; else the note of the barrier that is due to the least node that can be asked; else the
-//!   next chunk of the oldest operation whose target can be asked. `Endpoint::next_target` tells before it which node would get a
-//!   request of the node's own accord [`target`: `IsTickTarget`]; `would_accept` whether an event would accept a request.
-//! - `Endpoint::new` gives an endpoint that stands for the opening record [`stands`]; want of memory is its one error. After it no call
-//!   takes memory.
+//! - `Endpoint::step` [`steps`: `EndpointSteps`], for a thread of the job and lists of at most 256 registers
+//!   (`MayHappen`): the answer is the one of the record of the node (`endpoint_rules`), and the endpoint stands for the
+//!   record's next one. That is so for each call of a thread, for a tick, and for any bytes that are delivered: those
+//!   that spell a message of the job's version come as that message, and others are refused by the first reason of the
+//!   grammar. What the rule table forbids is answered `Forbidden`, whatever the call, and noted once. The message that
+//!   the step sends is that of the slot which `Answer::sends` names [`sends`: `StepSends`]; `Endpoint::message` gives
+//!   it, `Endpoint::number` its number.
+//! - A tick sends a request again that is due; else the note of the barrier that is due to the least node that can be
+//!   asked; else the next chunk of the oldest operation whose target can be asked. `Endpoint::next_target` tells before
+//!   it which node would get a request of the node's own accord [`target`: `IsTickTarget`]; `would_accept` whether an
+//!   event would accept a request.
+//! - `Endpoint::new` gives an endpoint that stands for the opening record [`stands`]; want of memory is its one error.
+//!   After it no call takes memory.
 //! - `issued`, `register`, `segment`, `cells`, `log`, `held` and `polls` give what the record has.
 #![tactic(auto)]
 

@@ -5,14 +5,14 @@ ghost use Rattle.datagram_grammar.specs.Parameters.{Parameters, AreInRange};
 ghost use Rattle.handler_rules.specs.Runs.{Meaning};
 ghost use Rattle.node_record.specs.Step.{can_ask, request_slot};
 ghost use Rattle.node_record.specs.NodeStep.{site_of};
-ghost use Rattle.named_barrier.specs.State.{note_at};
+ghost use Rattle.named_barrier.specs.BarrierState.{note_at};
 ghost use Rattle.put_get.specs.Operation.{next_chunk, target};
 ghost use Rattle.put_get.specs.Stands.{CanNote};
 ghost use Rattle.put_get.specs.Syncs.{flag_at};
 ghost use Rattle.am_core.specs.AskedFor.{work_of};
 ghost use Rattle.am_core.specs.Library.{Note, WorkFits};
 ghost use Rattle.endpoint_rules.specs.EndpointRules.{chunk_work};
-ghost use Rattle.gas_endpoint.specs.Endpoints.{ForItsRecord, job_here};
+ghost use Rattle.gas_endpoint.specs.EndpointState.{ForItsRecord, job_here};
 ghost use Rattle.gas_endpoint.specs.Parts.{IsWhole, CanSend, PartSends, endpoint_of};
 
 use crate::extended::Extended;
@@ -65,7 +65,8 @@ impl Extended {
         requires { IsWhole core.now self.now }
         ensures { (meaning : Meaning) → ForItsRecord (endpoint_of core.now self.now) (λ node.
             (to : ℕ) → flag_at result to
-            ≡ can_ask (site_of (job_here meaning (endpoint_of core.now self.now)) core.now.me) node to) }
+            ≡ can_ask (site_of (job_here meaning (endpoint_of core.now self.now)) core.now.me)
+            node to) }
     {
         let mut can = [false; 256];
         for to in 0..self.nodes {

@@ -27,7 +27,7 @@ pub struct RingNode {
 
 impl Model for RingNode {
     ghost use Rattle.std.specs.Prelude.{◌≡◌};
-    ghost use Rattle.gas_endpoint.specs.Endpoints.{EndpointState};
+    ghost use Rattle.gas_endpoint.specs.EndpointState.{EndpointState};
 
     ghost Value = { EndpointState };
 

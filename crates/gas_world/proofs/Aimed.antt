@@ -1,5 +1,6 @@
 -- Each event of a world, by where it falls.
-use Rattle.std.proofs.Common.{◌≡◌, ℕ, ◌+◌, ◌*◌, ◌<◌, Some, None, refl, sym, ◌∙◌, subst, subst₂, List, length, get_or, set}
+use Rattle.std.proofs.Common.{◌≡◌, ℕ, ◌+◌, ◌*◌, ◌<◌, Some, None, refl, sym, ◌∙◌, subst, subst₂, List, length, get_or}
+use Rattle.std.proofs.Common.{set}
 use Rattle.std.specs.Prelude.{Option, is_some, unwrap_or}
 use Rattle.std.specs.List.{slice_get}
 use Rattle.std.proofs.lemmas.Option.{slice_get_read}
@@ -7,13 +8,13 @@ use Rattle.datagram_grammar.specs.Parameters.{Parameters}
 use Rattle.handler_rules.specs.Runs.{Meaning, IsLawfulMeaning}
 use Rattle.plain_world.specs.World.{IsAmong, world_after}
 use Rattle.endpoint_rules.specs.EndpointRules.{transition, timed}
-use Rattle.gas_world.specs.Worlds.{WorldState}
+use Rattle.gas_world.specs.WorldState.{WorldState}
 use Rattle.gas_world.specs.Scenes.{Scene, SceneSteps, CallFalls, IsCallable, IsPlanned, node_of, ChangesOne, IsHeld}
 use Rattle.endpoint_rules.specs.Called.{Meant, Requests, Performs, meant, event_at, is_to_other}
 use Rattle.gas_world.specs.Events.{Steps, event_of, job_in}
 use Rattle.gas_world.specs.Stands.{IsFounded, IsWhole}
-use Rattle.gas_endpoint.specs.Endpoints.{EndpointState, MayBeCalled}
-use Rattle.gas_world.specs.Exchanged.{ExchangesState}
+use Rattle.gas_endpoint.specs.EndpointState.{EndpointState, MayBeCalled}
+use Rattle.gas_world.specs.ExchangesState.{ExchangesState}
 use Rattle.gas_world.proofs.Scenes.{falls_at, pair_place}
 use Rattle.gas_world.proofs.Lodgings.{event_held}
 use Rattle.plain_world.specs.MostHeld.{most_then}

@@ -28,7 +28,7 @@ turns_among job events (suc count) w each =
     (each count (run job (in_turn job events count w) w) (omega arith))
 
 -- of the numbers of a turn
-numbers_among : (s : Parameters) (now from to : ℕ) (numbers : List ℕ) → from < s.nodes → to < s.nodes
+pub numbers_among : (s : Parameters) (now from to : ℕ) (numbers : List ℕ) → from < s.nodes → to < s.nodes
     → AreAmong s (flat_map (exchange_events now from to) numbers)
 numbers_among s now from to [] a b = tt
 numbers_among s now from to (number ∷ numbers) a b =

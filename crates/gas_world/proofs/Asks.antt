@@ -24,9 +24,9 @@ use Rattle.endpoint_rules.specs.EndpointRules.{transition}
 use Rattle.endpoint_rules.specs.EndpointRules.{OtherCall, Records, asked_answer, job_of}
 use Rattle.endpoint_rules.specs.Called.{Meant, Requests, Performs, meant, node_event, called, event_at, called_at}
 use Rattle.endpoint_rules.specs.Called.{IsAskedOf, HasTarget, is_of_another, is_to_other}
-use Rattle.gas_endpoint.specs.Endpoints.{EndpointState, EndpointStands, NodeSteps, WouldAcceptCall}
-use Rattle.gas_endpoint.specs.Endpoints.{IsNodeOf}
-use Rattle.gas_world.specs.Worlds.{WorldState}
+use Rattle.gas_endpoint.specs.EndpointState.{EndpointState, EndpointStands, NodeSteps, WouldAcceptCall}
+use Rattle.gas_endpoint.specs.EndpointState.{IsNodeOf}
+use Rattle.gas_world.specs.WorldState.{WorldState}
 use Rattle.gas_world.specs.Scenes.{Scene, IsSame, MostIs, asked_list, AskFalls, AloneFallsIn, CallFalls}
 use Rattle.gas_world.specs.Stands.{StandsForPair, Stands}
 use Rattle.gas_world.specs.Events.{Accepts, Steps, job_in}
@@ -118,11 +118,13 @@ accepted_sends meaning v z now i p q n ask old new w most S i_in F e list =
     let content = said (site_of (job_in meaning v) i) r ask in
     let y = new_request now q content in
     let x = with_request r now j q content in
-    let pair = pair_accepted (limits_of s i j) (content_refusal v.settings v.table) old.exchanges.list xs ((w j).ran i) y
+    let pair =
+    pair_accepted (limits_of s i j) (content_refusal v.settings v.table) old.exchanges.list xs ((w j).ran i) y
     (S.invariant_.pair i j) (scene_pair v z w most i i j old new S F i_in it.to_in) refl in
     let asked_now : (put w i x i).asked j ≡ xs ++ y ∷ [] = ap (λ (t : Node EndpointLocal). t.asked j) (put_same w i x)
     ∙ put_same r.asked j (xs ++ y ∷ []) in
-    let ran_now : (put w i x j).ran i ≡ (w j).ran i = ap (λ (t : Node EndpointLocal). t.ran i) (put_other w i x j it.other) in
+    let ran_now : (put w i x j).ran i ≡ (w j).ran i =
+    ap (λ (t : Node EndpointLocal). t.ran i) (put_other w i x j it.other) in
     record {
       pair = subst₂ (λ A R. StandsForPair new.exchanges.list A R) (sym asked_now) (sym ran_now)
           (subst (λ (l : List Exchange). StandsForPair l (xs ++ y ∷ []) ((w j).ran i)) (sym list) pair);
@@ -139,7 +141,8 @@ request_sends : (meaning : Meaning) (v z : WorldState) (now i b : ℕ) (ask : As
     → Sends w (put w i (after_request (site_of (job_in meaning v) i) (w i) now ask a)) i b new
 request_sends meaning v z now i b ask answer old new w most S i_in b_in target F N list (asked.Accepted p q n) e =
     let is = target (accepted_says (site_of (job_in meaning v) i) (w i) ask p q n e).to_in in
-    subst (λ t. Sends w (put w i (with_request (w i) now ask.to q (said (site_of (job_in meaning v) i) (w i) ask))) i t new) (sym is)
+    subst (λ t. Sends w (put w i (with_request (w i) now ask.to q (said (site_of (job_in meaning v) i) (w i) ask))) i t
+    new) (sym is)
     (accepted_sends meaning v z now i p q n ask old new w most S i_in
     (subst (λ t. Falls v z i (i * v.settings.nodes + t) old new) is F) e
     (list ∙ ap (asked_list old.exchanges.list) (N.answer_is ∙ ap asked_answer e)))
@@ -179,7 +182,8 @@ accepts_if _ e = absurd (true≢false e)
 -- what becomes of a call that is a request of another node
 abbrev pub AskTold : Meaning → Scene → (now thread : ℕ) → Meant → WorldAnswer → Scene → Type 0
 AskTold meaning old now thread m a new = elim a [
-  | world_answers.Node answer ↦ NodeSteps meaning old.endpoint (transition now (node_event thread m) answer) new.endpoint
+  | world_answers.Node answer ↦
+      NodeSteps meaning old.endpoint (transition now (node_event thread m) answer) new.endpoint
       × MostIs old.most new.endpoint new.most
       × ((new.exchanges.list ≡ asked_list old.exchanges.list answer)
       ⊎ ((new.exchanges.list ≡ old.exchanges.list) × WouldAcceptCall old.endpoint thread m false))

@@ -1,5 +1,5 @@
 -- Each delivery of a message that was sent, by what it did to its scene.
-use Rattle.std.proofs.Common.{◌≡◌, ◌≢◌, inl, inr, ℕ, zero, suc, ◌+◌, ◌*◌, ◌<◌, ◌≤◌, Bool, true, false, true≢false}
+use Rattle.std.proofs.Common.{◌≡◌, ◌≢◌, inl, inr, ℕ, ◌+◌, ◌*◌, ◌<◌, ◌≤◌, Bool, true, false, true≢false}
 use Rattle.std.proofs.Common.{List, [], ◌∷◌, ◌++◌, Option, None, Some, refl, sym, ap, ◌∙◌, subst, subst₂, arith}
 use Rattle.std.specs.Prelude.{is_some, if◌then◌else◌, ◌==◌, nat_lt, ◌&&◌, not}
 use Rattle.std.specs.List.{slice_get}
@@ -17,9 +17,7 @@ use Rattle.node_record.specs.Behaviour.{is_request}
 use Rattle.node_record.specs.Credits.{limits_of}
 use Rattle.node_record.specs.NodeStep.{site_of, Comes}
 use Rattle.node_record.specs.Step.{Site, put, after_delivery, with_run, with_back, with_sender}
-use Rattle.node_record.specs.Step.{request_slot, reply_slot}
-use Rattle.node_record.specs.Step.{Verdict, Runs, Missed, Returns, judged, verdict}
-use Rattle.node_record.specs.Step.{answer_by}
+use Rattle.node_record.specs.Step.{request_slot, reply_slot, Verdict, Runs, Missed, Returns, judged, verdict, answer_by}
 use Rattle.node_record.specs.Invariant.{request_message, reply_message}
 use Rattle.node_record.proofs.Answers.{runs_says, returns_says}
 use Rattle.node_record.proofs.Lists.{numbered_in, run_of_there}
@@ -33,11 +31,10 @@ use Rattle.plain_world.specs.World.{RequestComes, ReplyComes, request_event, rep
 use Rattle.plain_world.specs.Invariant.{WorldInvariant}
 use Rattle.plain_world.proofs.Laws.{none_ran}
 use Rattle.plain_world.proofs.PlainDeliveries.{past, request_judged, reply_judged}
-use Rattle.endpoint_rules.specs.EndpointRules.{transition}
-use Rattle.endpoint_rules.specs.EndpointRules.{Records}
-use Rattle.gas_world.specs.State.{with_ran, with_returned}
-use Rattle.gas_endpoint.specs.Endpoints.{EndpointState}
-use Rattle.gas_world.specs.Worlds.{WorldState}
+use Rattle.endpoint_rules.specs.EndpointRules.{transition, Records}
+use Rattle.gas_world.specs.Exchanges.{with_ran, with_returned}
+use Rattle.gas_endpoint.specs.EndpointState.{EndpointState}
+use Rattle.gas_world.specs.WorldState.{WorldState}
 use Rattle.gas_world.specs.Scenes.{Scene, ran_list, returned_list, request_letter, reply_letter}
 use Rattle.gas_world.specs.Scenes.{RequestFalls, RequestRuns, RequestRepeats, repeated}
 use Rattle.gas_world.specs.Scenes.{ReplyFalls, ReplyReturns, ReplyIsLate}
@@ -53,6 +50,7 @@ use Rattle.gas_world.proofs.Standing.{Falls, Sends, only_asked, only_ran, same_s
 use Rattle.gas_world.proofs.Events.{Stepped, Stepping, scene_node, scene_pair, scene_steps, event_steps, quiet_sends}
 use Rattle.gas_world.proofs.Events.{same_quiet, still_steps, nowhere_steps, most_raised, other_node, at_home}
 use Rattle.gas_world.proofs.Messages.{request_stands, run_says, run_stands, node_invariant, carried}
+use Rattle.lists.proofs.Numbered.{numbered_none}
 
 -- ---- whether a request ran
 
@@ -72,7 +70,8 @@ no_run e = cc
 
 -- what didn't run isn't back
 pub not_back : (s : Parameters) (refuses : Content → Option Why) (w : Records) (i j k : ℕ) (x : Request)
-    → WorldInvariant s refuses (IsEndpointKept s) w → numbered ((w i).asked j) k ≡ Some x → run_of k ((w j).ran i) ≡ None
+    → WorldInvariant s refuses (IsEndpointKept s) w → numbered ((w i).asked j) k ≡ Some x
+    → run_of k ((w j).ran i) ≡ None
     → x.back ≡ false
 not_back s refuses w i j k x holds at none = elim (cases_Bool x.back) [
   | inl back ↦ (let ran = (holds.pair i j).back_ran k x at back in absurd (no_run (sym none ∙ ran.1)))
@@ -151,7 +150,8 @@ first_steps : (meaning : Meaning) (v z : WorldState) (now i j k : ℕ) (x : Requ
     → i < v.settings.nodes → j < v.settings.nodes → i ≢ j → Falls v z j (i * v.settings.nodes + j) old new
     → slice_get v.endpoints i ≡ Some sender → numbered ((w i).asked j) k ≡ Some x
     → run_of k ((w j).ran i) ≡ None
-    → RequestRuns meaning (record { sender = sender; slot = x.slot }) old (transition now (request_letter i j k) answer) new
+    → RequestRuns meaning (record { sender = sender; slot = x.slot }) old (transition now (request_letter i j k) answer)
+    new
     → Stepped meaning v now (RequestComes i j k) (world_answers.Node answer) z w most
 first_steps meaning v z now i j k x sender answer old new w most lawful S i_in j_in apart F lent sent none R =
     let s = v.settings in
@@ -172,7 +172,8 @@ first_steps meaning v z now i j k x sender answer old new w most lawful S i_in j
     refl)
 
 -- a number that isn't above the greatest one is answered by the numbers alone, and changes nothing
-repeats_by : (site : Site EndpointLocal) (r : Node EndpointLocal) (m : Message) (top : ℕ) (lock : Option ℕ) → m.number ≤ top
+repeats_by : (site : Site EndpointLocal) (r : Node EndpointLocal) (m : Message) (top : ℕ) (lock : Option ℕ)
+    → m.number ≤ top
     → (answer_by site.behaviour m (judged m.number top lock) ≡ repeated m.from m.slot (m.number == top))
     × (after_delivery site r m (judged m.number top lock) ≡ r)
 repeats_by site r m top lock low = elim (cases_order m.number top) [
@@ -234,7 +235,8 @@ request_steps meaning v z now i j k sender (world_answers.Node answer) old new l
           (subst (λ q. RequestRepeats q old step new) it.stands.slot (R.repeats ran)))
       | inr new_one ↦ first_steps meaning v z now i j k it.x sender answer old new w most lawful S i_in j_in apart F
           lent it.at (not_ran (run_of k ((w j).ran i)) (sym new_one ∙ it.stands.ran))
-          (subst (λ q. RequestRuns meaning (record { sender = sender; slot = q }) old step new) it.stands.slot (R.runs new_one))
+          (subst (λ q. RequestRuns meaning (record { sender = sender; slot = q }) old step new) it.stands.slot
+          (R.runs new_one))
     ]
 request_steps meaning v z now i j k sender world_answers.NoMemory old new lawful i_in j_in apart F lent R = absurd R
 request_steps meaning v z now i j k sender world_answers.Unsent old new lawful i_in j_in apart F lent R = λ w most S.
@@ -303,7 +305,8 @@ take_steps : (meaning : Meaning) (v z : WorldState) (now i j k : ℕ) (x : Reque
     → i < v.settings.nodes → j < v.settings.nodes → i ≢ j → Falls v z i (i * v.settings.nodes + j) old new
     → slice_get v.endpoints j ≡ Some sender → numbered ((w i).asked j) k ≡ Some x → x.back ≡ false
     → run_of k ((w j).ran i) ≡ Some r
-    → ReplyReturns meaning (record { sender = sender; slot = x.slot }) old (transition now (reply_letter i j k) answer) new
+    → ReplyReturns meaning (record { sender = sender; slot = x.slot }) old (transition now (reply_letter i j k) answer)
+    new
     → Stepped meaning v now (ReplyComes i j k) (world_answers.Node answer) z w most
 take_steps meaning v z now i j k x r sender answer old new w most lawful S i_in j_in apart F lent sent out ran R =
     let s = v.settings in
@@ -362,7 +365,8 @@ reply_steps meaning v z now i j k sender (world_answers.Node answer) old new law
           (sym it.stands.back ∙ back) r.1 (R.late back)
       | inr out ↦ take_steps meaning v z now i j k it.x r.0 sender answer old new w most lawful S i_in j_in apart F
           lent it.at (sym it.stands.back ∙ out) r.1
-          (subst (λ q. ReplyReturns meaning (record { sender = sender; slot = q }) old step new) it.stands.slot (R.returns out))
+          (subst (λ q. ReplyReturns meaning (record { sender = sender; slot = q }) old step new) it.stands.slot
+          (R.returns out))
     ]
 reply_steps meaning v z now i j k sender world_answers.NoMemory old new lawful i_in j_in apart F lent R = absurd R
 reply_steps meaning v z now i j k sender world_answers.Unsent old new lawful i_in j_in apart F lent R = λ w most S.
@@ -381,11 +385,6 @@ reply_steps meaning v z now i j k sender world_answers.Unsent old new lawful i_i
         absurd (true≢false (sym (it.2.ran ∙ ap is_some ran) ∙ R.unsent it.0 it.1))
 
 -- ---- a node sends nothing to itself
-
--- nothing is there by a number
-numbered_none : {X : Type 0} (xs : List X) (k : ℕ) → xs ≡ [] → numbered xs k ≡ None
-numbered_none xs zero e = refl
-numbered_none xs (suc k) e = ap (λ ys. slice_get ys k) e
 
 -- a request of a node to itself was never sent
 pub own_request_steps : (meaning : Meaning) (v : WorldState) (now i j k : ℕ) → i ≡ j

@@ -19,11 +19,10 @@ use Rattle.plain_world.specs.World.{IsAmong, falls, answer_at, after_at, world_a
 use Rattle.plain_world.specs.MostHeld.{most_then}
 use Rattle.plain_world.specs.Invariant.{WorldInvariant}
 use Rattle.endpoint_rules.specs.EndpointRules.{Records, RecordsEvent, RecordEvent, timed, transition, job_of, told}
-use Rattle.gas_world.specs.Told.{world_told}
-use Rattle.gas_world.specs.Exchanged.{ExchangesState}
-use Rattle.gas_endpoint.specs.Endpoints.{EndpointState, EndpointStands, NodeSteps, sent_to}
-use Rattle.gas_endpoint.specs.Endpoints.{IsNodeOf}
-use Rattle.gas_world.specs.Worlds.{WorldState}
+use Rattle.gas_world.specs.WorldTold.{world_told}
+use Rattle.gas_world.specs.ExchangesState.{ExchangesState}
+use Rattle.gas_endpoint.specs.EndpointState.{EndpointState, EndpointStands, NodeSteps, sent_to, IsNodeOf}
+use Rattle.gas_world.specs.WorldState.{WorldState}
 use Rattle.gas_world.specs.Scenes.{Scene, MostIs, IsSame}
 use Rattle.gas_world.specs.Stands.{StandsForPair, Stands}
 use Rattle.gas_world.specs.Events.{job_in}
@@ -34,8 +33,10 @@ use Rattle.gas_world.specs.declared.exchanges.Exchange.{Exchange}
 use Rattle.plain_world.proofs.Worlds.{step_keeps}
 use Rattle.endpoint_rules.proofs.Sound.{rules_sound}
 use Rattle.gas_world.proofs.PairStands.{pair_sent}
-use Rattle.gas_world.proofs.Standing.{Falls, Sends as SendsAt, IsQuiet, quiet_pairs, Moves, moves_stand, still_stands, max_same}
+use Rattle.gas_world.proofs.Standing.{Falls, Sends as SendsAt, IsQuiet, quiet_pairs, Moves, moves_stand, still_stands}
+use Rattle.gas_world.proofs.Standing.{max_same}
 use Rattle.gas_world.proofs.Scenes.{node_kept}
+use Rattle.lists.proofs.Cases.{none_some}
 
 -- the answer is the records', and the world stands for the records' next ones
 abbrev pub Stepped : Meaning → WorldState → (now : ℕ) → RecordsEvent → WorldAnswer → WorldState → Records → (ℕ → ℕ)
@@ -134,8 +135,10 @@ event_steps meaning v z now e i a b ne answer old new w most lawful S among i_in
     let after_is : world_after job w (timed now e) ≡ put w i x = ap (after_at job w now) at in
     let M : Moves v w most i x new = record {
       invariant_ =
-          subst (λ (y : Records). WorldInvariant s (content_refusal v.settings v.table) (IsEndpointKept v.settings) y) after_is
-          (step_keeps job (IsEndpointKept v.settings) w (timed now e) (rules_sound s v.table meaning S.range lawful) S.invariant_ among);
+          subst (λ (y : Records). WorldInvariant s (content_refusal v.settings v.table) (IsEndpointKept v.settings) y)
+          after_is
+          (step_keeps job (IsEndpointKept v.settings) w (timed now e) (rules_sound s v.table meaning S.range lawful)
+          S.invariant_ among);
       node = N.node;
       stands = N.stands;
       most_is =
@@ -200,9 +203,6 @@ pub choice_quiet : (meaning : Meaning) (v : WorldState) (i now : ℕ) (r : Node 
     → None ≡ sent_to choice → IsQuiet r (after_tick (site_of (job_in meaning v) i) r now choice)
 choice_quiet meaning v i now r (Resends due) none = tick_quiet now r (Some due)
 choice_quiet meaning v i now r (Sends sending) none = absurd (none_some none)
-  where
-    none_some : {X : Type 0} {x : X} → None ≡ Some x → ⊥
-    none_some e = cc
 choice_quiet meaning v i now r Rests none = same_quiet r r refl refl
 
 -- ---- an event that changes no record
@@ -224,7 +224,9 @@ still_steps meaning v z now e i a b ne answer old new w most lawful S among i_in
     let most_was = scene_most v z w most i place old new S F i_in in
     let N : Stepping meaning v w now i ne answer new.endpoint = record {
       answer_is = answers;
-      stands = subst₂ (λ (d : EndpointState) (r : Node EndpointLocal). EndpointStands d r) (sym I.endpoint) (sym after) node.1;
+      stands =
+          subst₂ (λ (d : EndpointState) (r : Node EndpointLocal). EndpointStands d r) (sym I.endpoint) (sym after)
+          node.1;
       node = subst (λ (d : EndpointState). IsNodeOf s v.table i d) (sym I.endpoint) node.0;
     } in
     let highest : old.most ≡ max old.most (held s i x) =
@@ -233,7 +235,8 @@ still_steps meaning v z now e i a b ne answer old new w most lawful S among i_in
     event_steps meaning v z now e i a b ne answer old new w most lawful S among i_in b_in F at N
     (I.most_is ∙ highest)
     (quiet_sends v z w most i a b x old new S a_in b_in F I.list
-    (same_quiet (w i) x (ap (λ (r : Node EndpointLocal). r.asked) after) (ap (λ (r : Node EndpointLocal). r.ran) after)))
+    (same_quiet (w i) x (ap (λ (r : Node EndpointLocal). r.asked) after)
+    (ap (λ (r : Node EndpointLocal). r.ran) after)))
 
 -- ---- a message that was never sent
 

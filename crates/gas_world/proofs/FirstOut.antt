@@ -6,7 +6,7 @@ use Rattle.std.proofs.lemmas.Option.{slice_get_cases}
 use Rattle.node_record.specs.Record.{Request, Run, numbered}
 use Rattle.endpoint_rules.specs.EndpointRules.{Records}
 use Rattle.plain_world.specs.Plain.{IsFirstOut, plain_of, labelled, is_back}
-use Rattle.gas_world.specs.State.{front_back}
+use Rattle.gas_world.specs.Exchanges.{front_back}
 use Rattle.gas_world.specs.Stands.{StandsForPair}
 use Rattle.gas_world.specs.declared.exchanges.Exchange.{Exchange}
 use Rattle.gas_world.proofs.PairStands.{sent_is}

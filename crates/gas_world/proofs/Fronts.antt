@@ -5,8 +5,8 @@ use Rattle.std.proofs.lemmas.Bool.{cases_Bool, cases_lt}
 use Rattle.std.proofs.lemmas.Option.{slice_get_read}
 use Rattle.lists.specs.Update.{update}
 use Rattle.lists.proofs.Update.{update-Some}
-use Rattle.gas_world.specs.Exchanged.{ExchangesState}
-use Rattle.gas_world.specs.State.{front_back, requested}
+use Rattle.gas_world.specs.ExchangesState.{ExchangesState}
+use Rattle.gas_world.specs.Exchanges.{front_back, requested}
 use Rattle.gas_world.specs.declared.exchanges.Exchange.{Exchange}
 
 -- ---- how many are back

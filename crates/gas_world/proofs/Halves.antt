@@ -2,11 +2,7 @@
 use Rattle.std.proofs.Common.{ℕ, ◌≡◌, ◌+◌, ◌<◌, Some, List, [], ◌∷◌, ◌++◌, length, set, suc}
 use Rattle.std.proofs.Common.{zero, refl, sym, ap, ◌∙◌, arith}
 use Rattle.std.specs.List.{slice_get}
-
-get_left : {X : Type 0} (xs ys : List X) (k : ℕ) → k < length xs → slice_get (xs ++ ys) k ≡ slice_get xs k
-get_left [] ys k lt = absurd (omega arith)
-get_left (x ∷ xs) ys zero lt = refl
-get_left (x ∷ xs) ys (suc k) lt = get_left xs ys k (omega arith)
+use Rattle.lists.proofs.Indexes.{get-append_left}
 
 get_right : {X : Type 0} (xs ys : List X) (k n : ℕ) → n ≡ length xs + k → slice_get (xs ++ ys) n ≡ slice_get ys k
 get_right [] ys k n e = let same : n ≡ k = omega arith in ap (slice_get ys) same
@@ -27,7 +23,8 @@ set_right {X = X} (x ∷ xs) ys k (suc n) v e = ap (λ (zs : List X). x ∷ zs) 
 -- what stands in the first part, or in the second, stands in the whole
 pub here_left : {X : Type 0} (all xs ys : List X) (k : ℕ) (x : X) → all ≡ xs ++ ys → k < length xs
     → slice_get xs k ≡ Some x → slice_get all k ≡ Some x
-here_left {X = X} all xs ys k x split lt at = ap (λ (zs : List X). slice_get zs k) split ∙ (get_left xs ys k lt ∙ at)
+here_left {X = X} all xs ys k x split lt at = ap (λ (zs : List X). slice_get zs k) split
+    ∙ (get-append_left xs ys k lt ∙ at)
 
 pub here_right : {X : Type 0} (all xs ys : List X) (k n : ℕ) (x : X) → all ≡ xs ++ ys → n ≡ length xs + k
     → slice_get ys k ≡ Some x → slice_get all n ≡ Some x

@@ -18,7 +18,8 @@ pub headline : (s : Parameters) (table : List (Option Entry)) (meaning : Meaning
     → AreInRange s → IsLawfulMeaning meaning → AllByRecursion (λ (e : Timed OtherCall). IsAmong s e.event) es
     → Headline (job_of s table meaning) (λ i. nothing_begun s) es
 headline s table meaning es range lawful among =
-    any_headline (job_of s table meaning) (IsEndpointKept s) (λ i. nothing_begun s) es (rules_sound s table meaning range lawful)
+    any_headline (job_of s table meaning) (IsEndpointKept s) (λ i. nothing_begun s) es
+    (rules_sound s table meaning range lawful)
     (λ i. opening_kept s i)
     among
 

@@ -7,9 +7,9 @@ use Rattle.node_record.specs.Step.{request_slot, reply_slot}
 use Rattle.handler_rules.specs.Runs.{Meaning, IsLawfulMeaning}
 use Rattle.am_core.specs.ClientRules.{content_refusal}
 use Rattle.endpoint_rules.specs.EndpointRules.{Records}
-use Rattle.gas_world.specs.Exchanged.{ExchangesState}
-use Rattle.gas_endpoint.specs.Endpoints.{EndpointState}
-use Rattle.gas_world.specs.Worlds.{WorldState}
+use Rattle.gas_world.specs.ExchangesState.{ExchangesState}
+use Rattle.gas_endpoint.specs.EndpointState.{EndpointState}
+use Rattle.gas_world.specs.WorldState.{WorldState}
 use Rattle.gas_world.specs.Scenes.{HoldsMessage, HoldsRequest, HoldsReply, IsHeld, IsBetween}
 use Rattle.gas_world.specs.Scenes.{request_letter, reply_letter}
 use Rattle.gas_world.specs.Stands.{Stands, StandsForPair}
@@ -63,12 +63,14 @@ reply_held meaning v w most i j k exchanges sender lawful S i_in j_in pair lent 
     (pair_there v w most i j exchanges S i_in j_in pair) at in
     let here = other_node v w most j sender S lent j_in in
     let r = did_run (run_of k ((w j).ran i)) (sym did ∙ it.stands.ran) in
-    let found = run_stands meaning v w i j k it.x r.0 S.range lawful S.invariant_ it.at (sym it.stands.back ∙ out) r.1 in
+    let found =
+    run_stands meaning v w i j k it.x r.0 S.range lawful S.invariant_ it.at (sym it.stands.back ∙ out) r.1 in
     subst (λ q. HoldsMessage sender (reply_slot i q)) (sym it.stands.slot)
     (held_there s v.table j sender (w j) (reply_slot i it.x.slot) _ here.0 here.1 found)
 
 -- what an event delivers, where it falls on this pair
-pub event_held : (meaning : Meaning) (v : WorldState) (w : Records) (most : ℕ → ℕ) (e : WorldEvent) (now : ℕ) (aim : Aim)
+pub event_held : (meaning : Meaning) (v : WorldState) (w : Records) (most : ℕ → ℕ) (e : WorldEvent) (now : ℕ)
+    (aim : Aim)
     (exchanges : ExchangesState) → IsLawfulMeaning meaning → Stands v w most → IsAmong v.settings (event_of e)
     → FallsAt v now e aim
     → slice_get v.exchanges (aim.from * v.settings.nodes + aim.to) ≡ Some exchanges

@@ -1,7 +1,7 @@
 -- The message that a node keeps in a slot for a request that isn't back, or for the reply to one.
-use Rattle.std.proofs.Common.{◌≡◌, ◌≢◌, ℕ, Bool, true, false, not, ◌&&◌, Option, None, Some, refl, sym, ap, ◌∙◌}
+use Rattle.std.proofs.Common.{◌≡◌, ◌≢◌, ℕ, false, Option, Some, refl, sym, ap, ◌∙◌}
 use Rattle.std.proofs.Common.{eq-eqb, ne_eqb, lt-ltb, eqb}
-use Rattle.std.specs.Prelude.{nat_lt, if◌then◌else◌, List}
+use Rattle.std.specs.Prelude.{nat_lt, List}
 use Rattle.std.specs.Option.{option_map}
 use Rattle.std.proofs.lemmas.Option.{same_Some}
 use Rattle.datagram_grammar.specs.Parameters.{Parameters, AreInRange, credits_of}
@@ -32,21 +32,17 @@ use Rattle.plain_world.proofs.PlainReadings.{is_back_at, reply_of_from}
 use Rattle.plain_world.proofs.PlainSlots.{none_passes, reply_stands}
 use Rattle.endpoint_rules.specs.EndpointRules.{transition}
 use Rattle.endpoint_rules.specs.EndpointRules.{Records}
-use Rattle.gas_endpoint.specs.Endpoints.{EndpointState, EndpointStands, NodeSteps}
+use Rattle.gas_endpoint.specs.EndpointState.{EndpointState, EndpointStands, NodeSteps}
 use Rattle.gas_world.specs.Events.{job_in}
-use Rattle.gas_endpoint.specs.Endpoints.{IsNodeOf}
-use Rattle.gas_world.specs.Worlds.{WorldState}
+use Rattle.gas_endpoint.specs.EndpointState.{IsNodeOf}
+use Rattle.gas_world.specs.WorldState.{WorldState}
 use Rattle.gas_world.specs.Scenes.{Carries, HoldsMessage}
 use Rattle.endpoint_rules.specs.declared.answer.Answer.{Answer}
 use Rattle.gas_world.proofs.Events.{at_home}
 use Rattle.endpoint_rules.proofs.Sound.{rules_sound}
+use Rattle.lists.proofs.Tests.{gate}
 
 -- ---- what stands in a slot
-
--- the checks of a slot pass
-gate : {X : Type 0} (a b c : Bool) (o : Option X) → a ≡ true → b ≡ false → c ≡ true
-    → (if a && (not b && c) then o else None) ≡ o
-gate a b c o e f g = rw (e, f, g) refl
 
 -- the message of a request that isn't back stands in its slot
 pub request_stands : (s : Parameters) (refuses : Content → Option Why) (w : Records) (i j k : ℕ) (x : Request)
@@ -65,7 +61,8 @@ request_stands s refuses w i j k x holds apart at out =
 
 -- a run of a request, by its number and its slot
 pub run_says : (s : Parameters) (refuses : Content → Option Why) (w : Records) (i j k : ℕ) (x : Request) (r : Run)
-    → WorldInvariant s refuses (IsEndpointKept s) w → numbered ((w i).asked j) k ≡ Some x → run_of k ((w j).ran i) ≡ Some r
+    → WorldInvariant s refuses (IsEndpointKept s) w → numbered ((w i).asked j) k ≡ Some x
+    → run_of k ((w j).ran i) ≡ Some r
     → (r.number ≡ k) × (x.slot ≡ r.slot)
 run_says s refuses w i j k x r holds at ran =
     let there = run_of_there k ((w j).ran i) r ran in
@@ -119,7 +116,8 @@ carried s table i sender r at m meaning old now answer new N S found fits versio
     })
 
 -- what stands in a slot by the world's record is held there
-pub held_there : (s : Parameters) (table : List (Option Entry)) (i : ℕ) (sender : EndpointState) (r : Node EndpointLocal)
+pub held_there : (s : Parameters) (table : List (Option Entry)) (i : ℕ) (sender : EndpointState)
+    (r : Node EndpointLocal)
     (at : SlotRef) (message : List ℕ) → IsNodeOf s table i sender → EndpointStands sender r
     → message_at s i r at ≡ Some message → HoldsMessage sender at
 held_there s table i sender r at message N S found =

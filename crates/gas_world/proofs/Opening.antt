@@ -1,6 +1,6 @@
 -- A new world stands for records that are empty.
-use Rattle.std.proofs.Common.{◌≡◌, inl, inr, ℕ, zero, suc, ◌+◌, ◌*◌, ◌<◌, List, [], ◌∷◌, ◌++◌, length, replicate}
-use Rattle.std.proofs.Common.{Option, Some, refl, sym, ap, ◌∙◌, subst, subst₂, arith}
+use Rattle.std.proofs.Common.{◌≡◌, inl, inr, ℕ, ◌+◌, ◌*◌, ◌<◌, List, [], ◌∷◌, ◌++◌, length, replicate}
+use Rattle.std.proofs.Common.{Option, sym, ap, ◌∙◌, subst, subst₂, arith}
 use Rattle.std.specs.List.{slice_get}
 use Rattle.std.proofs.lemmas.List.{length-replicate}
 use Rattle.datagram_grammar.specs.Parameters.{Parameters, AreInRange}
@@ -11,15 +11,15 @@ use Rattle.am_core.specs.ClientRules.{content_refusal}
 use Rattle.node_record.proofs.Lists.{slice_get_push, numbered_nil}
 use Rattle.node_record.proofs.Holding.{held_nothing}
 use Rattle.endpoint_rules.specs.EndpointRules.{at_the_opening}
-use Rattle.gas_world.specs.Exchanged.{ExchangesState}
-use Rattle.gas_endpoint.specs.Endpoints.{EndpointState, EndpointStands}
-use Rattle.gas_endpoint.specs.Endpoints.{IsNodeOf}
+use Rattle.gas_world.specs.ExchangesState.{ExchangesState}
+use Rattle.gas_endpoint.specs.EndpointState.{EndpointState, EndpointStands, IsNodeOf}
 use Rattle.gas_world.specs.Sizes.{IsWorldSized, AreOpening, AreEmpty}
 use Rattle.gas_world.specs.Stands.{Stands, StandsForPair, IsWhole}
 use Rattle.gas_world.specs.declared.exchanges.Exchange.{Exchange}
 use Rattle.plain_world.proofs.Worlds.{opening_keeps}
 use Rattle.gas_world.proofs.Scenes.{pair_place}
 use Rattle.endpoint_rules.proofs.Kept.{opening_kept}
+use Rattle.lists.proofs.Places.{slice_get_there, slice_get-replicate}
 
 -- one endpoint more
 pub opening_push : (s : Parameters) (table : List (Option Entry)) (es : List EndpointState) (e : EndpointState)
@@ -30,18 +30,6 @@ opening_push s table es e A N S i x at = elim (slice_get_push es e i x at) [
   | inr last ↦ subst₂ (λ (n : ℕ) (y : EndpointState). IsNodeOf s table n y × EndpointStands y
       (opening_node (nothing_begun s))) (sym last.0) last.1 (N, S)
 ]
-
--- what is at a place
-item_in : {X : Type 0} (xs : List X) (i : ℕ) → i < length xs → (x : X) × (slice_get xs i ≡ Some x)
-item_in [] i l = absurd (omega arith)
-item_in (x ∷ xs) zero l = (x, refl)
-item_in (x ∷ xs) (suc i) l = item_in xs i (omega arith)
-
--- the same at each place
-slice_get-replicate : {X : Type 0} (n i : ℕ) (x : X) → i < n → slice_get (replicate n x) i ≡ Some x
-slice_get-replicate zero i x l = absurd (omega arith)
-slice_get-replicate (suc n) zero x l = refl
-slice_get-replicate (suc n) (suc i) x l = slice_get-replicate n i x (omega arith)
 
 -- no exchange of a pair that asked nothing
 empty_pair : (list : List Exchange) → list ≡ [] → StandsForPair list [] []
@@ -59,11 +47,13 @@ pub stands_opening : (s : Parameters) (table : List (Option Entry)) (es : List E
     (at_the_opening s) (λ i. 0)
 stands_opening s table es xs most range count A pairs E zeros = record {
   range = range;
-  invariant_ = opening_keeps s (content_refusal s table) (IsEndpointKept s) (λ i. nothing_begun s) (λ i. opening_kept s i);
+  invariant_ =
+      opening_keeps s (content_refusal s table) (IsEndpointKept s) (λ i. nothing_begun s) (λ i. opening_kept s i);
   endpoints =
-      λ i low. let it = item_in es i (omega (arith, low, count)) in let at = A i it.0 it.1 in (it.0, it.1, at.0, at.1);
+      λ i low. let it = slice_get_there es i (omega (arith, low, count)) in let at = A i it.0 it.1 in
+      (it.0, it.1, at.0, at.1);
   exchanges = λ i j i_in j_in.
-      let it = item_in xs (i * s.nodes + j)
+      let it = slice_get_there xs (i * s.nodes + j)
       (subst (λ n. i * s.nodes + j < n) (sym pairs) (pair_place s.nodes i j i_in j_in)) in
       (it.0.list, it.0.room, it.1, empty_pair it.0.list (E (i * s.nodes + j) it.0 it.1));
   most_is = λ i low. ap (λ ms. slice_get ms i) zeros ∙ slice_get-replicate s.nodes i 0 low;

@@ -1,6 +1,6 @@
 -- The exchanges of a pair stand for its requests still when one is accepted, runs, comes back or is sent again.
 use Rattle.std.proofs.Common.{◌≡◌, ◌≢◌, inl, inr, ℕ, zero, suc, ◌-◌, ◌<◌, ◌≤◌, false, List, [], ◌∷◌, ◌++◌}
-use Rattle.std.proofs.Common.{length, Option, None, Some, refl, sym, ap, ◌∙◌, subst, subst₂, arith, eqb, eq-eqb, ne_eqb}
+use Rattle.std.proofs.Common.{length, Option, None, Some, refl, sym, ap, ◌∙◌, subst, subst₂, arith, eqb, ne_eqb}
 use Rattle.std.proofs.Common.{length-append}
 use Rattle.std.specs.Prelude.{is_some}
 use Rattle.std.specs.List.{slice_get}
@@ -18,9 +18,10 @@ use Rattle.node_record.specs.Credits.{Limits}
 use Rattle.node_record.proofs.Lists.{numbered_push, numbered_kept, numbered_in, slice_get_last, numbered-change}
 use Rattle.node_record.proofs.Lists.{length-change, run_of_there}
 use Rattle.plain_world.specs.Invariant.{PairInvariant}
-use Rattle.gas_world.specs.State.{requested, run as as_run, returned, with_ran, with_returned}
+use Rattle.gas_world.specs.Exchanges.{requested, run as as_run, returned, with_ran, with_returned}
 use Rattle.gas_world.specs.Stands.{StandsForExchange, StandsForPair}
 use Rattle.gas_world.specs.declared.exchanges.Exchange.{Exchange}
+use Rattle.plain_world.proofs.RecordAdds.{run_of_new}
 
 -- ---- a request is accepted
 
@@ -66,17 +67,6 @@ run_of_other [] r number other = rw (ne_eqb r.number number (λ e. other (sym e)
 run_of_other (t ∷ rs) r number other =
     let ih = run_of_other rs r number other in
     elim (cases_Bool (eqb t.number number)) [ inl a ↦ rw a refl | inr a ↦ rw a ih ]
-
--- the run of a request that hadn't run
-run_of_new : (rs : List Run) (r : Run) → run_of r.number rs ≡ None → run_of r.number (rs ++ r ∷ []) ≡ Some r
-run_of_new [] r none = rw (eq-eqb r.number r.number refl) refl
-run_of_new (t ∷ rs) r none = elim (cases_Bool (eqb t.number r.number)) [
-  | inl a ↦ absurd (some_none (rw a at none))
-  | inr a ↦ rw a (run_of_new rs r (rw a at none))
-]
-  where
-    some_none : Some t ≡ None → ⊥
-    some_none e = cc
 
 -- an exchange by its number, after one was changed
 numbered_update : (list : List Exchange) (number k : ℕ) (f : Exchange → Exchange) (e : Exchange) → 1 ≤ number

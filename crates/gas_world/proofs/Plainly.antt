@@ -6,9 +6,9 @@ use Rattle.plain_world.specs.World.{world_answer, world_after}
 use Rattle.plain_world.specs.PlainStep.{PlainStep}
 use Rattle.plain_world.specs.Plain.{plain_of}
 use Rattle.endpoint_rules.specs.EndpointRules.{Records, RecordsEvent, timed, transition}
-use Rattle.gas_world.specs.Told.{world_told}
+use Rattle.gas_world.specs.WorldTold.{world_told}
 use Rattle.endpoint_rules.proofs.Sound.{rules_sound}
-use Rattle.gas_world.specs.Worlds.{WorldState}
+use Rattle.gas_world.specs.WorldState.{WorldState}
 use Rattle.gas_world.specs.Stands.{Stands}
 use Rattle.gas_world.specs.Events.{job_in, Steps, StepsPlainly}
 use Rattle.plain_world.specs.Laws.{IsLawful}
@@ -26,7 +26,8 @@ answers_plainly : (meaning : Meaning) (v : WorldState) (now : ℕ) (e : RecordsE
     (plain_of (world_after (job_in meaning v) w (timed now e)))
 answers_plainly meaning v now e a w most lawful S is = (
   is,
-  step_plain (job_in meaning v) (IsEndpointKept v.settings) w (timed now e) (rules_sound v.settings v.table meaning S.range lawful)
+  step_plain (job_in meaning v) (IsEndpointKept v.settings) w (timed now e)
+      (rules_sound v.settings v.table meaning S.range lawful)
       S.invariant_,
 )
 
@@ -44,4 +45,5 @@ plainly meaning old now e answers.Unsent new sound steps =
 pub stands_lawful : (meaning : Meaning) (v : WorldState) (w : Records) (most : ℕ → ℕ) → IsLawfulMeaning meaning
     → Stands v w most → IsLawful (job_in meaning v) w
 stands_lawful meaning v w most sound S =
-    lawful (job_in meaning v) (IsEndpointKept v.settings) w (rules_sound v.settings v.table meaning S.range sound) S.invariant_
+    lawful (job_in meaning v) (IsEndpointKept v.settings) w (rules_sound v.settings v.table meaning S.range sound)
+    S.invariant_

@@ -8,10 +8,10 @@ use Rattle.datagram_grammar.specs.Parameters.{Parameters}
 use Rattle.handler_rules.specs.declared.table.Entry.{Entry}
 use Rattle.node_record.specs.Record.{Request, Run, numbered}
 use Rattle.endpoint_rules.specs.EndpointRules.{Records}
-use Rattle.gas_world.specs.Exchanged.{ExchangesState}
-use Rattle.gas_endpoint.specs.Endpoints.{EndpointState, EndpointStands, IsTickTarget}
+use Rattle.gas_world.specs.ExchangesState.{ExchangesState}
+use Rattle.gas_endpoint.specs.EndpointState.{EndpointState, EndpointStands, IsTickTarget}
 use Rattle.gas_world.specs.Sizes.{IsWorldSized}
-use Rattle.gas_world.specs.Worlds.{WorldState}
+use Rattle.gas_world.specs.WorldState.{WorldState}
 use Rattle.gas_world.specs.Stands.{StandsForPair, Stands, IsWhole}
 use Rattle.gas_world.specs.Aims.{IsAimOfTick}
 use Rattle.plain_world.specs.Plain.{is_back}

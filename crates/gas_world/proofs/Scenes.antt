@@ -8,10 +8,10 @@ use Rattle.std.proofs.lemmas.Bool.{cases_eq}
 use Rattle.datagram_grammar.specs.Parameters.{Parameters}
 use Rattle.handler_rules.specs.declared.table.Entry.{Entry}
 use Rattle.am_core.specs.CoreContracts.{IsSameNode}
-use Rattle.gas_world.specs.Exchanged.{ExchangesState}
-use Rattle.gas_endpoint.specs.Endpoints.{EndpointState}
-use Rattle.gas_world.specs.Worlds.{WorldState}
-use Rattle.gas_endpoint.specs.Endpoints.{IsNodeOf}
+use Rattle.gas_world.specs.ExchangesState.{ExchangesState}
+use Rattle.gas_endpoint.specs.EndpointState.{EndpointState}
+use Rattle.gas_world.specs.WorldState.{WorldState}
+use Rattle.gas_endpoint.specs.EndpointState.{IsNodeOf}
 use Rattle.gas_world.specs.Sizes.{IsWorldSized}
 use Rattle.gas_world.specs.Scenes.{Scene, ChangesOne}
 use Rattle.gas_world.proofs.Standing.{Falls, get_set_same, get_set_other}

@@ -1,5 +1,5 @@
 -- Each tick, by what it did to its scene.
-use Rattle.std.proofs.Common.{◌≡◌, ◌≢◌, inl, inr, ℕ, ◌+◌, ◌*◌, ◌<◌, max, Bool, true, false, true≢false, List, []}
+use Rattle.std.proofs.Common.{◌≡◌, ◌≢◌, inl, inr, ℕ, ◌+◌, ◌*◌, ◌<◌, true, false, true≢false, List, []}
 use Rattle.std.proofs.Common.{◌∷◌, ◌++◌, refl, sym, ap, ◌∙◌, subst, subst₂}
 use Rattle.std.specs.Prelude.{Option, Some, None, is_some, unwrap_or, slice_get, slice_set, ◌==◌}
 use Rattle.std.proofs.lemmas.Bool.{cases_Bool}
@@ -14,9 +14,8 @@ use Rattle.node_record.specs.Behaviour.{Sending}
 use Rattle.node_record.specs.Credits.{limits_of}
 use Rattle.node_record.specs.Requests.{next_claim}
 use Rattle.node_record.specs.Step.{put, new_request, request_slot, tick_choice, tick_answer, after_tick, after_sending}
-use Rattle.node_record.specs.Step.{can_ask, TickChoice, Resends, Sends, Rests}
+use Rattle.node_record.specs.Step.{TickChoice, Resends, Sends, Rests}
 use Rattle.node_record.specs.NodeStep.{OfTick, Ticks as NodeTicks, site_of, node_after}
-use Rattle.node_record.specs.Held.{held}
 use Rattle.node_record.proofs.Puts.{put_same, put_other}
 use Rattle.am_core.specs.ClientRules.{content_refusal}
 use Rattle.am_core.specs.Library.{note_handler}
@@ -26,11 +25,11 @@ use Rattle.endpoint_rules.specs.EndpointRules.{Records, job_of, transition, sent
 use Rattle.endpoint_rules.specs.declared.call.Event.TheVariants as event
 use Rattle.endpoint_rules.specs.declared.answer.Answer.{Answer}
 use Rattle.endpoint_rules.specs.declared.answer.Answer.TheVariants as answers
-use Rattle.gas_endpoint.specs.Endpoints.{EndpointState, EndpointStands, NodeSteps, IsNodeOf, IsTickTarget, sent_to}
-use Rattle.gas_world.specs.Worlds.{WorldState}
+use Rattle.gas_endpoint.specs.EndpointState.{EndpointState, EndpointStands, IsNodeOf, IsTickTarget, sent_to}
+use Rattle.gas_world.specs.WorldState.{WorldState}
 use Rattle.gas_world.specs.Scenes.{Scene, Stage, scene_with, Happens, IsPlanned, asked_list, CallFalls, AloneFallsIn}
 use Rattle.gas_world.specs.Scenes.{AskFalls}
-use Rattle.gas_world.specs.State.{requested}
+use Rattle.gas_world.specs.Exchanges.{requested}
 use Rattle.gas_world.specs.Stands.{StandsForPair, Stands}
 use Rattle.gas_world.specs.Events.{Accepts, Steps, job_in}
 use Rattle.gas_world.specs.declared.exchanges.Exchange.{Exchange}
@@ -43,6 +42,7 @@ use Rattle.gas_world.proofs.PairStands.{pair_accepted}
 use Rattle.gas_world.proofs.Standing.{Falls, Sends as SendsAt, only_asked, same_stands}
 use Rattle.gas_world.proofs.Events.{Stepping, scene_node, scene_pair, scene_steps, event_steps, quiet_sends}
 use Rattle.gas_world.proofs.Events.{choice_quiet, most_raised, at_home}
+use Rattle.lists.proofs.Cases.{none_some}
 
 -- ---- what a tick does
 
@@ -64,9 +64,6 @@ pub record IsSending (choice : TickChoice) (to : ℕ) : Type 0 where
   pub sending : Sending
   pub is : choice ≡ Sends sending
   pub to_is : sending.to ≡ to
-
-none_some : {X : Type 0} {x : X} → None ≡ Some x → ⊥
-none_some e = cc
 
 sending_is : (choice : TickChoice) (to : ℕ) → Some to ≡ sent_to choice → IsSending choice to
 sending_is (Resends due) to e = absurd (none_some (sym e))
@@ -137,11 +134,13 @@ sending_sends meaning v z now i sending old new w most S i_in to_in other F list
     let xs = r.asked j in
     let y = new_request now (next_claim xs).slot sending.content in
     let x = after_sending (site_of (job_in meaning v) i) r now sending in
-    let pair = pair_accepted (limits_of s i j) (content_refusal v.settings v.table) old.exchanges.list xs ((w j).ran i) y
+    let pair =
+    pair_accepted (limits_of s i j) (content_refusal v.settings v.table) old.exchanges.list xs ((w j).ran i) y
     (S.invariant_.pair i j) (scene_pair v z w most i i j old new S F i_in to_in) refl in
     let asked_now : (put w i x i).asked j ≡ xs ++ y ∷ [] = ap (λ (t : Node EndpointLocal). t.asked j) (put_same w i x)
     ∙ put_same r.asked j (xs ++ y ∷ []) in
-    let ran_now : (put w i x j).ran i ≡ (w j).ran i = ap (λ (t : Node EndpointLocal). t.ran i) (put_other w i x j other) in
+    let ran_now : (put w i x j).ran i ≡ (w j).ran i =
+    ap (λ (t : Node EndpointLocal). t.ran i) (put_other w i x j other) in
     record {
       pair = subst₂ (λ A R. StandsForPair new.exchanges.list A R) (sym asked_now) (sym ran_now)
           (subst (λ (l : List Exchange). StandsForPair l (xs ++ y ∷ []) ((w j).ran i)) (sym list) pair);

@@ -17,10 +17,10 @@ use Rattle.plain_world.specs.MostHeld.{most_then}
 use Rattle.plain_world.specs.Invariant.{WorldInvariant}
 use Rattle.node_record.specs.Credits.{greatest_holding}
 use Rattle.endpoint_rules.specs.EndpointRules.{Records}
-use Rattle.gas_world.specs.Exchanged.{ExchangesState}
-use Rattle.gas_endpoint.specs.Endpoints.{EndpointStands}
-use Rattle.gas_endpoint.specs.Endpoints.{IsNodeOf}
-use Rattle.gas_world.specs.Worlds.{WorldState}
+use Rattle.gas_world.specs.ExchangesState.{ExchangesState}
+use Rattle.gas_endpoint.specs.EndpointState.{EndpointStands}
+use Rattle.gas_endpoint.specs.EndpointState.{IsNodeOf}
+use Rattle.gas_world.specs.WorldState.{WorldState}
 use Rattle.gas_world.specs.Scenes.{Scene, IsSame}
 use Rattle.gas_world.specs.Stands.{StandsForPair, Stands}
 use Rattle.gas_world.specs.declared.exchanges.Exchange.{Exchange}
@@ -104,7 +104,8 @@ only_asked w i x j xs asks runs c d other list P =
     ran_there : (put w i x d).ran c ≡ (w d).ran c
     ran_there = elim (cases_eq d i) [
       | inl e ↦ ap (λ n. (put w i x n).ran c) e
-          ∙ (ap (λ (r : Node EndpointLocal). r.ran c) (put_same w i x) ∙ (ap (λ g. g c) runs ∙ ap (λ n. (w n).ran c) (sym e)))
+          ∙ (ap (λ (r : Node EndpointLocal). r.ran c) (put_same w i x)
+          ∙ (ap (λ g. g c) runs ∙ ap (λ n. (w n).ran c) (sym e)))
       | inr e ↦ ap (λ (r : Node EndpointLocal). r.ran c) (put_other w i x d e)
     ]
 
@@ -159,18 +160,21 @@ quiet_pairs w i x Q c d list P =
     ran_there : (put w i x d).ran c ≡ (w d).ran c
     ran_there = elim (cases_eq d i) [
       | inl e ↦ ap (λ n. (put w i x n).ran c) e
-          ∙ (ap (λ (r : Node EndpointLocal). r.ran c) (put_same w i x) ∙ (ap (λ g. g c) Q.ran ∙ ap (λ n. (w n).ran c) (sym e)))
+          ∙ (ap (λ (r : Node EndpointLocal). r.ran c) (put_same w i x)
+          ∙ (ap (λ g. g c) Q.ran ∙ ap (λ n. (w n).ran c) (sym e)))
       | inr e ↦ ap (λ (r : Node EndpointLocal). r.ran c) (put_other w i x d e)
     ]
 
 -- ---- what stands
 
 -- what changed at a node
-pub record Moves (v : WorldState) (w : Records) (most : ℕ → ℕ) (i : ℕ) (x : Node EndpointLocal) (new : Scene) : Type 0 where
-  pub invariant_ : WorldInvariant v.settings (content_refusal v.settings v.table) (IsEndpointKept v.settings) (put w i x)
-  pub node : IsNodeOf v.settings v.table i new.endpoint
-  pub stands : EndpointStands new.endpoint x
-  pub most_is : new.most ≡ max (most i) (held v.settings i x)
+pub record Moves (v : WorldState) (w : Records) (most : ℕ → ℕ) (i : ℕ) (x : Node EndpointLocal) (new : Scene) : Type 0
+  where
+    pub invariant_ : WorldInvariant v.settings (content_refusal v.settings v.table) (IsEndpointKept v.settings)
+        (put w i x)
+    pub node : IsNodeOf v.settings v.table i new.endpoint
+    pub stands : EndpointStands new.endpoint x
+    pub most_is : new.most ≡ max (most i) (held v.settings i x)
 
 -- a world of the same settings and table, by its other parts
 with_settings : (v z : WorldState) (w : Records) (most : ℕ → ℕ) → z.settings ≡ v.settings → z.table ≡ v.table

@@ -18,7 +18,7 @@ use Rattle.node_record.proofs.Puts.{put_same, put_other}
 use Rattle.node_record.specs.NodeStep.{Comes, node_after, site_of}
 use Rattle.plain_world.specs.Plain.{plain_of, labelled, is_back}
 use Rattle.gas_world.specs.Stands.{Stands}
-use Rattle.gas_world.specs.Worlds.{WorldState}
+use Rattle.gas_world.specs.WorldState.{WorldState}
 use Rattle.plain_world.specs.World.{RequestComes, ReplyComes, Timed, request_event, reply_event, after_at}
 use Rattle.plain_world.specs.World.{world_after, run}
 use Rattle.endpoint_rules.specs.EndpointRules.{OtherCall, Records, timed}
@@ -49,7 +49,8 @@ request_keeps job w now from to number n = go (numbered ((w from).asked to) numb
         put_other w to (node_after job to (w to) now (Comes (request_message job.settings from to number x))) from n
 
 -- a reply that comes changes none but that of its number
-delivery_keeps : (site : Site EndpointLocal) (r : Node EndpointLocal) (m : Message) (v : Verdict) (k : ℕ) → suc k ≢ m.number
+delivery_keeps : (site : Site EndpointLocal) (r : Node EndpointLocal) (m : Message) (v : Verdict) (k : ℕ)
+    → suc k ≢ m.number
     → slice_get ((after_delivery site r m v).asked m.from) k ≡ slice_get (r.asked m.from) k
 delivery_keeps site r m Runs k n = refl
 delivery_keeps site r m Returns k n =
@@ -70,7 +71,8 @@ reply_keeps job w now from to number k n = go (run_of number ((w to).ran from)) 
         let m = reply_message job.settings from to r in
         let site = site_of job from in
         let same : r.number ≡ number = (run_of_there number ((w to).ran from) r e).0 in
-        ap (λ (x : Node EndpointLocal). slice_get (x.asked to) k) (put_same w from (node_after job from (w from) now (Comes m)))
+        ap (λ (x : Node EndpointLocal). slice_get (x.asked to) k)
+        (put_same w from (node_after job from (w from) now (Comes m)))
         ∙ delivery_keeps site (w from) m (verdict site (w from) m) k (λ q. n (q ∙ same))
 
 -- the request of a number, and then its reply, change no other number of the pair

@@ -6,8 +6,8 @@ use Rattle.endpoint_rules.specs.declared.call.Call.{Call}
 use Rattle.gas_world.specs.declared.event.WorldEvent.{WorldEvent}
 use Rattle.gas_world.specs.declared.event.WorldEvent.TheVariants as event
 use Rattle.node_record.specs.Transition.{Transition}
-use Rattle.gas_endpoint.specs.Endpoints.{EndpointState, IsTickTarget, MayBeCalled}
-use Rattle.gas_world.specs.Worlds.{WorldState}
+use Rattle.gas_endpoint.specs.EndpointState.{EndpointState, IsTickTarget, MayBeCalled}
+use Rattle.gas_world.specs.WorldState.{WorldState}
 use Rattle.gas_world.specs.declared.world.Aim.{Aim}
 
 -- at the node, with the pair of these two

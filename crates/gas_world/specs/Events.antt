@@ -15,10 +15,10 @@ use Rattle.plain_world.specs.Headline.{Headline}
 use Rattle.transfer_laws.specs.TransferLaws.{TransfersHold}
 use Rattle.barrier_laws.specs.BarrierLaws.{BarrierHolds}
 use Rattle.endpoint_rules.specs.EndpointRules.{OtherCall, Records, RecordsEvent, timed, job_of}
-use Rattle.gas_world.specs.Told.{world_told}
+use Rattle.gas_world.specs.WorldTold.{world_told}
 use Rattle.node_record.specs.Transition.{Transition}
 use Rattle.endpoint_rules.specs.declared.answer.Answer.{Answer}
-use Rattle.gas_world.specs.Worlds.{WorldState}
+use Rattle.gas_world.specs.WorldState.{WorldState}
 use Rattle.gas_world.specs.Stands.{Stands}
 use Rattle.endpoint_rules.specs.Called.{called_at}
 use Rattle.gas_world.specs.declared.event.WorldEvent.{WorldEvent}

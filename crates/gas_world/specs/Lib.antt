@@ -1,7 +1,7 @@
-pub mod Told
-pub mod Exchanged
-pub mod State
-pub mod Worlds
+pub mod WorldTold
+pub mod ExchangesState
+pub mod Exchanges
+pub mod WorldState
 pub mod Sizes
 pub mod Stands
 pub mod Events

@@ -16,10 +16,10 @@ use Rattle.endpoint_rules.specs.EndpointLocal.{EndpointLocal}
 use Rattle.handler_rules.specs.Runs.{Meaning}
 use Rattle.am_core.specs.Known.{IsLastRun}
 use Rattle.endpoint_rules.specs.EndpointRules.{transition}
-use Rattle.gas_world.specs.Exchanged.{ExchangesState}
-use Rattle.gas_world.specs.State.{requested, with_ran, with_returned}
-use Rattle.gas_endpoint.specs.Endpoints.{EndpointState, EndpointStands, EndpointSteps, BytesCome, WouldAcceptAt}
-use Rattle.gas_endpoint.specs.Endpoints.{ForItsRecord, IsTickTarget, MayBeCalled}
+use Rattle.gas_world.specs.ExchangesState.{ExchangesState}
+use Rattle.gas_world.specs.Exchanges.{requested, with_ran, with_returned}
+use Rattle.gas_endpoint.specs.EndpointState.{EndpointState, EndpointStands, EndpointSteps, BytesCome, WouldAcceptAt}
+use Rattle.gas_endpoint.specs.EndpointState.{ForItsRecord, IsTickTarget, MayBeCalled}
 use Rattle.gas_world.specs.declared.exchanges.Exchange.{Exchange}
 use Rattle.node_record.specs.Transition.{Transition}
 use Rattle.endpoint_rules.specs.Called.{is_to_other}

@@ -9,7 +9,7 @@ use Rattle.plain_world.specs.MostHeld.{most_after}
 use Rattle.endpoint_rules.specs.EndpointRules.{OtherCall, Records, timed}
 use Rattle.gas_world.specs.Events.{ForItsRecords}
 use Rattle.gas_world.specs.Stands.{Stands}
-use Rattle.gas_world.specs.Worlds.{WorldState}
+use Rattle.gas_world.specs.WorldState.{WorldState}
 use Rattle.endpoint_rules.specs.declared.answer.Answer.{Answer}
 
 -- a job as a world of nodes runs it: its settings, and what its nodes do

@@ -4,8 +4,8 @@ use Rattle.datagram_grammar.specs.Parameters.{Parameters}
 use Rattle.handler_rules.specs.declared.table.Entry.{Entry}
 use Rattle.node_record.specs.Record.{opening_node}
 use Rattle.endpoint_rules.specs.EndpointLocal.{nothing_begun}
-use Rattle.gas_world.specs.Exchanged.{ExchangesState}
-use Rattle.gas_endpoint.specs.Endpoints.{EndpointState, EndpointStands, IsNodeOf}
+use Rattle.gas_world.specs.ExchangesState.{ExchangesState}
+use Rattle.gas_endpoint.specs.EndpointState.{EndpointState, EndpointStands, IsNodeOf}
 
 -- an endpoint for each node, a place for each pair of nodes, and a number for each node
 pub record IsWorldSized (settings : Parameters) (table : List (Option Entry)) (endpoints : List EndpointState)

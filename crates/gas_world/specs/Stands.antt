@@ -9,10 +9,10 @@ use Rattle.endpoint_rules.specs.EndpointLocal.{IsEndpointKept}
 use Rattle.plain_world.specs.Invariant.{WorldInvariant}
 use Rattle.node_record.specs.Credits.{greatest_holding}
 use Rattle.endpoint_rules.specs.EndpointRules.{Records}
-use Rattle.gas_endpoint.specs.Endpoints.{EndpointState, EndpointStands}
-use Rattle.gas_endpoint.specs.Endpoints.{IsNodeOf}
+use Rattle.gas_endpoint.specs.EndpointState.{EndpointState, EndpointStands}
+use Rattle.gas_endpoint.specs.EndpointState.{IsNodeOf}
 use Rattle.gas_world.specs.Sizes.{IsWorldSized}
-use Rattle.gas_world.specs.Worlds.{WorldState}
+use Rattle.gas_world.specs.WorldState.{WorldState}
 use Rattle.gas_world.specs.declared.exchanges.Exchange.{Exchange}
 
 -- ---- the requests of a pair

@@ -3,7 +3,7 @@
 ghost use Rattle.std.specs.Prelude.{◌≡◌, ◌≤◌, ◌<◌, suc, ◌++◌, ◌∷◌, OnOk, length, [], IfSome};
 ghost use Rattle.std.specs.Prelude.{slice_get};
 ghost use Rattle.node_record.specs.Record.{numbered};
-ghost use Rattle.gas_world.specs.State.{front_back, requested, with_ran, with_returned};
+ghost use Rattle.gas_world.specs.Exchanges.{front_back, requested, with_ran, with_returned};
 
 use std::alloc::{AllocError, Global};
 use std::marker::Model;
@@ -30,8 +30,8 @@ pub struct Exchanges {
 
 impl Model for Exchanges {
     ghost use Rattle.std.specs.Prelude.{◌≡◌, ◌-◌, suc, vec_len, vec_capacity};
-    ghost use Rattle.gas_world.specs.Exchanged.{ExchangesState};
-    ghost use Rattle.gas_world.specs.State.{front_back};
+    ghost use Rattle.gas_world.specs.ExchangesState.{ExchangesState};
+    ghost use Rattle.gas_world.specs.Exchanges.{front_back};
 
     ghost Value = { ExchangesState };
 

@@ -1,14 +1,14 @@
 //! A world of endpoints.
 
 ghost use Rattle.std.specs.Prelude.{◌≡◌, ◌≢◌, ◌<◌, ◌≤◌, ◌+◌, ◌*◌, ℕ, IfOk, length, Some};
-ghost use Rattle.gas_endpoint.specs.Endpoints.{IsNodeOf};
+ghost use Rattle.gas_endpoint.specs.EndpointState.{IsNodeOf};
 ghost use Rattle.gas_world.specs.Sizes.{AreOpening, AreEmpty};
 ghost use Rattle.endpoint_rules.specs.EndpointRules.{at_the_opening, transition};
 ghost use Rattle.plain_world.specs.World.{IsAmong};
 ghost use Rattle.plain_world.specs.Plain.{plain_of, IsFirstOut};
 ghost use Rattle.plain_world.specs.Laws.{IsLawful};
 ghost use Rattle.node_record.specs.Credits.{greatest_holding};
-ghost use Rattle.gas_endpoint.specs.Endpoints.{EndpointStands};
+ghost use Rattle.gas_endpoint.specs.EndpointState.{EndpointStands};
 ghost use Rattle.gas_world.specs.Stands.{Stands};
 ghost use Rattle.gas_world.specs.Aims.{AimsAt, MayFall, IsTargetOf};
 ghost use Rattle.gas_world.specs.Events.{event_of, ForItsRecords, job_in, RunsHaveTheHeadline};
@@ -42,7 +42,7 @@ pub struct World {
 }
 
 impl Model for World {
-    ghost use Rattle.gas_world.specs.Worlds.{WorldState};
+    ghost use Rattle.gas_world.specs.WorldState.{WorldState};
     ghost use Rattle.gas_world.specs.Stands.{IsWhole};
 
     ghost Value = { WorldState };

@@ -1,7 +1,6 @@
 pub mod FrontLemmas
 pub mod Deciding
 pub mod NodeLemmas
-pub mod SetLemmas
 pub mod Walking
 pub mod PlaceLemmas
 pub mod MarkLemmas
@@ -13,5 +12,6 @@ pub mod EntryRuns
 pub mod LineLaws
 pub mod WordLaws
 pub mod TraceLaws
+pub mod OutputLaws
 pub mod Writing
 pub mod Refused

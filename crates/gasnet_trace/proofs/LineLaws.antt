@@ -40,7 +40,7 @@ cond_not false x y h = refl
 
 -- ---- lines
 
-joined-join : (words : Line) → joined words ≡ join_with_byte 32 words
+pub joined-join : (words : Line) → joined words ≡ join_with_byte 32 words
 joined-join [] = refl
 joined-join (word ∷ []) = append-nil word
 joined-join (word ∷ next ∷ words) = ap (λ z. word ++ (32 ∷ z)) (joined-join (next ∷ words))
@@ -136,7 +136,7 @@ line_test : (words : Line) → IsLine words → list_all is_word words ≡ true
 line_test [] h = absurd h
 line_test (word ∷ words) h = words_test (word ∷ words) h
 
-cut_again : (l rest : List ℕ) → AllByRecursion (λ b. b ≢ 10) l → list_all is_word (words_of l) ≡ true
+pub cut_again : (l rest : List ℕ) → AllByRecursion (λ b. b ≢ 10) l → list_all is_word (words_of l) ≡ true
     → line_at (l ++ 10 ∷ rest) ≡ Ok (l, rest)
 unfolding line_at
 cut_again l rest h test =
@@ -159,7 +159,7 @@ line_again words rest h =
 
 -- ---- lines, read
 
-at_ok : {A : Type 0} (line : ℕ) (r : Result A TraceWhy) (x : A) → at_line line r ≡ Ok x → r ≡ Ok x
+pub at_ok : {A : Type 0} (line : ℕ) (r : Result A TraceWhy) (x : A) → at_line line r ≡ Ok x → r ≡ Ok x
 at_ok line (Ok y) x e = ap Ok (ok_is y x e)
 at_ok line (Err w) x e = absurd (cc)
 

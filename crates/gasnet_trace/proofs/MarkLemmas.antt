@@ -12,7 +12,7 @@ use Rattle.gasnet_trace.proofs.FrontLemmas.{some_from, some_at}
 use Rattle.std.proofs.lemmas.List.Elements.{Contains-append_left, Contains-append_right, Contains-append_cases}
 use Rattle.std.specs.Option.{option_to_list}
 use Rattle.gasnet_trace.proofs.NodeLemmas.{take_more_get}
-use Rattle.gasnet_trace.proofs.SetLemmas.{slice_get-set_same, slice_get-set_other}
+use Rattle.lists.proofs.Indexes.{get-set_same, get-set_other}
 
 mark_at : (ms : MarkLists) (n i : ℕ) (v : Vec Bool Global) → slice_get ms n ≡ Some v → mark ms n i
     ≡ get_or v.items i false
@@ -35,7 +35,7 @@ module _ (ps : PlaceMaps) (ms : MarkLists) (fit : Fit ps ms) (to i : ℕ) (b : L
   within = slice_get_within ms to v at
 
   now : slice_get (slice_set ms to v') to ≡ Some v'
-  now = slice_get-set_same ms to v' within
+  now = get-set_same ms to v' within
 
   room_here : i < length v.items
   room_here = room_in ps ms fit to i b here v at
@@ -50,7 +50,7 @@ module _ (ps : PlaceMaps) (ms : MarkLists) (fit : Fit ps ms) (to i : ℕ) (b : L
 
   mark_other : (n j : ℕ) → (n ≡ to → ⊥) → mark (slice_set ms to v') n j ≡ mark ms n j
   mark_other n j d = ap (λ o. option_map_or (λ (w : Vec Bool Global). get_or w.items j false) o false)
-      (slice_get-set_other ms to n v' d)
+      (get-set_other ms to v' n d)
 
   pub fit_after : Fit ps (slice_set ms to v')
   fit_after = record {
@@ -64,7 +64,7 @@ module _ (ps : PlaceMaps) (ms : MarkLists) (fit : Fit ps ms) (to i : ℕ) (b : L
           subst (λ k. IsSomeAnd (slice_get (slice_set ms to v') k) (λ w. j < length w.items)) (sym s)
           (some_at (slice_get (slice_set ms to v') to) (λ w. j < length w.items) v' now (omega arith))
       | inr d ↦ subst (λ o. IsSomeAnd o (λ (w : Vec Bool Global). j < length w.items))
-          (sym (slice_get-set_other ms to n v' d)) (fit.room n j c e)
+          (sym (get-set_other ms to v' n d)) (fit.room n j c e)
     ];
     one = fit.one;
   }

@@ -68,7 +68,7 @@ got_is_word (Some bytes) h = record {
 
 -- ---- words that are read
 
-same_word : (a b : Word) → bytes_eq a b ≡ true → a ≡ b
+pub same_word : (a b : Word) → bytes_eq a b ≡ true → a ≡ b
 same_word a b h = (bytes_eq-Decides a b).0 h
 
 pub equal_word : (a : Word) → bytes_eq a a ≡ true

@@ -2,6 +2,8 @@ pub mod Going
 pub mod Lines
 pub mod Merged
 pub mod Noted
+pub mod OutputReading
+pub mod OutputText
 pub mod TraceRead
 pub mod TraceReading
 pub mod TraceRefusals

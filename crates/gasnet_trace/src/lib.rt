@@ -2,7 +2,7 @@
 //!
 //! What is proved, by the names of clauses (in `src/`) and definitions (in `specs/`, and in `machine`'s `Fronts`):
 //!
-//! - `print_trace` [`bytes`, `later`, `fault`] writes the one text of a trace (`trace_text`).
+//! - `print_trace` writes the one text of a trace (`trace_text`) into a sink that gathers, or at a fault of the sink a front of it.
 //! - `read_trace` [`found`, `only`, `exact`] reads a trace exactly where the bytes begin with its text (`BeginsWith`), as that trace;
 //!   else the fault names the first bad line and the first reason that applies to it, as the reading function on lines says
 //!   (`trace_at`); or memory ran out. So what was printed is read again. What a merge asks of traces is told too [`threads`, `few`].
@@ -23,6 +23,7 @@
 mod fault;
 mod laws;
 mod merging;
+mod output;
 mod printing;
 mod reading;
 mod trace;
@@ -32,6 +33,7 @@ mod words;
 pub use fault::{TraceFault, TraceWhy};
 pub use laws::front_law;
 pub use merging::{MergeFault, merge};
+pub use output::{NodeStatus, Output, Wanted, read_output};
 pub use printing::print_trace;
 pub use reading::read_trace;
 pub use trace::{Placed, Trace};

@@ -46,8 +46,9 @@ fn may_go<M: Machine>(
     requires node { node < length marks.now }
     ensures takes { IsTrue result → IsSomeAnd (slice_get entries.now at)
         (CanTake M.Machine machine.now) }
-    ensures judges { (r : M.State) → M.stands machine.now r → IsTrue result
-        ↔ MayGo (steps_of M.Machine) r entries.now (IsNoted places.now marks.now) node at }
+    ensures judges { (state : M.State) → M.stands machine.now state → IsTrue result
+        ↔ MayGo (steps_of M.Machine) (record { state = state; entries = entries.now })
+        (IsNoted places.now marks.now node) at }
 {
     let Some(entry) = entries.get(at) else {
         return false;
@@ -75,8 +76,15 @@ fn may_go_next<M: Machine>(
     requires marks { length marks.now ≡ length machines.now }
     requires node { node < length machines.now }
     ensures takes { IsTrue result → CanTakeNext M.Machine machines.now traces.now front.now node }
-    ensures judges { Judges M.Machine machines.now traces.now (IsNoted places.now marks.now)
-        front.now node result }
+    ensures judges { Judges M.Machine
+        (record {
+          machines = machines.now;
+          traces = traces.now;
+          front = front.now;
+          places = places.now;
+          marks = marks.now;
+        })
+        node result }
 {
     may_go(
         &machines[node],
@@ -105,8 +113,9 @@ fn let_go<M: Machine>(machine: &mut M, next: &Entry, places: &[Places<'_>], mark
     requires thread { next.now.thread < M.thread_count machine.old }
     requires takes { CanTake M.Machine machine.old next.now }
     requires fit { Fit places.now marks.old }
-    ensures took { Took M.Machine machine.old next.entry.now machine.new
-        places.now marks.old marks.new }
+    ensures took { Took M.Machine places.now next.entry.now
+        (record { machine = machine.old; marks = marks.old })
+        (record { machine = machine.new; marks = marks.new }) }
     ensures fit { Fit places.now marks.new }
 {
     let got = match &next.got {
@@ -135,8 +144,15 @@ fn go_next<M: Machine>(
     requires takes { CanTakeNext M.Machine machines.old traces.now front.now node }
     requires fit { Fit places.now marks.old }
     ensures fit { Fit places.now marks.new }
-    ensures took { TookNext M.Machine machines.old traces.now front.now node machines.new
-        places.now marks.old marks.new }
+    ensures took { TookNext M.Machine
+        (record {
+          machines = machines.old;
+          traces = traces.now;
+          front = front.now;
+          places = places.now;
+          marks = marks.old;
+        })
+        node machines.new marks.new }
 {
     let next = &traces[node].entries.as_slice()[front[node]];
     let_go(&mut machines[node], next, places, marks)
@@ -161,14 +177,15 @@ fn first_left(traces: &[Trace], front: &[usize]) -> Option<usize>
 
 /// An order of all entries in which each can go in its turn.
 ///
-/// There is one trace for each machine, in order. An entry can go only where all entries before it in its trace have gone; then it
-/// can go where it got nothing, or where its thread polls and its datagram equals one that was sent to its node by an entry that has
-/// gone. Each machine takes the turns of its node's entries as they go: afterwards it stands for their replay.
+/// There is one trace for each machine, in order. An entry can go only where all entries before it in its trace have
+/// gone; then it can go where it got nothing, or where its thread polls and its datagram equals one that was sent to
+/// its node by an entry that has gone. Each machine takes the turns of its node's entries as they go: afterwards it
+/// stands for their replay.
 ///
 /// # Errors
 ///
-/// `NotARun` exactly where no such order exists, with the smallest node whose next entry can't ever go. `NoMemory` where memory
-/// ran out.
+/// `NotARun` exactly where no such order exists, with the smallest node whose next entry can't ever go. `NoMemory`
+/// where memory ran out.
 pub fn merge<M: Machine>(
     alloc: Global,
     machines: &mut [M],

@@ -1,15 +1,13 @@
 //! Printing a trace.
 
-ghost use Rattle.std.specs.Prelude.{◌≤◌, ◌∷◌, [], decimal, map, length};
-ghost use Rattle.std.specs.List.{flat_map};
+ghost use Rattle.std.specs.Prelude.{◌≤◌, ◌∷◌, map, length};
 ghost use Rattle.hex.specs.Hex.{encode_lower};
-ghost use Rattle.gas_outside.specs.Faults.{Rose};
-ghost use Rattle.gas_outside.specs.Whole.{WritesAll, IsWriteFault};
-ghost use Rattle.gasnet_trace.specs.Lines.{joined, line_text, spaced, spell};
+ghost use Rattle.gas_outside.specs.Buffered.{GathersAll, outbox};
+ghost use Rattle.gasnet_trace.specs.Lines.{joined, line_text, spell};
 ghost use Rattle.gasnet_trace.specs.TraceText.{entry_line, got_word, number_line, trace_text};
 
 use crate::trace::Trace;
-use gas_outside::{Sink, Wrote, write_all};
+use gas_outside::{BufferedSink, Sink, Wrote};
 use itoa::Buffer;
 use machine::{Bytes, Entry};
 
@@ -17,27 +15,23 @@ use machine::{Bytes, Entry};
 const PIECE: usize = 64;
 
 /// Writes the digits of a few bytes.
-fn write_piece<K: Sink>(sink: &mut K, bytes: &[u8]) -> Wrote
+fn write_piece<K: Sink>(sink: &mut BufferedSink<K>, bytes: &[u8]) -> Wrote
     requires { length bytes.now ≤ 64 }
-    ensures bytes { WritesAll (K.taken sink.old) (K.taken sink.new)
+    ensures { GathersAll (outbox K.taken K.faults sink.old) (outbox K.taken K.faults sink.new)
         (encode_lower bytes.now) result }
-    ensures later { K.faults sink.old ≤ K.faults sink.new }
-    ensures fault { IsWriteFault result → Rose (K.faults sink.old) (K.faults sink.new) }
 {
     let mut room = [0; 2 * PIECE];
     let (digits, _) = room.split_at_mut(2 * bytes.len());
     let Ok(()) = hex::encode_to_slice(bytes, digits) else {
         unreachable!();
     };
-    write_all(sink, digits)
+    sink.write_all(digits)
 }
 
 /// Writes the digits of all bytes.
-fn write_digits<K: Sink>(sink: &mut K, bytes: &[u8]) -> Wrote
-    ensures bytes { WritesAll (K.taken sink.old) (K.taken sink.new)
+fn write_digits<K: Sink>(sink: &mut BufferedSink<K>, bytes: &[u8]) -> Wrote
+    ensures { GathersAll (outbox K.taken K.faults sink.old) (outbox K.taken K.faults sink.new)
         (encode_lower bytes.now) result }
-    ensures later { K.faults sink.old ≤ K.faults sink.new }
-    ensures fault { IsWriteFault result → Rose (K.faults sink.old) (K.faults sink.new) }
 {
     let mut rest = bytes;
     while !rest.is_empty() {
@@ -51,35 +45,32 @@ fn write_digits<K: Sink>(sink: &mut K, bytes: &[u8]) -> Wrote
 }
 
 /// Writes the word of what a turn got.
-fn write_got<K: Sink>(sink: &mut K, got: &Option<Bytes>) -> Wrote
-    ensures bytes { WritesAll (K.taken sink.old) (K.taken sink.new) (got_word got.now) result }
-    ensures later { K.faults sink.old ≤ K.faults sink.new }
-    ensures fault { IsWriteFault result → Rose (K.faults sink.old) (K.faults sink.new) }
+fn write_got<K: Sink>(sink: &mut BufferedSink<K>, got: &Option<Bytes>) -> Wrote
+    ensures { GathersAll (outbox K.taken K.faults sink.old) (outbox K.taken K.faults sink.new)
+        (got_word got.now) result }
 {
     let Some(bytes) = got else {
-        return write_all(sink, b"-");
+        return sink.write_all(b"-");
     };
-    if let Wrote::Fault = write_all(sink, b"x") {
+    if let Wrote::Fault = sink.write_all(b"x") {
         return Wrote::Fault;
     }
     write_digits(sink, bytes.as_slice())
 }
 
 /// Writes a name, and a space and the word for each of the others.
-fn write_words<K: Sink>(sink: &mut K, name: &[u8], others: &[&[u8]]) -> Wrote
-    ensures bytes { WritesAll (K.taken sink.old) (K.taken sink.new)
+fn write_words<K: Sink>(sink: &mut BufferedSink<K>, name: &[u8], others: &[&[u8]]) -> Wrote
+    ensures { GathersAll (outbox K.taken K.faults sink.old) (outbox K.taken K.faults sink.new)
         (joined (name.now ∷ map (λ w. w.now) others.now)) result }
-    ensures later { K.faults sink.old ≤ K.faults sink.new }
-    ensures fault { IsWriteFault result → Rose (K.faults sink.old) (K.faults sink.new) }
 {
-    if let Wrote::Fault = write_all(sink, name) {
+    if let Wrote::Fault = sink.write_all(name) {
         return Wrote::Fault;
     }
     for word in others {
-        if let Wrote::Fault = write_all(sink, b" ") {
+        if let Wrote::Fault = sink.write_all(b" ") {
             return Wrote::Fault;
         }
-        if let Wrote::Fault = write_all(sink, word) {
+        if let Wrote::Fault = sink.write_all(word) {
             return Wrote::Fault;
         }
     }
@@ -87,26 +78,22 @@ fn write_words<K: Sink>(sink: &mut K, name: &[u8], others: &[&[u8]]) -> Wrote
 }
 
 /// Writes the line of a name and a number.
-fn write_number<K: Sink>(sink: &mut K, name: &[u8], number: u64) -> Wrote
-    ensures bytes { WritesAll (K.taken sink.old) (K.taken sink.new)
+fn write_number<K: Sink>(sink: &mut BufferedSink<K>, name: &[u8], number: u64) -> Wrote
+    ensures { GathersAll (outbox K.taken K.faults sink.old) (outbox K.taken K.faults sink.new)
         (line_text (number_line name.now number)) result }
-    ensures later { K.faults sink.old ≤ K.faults sink.new }
-    ensures fault { IsWriteFault result → Rose (K.faults sink.old) (K.faults sink.new) }
 {
     let mut buffer = Buffer::new();
     let number = buffer.format(number).as_bytes();
     if let Wrote::Fault = write_words(sink, name, &[number]) {
         return Wrote::Fault;
     }
-    write_all(sink, b"\n")
+    sink.write_all(b"\n")
 }
 
 /// Writes the line of an entry.
-fn write_entry<K: Sink>(sink: &mut K, entry: &Entry) -> Wrote
-    ensures bytes { WritesAll (K.taken sink.old) (K.taken sink.new)
+fn write_entry<K: Sink>(sink: &mut BufferedSink<K>, entry: &Entry) -> Wrote
+    ensures { GathersAll (outbox K.taken K.faults sink.old) (outbox K.taken K.faults sink.new)
         (line_text (entry_line entry.entry.now)) result }
-    ensures later { K.faults sink.old ≤ K.faults sink.new }
-    ensures fault { IsWriteFault result → Rose (K.faults sink.old) (K.faults sink.new) }
 {
     let mut buffer = Buffer::new();
     let thread = buffer.format(entry.thread).as_bytes();
@@ -115,21 +102,19 @@ fn write_entry<K: Sink>(sink: &mut K, entry: &Entry) -> Wrote
     if let Wrote::Fault = write_words(sink, b"turn", &[thread, now]) {
         return Wrote::Fault;
     }
-    if let Wrote::Fault = write_all(sink, b" ") {
+    if let Wrote::Fault = sink.write_all(b" ") {
         return Wrote::Fault;
     }
     if let Wrote::Fault = write_got(sink, &entry.got) {
         return Wrote::Fault;
     }
-    write_all(sink, b"\n")
+    sink.write_all(b"\n")
 }
 
 /// Writes the lines of entries.
-fn write_entries<K: Sink>(sink: &mut K, entries: &[Entry]) -> Wrote
-    ensures bytes { WritesAll (K.taken sink.old) (K.taken sink.new)
+fn write_entries<K: Sink>(sink: &mut BufferedSink<K>, entries: &[Entry]) -> Wrote
+    ensures { GathersAll (outbox K.taken K.faults sink.old) (outbox K.taken K.faults sink.new)
         (spell (map entry_line entries.now)) result }
-    ensures later { K.faults sink.old ≤ K.faults sink.new }
-    ensures fault { IsWriteFault result → Rose (K.faults sink.old) (K.faults sink.new) }
 {
     for entry in entries {
         if let Wrote::Fault = write_entry(sink, entry) {
@@ -139,16 +124,14 @@ fn write_entries<K: Sink>(sink: &mut K, entries: &[Entry]) -> Wrote
     Wrote::Done
 }
 
-/// Writes the text of a trace, in this version of the text, into a sink.
+/// Writes the text of a trace, in this version of the text, into a sink that gathers.
 ///
-/// `Done` means that all of it was taken. `Fault` comes only where the sink's count of faults rose (or stands at its last value);
-/// a front of the text was taken then. Reading what was written gives the trace, where each entry's thread is one of the job's and
-/// each datagram got has at most 8,297 bytes (`read_trace`'s clause `only`).
-pub fn print_trace<K: Sink>(trace: &Trace, version: u8, sink: &mut K) -> Wrote
-    ensures bytes { WritesAll (K.taken sink.old) (K.taken sink.new)
+/// `Fault` comes only where the sink behind failed; a front of the text went in then. It takes no memory. Reading what was written
+/// gives the trace, where each entry's thread is one of the job's and each datagram got has at most 8,297 bytes (`read_trace`'s clause
+/// `only`).
+pub fn print_trace<K: Sink>(trace: &Trace, version: u8, sink: &mut BufferedSink<K>) -> Wrote
+    ensures { GathersAll (outbox K.taken K.faults sink.old) (outbox K.taken K.faults sink.new)
         (trace_text version trace.now) result }
-    ensures later { K.faults sink.old ≤ K.faults sink.new }
-    ensures fault { IsWriteFault result → Rose (K.faults sink.old) (K.faults sink.new) }
 {
     if let Wrote::Fault = write_number(sink, b"trace", u64::from(version)) {
         return Wrote::Fault;
@@ -162,5 +145,5 @@ pub fn print_trace<K: Sink>(trace: &Trace, version: u8, sink: &mut K) -> Wrote
     if let Wrote::Fault = write_entries(sink, trace.entries.as_slice()) {
         return Wrote::Fault;
     }
-    write_all(sink, b"end\n")
+    sink.write_all(b"end\n")
 }

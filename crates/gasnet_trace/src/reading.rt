@@ -63,7 +63,7 @@ fn setting_of(name: &[u8], low: u64, high: u64, line: &[u8]) -> Result<u64, Trac
 }
 
 /// The number of the next line, which has this name, and the bytes after the line.
-fn setting_at<'a>(
+pub(crate) fn setting_at<'a>(
     line: u32,
     name: &[u8],
     low: u64,
@@ -179,7 +179,7 @@ fn next_at(
 }
 
 /// The entries up to the line `end`, and the bytes after it.
-fn entries_at(
+pub(crate) fn entries_at(
     alloc: Global,
     threads: u16,
     line: u32,
@@ -247,8 +247,8 @@ fn trace_at(
 ///
 /// # Errors
 ///
-/// `Bad` exactly where the bytes begin with no trace's text, with the first bad line and the first reason that applies to it;
-/// `NoMemory` where memory ran out.
+/// `Bad` exactly where the bytes begin with no trace's text, with the first bad line and the first reason that applies
+/// to it; `NoMemory` where memory ran out.
 pub fn read_trace(
     alloc: Global,
     bytes: &[u8],

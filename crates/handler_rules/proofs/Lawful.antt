@@ -73,7 +73,8 @@ IsLawful-after_answer (replied.BadArg part) frame content outcome good before = 
 
 -- a reply that is asked for
 pub lawful-replying : (frame : Frame) (start : Start) (content : Content) (outcome : Outcome)
-    → IsReplyContent content → IsLawfulRun frame start outcome → IsLawfulRun frame start (replying frame content outcome)
+    → IsReplyContent content → IsLawfulRun frame start outcome
+    → IsLawfulRun frame start (replying frame content outcome)
 lawful-replying frame start content outcome is_reply lawful = record {
   reply = IsLawful-after_answer (answer frame content outcome) frame content outcome
       (λ sent. (was_sent frame content outcome sent).good is_reply) lawful.reply;

@@ -1,6 +1,6 @@
 -- What it tells of a reply that it was sent.
-use Rattle.std.proofs.Common.{◌≡◌, ◌+◌, List, [], ◌∷◌, Option, Some, None, Bool, true, false, true≢false, not, ◌&&◌}
-use Rattle.std.proofs.Common.{refl, sym, length, is_some, nat_lt}
+use Rattle.std.proofs.Common.{◌≡◌, ◌+◌, List, [], ◌∷◌, Option, Some, None, Bool, true, false, not}
+use Rattle.std.proofs.Common.{refl, length, is_some, nat_lt}
 use Rattle.std.proofs.lemmas.Bool.{ltb-false}
 use Rattle.hsl_locks.specs.declared.answer.Owner.TheVariants as owner
 use Rattle.hsl_locks.specs.Locks.{holds}
@@ -17,6 +17,7 @@ use Rattle.handler_rules.specs.Registered.{entry_at, is_for_replies}
 use Rattle.handler_rules.specs.Runs.{Frame, Outcome, IsGood, IsReplyContent, answer, answer_by, first_fault, passes_end}
 use Rattle.handler_rules.specs.Runs.{reply_faults}
 use Rattle.std.proofs.lemmas.Bool.{not-false}
+use Rattle.lists.proofs.Tests.{second_false}
 
 -- the rule table lets a reply through
 record IsAllowed (r : Role) (is_holding : Bool) (reply : Option Content) : Type 0 where
@@ -49,10 +50,6 @@ right_parts false true is_too_long is_past sent = cc
 right_parts false false true is_past sent = cc
 right_parts false false false true sent = cc
 right_parts false false false false sent = record { registered = refl; few = refl; small = refl; inside = refl }
-
-second_false : (first second : Bool) → (first && second) ≡ false → first ≡ true → second ≡ false
-second_false true second both is = both
-second_false false second both is = absurd (true≢false (sym is))
 
 -- a reply that is sent has no fault, and is the first
 pub record WasSent (frame : Frame) (content : Content) (outcome : Outcome) : Type 0 where

@@ -1,5 +1,6 @@
 -- The locks that are held stay those that there are, each held once; so they are at most 64.
-use Rattle.std.proofs.Common.{◌≡◌, ◌<◌, ◌≤◌, inl, inr, ℕ, ◌+◌, List, [], ◌∷◌, ◌++◌, length, Some, None, Bool, true, false}
+use Rattle.std.proofs.Common.{◌≡◌, ◌<◌, ◌≤◌, inl, inr, ℕ, ◌+◌, List, [], ◌∷◌, ◌++◌, length, Some, None, Bool, true}
+use Rattle.std.proofs.Common.{false}
 use Rattle.std.proofs.Common.{eqb, eqb-true, ne_eqb, refl, sym, ap, arith, length-append}
 use Rattle.std.specs.Prelude.{map, filter, cond}
 use Rattle.std.specs.List.{AllByRecursion, IsDistinct, list_any}

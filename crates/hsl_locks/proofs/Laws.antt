@@ -1,5 +1,6 @@
 -- What calls on locks leave to the others, and when the locks that a handler lists are free for it.
-use Rattle.std.proofs.Common.{◌≡◌, ◌≢◌, inl, inr, ℕ, List, [], ◌∷◌, ◌++◌, Option, Some, None, Bool, true, false, not, ◌&&◌}
+use Rattle.std.proofs.Common.{◌≡◌, ◌≢◌, inl, inr, ℕ, List, [], ◌∷◌, ◌++◌, Option, Some, None, Bool, true, false, not}
+use Rattle.std.proofs.Common.{◌&&◌}
 use Rattle.std.proofs.Common.{true≢false, eqb, eqb-true, eq-eqb, refl, sym, ap, ◌∙◌, arith}
 use Rattle.std.specs.Prelude.{◌==◌, filter, map, min, bit_or, nat_lt}
 use Rattle.std.specs.List.{list_any, reduce}
@@ -15,8 +16,10 @@ use Rattle.hsl_locks.specs.declared.answer.Held.{Held}
 use Rattle.hsl_locks.specs.declared.answer.LockAnswer.{LockAnswer}
 use Rattle.hsl_locks.specs.declared.answer.LockAnswer.TheVariants as lock_answers
 use Rattle.hsl_locks.specs.declared.answer.LockFault.{LockFault}
-use Rattle.hsl_locks.specs.Locks.{is_owner, is_thread, is_listed, is_of, is_blocking, holder, holds, without, without_lock}
-use Rattle.hsl_locks.specs.Locks.{blocked, lock_answer, answer_by, after_lock, unlock_fault, unlock_answer, after_unlock}
+use Rattle.hsl_locks.specs.Locks.{is_owner, is_thread, is_listed, is_of, is_blocking, holder, holds, without}
+use Rattle.hsl_locks.specs.Locks.{without_lock}
+use Rattle.hsl_locks.specs.Locks.{blocked, lock_answer, answer_by, after_lock, unlock_fault, unlock_answer}
+use Rattle.hsl_locks.specs.Locks.{after_unlock}
 use Rattle.std.proofs.lemmas.Bool.{or_parts}
 
 -- ---- what is left to the others
@@ -79,7 +82,7 @@ without_after_lock held owner lock listed = by_answer (lock_answer held owner lo
   by_answer lock_answers.Held = refl
   by_answer (lock_answers.Refused why) = refl
 
--- or_parts is a lock that it gives back
+-- neither is a lock that it gives back
 pub without_after_unlock : (held : List Held) (owner : Owner) (lock : ℕ)
     → without owner (after_unlock held owner lock) ≡ without owner held
 without_after_unlock held owner lock = by_fault (unlock_fault held owner lock) refl where
@@ -146,7 +149,8 @@ never_held held lock listed free = elim (cases_Bool (nat_lt lock 64)) [
 pub blocked_without : (held : List Held) (listed : ℕ) → blocked (without Handler held) listed ≡ blocked held listed
 blocked_without held listed =
     ap (λ (blocking : List Held). reduce min (map (λ (one : Held). one.lock) blocking))
-    (filter_within (is_blocking listed) (λ one. not (is_of Handler one)) (λ one. threads one.owner (is_listed listed one.lock)) held) where
+    (filter_within (is_blocking listed) (λ one. not (is_of Handler one))
+    (λ one. threads one.owner (is_listed listed one.lock)) held) where
       threads : (owner : Owner) (rest : Bool) → (is_thread owner && rest) ≡ true → not (is_owner owner Handler) ≡ true
       threads (Thread thread) rest blocks = refl
       threads Handler rest blocks = absurd (true≢false (sym blocks))

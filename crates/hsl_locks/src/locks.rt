@@ -1,7 +1,9 @@
 //! A node's handler-safe locks.
 
 ghost use Rattle.std.specs.Prelude.{◌≡◌, []};
-ghost use Rattle.hsl_locks.specs.Locks.{lock_answer, after_lock, unlock_answer, unlock_fault, after_unlock, held_by, holds, blocked, without, holder, latest, is_listed};
+ghost use Rattle.hsl_locks.specs.Locks.{lock_answer, after_lock, unlock_answer, unlock_fault};
+ghost use Rattle.hsl_locks.specs.Locks.{after_unlock, held_by, holds, blocked, without, holder};
+ghost use Rattle.hsl_locks.specs.Locks.{latest, is_listed};
 
 use crate::answer::{Held, LockAnswer, LockFault, Owner, UnlockAnswer};
 use arrayvec::ArrayVec;
@@ -10,10 +12,11 @@ use std::marker::Model;
 /// How many locks a node has.
 pub const LOCKS: usize = 64;
 
-/// The locks of a node, 0 to 63, all free at first (GASNet 1.8.1, core API, handler-safe locks). Its value is the list of those that
-/// are held, each with its owner, in order of locking.
+/// The locks of a node, 0 to 63, all free at first (GASNet 1.8.1, core API, handler-safe locks). Its value is the list
+/// of those that are held, each with its owner, in order of locking.
 ///
-/// Nothing here waits or takes memory: a lock that another owner holds is answered `Held`, and whoever asked may ask again.
+/// Nothing here waits or takes memory: a lock that another owner holds is answered `Held`, and whoever asked may ask
+/// again.
 #[derive(Drop)]
 pub struct Locks {
     held: ArrayVec<Held, LOCKS>,
@@ -45,8 +48,9 @@ impl Locks {
     /// thread it says nothing.
     ///
     /// In this order (profile): `Refused(BadIndex)` exactly where `lock` is 64 or more, `Refused(NotListed)` where the
-    /// owner is the handler and bit `lock` of `listed` is 0, `Refused(Recursive)` where the owner holds the lock, `Held`
-    /// where another does, else `Taken`. Only `Taken` changes anything: the lock is the owner's latest from then on.
+    /// owner is the handler and bit `lock` of `listed` is 0, `Refused(Recursive)` where the owner holds the lock,
+    /// `Held` where another does, else `Taken`. Only `Taken` changes anything: the lock is the owner's latest from then
+    /// on.
     pub fn lock(&mut self, owner: Owner, lock: u8, listed: u64) -> LockAnswer
         ensures answer { result ≡ lock_answer self.old owner lock listed }
         ensures locks { self.new ≡ after_lock self.old owner lock listed }
@@ -69,9 +73,9 @@ impl Locks {
 
     /// Gives a lock back.
     ///
-    /// In this order (profile): `Refused(BadIndex)` exactly where `lock` is 64 or more, `Refused(NotHeld)` where the owner
-    /// does not hold it, `Refused(OutOfOrder)` where it is not the latest of the locks that the owner holds, else `Freed`.
-    /// Only `Freed` changes anything: the lock is free from then on.
+    /// In this order (profile): `Refused(BadIndex)` exactly where `lock` is 64 or more, `Refused(NotHeld)` where the
+    /// owner does not hold it, `Refused(OutOfOrder)` where it is not the latest of the locks that the owner holds, else
+    /// `Freed`. Only `Freed` changes anything: the lock is free from then on.
     pub fn unlock(&mut self, owner: Owner, lock: u8) -> UnlockAnswer
         ensures answer { result ≡ unlock_answer self.old owner lock }
         ensures locks { self.new ≡ after_unlock self.old owner lock }
@@ -100,8 +104,8 @@ impl Locks {
         self.held.iter().any(|one| one.owner.is(owner))
     }
 
-    /// The smallest lock that is listed and that a thread holds: while there is one, the message of a handler that lists
-    /// these locks waits (profile). None exactly where no thread holds a listed lock.
+    /// The smallest lock that is listed and that a thread holds: while there is one, the message of a handler that
+    /// lists these locks waits (profile). None exactly where no thread holds a listed lock.
     pub fn blocked(&self, listed: u64) -> Option<u8>
         ensures { result ≡ blocked self.now listed }
     {

@@ -1,10 +1,11 @@
 -- A list of words, as a loop reads it.
-use Rattle.std.proofs.Common.{◌≡◌, ℕ, zero, suc, ◌-◌, ◌<◌, ◌≤◌, List, [], ◌∷◌, ◌++◌, length, Option, Some, None, Bool}
-use Rattle.std.proofs.Common.{true, false, ltb, ◌&&◌, refl, ap, sym, arith, append_assoc, append-nil}
+use Rattle.std.proofs.Common.{◌≡◌, ℕ, zero, suc, ◌-◌, ◌<◌, ◌≤◌, List, [], ◌∷◌, ◌++◌, length, Option, Some, None}
+use Rattle.std.proofs.Common.{true, false, ltb, refl, ap, sym, arith, append_assoc, append-nil}
 use Rattle.std.proofs.lemmas.Bool.{and_parts, lt-ltb, ltb-true, le-leb, lt-leb}
 use Rattle.job_text.specs.Lines.{◌>>=◌}
 use Rattle.job_text.specs.Forms.{Part, Meaning, part_at, has_space, has_more, parts_at, many_at}
 use Rattle.job_text.proofs.Fronts.{cond_yes, cond_no}
+use Rattle.lists.proofs.Tests.{second_false}
 
 -- what was read so far, and what is read on
 abbrev pub with_front : {A : Type 0} → List A → Option (List A × List ℕ) → Option (List A × List ℕ)
@@ -46,15 +47,10 @@ unfolding parts_at
 parts_end p zero xs bs s = ap (λ ys. Some (ys, bs)) (append-nil xs)
 parts_end p (suc k) xs bs s = rw (s (omega arith)) (ap (λ ys. Some (ys, bs)) (append-nil xs))
 
--- a test of two that fails
-second_fails : (a b : Bool) → (a && b) ≡ false → a ≡ true → b ≡ false
-second_fails true b h e = h
-second_fails false b h e = absurd (cc)
-
 -- as many as there are were read
 pub parts_done : (p : Part) (most n k : ℕ) (xs : List (Meaning p)) (bs : List ℕ) → k ≡ most - n → has_more n most bs
     ≡ false → with_front xs (parts_at p k bs) ≡ Some (xs, bs)
-parts_done p most n k xs bs e h = parts_end p k xs bs (λ lt. second_fails (ltb n most) (has_space bs) h
+parts_done p most n k xs bs e h = parts_end p k xs bs (λ lt. second_false (ltb n most) (has_space bs) h
     (lt-ltb n most (omega arith)))
 
 -- another word follows, and there is room for it

@@ -54,8 +54,8 @@ fn done_line(line: u32, bytes: &[u8]) -> Result<&[u8], JobFault>
     }
 }
 
-/// The job, with the schedule that comes next, if one does, and the number of the line behind its last one with the bytes from
-/// there on.
+/// The job, with the schedule that comes next, if one does, and the number of the line behind its last one with the
+/// bytes from there on.
 pub fn tail_at(
     alloc: Global,
     job: Job,

@@ -179,7 +179,8 @@ pub fn handlers_at(
           place = AtScripts;
           job = record job { handlers = x.0 };
         }) x.1 x.2.now)
-        result (read (record { place = AtHandlers; job = record job { handlers = [] } }) first bytes.now) }
+        result (read (record { place = AtHandlers; job = record job { handlers = [] } })
+        first bytes.now) }
     ensures later { IfOk result (λ x. x.1 ≤ first + 8448) }
 {
     let mut texts = Vec::new(alloc);

@@ -410,8 +410,8 @@ pub struct TimedEvent {
     pub event: ScheduledEvent,
 }
 
-/// A put of a script that waits until all of it was sent: `remote` and `local` are offsets in the segment of the node `to` and
-/// in the own one, `len` is how many bytes.
+/// A put of a script that waits until all of it was sent: `remote` and `local` are offsets in the segment of the node
+/// `to` and in the own one, `len` is how many bytes.
 #[derive(Clone, Copy, Debug, PartialEq, Eq)]
 pub struct PutText {
     /// The node that it is sent to.
@@ -431,7 +431,8 @@ pub enum WaitingStep {
     Until { cell: u8, operand: Operand },
     /// A transfer, until it is complete (GASNet 1.8.1, extended API: gasnet_put, gasnet_get and gasnet_memset).
     Transfer { transfer: BoxedTransfer },
-    /// Begins an explicit put, whose handle is put into the register, and waits until all of it was sent (gasnet_put_nb).
+    /// Begins an explicit put, whose handle is put into the register, and waits until all of it was sent
+    /// (gasnet_put_nb).
     PutBegin { register: u8, put: PutText },
     /// Begins an implicit put, and waits until all of it was sent (gasnet_put_nbi).
     PutImplicit { put: PutText },

@@ -1,16 +1,17 @@
 //! The text of a job: its values, the forms of its lines as tables, and reading it.
 //!
 //! What is proved of `read_job` [`found`, `one`, `bad`, `meant`, `none`]: a job that is read has the bytes as its text
-//! (`JobText`: the printing of the job's value, and the ranges), and is the one job that has them; else the fault names the
-//! first bad line and the first reason that applies to it, as the reading function on lines says (`job_of`), and no job has
-//! the bytes as its text; or memory ran out. What a refusal means apart from that function [`meant`: `Means`]: some job's
-//! text, its size apart, begins with the lines before the bad one, and none begins with these and the bad one, in which its
-//! reason is wrong by the line and what came before it (`IsAtFault`); or the bytes end too early, the line is none of
-//! words, or there are too many bytes.
+//! (`JobText`: the printing of the job's value, and the ranges), and is the one job that has them; else the fault names
+//! the first bad line and the first reason that applies to it, as the reading function on lines says (`job_of`), and no
+//! job has the bytes as its text; or memory ran out. What a refusal means apart from that function [`meant`: `Means`]:
+//! some job's text, its size apart, begins with the lines before the bad one, and none begins with these and the bad
+//! one, in which its reason is wrong by the line and what came before it (`IsAtFault`); or the bytes end too early, the
+//! line is none of words, or there are too many bytes.
 //!
-//! `read_job_front` is the same reader where any bytes may stand behind a job's text [`found`, `one`, `bad`, `meant`, `none`]:
-//! it tells the one job with whose text the bytes begin, and the size of that text (`BeginsWith`); else the first bad line
-//! of the front (`front_of`), with what that means (`FrontMeans`), or that the text at the front is too long.
+//! `read_job_front` is the same reader where any bytes may stand behind a job's text [`found`, `one`, `bad`, `meant`,
+//! `none`]: it tells the one job with whose text the bytes begin, and the size of that text (`BeginsWith`); else the
+//! first bad line of the front (`front_of`), with what that means (`FrontMeans`), or that the text at the front is too
+//! long.
 #![tactic(auto)]
 
 mod bodies;

@@ -87,8 +87,8 @@ fn sized_job_at(alloc: Global, bytes: &[u8]) -> Result<(Job, usize), JobFault>
 ///
 /// # Errors
 ///
-/// `NoMemory` where memory ran out, else `Bad` exactly where the bytes are no job's text, with the first bad line and the first
-/// reason that applies to it.
+/// `NoMemory` where memory ran out, else `Bad` exactly where the bytes are no job's text, with the first bad line and
+/// the first reason that applies to it.
 pub fn read_job(alloc: Global, bytes: &[u8]) -> Result<Job, JobFault>
     // What is read has these bytes as its text.
     ensures found { IfOk result (λ job. JobText job bytes.now) }
@@ -109,15 +109,15 @@ pub fn read_job(alloc: Global, bytes: &[u8]) -> Result<Job, JobFault>
 ///
 /// # Errors
 ///
-/// `NoMemory` where memory ran out, else `Bad` exactly where the bytes begin with no job's text: with the first bad line of the
-/// front and the first reason that applies to it, or `Size` for line 0 where they begin with the text of a job that is good,
-/// but too long. `After` never comes.
+/// `NoMemory` where memory ran out, else `Bad` exactly where the bytes begin with no job's text: with the first bad
+/// line of the front and the first reason that applies to it, or `Size` for line 0 where they begin with the text of a
+/// job that is good, but too long. `After` never comes.
 pub fn read_job_front(alloc: Global, bytes: &[u8]) -> Result<(Job, usize), JobFault>
     // The bytes begin with the text of what is read, which has this size.
     ensures found { IfOk result (λ x. BeginsWith x.0 x.1 bytes.now) }
     // It is the one job with whose text they begin.
-    ensures one { IfOk result (λ x. (other : JobState) (size : ℕ) → BeginsWith other size bytes.now →
-        (other ≡ x.0) × (size ≡ x.1)) }
+    ensures one { IfOk result (λ x. (other : JobState) (size : ℕ) → BeginsWith other size bytes.now
+        → (other ≡ x.0) × (size ≡ x.1)) }
     // What is told is the first bad line, and the first reason that applies to it.
     ensures bad { IfErr result (λ fault. IsNoMemory fault ⊎ IsBadFront bytes.now fault) }
     // What that means, apart from the reader.

@@ -49,7 +49,8 @@ fn next_timed<'a>(
     bytes: &'a [u8],
 ) -> Result<(Option<TimedEvent>, &'a [u8]), JobFault>
     ensures { let nodes = settings.now.nodes in let threads = settings.now.threads in
-        GivesAt (λ x. (x.0, x.1.now)) result (told line (reason (timed_form nodes threads) bytes.now)
+        GivesAt (λ x. (x.0, x.1.now)) result
+        (told line (reason (timed_form nodes threads) bytes.now)
         (lined (end_or (timed_at nodes threads)) bytes.now)) }
 {
     let (nodes, threads) = (settings.nodes(), settings.threads());
@@ -109,8 +110,10 @@ pub fn schedule_at<'a>(
 ) -> Result<(Schedule, u32, &'a [u8]), JobFault>
     requires { first ≤ 20000000 }
     ensures value { (job : JobState) → job.settings ≡ settings.now → Continues
-        (λ x. read (record { place = AtDone; job = record job { schedule = Some x.0 } }) x.1 x.2.now)
-        result (read (record { place = AtSchedule; job = record job { schedule = Some [] } }) first bytes.now) }
+        (λ x. read (record { place = AtDone; job = record job { schedule = Some x.0 } })
+        x.1 x.2.now)
+        result (read (record { place = AtSchedule; job = record job { schedule = Some [] } })
+        first bytes.now) }
     ensures later { IfOk result (λ x. x.1 ≤ first + 65537) }
 {
     let mut lines = Vec::new(alloc);

@@ -1,7 +1,8 @@
 //! Reading calls that begin transfers or synchronise them, and calls on the barrier.
 
 ghost use Rattle.std.specs.Prelude.{◌≡◌, IfOk, false};
-ghost use Rattle.job_text.specs.Calls.{barrier_calls, fill_shape, implicit_calls, move_shape, sync_calls, transfer_calls};
+ghost use Rattle.job_text.specs.Calls.{barrier_calls, fill_shape, implicit_calls, move_shape, sync_calls};
+ghost use Rattle.job_text.specs.Calls.{transfer_calls};
 ghost use Rattle.job_text.specs.declared.job.TransferText.TheVariants as transfer;
 ghost use Rattle.job_text.specs.Forms.{named_at, none_at, values_at};
 ghost use Rattle.job_text.specs.Reasons.{named_form};

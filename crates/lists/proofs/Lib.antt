@@ -1,8 +1,10 @@
 pub mod Cases
+pub mod Tests
 pub mod Members
 pub mod Places
 pub mod Update
 pub mod Indexes
+pub mod Appended
 pub mod Cut
 pub mod Sums
 pub mod Numbered

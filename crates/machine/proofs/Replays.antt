@@ -16,16 +16,19 @@ pub sent_in-push : {State : Type 0} (s : Steps State) (state : State) (entries :
 sent_in-push s state [] last = append-nil (given_by s state last)
 sent_in-push s state (e ∷ es) last =
     ap (λ xs. given_by s state e ++ xs) (sent_in-push s (after_entry s state e) es last)
-    ∙ sym (append_assoc (given_by s state e) (sent_in s (after_entry s state e) es) (given_by s (replayed s (after_entry s state e) es) last))
+    ∙ sym (append_assoc (given_by s state e) (sent_in s (after_entry s state e) es)
+    (given_by s (replayed s (after_entry s state e) es) last))
 
-pub got_in-push : (entries : List Entry) (last : Entry) → got_in (entries ++ last ∷ []) ≡ got_in entries ++ option_to_list last.got
+pub got_in-push : (entries : List Entry) (last : Entry)
+    → got_in (entries ++ last ∷ []) ≡ got_in entries ++ option_to_list last.got
 got_in-push [] last = append-nil (option_to_list last.got)
 got_in-push (e ∷ es) last =
     ap (λ xs. option_to_list e.got ++ xs) (got_in-push es last)
     ∙ sym (append_assoc (option_to_list e.got) (got_in es) (option_to_list last.got))
 
 -- after one turn more the machine stands for the replay of one entry more
-pub stands_push : {M : Type 0} (g : Ghosts M) (first old new : M) (entries more : List Entry) (last : Entry) (got : Option (List ℕ))
+pub stands_push : {M : Type 0} (g : Ghosts M) (first old new : M) (entries more : List Entry) (last : Entry)
+    (got : Option (List ℕ))
     → more ≡ entries ++ last ∷ [] → got ≡ last.got
     → ((r : g.State) → g.stands old r → g.stands new (g.after r last.thread last.now got))
     → StandsFor g first entries old → StandsFor g first more new

@@ -14,7 +14,7 @@ use Rattle.named_barrier.specs.Record.{BarrierRecord, SentNote, Part, is_other, 
 use Rattle.named_barrier.specs.Record.{own_part, heard_part, known, hear}
 use Rattle.named_barrier.specs.Record.{was_sent, due, due_before, or_else, note_to, send, notify_answer}
 use Rattle.named_barrier.specs.Record.{Stage, Try, stage, notify_after, own_try, try_answer, try_after, routed}
-use Rattle.named_barrier.specs.State.{State, last_due, now_due, note_at}
+use Rattle.named_barrier.specs.BarrierState.{BarrierState, last_due, now_due, note_at}
 use Rattle.named_barrier.specs.Stands.{sent_mask, before, given, Stands}
 use Rattle.named_barrier.proofs.Runs.{slice_get_push, routed_note}
 use Rattle.named_barrier.proofs.Standing.{join_assoc, none_join, heard_part_push, heard_part_none, sent_mask_push}
@@ -62,7 +62,7 @@ before_same none first second (suc phase) alike = alike phase (omega arith)
 -- ---- states
 
 abbrev made : (nodes me phase : ℕ) → (own : Option Notify) → (present next last : Part) → (sent_now sent_last : ℕ)
-    → State
+    → BarrierState
 made nodes me phase own present next last sent_now sent_last =
     record {
       nodes = nodes;
@@ -84,7 +84,8 @@ made_same : {nodes nodes' me me' phase phase' sent_now sent_now' sent_last sent_
     ≡ made nodes' me' phase' own' present' next' last' sent_now' sent_last'
 made_same nodes me phase own present next last sent_now sent_last = cc
 
-same_state : {first second : State} → first.nodes ≡ second.nodes → first.me ≡ second.me → first.phase ≡ second.phase
+same_state : {first second : BarrierState} → first.nodes ≡ second.nodes → first.me ≡ second.me
+    → first.phase ≡ second.phase
     → first.own ≡ second.own → first.present ≡ second.present → first.next ≡ second.next → first.last ≡ second.last
     → first.sent_now ≡ second.sent_now → first.sent_last ≡ second.sent_last → first ≡ second
 same_state nodes me phase own present next last sent_now sent_last =
@@ -92,7 +93,7 @@ same_state nodes me phase own present next last sent_now sent_last =
 
 -- ---- notify
 
-abbrev pub notified : State → Notify → State
+abbrev pub notified : BarrierState → Notify → BarrierState
 notified state notify =
     record state { own = Some notify; present = join (own_part state.me (Some notify)) state.present }
 
@@ -122,7 +123,7 @@ given_notify nodes me kept notify count =
     ap (λ maybe. join (own_part me maybe) (heard_part (suc kept.ended) kept.heard)) (later ∙ sym unset) in
     same_state refl refl refl here present next last refl refl
 
-pub stands_notify : (nodes me : ℕ) (state : State) (kept : BarrierRecord) (id : ℤ) (flags : ℕ)
+pub stands_notify : (nodes me : ℕ) (state : BarrierState) (kept : BarrierRecord) (id : ℤ) (flags : ℕ)
     → Stands nodes me state kept → flags ≤ 3 → state.own ≡ None → state.phase ≢ 2 ^ 64 - 1
     → Stands nodes me (notified state (record { id = id; flags = flags }))
     (notify_after kept id flags (notify_answer kept id flags))
@@ -156,7 +157,7 @@ stands_notify nodes me state kept id flags stood few none left = rw answer (reco
 
 -- ---- try
 
-abbrev pub over : State → State
+abbrev pub over : BarrierState → BarrierState
 over state = record state {
   phase = state.phase + 1;
   own = None;
@@ -171,7 +172,8 @@ over state = record state {
 abbrev ended : BarrierRecord → BarrierRecord
 ended kept = record kept { ended = suc kept.ended }
 
-pub stands_over : (nodes me : ℕ) (state : State) (kept : BarrierRecord) (notify : Notify) → Stands nodes me state kept
+pub stands_over : (nodes me : ℕ) (state : BarrierState) (kept : BarrierRecord) (notify : Notify)
+    → Stands nodes me state kept
     → state.own ≡ Some notify → Stands nodes me (over state) (ended kept)
 stands_over nodes me state kept notify stood some = record {
   is = subst (λ other. over other ≡ given nodes me (ended kept)) (sym stood.is) (sym is_over);
@@ -200,7 +202,7 @@ stands_over nodes me state kept notify stood some = record {
         (λ place other same. omega (arith, stood.sent place other same))) refl
 
 -- a try on a complete phase ends it
-pub stands_try : (nodes me : ℕ) (state : State) (kept : BarrierRecord) (notify : Notify) (try : Try)
+pub stands_try : (nodes me : ℕ) (state : BarrierState) (kept : BarrierRecord) (notify : Notify) (try : Try)
     → Stands nodes me state kept → try.flags ≤ 3 → state.own ≡ Some notify
     → has_all state.present.mask state.nodes ≡ true
     → Stands nodes me (over state) (try_after kept (try_answer nodes me kept try))
@@ -255,7 +257,7 @@ heard_is kept note (inl same) = let test : eqb note.phase kept.ended ≡ true = 
 heard_is kept note (inr same) = let test : eqb note.phase kept.ended ≡ false = grind (arith, nat_tests) in
     let next : eqb note.phase (suc kept.ended) ≡ true = grind (arith, nat_tests) in rw (test, next) refl
 
-stands_heard : (nodes me : ℕ) (state newer : State) (kept : BarrierRecord) (note : BarrierNote)
+stands_heard : (nodes me : ℕ) (state newer : BarrierState) (kept : BarrierRecord) (note : BarrierNote)
     → Stands nodes me state kept → note.phase ≤ suc kept.ended → newer ≡ given nodes me (with_heard kept note)
     → Stands nodes me newer (with_heard kept note)
 stands_heard nodes me state newer kept note stood low same = record {
@@ -271,13 +273,13 @@ stands_heard nodes me state newer kept note stood low same = record {
   sent = stood.sent;
 }
 
-pub stands_present : (nodes me : ℕ) (state : State) (kept : BarrierRecord) (note : BarrierNote)
+pub stands_present : (nodes me : ℕ) (state : BarrierState) (kept : BarrierRecord) (note : BarrierNote)
     → Stands nodes me state kept → note.phase ≡ state.phase
     → Stands nodes me (record state { present = join state.present (part_of note) }) (hear kept note)
 stands_present nodes me state kept note stood same =
     rw (heard_is kept note (inl here)) (stands_heard nodes me state
     (record state { present = join state.present (part_of note) }) kept note stood (omega (arith, here))
-    (subst (λ (any : State). record any { present = join any.present (part_of note) } ≡ given nodes me
+    (subst (λ (any : BarrierState). record any { present = join any.present (part_of note) } ≡ given nodes me
     (with_heard kept note)) (sym stood.is) (sym is_given)))
   where
     here : note.phase ≡ kept.ended
@@ -290,13 +292,14 @@ stands_present nodes me state kept note stood same =
         (before_same no_part (known me (with_heard kept note)) (known me kept) kept.ended
         (λ phase low. known_push_other me kept note phase (omega (arith, here)))) refl refl
 
-pub stands_next : (nodes me : ℕ) (state : State) (kept : BarrierRecord) (note : BarrierNote)
+pub stands_next : (nodes me : ℕ) (state : BarrierState) (kept : BarrierRecord) (note : BarrierNote)
     → Stands nodes me state kept → note.phase ≡ suc state.phase
     → Stands nodes me (record state { next = join state.next (part_of note) }) (hear kept note)
 stands_next nodes me state kept note stood same =
     rw (heard_is kept note (inr here)) (stands_heard nodes me state
     (record state { next = join state.next (part_of note) }) kept note stood (omega (arith, here))
-    (subst (λ (any : State). record any { next = join any.next (part_of note) } ≡ given nodes me (with_heard kept note))
+    (subst (λ (any : BarrierState). record any { next = join any.next (part_of note) }
+    ≡ given nodes me (with_heard kept note))
     (sym stood.is) (sym is_given)))
   where
     here : note.phase ≡ suc kept.ended
@@ -314,25 +317,26 @@ stands_next nodes me state kept note stood same =
 last_is : (nodes me : ℕ) (kept : BarrierRecord) (to ended : ℕ) → ended ≤ length kept.notifies
     → (if (ended == 0) || has
     (before 0 (λ phase. sent_mask phase kept.sent) ended) to then None else routed nodes me
-    (record { phase = ended - 1; notified = true; part = before no_part (known me kept) ended }) to) ≡ due_before nodes me kept ended to
+    (record { phase = ended - 1; notified = true; part = before no_part (known me kept) ended }) to)
+    ≡ due_before nodes me kept ended to
 last_is nodes me kept to zero low = refl
 last_is nodes me kept to (suc phase) low =
     let one_less : suc phase - 1 ≡ phase = omega arith in
     let test : eqb (suc phase) 0 ≡ false = grind (arith, nat_tests) in
     rw (one_less, test, sent_mask_has phase to kept.sent, own_there kept phase (omega (arith, low))) refl
 
-pub now_due_is : (nodes me : ℕ) (state : State) (kept : BarrierRecord) (to : ℕ) → Stands nodes me state kept
+pub now_due_is : (nodes me : ℕ) (state : BarrierState) (kept : BarrierRecord) (to : ℕ) → Stands nodes me state kept
     → now_due state to ≡ due nodes me kept kept.ended to
 now_due_is nodes me state kept to stood = subst (λ any. now_due any to ≡ due nodes me kept kept.ended to) (sym stood.is)
     (rw (sent_mask_has kept.ended to kept.sent) refl)
 
-pub last_due_is : (nodes me : ℕ) (state : State) (kept : BarrierRecord) (to : ℕ) → Stands nodes me state kept
+pub last_due_is : (nodes me : ℕ) (state : BarrierState) (kept : BarrierRecord) (to : ℕ) → Stands nodes me state kept
     → last_due state to ≡ due_before nodes me kept kept.ended to
 last_due_is nodes me state kept to stood =
     subst (λ any. last_due any to ≡ due_before nodes me kept kept.ended to) (sym stood.is)
     (last_is nodes me kept to kept.ended stood.low)
 
-pub note_is : (nodes me : ℕ) (state : State) (kept : BarrierRecord) (to : ℕ) → Stands nodes me state kept
+pub note_is : (nodes me : ℕ) (state : BarrierState) (kept : BarrierRecord) (to : ℕ) → Stands nodes me state kept
     → note_at state to ≡ note_to nodes me kept to
 note_is nodes me state kept to stood = rw (
   last_due_is nodes me state kept to stood,
@@ -370,7 +374,7 @@ sent_other : (kept : BarrierRecord) (to phase : ℕ) (note : BarrierNote) → no
 sent_other kept to phase note same = let test : eqb note.phase phase ≡ false = grind (arith, nat_tests) in
     sent_mask_push phase kept.sent (record { to = to; note = note }) ∙ rw test refl
 
-stands_sent : (nodes me : ℕ) (state newer : State) (kept : BarrierRecord) (to : ℕ) (note : BarrierNote)
+stands_sent : (nodes me : ℕ) (state newer : BarrierState) (kept : BarrierRecord) (to : ℕ) (note : BarrierNote)
     → Stands nodes me state kept → note.phase ≤ kept.ended → newer ≡ given nodes me (with_sent kept to note)
     → Stands nodes me newer (with_sent kept to note)
 stands_sent nodes me state newer kept to note stood low same = record {
@@ -386,14 +390,14 @@ stands_sent nodes me state newer kept to note stood low same = record {
       ];
 }
 
-pub stands_sent_now : (nodes me : ℕ) (state : State) (kept : BarrierRecord) (to : ℕ) (note : BarrierNote)
+pub stands_sent_now : (nodes me : ℕ) (state : BarrierState) (kept : BarrierRecord) (to : ℕ) (note : BarrierNote)
     → Stands nodes me state kept → last_due state to ≡ None → now_due state to ≡ Some note
     → Stands nodes me (record state { sent_now = bit_or state.sent_now (2 ^ to) })
     (send kept to (note_to nodes me kept to))
 stands_sent_now nodes me state kept to note stood none some =
     rw goes (stands_sent nodes me state (record state { sent_now = bit_or state.sent_now (2 ^ to) }) kept to note stood
     (omega (arith, here))
-    (subst (λ (any : State). record any { sent_now = bit_or any.sent_now (2 ^ to) } ≡ given nodes me
+    (subst (λ (any : BarrierState). record any { sent_now = bit_or any.sent_now (2 ^ to) } ≡ given nodes me
     (with_sent kept to note)) (sym stood.is) (sym is_given)))
   where
     here : note.phase ≡ kept.ended
@@ -409,7 +413,7 @@ stands_sent_now nodes me state kept to note stood none some =
         (λ phase. sent_mask phase kept.sent) kept.ended
         (λ phase low. sent_other kept to phase note (omega (arith, here))))
 
-pub stands_sent_last : (nodes me : ℕ) (state : State) (kept : BarrierRecord) (to : ℕ) (note : BarrierNote)
+pub stands_sent_last : (nodes me : ℕ) (state : BarrierState) (kept : BarrierRecord) (to : ℕ) (note : BarrierNote)
     → Stands nodes me state kept → last_due state to ≡ Some note
     → Stands nodes me (record state { sent_last = bit_or state.sent_last (2 ^ to) })
     (send kept to (note_to nodes me kept to))
@@ -418,7 +422,7 @@ stands_sent_last nodes me state kept to note stood some =
       sent_last =
           bit_or state.sent_last (2 ^ to);
     }) kept to note stood (omega (arith, there))
-    (subst (λ (any : State). record any { sent_last = bit_or any.sent_last (2 ^ to) } ≡ given nodes me
+    (subst (λ (any : BarrierState). record any { sent_last = bit_or any.sent_last (2 ^ to) } ≡ given nodes me
     (with_sent kept to note)) (sym stood.is) (sym is_given)))
   where
     there : suc note.phase ≡ kept.ended
@@ -438,7 +442,7 @@ stands_sent_last nodes me state kept to note stood some =
     is_given = same_state refl refl refl refl refl refl refl (sent_other kept to kept.ended note (omega (arith, there)))
         (masks kept.ended there)
 
-pub sends_last : (nodes me : ℕ) (state : State) (kept : BarrierRecord) (to : ℕ) → Stands nodes me state kept
+pub sends_last : (nodes me : ℕ) (state : BarrierState) (kept : BarrierRecord) (to : ℕ) → Stands nodes me state kept
     → is_some (last_due state to) ≡ true
     → Stands nodes me (record state { sent_last = bit_or state.sent_last (2 ^ to) })
     (send kept to (note_to nodes me kept to))
@@ -450,7 +454,7 @@ sends_last nodes me state kept to stood some = by_note (last_due state to) refl 
     by_note None is holds = absurd (true≢false (sym holds))
     by_note (Some note) is holds = stands_sent_last nodes me state kept to note stood is
 
-pub sends_now : (nodes me : ℕ) (state : State) (kept : BarrierRecord) (to : ℕ) → Stands nodes me state kept
+pub sends_now : (nodes me : ℕ) (state : BarrierState) (kept : BarrierRecord) (to : ℕ) → Stands nodes me state kept
     → is_some (last_due state to) ≡ false → IsSome (note_at state to)
     → Stands nodes me (record state { sent_now = bit_or state.sent_now (2 ^ to) })
     (send kept to (note_to nodes me kept to))

@@ -23,7 +23,8 @@ use Rattle.named_barrier.specs.Masks.{mask_words, low_word, higher}
 use Rattle.named_barrier.specs.Combinations.{one_notify, is_anonymous, least, combined_id, combined_flags}
 use Rattle.named_barrier.specs.Record.{BarrierRecord, Part, own, no_part, join, part_of, own_part, heard_part}
 use Rattle.named_barrier.specs.Record.{known, note_of}
-use Rattle.named_barrier.specs.Record.{stage, routed, was_sent, due, due_before, notify_answer, notify_after, try_answer}
+use Rattle.named_barrier.specs.Record.{stage, routed, was_sent, due, due_before, notify_answer, notify_after}
+use Rattle.named_barrier.specs.Record.{try_answer}
 use Rattle.named_barrier.specs.Record.{try_after, hear, send}
 use Rattle.named_barrier.specs.Route.{goes_to, any_round}
 use Rattle.named_barrier.specs.Within.{IsWithin, NotesFit, StepsWithin, StaysWithin}

@@ -5,6 +5,6 @@ pub mod Route
 pub mod World
 pub mod Within
 pub mod Together
-pub mod State
+pub mod BarrierState
 pub mod Views
 pub mod Stands

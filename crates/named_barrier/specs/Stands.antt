@@ -3,7 +3,7 @@ use Rattle.std.specs.Prelude.{◌≡◌, ℕ, zero, suc, ◌^◌, ◌≤◌, Som
 use Rattle.std.specs.Prelude.{◌==◌, bit_or, slice_get}
 use Rattle.datagram_grammar.specs.declared.note.BarrierNote.{BarrierNote}
 use Rattle.named_barrier.specs.Record.{BarrierRecord, SentNote, own, no_part, known}
-use Rattle.named_barrier.specs.State.{State}
+use Rattle.named_barrier.specs.BarrierState.{BarrierState}
 
 -- the nodes to which the note of the phase was sent
 abbrev pub sent_mask : (phase : ℕ) → List SentNote → ℕ
@@ -16,7 +16,7 @@ abbrev pub before : {Item : Type 0} → (none : Item) → (of_phase : (phase : �
 before none of_phase zero = none
 before none of_phase (suc phase) = of_phase phase
 
-abbrev pub given : (nodes me : ℕ) → BarrierRecord → State
+abbrev pub given : (nodes me : ℕ) → BarrierRecord → BarrierState
 given nodes me kept =
     record {
       nodes = nodes;
@@ -30,7 +30,7 @@ given nodes me kept =
       sent_last = before 0 (λ phase. sent_mask phase kept.sent) kept.ended;
     }
 
-pub record Stands (nodes me : ℕ) (state : State) (kept : BarrierRecord) : Type 0 where
+pub record Stands (nodes me : ℕ) (state : BarrierState) (kept : BarrierRecord) : Type 0 where
   pub is : state ≡ given nodes me kept
   -- of the record: each phase that ended was notified, and no later one than the present
   pub low : kept.ended ≤ length kept.notifies

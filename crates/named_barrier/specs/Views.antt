@@ -4,13 +4,13 @@ use Rattle.datagram_grammar.specs.Notes.{mask_number}
 use Rattle.named_barrier.specs.declared.barrier.Barrier.TheInside.{Inside}
 use Rattle.named_barrier.specs.declared.known.Known.{Known}
 use Rattle.named_barrier.specs.Record.{Part}
-use Rattle.named_barrier.specs.State.{State}
+use Rattle.named_barrier.specs.BarrierState.{BarrierState}
 
 -- the words of the mask as one number
 abbrev pub part : Known → Part
 part known = record { mask = mask_number known.mask; combined = known.combined }
 
-abbrev pub fields_view : Inside → State
+abbrev pub fields_view : Inside → BarrierState
 fields_view inside =
     record {
       nodes = inside.nodes;

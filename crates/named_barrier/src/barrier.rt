@@ -3,7 +3,7 @@
 ghost use Rattle.std.specs.Prelude.{◌≡◌, ℕ, ◌<◌, ◌≤◌, None, IsTrue, IsSome, IfOk, IsOk};
 ghost use Rattle.named_barrier.specs.Record.{BarrierRecord, opened, has_notified_nothing, notify_answer, notify_after};
 ghost use Rattle.named_barrier.specs.Record.{try_answer, try_after, hear, note_to, owes, send};
-ghost use Rattle.named_barrier.specs.State.{last_due, now_due, note_at};
+ghost use Rattle.named_barrier.specs.BarrierState.{last_due, now_due, note_at};
 ghost use Rattle.named_barrier.specs.Stands.{Stands};
 
 use crate::answer::{BarrierAnswer, Notified};
@@ -32,9 +32,9 @@ pub struct Barrier {
 }
 
 impl Model for Barrier {
-    ghost use Rattle.named_barrier.specs.State.{State};
+    ghost use Rattle.named_barrier.specs.BarrierState.{BarrierState};
 
-    ghost Value = { State };
+    ghost Value = { BarrierState };
 
     ghost use Rattle.named_barrier.specs.Views.{fields_view, IsBarrier};
 
@@ -198,12 +198,13 @@ impl Barrier {
         }
     }
 
-    /// Whether this node has notified nothing so far: then no note must go to any node. A node whose job has no barrier needs no more
-    /// than that at each tick (profile).
+    /// Whether this node has notified nothing so far: then no note must go to any node. A node whose job has no barrier
+    /// needs no more than that at each tick (profile).
     pub fn is_quiet(&self) -> bool
         ensures exact { (nodes me : ℕ) (kept : BarrierRecord) → Stands nodes me self.now kept
             → result ≡ has_notified_nothing kept }
-        ensures none { IsTrue result → (nodes me : ℕ) (kept : BarrierRecord) → Stands nodes me self.now kept
+        ensures none { IsTrue result → (nodes me : ℕ) (kept : BarrierRecord)
+            → Stands nodes me self.now kept
             → (to : ℕ) → note_to nodes me kept to ≡ None }
     {
         self.phase == 0 && self.own.is_none()

@@ -24,7 +24,7 @@ use Rattle.endpoint_rules.specs.EndpointLocal.{EndpointLocal, IsEndpointKept}
 use Rattle.endpoint_rules.specs.EndpointRules.{RecordEvent, transition, job_of}
 use Rattle.endpoint_rules.specs.Sends.{sends}
 use Rattle.endpoint_rules.specs.declared.answer.Answer.{Answer}
-use Rattle.gas_endpoint.specs.Endpoints.{EndpointState, EndpointStands, NodeSteps, BytesCome, job_here}
+use Rattle.gas_endpoint.specs.EndpointState.{EndpointState, EndpointStands, NodeSteps, BytesCome, job_here}
 use Rattle.gas_endpoint.specs.Sends.{AreThatOf, NodeSends}
 use Rattle.node_runs.specs.Fitting.{AreBytes}
 use Rattle.node_runs.specs.Laws.{GotBytes}

@@ -17,7 +17,7 @@ use Rattle.script_laws.proofs.Bodies.{job_fits}
 use Rattle.script_steps.specs.Forms.{step_form}
 use Rattle.script_steps.specs.Laws.{StepsFit}
 use Rattle.node_machine.specs.Laws.{AreTracesARun, NodesOpen, StatesReplay, opening_node}
-use Rattle.node_machine.specs.States.{NodeState, script_job, state_of, scripts_at, state_steps}
+use Rattle.node_machine.specs.NodeState.{NodeState, script_job, state_of, scripts_at, state_steps}
 use Rattle.node_machine.proofs.Opening.{steps_said}
 
 -- what is known of the states is what is known of the records with the scripts

@@ -10,7 +10,7 @@ use Rattle.std.proofs.lemmas.Option.{same_Some, slice_get_past, slice_get_within
 use Rattle.lists.proofs.Places.{slice_get_kept, slice_get_last}
 use Rattle.node_record.specs.Record.{opening_node}
 use Rattle.endpoint_rules.specs.EndpointLocal.{nothing_begun}
-use Rattle.gas_endpoint.specs.Endpoints.{EndpointState, EndpointStands, IsNodeOf}
+use Rattle.gas_endpoint.specs.EndpointState.{EndpointState, EndpointStands, IsNodeOf}
 use Rattle.job_text.specs.JobText.{IsJob, IsNodeScript}
 use Rattle.job_text.specs.Scripts.{IsStep}
 use Rattle.job_text.specs.declared.job.Job.{Job as JobState}
@@ -22,7 +22,7 @@ use Rattle.node_machine.specs.Cursors.{progress_of, progress_of_all}
 use Rattle.node_machine.specs.declared.cursor.Cursor.{Cursor}
 use Rattle.node_machine.specs.Kept.{MachineKept, progress_or_none, CanBeSaid, IsMachine}
 use Rattle.node_machine.specs.Openings.{AreFirst}
-use Rattle.node_machine.specs.States.{NodeStands, opening_state, scripts_at, is_of, steps_or_none, steps_of_thread}
+use Rattle.node_machine.specs.NodeState.{NodeStands, opening_state, scripts_at, is_of, steps_or_none, steps_of_thread}
 
 -- ---- the steps of a thread
 

@@ -22,7 +22,7 @@ use Rattle.node_record.specs.SlotMessages.{message_at}
 use Rattle.node_record.specs.declared.answer.SlotRef.{SlotRef}
 use Rattle.endpoint_rules.specs.EndpointLocal.{EndpointLocal}
 use Rattle.endpoint_rules.specs.declared.answer.Answer.{Answer}
-use Rattle.gas_endpoint.specs.Endpoints.{EndpointState, EndpointStands}
+use Rattle.gas_endpoint.specs.EndpointState.{EndpointState, EndpointStands}
 use Rattle.job_text.specs.declared.job.HandlerText.{HandlerText}
 use Rattle.job_text.specs.declared.job.Job.{Job as JobState}
 use Rattle.job_text.specs.declared.job.ScriptStep.{ScriptStep}
@@ -39,8 +39,8 @@ use Rattle.node_machine.specs.Cursors.{progress_of, progress_of_all}
 use Rattle.node_machine.specs.declared.cursor.Cursor.{Cursor}
 use Rattle.node_machine.specs.Machines.{MachineTakes}
 use Rattle.node_machine.specs.Kept.{MachineKept, progress_or_none, own_scripts, polls_at, CanBeSaid, IsMachine}
-use Rattle.node_machine.specs.States.{NodeState, state_of, script_job, after_turn, turned, datagram_at, as_there}
-use Rattle.node_machine.specs.States.{NodeStands}
+use Rattle.node_machine.specs.NodeState.{NodeState, state_of, script_job, after_turn, turned, datagram_at, as_there}
+use Rattle.node_machine.specs.NodeState.{NodeStands}
 use Rattle.node_machine.specs.Turns.{slots_of, job_at, TurnTaken, turn_by, is_changed, GoesAsTurn, TakesTurn}
 use Rattle.node_machine.specs.declared.turn.Done.{Done}
 

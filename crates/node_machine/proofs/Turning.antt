@@ -20,7 +20,7 @@ use Rattle.endpoint_rules.specs.EndpointLocal.{EndpointLocal, IsEndpointKept}
 use Rattle.endpoint_rules.specs.EndpointRules.{job_of}
 use Rattle.endpoint_rules.specs.declared.answer.Answer.{Answer}
 use Rattle.endpoint_rules.proofs.Sound.{rules_sound}
-use Rattle.gas_endpoint.specs.Endpoints.{EndpointState, EndpointStands, ForItsRecord}
+use Rattle.gas_endpoint.specs.EndpointState.{EndpointState, EndpointStands, ForItsRecord}
 use Rattle.job_text.specs.Scripts.{IsStep}
 use Rattle.job_text.specs.declared.job.ScriptStep.{ScriptStep}
 use Rattle.node_runs.specs.Actions.{Progress, OwnScripts, tried_step}
@@ -37,7 +37,7 @@ use Rattle.node_machine.specs.Kept.{CanBeSaid}
 use Rattle.node_machine.specs.Parts.{at_once}
 use Rattle.node_machine.specs.Scripted.{NextTrial, TriesNext, after_next, answer_of_next, events_of_next, as_said}
 use Rattle.node_machine.specs.Scripted.{progress_after}
-use Rattle.node_machine.specs.States.{datagram_at, as_there}
+use Rattle.node_machine.specs.NodeState.{datagram_at, as_there}
 use Rattle.node_machine.specs.Turns.{slots_of, job_at, TurnTaken, turn_by, GoesAsTurn, TakesTurn}
 use Rattle.node_machine.specs.declared.turn.Done.{Done}
 use Rattle.node_machine.proofs.Happening.{happen_then, at_same, same_after, run-append}

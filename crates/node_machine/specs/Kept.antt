@@ -6,7 +6,7 @@ use Rattle.hsl_locks.specs.declared.answer.Owner.TheVariants as owner
 use Rattle.hsl_locks.specs.Locks.{holds}
 use Rattle.node_record.specs.declared.answer.SlotRef.{SlotRef}
 use Rattle.endpoint_rules.specs.declared.answer.Answer.{Answer}
-use Rattle.gas_endpoint.specs.Endpoints.{EndpointState, IsNodeOf}
+use Rattle.gas_endpoint.specs.EndpointState.{EndpointState, IsNodeOf}
 use Rattle.gas_endpoint.specs.Parts.{HasRecord}
 use Rattle.job_text.specs.JobText.{IsJob}
 use Rattle.job_text.specs.Scripts.{IsStep}

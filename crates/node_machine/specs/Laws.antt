@@ -17,7 +17,7 @@ use Rattle.node_runs.specs.Merged.{carried, order_of}
 use Rattle.node_runs.specs.Order.{NodeEntry, own_entries, replay}
 use Rattle.node_runs.specs.WorldRun.{IsWorldRun, opening_machines}
 use Rattle.script_steps.specs.Forms.{step_form}
-use Rattle.node_machine.specs.States.{NodeState, state_of, script_job, scripts_at, state_steps, opening_state}
+use Rattle.node_machine.specs.NodeState.{NodeState, state_of, script_job, scripts_at, state_steps, opening_state}
 
 -- the nodes of a job before all turns, each with its trace: the node of rank i is in its opening state
 abbrev pub nodes_of : JobState → (traces : List (List Entry)) → List (Node NodeState)

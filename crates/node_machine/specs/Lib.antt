@@ -1,7 +1,7 @@
 pub mod Parts
 pub mod Kept
 pub mod Cursors
-pub mod States
+pub mod NodeState
 pub mod Openings
 pub mod Scripted
 pub mod Turns

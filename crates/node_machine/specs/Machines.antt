@@ -3,7 +3,7 @@
 use Rattle.std.specs.Prelude.{ℕ, ◌≡◌, true, false, if◌then◌else◌, length, is_some}
 use Rattle.machine.specs.declared.turns.Turned.{Turned}
 use Rattle.node_machine.specs.Kept.{MachineKept, polls_at}
-use Rattle.node_machine.specs.States.{NodeState, NodeStands, after_turn, turned}
+use Rattle.node_machine.specs.NodeState.{NodeState, NodeStands, after_turn, turned}
 use Rattle.node_machine.specs.Turns.{slots_of, TurnTaken, is_changed}
 use Rattle.node_machine.specs.declared.turn.Done.{Done}
 

@@ -9,7 +9,7 @@ use Rattle.endpoint_rules.specs.Called.{node_event}
 use Rattle.endpoint_rules.specs.EndpointLocal.{EndpointLocal}
 use Rattle.endpoint_rules.specs.EndpointRules.{RecordEvent, told}
 use Rattle.endpoint_rules.specs.declared.answer.Answer.{Answer}
-use Rattle.gas_endpoint.specs.Endpoints.{EndpointState, ForItsRecord, job_here}
+use Rattle.gas_endpoint.specs.EndpointState.{EndpointState, ForItsRecord, job_here}
 use Rattle.job_text.specs.declared.job.ScriptStep.{ScriptStep}
 use Rattle.node_runs.specs.Actions.{Progress, next_call, tried_step}
 use Rattle.node_runs.specs.Scripts.{ThreadCall, Tried as FormTried}

@@ -7,7 +7,7 @@ use Rattle.lists.specs.Put.{put}
 use Rattle.node_record.specs.declared.answer.SlotRef.{SlotRef}
 use Rattle.am_core.specs.CoreContracts.{IsSameNode}
 use Rattle.endpoint_rules.specs.EndpointLocal.{EndpointLocal}
-use Rattle.gas_endpoint.specs.Endpoints.{EndpointState, EndpointStands}
+use Rattle.gas_endpoint.specs.EndpointState.{EndpointState, EndpointStands}
 use Rattle.job_text.specs.declared.job.ScriptStep.{ScriptStep}
 use Rattle.node_runs.specs.Actions.{Progress, OwnScripts, scripts_of}
 use Rattle.node_runs.specs.Scripts.{NodeJob}
@@ -15,7 +15,7 @@ use Rattle.node_runs.specs.Turn.{MachineState, Turn, turn, try_of, datagram, is_
 use Rattle.node_runs.specs.WorldRun.{endpoint_job}
 use Rattle.script_steps.specs.Forms.{step_form}
 use Rattle.node_machine.specs.Kept.{CanBeSaid}
-use Rattle.node_machine.specs.States.{datagram_at, as_there}
+use Rattle.node_machine.specs.NodeState.{datagram_at, as_there}
 use Rattle.node_machine.specs.declared.outgoing.Outgoing.{Outgoing}
 use Rattle.node_machine.specs.declared.turn.Done.{Done}
 

@@ -6,7 +6,7 @@
 //! What is proved:
 //!
 //! - `NodeMachine` is a `Machine` whose states are those of `node_runs`: the record of the node, with what is left
-//!   of the scripts (`NodeState`, in `specs/States.antt`). Of every state for which it stood (`NodeStands`) each
+//!   of the scripts (`NodeState`, in `specs/NodeState.antt`). Of every state for which it stood (`NodeStands`) each
 //!   turn is the turn of that definition, over the steps as `script_steps` reads them: what the machine stands for
 //!   afterwards [`after`], what the turn tells [`turned`], and the datagrams, each the one spelling of a message of
 //!   the node's record [`outgoing`], in order: the reply's, the tick's, the call's. A thread polls exactly where it

@@ -1,12 +1,14 @@
 //! The machine of a node.
 
 ghost use Rattle.std.specs.Prelude.{◌≡◌, ◌<◌, IfOk, IsSome, true, find, option_copied};
+ghost use Rattle.gas_endpoint.specs.EndpointState.{IsNodeOf};
 ghost use Rattle.job_text.specs.JobText.{IsJob};
+ghost use Rattle.node_script.specs.Registration.{registered};
 ghost use Rattle.node_machine.specs.Cursors.{progress_of_all};
 ghost use Rattle.node_machine.specs.Kept.{polls_at};
 ghost use Rattle.node_machine.specs.Machines.{MachineTakes};
 ghost use Rattle.node_machine.specs.Openings.{AreFirst};
-ghost use Rattle.node_machine.specs.States.{NodeStands, is_of, opening_state, steps_of_thread};
+ghost use Rattle.node_machine.specs.NodeState.{NodeStands, is_of, opening_state, steps_of_thread};
 
 use crate::cursor::{Cursor, are_done, cursor_at};
 use crate::outgoing::Outgoing;
@@ -122,7 +124,9 @@ impl<'a> NodeMachine<'a> {
 
     /// The endpoint.
     pub fn endpoint(&self) -> &Endpoint
-        ensures { result.now ≡ self.now.endpoint }
+        ensures is { result.now ≡ self.now.endpoint }
+        ensures node { IsNodeOf self.now.job.settings (registered self.now.job.handlers).table
+            result.now.core.me result.now }
     {
         &self.endpoint
     }
@@ -150,7 +154,9 @@ impl<'a> NodeMachine<'a> {
 
     /// The endpoint alone.
     pub fn into_endpoint(self) -> Endpoint
-        ensures { result ≡ self.entry.endpoint }
+        ensures is { result ≡ self.entry.endpoint }
+        ensures node { IsNodeOf self.entry.job.settings (registered self.entry.job.handlers).table
+            result.core.me result }
     {
         let NodeMachine { endpoint, .. } = self;
         endpoint
@@ -159,8 +165,8 @@ impl<'a> NodeMachine<'a> {
 
 impl<'a> Machine for NodeMachine<'a> {
     ghost use Rattle.node_machine.specs.Kept.{are_done, polls_at};
-    ghost use Rattle.node_machine.specs.States.{NodeState, NodeStands, after_turn, polls_in, sent};
-    ghost use Rattle.node_machine.specs.States.{turned};
+    ghost use Rattle.node_machine.specs.NodeState.{NodeState, NodeStands, after_turn, polls_in, sent};
+    ghost use Rattle.node_machine.specs.NodeState.{turned};
 
     ghost State = { NodeState };
 

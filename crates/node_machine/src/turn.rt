@@ -2,7 +2,7 @@
 
 ghost use Rattle.std.specs.Prelude.{◌≡◌, ◌<◌, ◌||◌, IsSome, true, not, is_some, option_copied};
 ghost use Rattle.hsl_locks.specs.Locks.{holds};
-ghost use Rattle.gas_endpoint.specs.Endpoints.{ForItsRecord};
+ghost use Rattle.gas_endpoint.specs.EndpointState.{ForItsRecord};
 ghost use Rattle.node_machine.specs.Kept.{CanBeSaid};
 ghost use Rattle.node_machine.specs.Cursors.{progress_of};
 ghost use Rattle.node_machine.specs.Scripted.{TriesNext};

@@ -154,7 +154,7 @@ last_other slot runs run other =
     none false b e = option_or_none (run_at slot (greatest slot runs) runs)
 
 -- a run's slot and number are found
-run_at_from : (runs : List Run) (place : ℕ) (run : Run) → slice_get runs place ≡ Some run
+pub run_at_from : (runs : List Run) (place : ℕ) (run : Run) → slice_get runs place ≡ Some run
     → (t : Run) × (run_at run.slot run.number runs ≡ Some t)
 run_at_from [] place run e = absurd (cc)
 run_at_from (t ∷ runs) zero run e =

@@ -4,10 +4,10 @@
 //! what a call, a delivery and a tick do to it (`specs/`), and has the lemmas on it. It has no code but the
 //! answers.
 //!
-//! What is proved is named by the clauses of `every_event`, at one type of what a node keeps, for any sound behaviour of a node, also one whose messages wait for
-//! locks and whose ticks send requests: each event, the coming of a message with any content included, keeps what holds of the
-//! record, where what the event sends has a spelling (`EventsKeep`); where all pairs have C credits the bound of a node's message
-//! buffers is 2C(n-1) (`BoundIsEven`).
+//! What is proved is named by the clauses of `every_event`, at one type of what a node keeps, for any sound behaviour
+//! of a node, also one whose messages wait for locks and whose ticks send requests: each event, the coming of a message
+//! with any content included, keeps what holds of the record, where what the event sends has a spelling (`EventsKeep`);
+//! where all pairs have C credits the bound of a node's message buffers is 2C(n-1) (`BoundIsEven`).
 #![tactic(auto)]
 
 ghost use Rattle.node_record.specs.EveryEvent.{EventsKeep, BoundIsEven};

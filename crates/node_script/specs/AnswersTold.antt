@@ -7,7 +7,7 @@ use Rattle.node_record.specs.declared.answer.Ticked.{Ticked}
 use Rattle.node_record.specs.declared.answer.Ticked.TheVariants as ticked
 use Rattle.am_core.specs.Kept.{segment_of}
 use Rattle.endpoint_rules.specs.EndpointLocal.{EndpointLocal}
-use Rattle.gas_endpoint.specs.Endpoints.{EndpointState, EndpointStands}
+use Rattle.gas_endpoint.specs.EndpointState.{EndpointState, EndpointStands}
 use Rattle.endpoint_rules.specs.declared.answer.Answer.{Answer}
 use Rattle.endpoint_rules.specs.declared.answer.Answer.TheVariants as answers
 use Rattle.endpoint_rules.specs.declared.answer.Local.{Local as LocalAnswer}

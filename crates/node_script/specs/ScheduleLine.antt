@@ -4,7 +4,7 @@ use Rattle.datagram_grammar.specs.Parameters.{Parameters}
 use Rattle.plain_world.specs.World.{IsAmong}
 use Rattle.endpoint_rules.specs.EndpointRules.{Records}
 use Rattle.endpoint_rules.specs.declared.call.Call.{Call}
-use Rattle.gas_endpoint.specs.Endpoints.{MayBeCalled}
+use Rattle.gas_endpoint.specs.EndpointState.{MayBeCalled}
 use Rattle.gas_world.specs.Aims.{MayFall}
 use Rattle.gas_world.specs.Events.{event_of}
 use Rattle.node_script.specs.Schedules.{scheduled_event}

@@ -3,7 +3,7 @@
 ghost use Rattle.std.specs.Prelude.{◌≡◌, ◌≤◌, ◌∷◌, decimal, length};
 ghost use Rattle.gas_outside.specs.Buffered.{GathersAll, outbox};
 ghost use Rattle.node_script.specs.Lines.{ending, line_text};
-ghost use Rattle.gas_endpoint.specs.Endpoints.{ForItsRecord};
+ghost use Rattle.gas_endpoint.specs.EndpointState.{ForItsRecord};
 ghost use Rattle.node_script.specs.AnswerWords.{answer_words, local_words, sent_words, ticked_words};
 ghost use Rattle.node_script.specs.AnswersTold.{HasNumber, NamesItsBytes, NamesWhatIs, TicksItsNumbers, sight_at};
 

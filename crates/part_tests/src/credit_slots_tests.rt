@@ -1,5 +1,5 @@
 ghost use Rattle.std.specs.Prelude.{◌≡◌, ℕ, ◌<◌, ◌≤◌, ◌+◌, length, ◌++◌, drop, IfOk, IfErr, OnErr, IfSome, slice_get};
-ghost use Rattle.credit_slots.specs.State.{CanClaim, Refuses, slot_count, with_request};
+ghost use Rattle.credit_slots.specs.SlotsState.{CanClaim, Refuses, slot_count, with_request};
 
 use credit_slots::{BUFFER_BYTES, CreditSlots, NoClaim};
 use std::process::Abort;
@@ -203,34 +203,48 @@ fn check_dues(rt: &impl Abort, table: &mut CreditSlots, rows: &[(u64, u64, Optio
     }
 }
 
+/// The slot whose message is sent again at a time, where it is this one; none where none is due, or it is another.
+fn resent(table: &mut CreditSlots, now: u64, resend: u64, message: &[u8]) -> Option<(u16, u16)> {
+    let (to, slot) = table.due(now, resend)?;
+    if table.bytes(to, slot) == Some(message) {
+        Some((to, slot))
+    } else {
+        None
+    }
+}
+
+const IN_ORDER: [(u16, u64, Result<(u16, u64), NoClaim>); 4] = [
+    (2, 3, Ok((0, 1))),
+    (2, 1, Ok((1, 2))),
+    (1, 3, Ok((0, 1))),
+    (1, 3, Ok((1, 2))),
+];
+
 /// The earliest first, then the lower node, then the lower slot; 10 must have passed since the last sending.
+const AGAIN_IN_ORDER: [(u64, u64, Option<(u16, u16)>); 8] = [
+    (0, 0, None),
+    (10, 10, None),
+    (11, 10, Some((2, 1))),
+    (11, 10, None),
+    (20, 10, Some((1, 0))),
+    (20, 10, Some((1, 1))),
+    (20, 10, Some((2, 0))),
+    (20, 10, None),
+];
+
 #[test]
 fn resends_in_order(rt: HostRuntime) -> Result<(), Fail> {
     let mut table = CreditSlots::new(rt.alloc(), &[2, 2, 2], 0, 9)?;
-    assert_eq!(rt; table.due(100, 10), None);
-    let sends = [
-        (2, 3, Ok((0, 1))),
-        (2, 1, Ok((1, 2))),
-        (1, 3, Ok((0, 1))),
-        (1, 3, Ok((1, 2))),
-    ];
-    check_sends(&rt, &mut table, 3, &sends);
-    let dues = [
-        (0, 0, None),
-        (10, 10, None),
-        (11, 10, Some((2, 1))),
-        (11, 10, None),
-        (20, 10, Some((1, 0))),
-        (20, 10, Some((1, 1))),
-        (20, 10, Some((2, 0))),
-        (20, 10, None),
-    ];
-    check_dues(&rt, &mut table, &dues);
-    let Some((to, slot)) = table.due(21, 10) else {
-        return Err(Fail::new("none is due"));
-    };
-    assert_eq!(rt; (to, slot), (2, 1));
-    assert_eq!(rt; table.bytes(to, slot), Some([7].as_slice()));
+    check_sends(&rt, &mut table, 3, &IN_ORDER);
+    check_dues(&rt, &mut table, &AGAIN_IN_ORDER);
+    assert_eq!(rt; resent(&mut table, 21, 10, &[7]), Some((2, 1)));
+    Ok(())
+}
+
+#[test]
+fn resends_nothing_that_was_not_sent(rt: HostRuntime) -> Result<(), Fail> {
+    let mut table = CreditSlots::new(rt.alloc(), &[2, 2, 2], 0, 9)?;
+    assert_eq!(rt; resent(&mut table, 100, 10, &[7]), None);
     Ok(())
 }
 

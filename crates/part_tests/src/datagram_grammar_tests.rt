@@ -1,11 +1,10 @@
 //! The layout's vectors, the table of refusals in its order, barrier notes, and the limits of the settings.
 
 ghost use Rattle.std.specs.Prelude.{◌≡◌, ◌<◌, ◌≤◌, true};
-ghost use Rattle.datagram_grammar.specs.Content.{IsWellFormed, is_version};
-ghost use Rattle.datagram_grammar.specs.Reading.{outgoing_message};
+ghost use Rattle.datagram_grammar.specs.Content.{is_version};
 
 use datagram_grammar::{
-    Address, BarrierNote, Kind, Outgoing, Refused, Settings, ack, args_note, long_reply,
+    Address, BarrierNote, Kind, Outgoing, Refused, Settings, View, ack, args_note, long_reply,
     long_request, medium_reply, medium_request, note_args, noted_again, short_reply, short_request,
     spell, view, write_into, written_again,
 };
@@ -51,6 +50,18 @@ const LONG: [u8; 41] =
 const MEDIUM_REPLY: [u8; 41] =
     *b"\x47\x41\x4d\x31\x04\x82\x00\x00\0\0\0\0\0\0\0\x07\0\x01\0\0\0\0\0\x01\0\0\0\0\0\0\0\x01\0\0\0\0\0\0\0\0\x0d";
 
+/// The Ack in version 2.
+const SECOND_ACK: [u8; 40] =
+    *b"\x47\x41\x4d\x32\x06\0\0\0\0\0\0\0\0\0\0\x07\0\x01\0\0\0\0\0\0\0\0\0\0\0\0\0\x01\0\0\0\0\0\0\0\0";
+
+/// The get in version 2.
+const SECOND_GET: [u8; 60] =
+    *b"\x47\x41\x4d\x32\0\x41\x05\0\0\0\0\0\0\0\0\x07\0\0\0\x01\0\0\0\0\0\0\0\0\0\0\0\x01\0\0\0\0\0\0\0\0\0\0\0\0\0\0\0\0\0\0\0\x04\0\0\0\0\0\0\0\x64";
+
+/// Its Long reply in version 2.
+const SECOND_GOT: [u8; 44] =
+    *b"\x47\x41\x4d\x32\x05\x44\0\0\0\0\0\0\0\0\0\x07\0\x01\0\0\0\0\0\x04\0\0\0\0\0\0\0\x01\0\0\0\0\0\0\0\x64\x09\x09\x09\x09";
+
 /// From node 0 to node 1, in slot 0 with number 1.
 const FORTH: Address = Address {
     version: 1,
@@ -71,13 +82,21 @@ const BACK: Address = Address {
     number: 1,
 };
 
-/// Whether these are the bytes that the parts are written as.
-fn is_written(parts: &Outgoing<'_>, want: &[u8]) -> bool
-    requires { IsWellFormed (outgoing_message parts.now) }
-{
+/// Whether the parts are well formed, and written as these bytes.
+fn is_written(parts: &Outgoing<'_>, want: &[u8]) -> bool {
+    if !parts.well_formed() {
+        return false;
+    }
     let mut buffer = [9; 8296];
     let len = spell(parts, &mut buffer);
     &buffer[..len] == want
+}
+
+/// What is read of the bytes of a version.
+fn viewed(bytes: &[u8], version: u8) -> Result<View<'_>, Refused>
+    requires { is_version version ≡ true }
+{
+    view(bytes, version)
 }
 
 #[test]
@@ -118,25 +137,25 @@ fn writes_where_there_is_room(rt: HostRuntime) {
 
 #[test]
 fn reads_the_vectors(rt: HostRuntime) -> Result<(), Fail> {
-    let read = view(&REQUEST, 1)?;
+    let read = viewed(&REQUEST, 1)?;
     assert_eq!(rt; read.kind, Kind::ShortRequest);
     assert_eq!(rt; (read.version, read.job, read.from, read.to), (1, 7, 0, 1));
     assert_eq!(rt; (read.slot, read.number, read.handler), (0, 1, 128));
     assert_eq!(rt; (read.arg(0), read.arg(1)), (Some(5), None));
     assert_eq!(rt; (read.offset, read.payload.len()), (0, 0));
-    let read = view(&ACK, 1)?;
+    let read = viewed(&ACK, 1)?;
     assert_eq!(rt;
         (read.kind, read.handler, read.arg(0)),
         (Kind::Ack, 0, None)
     );
     assert_eq!(rt; (read.from, read.to, read.payload.len()), (1, 0, 0));
-    let read = view(&GET, 1)?;
+    let read = viewed(&GET, 1)?;
     assert_eq!(rt; (read.kind, read.handler), (Kind::ShortRequest, 65));
     assert_eq!(rt;
         (read.arg(2), read.arg(4), read.arg(5)),
         (Some(4), Some(100), None)
     );
-    let read = view(&GOT, 1)?;
+    let read = viewed(&GOT, 1)?;
     assert_eq!(rt;
         (read.kind, read.handler, read.arg(0)),
         (Kind::LongReply, 68, None)
@@ -147,21 +166,21 @@ fn reads_the_vectors(rt: HostRuntime) -> Result<(), Fail> {
 
 #[test]
 fn reads_each_kind(rt: HostRuntime) -> Result<(), Fail> {
-    let read = view(&MEDIUM, 1)?;
+    let read = viewed(&MEDIUM, 1)?;
     assert_eq!(rt; (read.kind, read.arg(0)), (Kind::MediumRequest, Some(1)));
     assert_eq!(rt; (read.offset, read.payload), (0, [10, 11].as_slice()));
-    let read = view(&LONG, 1)?;
+    let read = viewed(&LONG, 1)?;
     assert_eq!(rt;
         (read.kind, read.offset),
         (Kind::LongRequest, 0x1_0000_0005)
     );
     assert_eq!(rt; read.payload, [12].as_slice());
-    let read = view(&REPLY, 1)?;
+    let read = viewed(&REPLY, 1)?;
     assert_eq!(rt;
         (read.kind, read.handler, read.arg(0)),
         (Kind::ShortReply, 129, Some(-2))
     );
-    let read = view(&MEDIUM_REPLY, 1)?;
+    let read = viewed(&MEDIUM_REPLY, 1)?;
     assert_eq!(rt;
         (read.kind, read.payload),
         (Kind::MediumReply, [13].as_slice())
@@ -183,13 +202,13 @@ fn changed(version: u8, at: usize, byte: u8) -> [u8; 44]
 #[test]
 fn reads_each_version_alone(rt: HostRuntime) -> Result<(), Fail> {
     let second = changed(2, 0, 0x47);
-    let read = view(&second, 2)?;
+    let read = viewed(&second, 2)?;
     assert_eq!(rt;
         (read.version, read.from, read.to, read.arg(0)),
         (2, 0, 1, Some(5))
     );
-    assert_eq!(rt; view(&second, 1).err(), Some(Refused::Magic));
-    assert_eq!(rt; view(&REQUEST, 2).err(), Some(Refused::Magic));
+    assert_eq!(rt; viewed(&second, 1).err(), Some(Refused::Magic));
+    assert_eq!(rt; viewed(&REQUEST, 2).err(), Some(Refused::Magic));
     let address = Address {
         version: 2,
         ..FORTH
@@ -223,7 +242,7 @@ fn are_refused(version: u8, rows: &[(usize, u8, Refused)]) -> bool
     requires low { version ≤ 2 }
 {
     for (at, byte, want) in rows {
-        if *at >= 44 || view(&changed(version, *at, *byte), version).err() != Some(*want) {
+        if *at >= 44 || viewed(&changed(version, *at, *byte), version).err() != Some(*want) {
             return false;
         }
     }
@@ -240,9 +259,9 @@ fn is_in_order(version: u8) -> bool
     let bytes = changed(version, 31, 1);
     let mut longer = [0; 45];
     longer[..44].copy_from_slice(&bytes);
-    let trailing = view(&longer, version).err();
+    let trailing = viewed(&longer, version).err();
     are_refused(version, &ROWS)
-        && view(&both, version).err() == Some(Refused::Magic)
+        && viewed(&both, version).err() == Some(Refused::Magic)
         && trailing == Some(Refused::Trailing(44))
 }
 
@@ -250,15 +269,15 @@ fn is_in_order(version: u8) -> bool
 fn refuses_in_order(rt: HostRuntime) {
     assert!(rt; is_in_order(1));
     assert!(rt; is_in_order(2));
-    assert_eq!(rt; view(&REQUEST[..39], 1).err(), Some(Refused::Short(39)));
-    assert_eq!(rt; view(&REQUEST[..43], 1).err(), Some(Refused::Cut(43)));
-    assert_eq!(rt; view(&SECOND[..39], 2).err(), Some(Refused::Short(39)));
-    assert_eq!(rt; view(&SECOND[..43], 2).err(), Some(Refused::Cut(43)));
+    assert_eq!(rt; viewed(&REQUEST[..39], 1).err(), Some(Refused::Short(39)));
+    assert_eq!(rt; viewed(&REQUEST[..43], 1).err(), Some(Refused::Cut(43)));
+    assert_eq!(rt; viewed(&SECOND[..39], 2).err(), Some(Refused::Short(39)));
+    assert_eq!(rt; viewed(&SECOND[..43], 2).err(), Some(Refused::Cut(43)));
     let mut paid = MEDIUM;
     paid[22] = 0x20;
-    assert_eq!(rt; view(&paid, 1).err(), Some(Refused::Length));
+    assert_eq!(rt; viewed(&paid, 1).err(), Some(Refused::Length));
     paid[23] = 0;
-    assert_eq!(rt; view(&paid, 1).err(), Some(Refused::Cut(46)));
+    assert_eq!(rt; viewed(&paid, 1).err(), Some(Refused::Cut(46)));
 }
 
 /// The note of `NOTE`.
@@ -271,7 +290,7 @@ const TOLD: BarrierNote = BarrierNote {
 
 #[test]
 fn reads_and_writes_a_wide_note(rt: HostRuntime) -> Result<(), Fail> {
-    let read = view(&NOTE, 2)?;
+    let read = viewed(&NOTE, 2)?;
     assert_eq!(rt;
         (read.kind, read.handler, read.from, read.to),
         (Kind::ShortRequest, 67, 64, 65)
@@ -409,4 +428,41 @@ fn counts_credits_and_pairs_in_all(rt: HostRuntime) -> Result<(), Fail> {
     }
     assert_eq!(rt; settings.with_pair(0, 65, 1), None);
     Ok(())
+}
+
+#[test]
+fn reads_the_vectors_of_the_second_version(rt: HostRuntime) -> Result<(), Fail> {
+    let read = view(&SECOND_ACK, 2)?;
+    assert_eq!(rt;
+        (read.version, read.kind, read.from, read.to),
+        (2, Kind::Ack, 1, 0)
+    );
+    let read = view(&SECOND_GET, 2)?;
+    assert_eq!(rt;
+        (read.version, read.kind, read.handler),
+        (2, Kind::ShortRequest, 65)
+    );
+    assert_eq!(rt;
+        (read.arg(2), read.arg(4), read.arg(5)),
+        (Some(4), Some(100), None)
+    );
+    let read = view(&SECOND_GOT, 2)?;
+    assert_eq!(rt;
+        (read.version, read.kind, read.handler),
+        (2, Kind::LongReply, 68)
+    );
+    assert_eq!(rt; (read.offset, read.payload), (100, [9; 4].as_slice()));
+    Ok(())
+}
+
+#[test]
+fn writes_the_vectors_of_the_second_version(rt: HostRuntime) {
+    let forth = Address {
+        version: 2,
+        ..FORTH
+    };
+    let back = Address { version: 2, ..BACK };
+    assert!(rt; is_written(&ack(back), &SECOND_ACK));
+    assert!(rt; is_written(&short_request(forth, 65, &[0, 0, 4, 0, 100]), &SECOND_GET));
+    assert!(rt; is_written(&long_reply(back, 68, &[], 100, &[9; 4]), &SECOND_GOT));
 }

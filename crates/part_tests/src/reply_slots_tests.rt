@@ -1,5 +1,5 @@
 ghost use Rattle.std.specs.Prelude.{◌≡◌, ℕ, ◌<◌, ◌≤◌, length, ◌++◌, drop};
-ghost use Rattle.reply_slots.specs.State.{slot_count, with_reply, JudgesAt};
+ghost use Rattle.reply_slots.specs.RepliesState.{slot_count, with_reply, JudgesAt};
 ghost use Rattle.reply_slots.specs.declared.Judged.TheVariants.{New as new_number};
 
 use reply_slots::{BUFFER_BYTES, Judged, ReplySlots};

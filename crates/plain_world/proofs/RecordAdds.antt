@@ -180,7 +180,7 @@ run_of_push l (u ∷ runs) run a e = elim (cases_eq u.number l) [
 ]
 
 -- a run with a new number is found
-run_of_new : (runs : List Run) (run : Run) → run_of run.number runs ≡ None
+pub run_of_new : (runs : List Run) (run : Run) → run_of run.number runs ≡ None
     → run_of run.number (runs ++ run ∷ []) ≡ Some run
 run_of_new [] run e = grind (arith, nat_tests)
 run_of_new (u ∷ runs) run e = elim (cases_eq u.number run.number) [

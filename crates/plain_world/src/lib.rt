@@ -4,27 +4,28 @@
 //! world has requests, runs and what is back, and no buffers, kept replies or times. `specs/` says what both are,
 //! and what holds of every run; the proofs are for every behaviour that is sound. It has no code.
 //!
-//! What is proved is named by the clauses of `every_run`, at one type of what a node keeps, for any sound behaviour of nodes
-//! (`IsAllSound`), also one whose messages wait for locks and whose ticks send requests; `gas_world` carries it to the program's
-//! own. Each event of a world is a step of the plain world (`specs/PlainStep.antt`), and in each state (`IsLawful`,
-//! `specs/Laws.antt`):
+//! What is proved is named by the clauses of `every_run`, at one type of what a node keeps, for any sound behaviour of
+//! nodes (`IsAllSound`), also one whose messages wait for locks and whose ticks send requests; `gas_world` carries it
+//! to the program's own. Each event of a world is a step of the plain world (`specs/PlainStep.antt`), and in each state
+//! (`IsLawful`, `specs/Laws.antt`):
 //!
-//! - no node holds more message buffers than the sum over its peers of the credits both ways (`HoldsFew`; the plain world's
-//!   counts are the records', `CountsAgree`);
-//! - a request that passes every earlier refusal, with a number left, is answered 'not yet' exactly where all credits of its pair
-//!   are unreturned (`NotYetExactly`);
-//! - a request that was sent and hasn't run runs where it comes, unless a lock defers it; its reply gets the slot of its label,
-//!   and each other request of that label is back (`FindsItsSlot`); the reply stands there, as the message of that slot and as
-//!   the answer to repeats, until a later request of that label runs (`ReplyStands`), and none does before the request is back
-//!   (`NonePasses`); a reply that comes while its request isn't back gives back that request's credit, unless a lock defers it
-//!   (`ReplyFindsItsRequest`);
-//! - a request that ran was accepted and ran with its label and content, none ran twice (`RunsOnce`), and one that is back ran
-//!   (`BackRan`);
+//! - no node holds more message buffers than the sum over its peers of the credits both ways (`HoldsFew`; the plain
+//!   world's counts are the records', `CountsAgree`);
+//! - a request that passes every earlier refusal, with a number left, is answered 'not yet' exactly where all credits
+//!   of its pair are unreturned (`NotYetExactly`);
+//! - a request that was sent and hasn't run runs where it comes, unless a lock defers it; its reply gets the slot of
+//!   its label, and each other request of that label is back (`FindsItsSlot`); the reply stands there, as the message
+//!   of that slot and as the answer to repeats, until a later request of that label runs (`ReplyStands`), and none does
+//!   before the request is back (`NonePasses`); a reply that comes while its request isn't back gives back that
+//!   request's credit, unless a lock defers it (`ReplyFindsItsRequest`);
+//! - a request that ran was accepted and ran with its label and content, none ran twice (`RunsOnce`), and one that is
+//!   back ran (`BackRan`);
 //! - requests are those of two different nodes that are there, with labels below the pair's credits (`IsWithin`).
 //!
-//! Of a whole run (`Headline`, `specs/Headline.antt`): it is a run of the plain world, step by step, and no delivery is answered
-//! Refused; the laws hold in each state; requests and runs only become more; no request runs twice and no reply is taken twice,
-//! nor before its request ran; what ran and what is back was run and taken by a delivery; what may be delivered is what was sent.
+//! Of a whole run (`Headline`, `specs/Headline.antt`): it is a run of the plain world, step by step, and no delivery is
+//! answered Refused; the laws hold in each state; requests and runs only become more; no request runs twice and no
+//! reply is taken twice, nor before its request ran; what ran and what is back was run and taken by a delivery; what
+//! may be delivered is what was sent.
 #![tactic(auto)]
 
 ghost use Rattle.plain_world.specs.EveryRun.{InEveryRun, HasHeadline, KeepsInvariant, HasGreatest};

@@ -1,5 +1,6 @@
 -- What the entry of a slot says of a reply that comes in it.
-use Rattle.std.proofs.Common.{◌≡◌, ◌≢◌, inl, inr, ℕ, ◌<◌, ◌==◌, true, false, List, [], ◌∷◌, Option, None, Some, length, refl, sym, ap, ◌∙◌, subst, arith, eq-eqb, ne_eqb}
+use Rattle.std.proofs.Common.{◌≡◌, ◌≢◌, inl, inr, ℕ, ◌<◌, ◌==◌, true, false, List, [], ◌∷◌, Option, None, Some, length}
+use Rattle.std.proofs.Common.{refl, sym, ap, ◌∙◌, subst, arith, eq-eqb, ne_eqb}
 use Rattle.std.specs.List.{slice_get, list_any}
 use Rattle.std.proofs.lemmas.Bool.{cases_Bool}
 use Rattle.std.proofs.lemmas.Option.{same_Some, slice_get_within}
@@ -8,7 +9,7 @@ use Rattle.put_get.specs.declared.table.Standing.{Standing}
 use Rattle.put_get.specs.declared.slots.Waiting.{Waiting}
 use Rattle.put_get.specs.declared.transfers.Transfers.{Transfers}
 use Rattle.put_get.specs.Operation.{Operation, target, returned_of, has_out, come_back}
-use Rattle.put_get.specs.Slots.{entry_at}
+use Rattle.put_get.specs.SlotsState.{entry_at}
 use Rattle.put_get.specs.Outs.{Out, requests_of}
 use Rattle.put_get.specs.Stands.{Stands}
 use Rattle.put_get.proofs.Outs.{has_out_is, none_back, one_out, out_less}
@@ -41,7 +42,8 @@ this_out table operations to slot waiting S at =
 -- and the operations are as they were
 pub stands_unless : (table : Transfers) (operations : List Operation) (to slot request : ℕ) → Stands table operations
     → has_out to slot request operations ≡ false → Stands table (come_back to slot request operations)
-stands_unless table operations to slot request S isnt = subst (Stands table) (sym (none_back to slot request operations isnt)) S
+stands_unless table operations to slot request S isnt =
+    subst (Stands table) (sym (none_back to slot request operations isnt)) S
 
 -- its record stands, and has a chunk that isn't back
 pub place_within : (table : Transfers) (operations : List Operation) (to slot : ℕ) (waiting : Waiting)
@@ -72,7 +74,8 @@ unreturned table operations to slot waiting there S entry at =
     let is : it.0 ≡ there = same_Some _ _ (same_Some _ _ (sym it.1 ∙ at)) in
     let here = numbered_at operations it.0.number one.place one.operation one.here one.numbered_so in
     let o = S.keeps.each waiting.place it.0 it.1 in
-    let less : returned_of o.0.sent < length o.0.sent = less_of o.0 (ap (requests_of to slot) (same_Some _ _ (sym o.1 ∙ here)) ∙ one.one) in
+    let less : returned_of o.0.sent < length o.0.sent =
+    less_of o.0 (ap (requests_of to slot) (same_Some _ _ (sym o.1 ∙ here)) ∙ one.one) in
     subst (λ (z : Standing). z.returned < z.issued) (sym o.3 ∙ is) less
   where
     less_of : (operation : Operation) → requests_of to slot operation ≡ waiting.request ∷ []

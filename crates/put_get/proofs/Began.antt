@@ -1,5 +1,7 @@
 -- The records stand where an operation begins.
-use Rattle.std.proofs.Common.{◌≡◌, ◌≢◌, inl, inr, ℕ, zero, suc, ◌+◌, ◌<◌, ◌≤◌, true, false, true≢false, replicate, nat_le, List, [], ◌∷◌, ◌++◌, Option, None, Some, length, set, refl, sym, ap, ◌∙◌, subst, arith}
+use Rattle.std.proofs.Common.{◌≡◌, ◌≢◌, inl, inr, ℕ, zero, suc, ◌+◌, ◌<◌, ◌≤◌, true, false, true≢false, replicate}
+use Rattle.std.proofs.Common.{nat_le, List, [], ◌∷◌, ◌++◌, Option, None, Some, length, set, refl, sym, ap, ◌∙◌, subst}
+use Rattle.std.proofs.Common.{arith}
 use Rattle.std.specs.List.{slice_get}
 use Rattle.std.proofs.lemmas.Bool.{cases_Bool, lt-leb}
 use Rattle.std.proofs.lemmas.List.{length-set, length-append}
@@ -14,7 +16,7 @@ use Rattle.put_get.specs.declared.table.Standing.{Standing}
 use Rattle.put_get.specs.declared.transfers.Transfers.{Transfers}
 use Rattle.put_get.specs.Operation.{Operation, standing, is_full, after_begin, fresh}
 use Rattle.put_get.specs.Table.{taken}
-use Rattle.put_get.specs.Slots.{SlotsState, entry_at}
+use Rattle.put_get.specs.SlotsState.{SlotsState, entry_at}
 use Rattle.put_get.specs.Outs.{outs}
 use Rattle.put_get.specs.Stands.{kept, Keeps, Says, Stands}
 use Rattle.put_get.proofs.Tests.{get_set}
@@ -44,7 +46,13 @@ pub keeps_begun : (places : List (Option Standing)) (operations : List Operation
     → operation.synced ≡ false → Keeps places operations
     → Keeps (set places place (Some (kept (suc (length operations)) operation))) (operations ++ operation ∷ [])
 keeps_begun places operations place operation blank fresh K =
-    record { many = length-set places place (Some new) ∙ K.many; each = each; all = all; once = once; count = count_from (set places place (Some new)) (operations ++ operation ∷ []) each all once }
+    record {
+      many = length-set places place (Some new) ∙ K.many;
+      each = each;
+      all = all;
+      once = once;
+      count = count_from (set places place (Some new)) (operations ++ operation ∷ []) each all once;
+    }
   where
     new : Standing
     new = kept (suc (length operations)) operation
@@ -54,23 +62,40 @@ keeps_begun places operations place operation blank fresh K =
 
     old : (other : ℕ) (there : Standing) → slice_get places other ≡ Some (Some there)
         → there.number ≢ suc (length operations)
-    old other there at same = let was = K.each other there at in let in_list = numbered_in operations there.number was.0 was.1 in omega (arith, same, in_list)
+    old other there at same = let was = K.each other there at in
+        let in_list = numbered_in operations there.number was.0 was.1 in omega (arith, same, in_list)
 
     each : (other : ℕ) (there : Standing) → slice_get (set places place (Some new)) other ≡ Some (Some there)
         → (o : Operation) × (numbered (operations ++ operation ∷ []) there.number ≡ Some o) × (o.synced ≡ false)
         × (there ≡ kept there.number o)
     each other there at = elim (get_set places place (Some new) other (Some there) at) [
       | inl here ↦ (
-          let is : new ≡ there = same_Some _ _ here.1 in
-          (operation, ap (numbered (operations ++ operation ∷ [])) (ap (λ (z : Standing). z.number) (sym is)) ∙ slice_get_last operations operation, fresh, sym is ∙ ap (λ n. kept n operation) (ap (λ (z : Standing). z.number) is)))
-      | inr apart_from ↦ (let was = K.each other there apart_from.1 in (was.0, numbered_kept operations operation there.number was.0 was.1, was.2, was.3))
+          let is : new ≡ there = same_Some _ _ here.1 in (
+            operation,
+            ap (numbered (operations ++ operation ∷ [])) (ap (λ (z : Standing). z.number) (sym is))
+                ∙ slice_get_last operations operation,
+            fresh,
+            sym is
+                ∙ ap (λ n. kept n operation) (ap (λ (z : Standing). z.number) is),
+          ))
+      | inr apart_from ↦
+          (let was = K.each other there apart_from.1 in
+          (was.0, numbered_kept operations operation there.number was.0 was.1, was.2, was.3))
     ]
 
     all : (number : ℕ) (o : Operation) → numbered (operations ++ operation ∷ []) number ≡ Some o → o.synced ≡ false
         → (other : ℕ) × (slice_get (set places place (Some new)) other ≡ Some (Some (kept number o)))
     all number o at stands = elim (numbered_push operations operation number o at) [
-      | inl was ↦ (let it = K.all number o was stands in (it.0, get-set_other places place (Some new) it.0 (λ same. apart (kept number o) (sym blank ∙ (ap (slice_get places) (sym same) ∙ it.1))) ∙ it.1))
-      | inr it ↦ (place, get-set_same places place (Some new) (slice_get_within places place None blank) ∙ ap (λ (y : Standing). Some (Some y)) (ap (λ n. kept n operation) (sym it.0) ∙ ap (kept number) it.1))
+      | inl was ↦ (let it = K.all number o was stands in (
+        it.0,
+        get-set_other places place (Some new) it.0
+            (λ same. apart (kept number o) (sym blank ∙ (ap (slice_get places) (sym same) ∙ it.1))) ∙ it.1,
+      ))
+      | inr it ↦ (
+        place,
+        get-set_same places place (Some new) (slice_get_within places place None blank)
+            ∙ ap (λ (y : Standing). Some (Some y)) (ap (λ n. kept n operation) (sym it.0) ∙ ap (kept number) it.1),
+      )
     ]
 
     once : (one other : ℕ) (first second : Standing) → slice_get (set places place (Some new)) one ≡ Some (Some first)
@@ -79,10 +104,13 @@ keeps_begun places operations place operation blank fresh K =
     once one other first second at there same = elim (get_set places place (Some new) one (Some first) at) [
       | inl here ↦ elim (get_set places place (Some new) other (Some second) there) [
         | inl too ↦ here.0 ∙ sym too.0
-        | inr isnt ↦ absurd (old other second isnt.1 (sym same ∙ ap (λ (z : Standing). z.number) (sym (same_Some new first here.1))))
+        | inr isnt ↦
+            absurd (old other second isnt.1
+            (sym same ∙ ap (λ (z : Standing). z.number) (sym (same_Some new first here.1))))
       ]
       | inr isnt ↦ elim (get_set places place (Some new) other (Some second) there) [
-        | inl too ↦ absurd (old one first isnt.1 (same ∙ ap (λ (z : Standing). z.number) (sym (same_Some new second too.1))))
+        | inl too ↦ absurd
+            (old one first isnt.1 (same ∙ ap (λ (z : Standing). z.number) (sym (same_Some new second too.1))))
         | inr neither ↦ K.once one other first second isnt.1 neither.1 same
       ]
     ]
@@ -100,7 +128,8 @@ full_by_numbers operations many = elim (cases_Bool (nat_le 256 (standing operati
 
 pub not_full : (operations : List Operation) → standing operations < 256 → length operations < 18446744073709551615
     → is_full operations ≡ false
-not_full operations room left = rw (lt-leb 256 (standing operations) room, lt-leb 18446744073709551615 (length operations) left) refl
+not_full operations room left =
+    rw (lt-leb 256 (standing operations) room, lt-leb 18446744073709551615 (length operations) left) refl
 
 -- ---- the table
 
@@ -127,7 +156,10 @@ pub stands_begun : (table : Transfers) (operations : List Operation) (place : �
     (mode : Mode)
     → Stands table operations → slice_get table.table place ≡ Some None
     → length operations < 18446744073709551615
-    → Stands (record table { given = table.given + 1; table = set table.table place (Some (kept (table.given + 1) (fresh thread transfer mode (table.given + 1)))) }) (after_begin thread transfer mode operations)
+    → Stands (record table {
+      given = table.given + 1;
+      table = set table.table place (Some (kept (table.given + 1) (fresh thread transfer mode (table.given + 1))));
+    }) (after_begin thread transfer mode operations)
 stands_begun table operations place thread transfer mode S blank left =
     let less = taken_less table.table place blank in
     let count = S.keeps.count in
@@ -136,11 +168,15 @@ stands_begun table operations place thread transfer mode S blank left =
     let new = fresh thread transfer mode (suc (length operations)) in
     let now = set table.table place (Some (kept (table.given + 1) (fresh thread transfer mode (table.given + 1)))) in
     rw (not_full operations (omega (arith, less, count, many)) left) (record {
-      keeps = subst (λ n. Keeps (set table.table place (Some (kept n (fresh thread transfer mode n)))) (operations ++ new ∷ [])) number
+      keeps = subst
+          (λ n. Keeps (set table.table place (Some (kept n (fresh thread transfer mode n)))) (operations ++ new ∷ []))
+          number
           (keeps_begun table.table operations place new blank refl S.keeps);
       given = omega (arith, number, length-append operations (new ∷ []));
-      says = λ to slot. subst (λ out. Says now (entry_at table.slots to slot) out) (sym (outs_begun to slot 1 operations new (none_sent to slot new refl)))
-          (says_blank table.table place (kept (table.given + 1) (fresh thread transfer mode (table.given + 1))) (entry_at table.slots to slot) (outs to slot 1 operations) blank (S.says to slot));
+      says = λ to slot. subst (λ out. Says now (entry_at table.slots to slot) out)
+          (sym (outs_begun to slot 1 operations new (none_sent to slot new refl)))
+          (says_blank table.table place (kept (table.given + 1) (fresh thread transfer mode (table.given + 1)))
+          (entry_at table.slots to slot) (outs to slot 1 operations) blank (S.says to slot));
       settled = λ n operation at synced. elim (numbered_push operations new n operation at) [
         | inl was ↦ S.settled n operation was synced
         | inr it ↦ absurd (true≢false (sym synced ∙ ap (λ (z : Operation). z.synced) (sym it.1)))

@@ -1,5 +1,6 @@
 -- The records stand where one operation changes.
-use Rattle.std.proofs.Common.{◌≡◌, ◌≢◌, inl, inr, ℕ, suc, ◌+◌, ◌==◌, false, true≢false, if◌then◌else◌, List, [], ◌∷◌, ◌++◌, Option, None, Some, length, set, refl, sym, ap, ap₂, ◌∙◌, subst, arith}
+use Rattle.std.proofs.Common.{◌≡◌, ◌≢◌, inl, inr, ℕ, suc, ◌+◌, ◌==◌, false, true≢false, if◌then◌else◌, List, [], ◌∷◌}
+use Rattle.std.proofs.Common.{◌++◌, Option, None, Some, length, set, refl, sym, ap, ap₂, ◌∙◌, subst, arith}
 use Rattle.std.specs.List.{slice_get}
 use Rattle.std.proofs.lemmas.Bool.{cases_Bool, cases_eq}
 use Rattle.std.proofs.lemmas.List.{length-set, length-append, length-map}
@@ -11,14 +12,16 @@ use Rattle.lists.proofs.Numbered.{numbered-change, numbered-changed, numbered-ch
 use Rattle.put_get.specs.declared.table.Standing.{Standing}
 use Rattle.put_get.specs.declared.slots.Waiting.{Waiting}
 use Rattle.put_get.specs.declared.transfers.Transfers.{Transfers}
-use Rattle.put_get.specs.Operation.{Operation, Sent, target, returned_of, is_complete, with_sent, as_back, with_back, come_back, IsFreeSlot}
-use Rattle.put_get.specs.Slots.{SlotsState, entry_at, HasSet}
+use Rattle.put_get.specs.Operation.{Operation, Sent, target, returned_of, is_complete, with_sent, as_back, with_back}
+use Rattle.put_get.specs.Operation.{come_back, IsFreeSlot}
+use Rattle.put_get.specs.SlotsState.{SlotsState, entry_at, HasSet}
 use Rattle.put_get.specs.Outs.{Out, requests_of, outs}
 use Rattle.put_get.specs.Stands.{kept, Keeps, Says, Stands}
 use Rattle.put_get.proofs.Tests.{get_set}
 use Rattle.put_get.proofs.Counts.{count_from, number_at}
 use Rattle.put_get.proofs.Issued.{with_back_keeps}
-use Rattle.put_get.proofs.Outs.{IsOne, one_out, one_operation, outs_other, outs_issued, outs_kept, outs_free, issued_elsewhere}
+use Rattle.put_get.proofs.Outs.{IsOne, one_out, one_operation, outs_other, outs_issued, outs_kept, outs_free}
+use Rattle.put_get.proofs.Outs.{issued_elsewhere}
 use Rattle.put_get.proofs.Said.{said, says_rewritten}
 
 numbered_other : (f : Operation → Operation) (operations : List Operation) (number other : ℕ) (operation : Operation)
@@ -39,7 +42,13 @@ pub keeps_changed : (f : Operation → Operation) (places : List (Option Standin
     → operation.synced ≡ false → (f operation).synced ≡ false
     → Keeps (set places place (Some (kept there.number (f operation)))) (change f operations there.number)
 keeps_changed f places operations place there operation K at is stands stays =
-    record { many = length-set places place (Some new) ∙ K.many; each = each; all = all; once = once; count = count_from (set places place (Some new)) (change f operations there.number) each all once }
+    record {
+      many = length-set places place (Some new) ∙ K.many;
+      each = each;
+      all = all;
+      once = once;
+      count = count_from (set places place (Some new)) (change f operations there.number) each all once;
+    }
   where
     new : Standing
     new = kept there.number (f operation)
@@ -54,11 +63,22 @@ keeps_changed f places operations place there operation K at is stands stays =
     each other second also = elim (get_set places place (Some new) other (Some second) also) [
       | inl here ↦ (
           let same : new ≡ second = same_Some _ _ here.1 in
-          let number : there.number ≡ second.number = ap (λ (z : Standing). z.number) same in
-          (f operation, ap (numbered (change f operations there.number)) (sym number) ∙ numbered-change_here f operations there.number operation is, stays, sym same ∙ ap (λ n. kept n (f operation)) number))
+          let number : there.number ≡ second.number = ap (λ (z : Standing). z.number) same in (
+            f operation,
+            ap (numbered (change f operations there.number)) (sym number)
+                ∙ numbered-change_here f operations there.number operation is,
+            stays,
+            sym same
+                ∙ ap (λ n. kept n (f operation)) number,
+          ))
       | inr apart ↦ (
-          let was = K.each other second apart.1 in
-          (was.0, numbered_other f operations there.number second.number was.0 (λ same. apart.0 (own other second apart.1 same)) was.1, was.2, was.3))
+          let was = K.each other second apart.1 in (
+            was.0,
+            numbered_other f operations there.number second.number was.0
+                (λ same. apart.0 (own other second apart.1 same)) was.1,
+            was.2,
+            was.3,
+          ))
     ]
 
     all : (number : ℕ) (o : Operation) → numbered (change f operations there.number) number ≡ Some o → o.synced ≡ false
@@ -68,11 +88,21 @@ keeps_changed f places operations place there operation K at is stands stays =
         elim was.2 [
           | inl it ↦ (
               let found = K.all number was.0 was.1 (ap (λ (z : Operation). z.synced) (sym it.1) ∙ open_now) in
-              let numbers : found.0 ≢ place = λ same. it.0 (ap (λ (y : Standing). y.number) (same_Some (kept number was.0) there (same_Some (Some (kept number was.0)) (Some there) (sym found.1 ∙ (ap (slice_get places) same ∙ at))))) in
-              (found.0, get-set_other places place (Some new) found.0 numbers ∙ (found.1 ∙ ap (λ (y : Operation). Some (Some (kept number y))) (sym it.1))))
+              let numbers : found.0 ≢ place =
+              λ same. it.0
+              (ap (λ (y : Standing). y.number)
+              (same_Some (kept number was.0) there
+              (same_Some (Some (kept number was.0)) (Some there) (sym found.1 ∙ (ap (slice_get places) same ∙ at))))) in (
+                found.0,
+                get-set_other places place (Some new) found.0 numbers
+                    ∙ (found.1 ∙ ap (λ (y : Operation). Some (Some (kept number y))) (sym it.1)),
+              ))
           | inr it ↦ (
-              let same : was.0 ≡ operation = same_Some _ _ (sym was.1 ∙ (ap (numbered operations) it.0 ∙ is)) in
-              (place, get-set_same places place (Some new) (slice_get_within places place (Some there) at) ∙ ap (λ (y : Standing). Some (Some y)) (ap₂ kept (sym it.0) (ap f (sym same) ∙ sym it.1))))
+              let same : was.0 ≡ operation = same_Some _ _ (sym was.1 ∙ (ap (numbered operations) it.0 ∙ is)) in (
+                place,
+                get-set_same places place (Some new) (slice_get_within places place (Some there) at)
+                    ∙ ap (λ (y : Standing). Some (Some y)) (ap₂ kept (sym it.0) (ap f (sym same) ∙ sym it.1)),
+              ))
         ]
 
     once : (one other : ℕ) (first second : Standing) → slice_get (set places place (Some new)) one ≡ Some (Some first)
@@ -81,10 +111,13 @@ keeps_changed f places operations place there operation K at is stands stays =
     once one other first second here also same = elim (get_set places place (Some new) one (Some first) here) [
       | inl it ↦ elim (get_set places place (Some new) other (Some second) also) [
         | inl too ↦ it.0 ∙ sym too.0
-        | inr isnt ↦ absurd (isnt.0 (own other second isnt.1 (sym same ∙ ap (λ (z : Standing). z.number) (sym (same_Some new first it.1)))))
+        | inr isnt ↦
+            absurd (isnt.0
+            (own other second isnt.1 (sym same ∙ ap (λ (z : Standing). z.number) (sym (same_Some new first it.1)))))
       ]
       | inr isnt ↦ elim (get_set places place (Some new) other (Some second) also) [
-        | inl too ↦ absurd (isnt.0 (own one first isnt.1 (same ∙ ap (λ (z : Standing). z.number) (sym (same_Some new second too.1)))))
+        | inl too ↦ absurd
+            (isnt.0 (own one first isnt.1 (same ∙ ap (λ (z : Standing). z.number) (sym (same_Some new second too.1)))))
         | inr neither ↦ K.once one other first second isnt.1 neither.1 same
       ]
     ]
@@ -95,9 +128,15 @@ pub stands_changed : (f : Operation → Operation) (table : Transfers) (operatio
     (there new : Standing) (slots : SlotsState)
     → Stands table operations → slice_get table.table place ≡ Some (Some there)
     → ((o : Operation) → (f o).synced ≡ o.synced)
-    → ((o : Operation) → numbered operations there.number ≡ Some o → there ≡ kept there.number o → kept there.number (f o) ≡ new)
-    → ((to slot : ℕ) → Says (set table.table place (Some new)) (entry_at slots to slot) (outs to slot 1 (change f operations there.number)))
-    → Stands (record table { table = set table.table place (Some new); slots = slots }) (change f operations there.number)
+    → ((o : Operation) → numbered operations there.number ≡ Some o → there ≡ kept there.number o
+    → kept there.number (f o) ≡ new)
+    → ((to slot : ℕ)
+    → Says (set table.table place (Some new)) (entry_at slots to slot)
+    (outs to slot 1 (change f operations there.number)))
+    → Stands (record table {
+      table = set table.table place (Some new);
+      slots = slots;
+    }) (change f operations there.number)
 stands_changed f table operations place there new slots S at stays is says =
     let o = S.keeps.each place there at in record {
       keeps = subst (λ r. Keeps (set table.table place (Some r)) (change f operations there.number)) (is o.0 o.1 o.3)
@@ -107,8 +146,14 @@ stands_changed f table operations place there new slots S at stays is says =
       settled = λ number operation now synced. (
           let was = numbered-change f operations there.number number operation now in
           elim was.2 [
-            | inl it ↦ ap is_complete it.1 ∙ S.settled number was.0 was.1 (ap (λ (z : Operation). z.synced) (sym it.1) ∙ synced)
-            | inr it ↦ absurd (true≢false (sym synced ∙ (ap (λ (z : Operation). z.synced) it.1 ∙ (stays was.0 ∙ (ap (λ (z : Operation). z.synced) (same_Some was.0 o.0 (sym was.1 ∙ (ap (numbered operations) it.0 ∙ o.1))) ∙ o.2)))))
+            | inl it ↦ ap is_complete it.1
+                ∙ S.settled number was.0 was.1 (ap (λ (z : Operation). z.synced) (sym it.1) ∙ synced)
+            | inr it ↦ absurd
+                (true≢false (sym synced
+                ∙ (ap (λ (z : Operation). z.synced) it.1
+                ∙ (stays was.0
+                ∙ (ap (λ (z : Operation). z.synced)
+                (same_Some was.0 o.0 (sym was.1 ∙ (ap (numbered operations) it.0 ∙ o.1))) ∙ o.2)))))
           ]);
     }
 
@@ -119,20 +164,32 @@ returned_push [] new waits = rw waits refl
 returned_push (first ∷ sent) new waits = ap (λ n. (if first.back then 1 else 0) + n) (returned_push sent new waits)
 
 kept_noted : (number slot request : ℕ) (bytes : List ℕ) (operation : Operation)
-    → kept number (with_sent slot request bytes operation) ≡ record (kept number operation) { issued = length operation.sent + 1 }
+    → kept number (with_sent slot request bytes operation)
+    ≡ record (kept number operation) { issued = length operation.sent + 1 }
 kept_noted number slot request bytes operation =
     let new : Sent = record { slot = slot; number = request; bytes = bytes; back = false } in
-    ap₂ (λ issued returned. record (kept number operation) { issued = issued; returned = returned }) (length-append operation.sent (new ∷ [])) (returned_push operation.sent new refl)
+    ap₂ (λ issued returned. record (kept number operation) {
+      issued = issued;
+      returned = returned;
+    }) (length-append operation.sent (new ∷ [])) (returned_push operation.sent new refl)
 
-pub stands_noted : (table : Transfers) (operations : List Operation) (place : ℕ) (there : Standing) (to slot request : ℕ)
+pub stands_noted : (table : Transfers) (operations : List Operation) (place : ℕ) (there : Standing)
+    (to slot request : ℕ)
     (bytes : List ℕ) (slots : SlotsState)
     → Stands table operations → slice_get table.table place ≡ Some (Some there) → target there.transfer ≡ to
-    → IsFreeSlot operations to slot → HasSet table.slots to slot (Some (record { request = request; place = place })) slots
-    → Stands (record table { table = set table.table place (Some (record there { issued = there.issued + 1 })); slots = slots })
+    → IsFreeSlot operations to slot → HasSet table.slots to slot (Some (record {
+      request = request;
+      place = place;
+    })) slots
+    → Stands (record table {
+      table = set table.table place (Some (record there { issued = there.issued + 1 }));
+      slots = slots;
+    })
     (change (with_sent slot request bytes) operations there.number)
 stands_noted table operations place there to slot request bytes slots S at is free H =
     stands_changed f table operations place there new slots S at (λ any. refl)
-    (λ any here same. kept_noted there.number slot request bytes any ∙ ap (λ (z : Standing). record z { issued = z.issued + 1 }) (sym same))
+    (λ any here same. kept_noted there.number slot request bytes any
+    ∙ ap (λ (z : Standing). record z { issued = z.issued + 1 }) (sym same))
     says
   where
     f : Operation → Operation
@@ -144,38 +201,61 @@ stands_noted table operations place there to slot request bytes slots S at is fr
     places : List (Option Standing)
     places = set table.table place (Some new)
 
-    says : (node other : ℕ) → Says places (entry_at slots node other) (outs node other 1 (change f operations there.number))
+    says : (node other : ℕ)
+        → Says places (entry_at slots node other) (outs node other 1 (change f operations there.number))
     says node other =
         let o = S.keeps.each place there at in
         let a = number_at operations there.number o.0 o.1 in
         let one : there.number ≡ suc a.0 = omega (arith, a.1) in
         let to_is : target o.0.transfer ≡ to = ap (λ (z : Standing). target z.transfer) (sym o.3) ∙ is in
         let changed : change f operations there.number ≡ update operations a.0 f = ap (change f operations) one in
-        let elsewhere : (node ≡ to → other ≡ slot → ⊥) → Says places (entry_at slots node other) (outs node other 1 (change f operations there.number)) = λ apart. (
-        let kept_so : outs node other 1 (change f operations there.number) ≡ outs node other 1 operations = ap (outs node other 1) changed ∙ outs_kept node other 1 f operations a.0 o.0 a.2 (issued_elsewhere to slot request bytes node other o.0 to_is apart) in
-        subst (λ entry. Says places entry (outs node other 1 (change f operations there.number))) (sym (H.others node other apart))
+        let elsewhere : (node ≡ to → other ≡ slot → ⊥)
+        → Says places (entry_at slots node other) (outs node other 1 (change f operations there.number)) = λ apart. (
+        let kept_so : outs node other 1 (change f operations there.number) ≡ outs node other 1 operations =
+        ap (outs node other 1) changed
+        ∙ outs_kept node other 1 f operations a.0 o.0 a.2
+        (issued_elsewhere to slot request bytes node other o.0 to_is apart) in
+        subst (λ entry. Says places entry (outs node other 1 (change f operations there.number)))
+        (sym (H.others node other apart))
         (subst (λ out. Says places (entry_at table.slots node other) out) (sym kept_so)
-        (says_rewritten table.table place there new (entry_at table.slots node other) (outs node other 1 operations) at refl (S.says node other)))) in
+        (says_rewritten table.table place there new (entry_at table.slots node other)
+        (outs node other 1 operations) at refl (S.says node other)))) in
         elim (cases_eq node to) [
           | inr apart ↦ elsewhere (λ same. absurd (apart same))
           | inl same_node ↦ elim (cases_eq other slot) [
             | inr apart ↦ elsewhere (λ any same. absurd (apart same))
             | inl same_slot ↦ (
-                let issued : outs to slot 1 (change f operations there.number) ≡ record { operation = there.number; request = request } ∷ [] =
-                ap (outs to slot 1) changed ∙ (outs_issued to slot request 1 bytes operations a.0 o.0 (outs_free to slot 1 operations free) a.2 to_is ∙ ap (λ n. record { operation = n; request = request } ∷ []) (sym a.1)) in
-                subst (λ entry. Says places entry (outs node other 1 (change f operations there.number))) (sym (ap₂ (entry_at slots) same_node same_slot ∙ H.here))
-                (new, get-set_same table.table place (Some new) (slice_get_within table.table place (Some there) at), ap₂ (λ n s. outs n s 1 (change f operations there.number)) same_node same_slot ∙ issued))
+                let issued : outs to slot 1 (change f operations there.number) ≡ record {
+                  operation = there.number;
+                  request = request;
+                } ∷ [] =
+                ap (outs to slot 1) changed
+                ∙ (outs_issued to slot request 1 bytes operations a.0 o.0
+                (outs_free to slot 1 operations free) a.2 to_is ∙ ap (λ n. record {
+                  operation = n;
+                  request = request;
+                } ∷ []) (sym a.1)) in
+                subst (λ entry. Says places entry (outs node other 1 (change f operations there.number)))
+                (sym (ap₂ (entry_at slots) same_node same_slot ∙ H.here)) (
+                  new,
+                  get-set_same table.table place (Some new) (slice_get_within table.table place (Some there) at),
+                  ap₂ (λ n s. outs n s 1 (change f operations there.number)) same_node same_slot ∙ issued,
+                ))
           ]
         ]
 
 -- ---- a chunk comes back
 
 kept_returned : (number to slot request : ℕ) (operation : Operation) → requests_of to slot operation ≡ request ∷ []
-    → kept number (with_back to slot request operation) ≡ record (kept number operation) { returned = returned_of operation.sent + 1 }
+    → kept number (with_back to slot request operation)
+    ≡ record (kept number operation) { returned = returned_of operation.sent + 1 }
 kept_returned number to slot request operation one =
     let it = (one_operation to slot request operation one).1 in
     elim (cases_Bool (target operation.transfer == to)) [
-      | inl here ↦ rw here (ap₂ (λ issued returned. record (kept number operation) { issued = issued; returned = returned }) (length-map operation.sent (as_back slot request)) (rw here at it))
+      | inl here ↦ rw here (ap₂ (λ issued returned. record (kept number operation) {
+        issued = issued;
+        returned = returned;
+      }) (length-map operation.sent (as_back slot request)) (rw here at it))
       | inr other ↦ absurd (none (rw other at one))
     ]
   where
@@ -186,13 +266,18 @@ pub stands_returned : (table : Transfers) (operations : List Operation) (there :
     (waiting : Waiting) (slots : SlotsState)
     → Stands table operations → entry_at table.slots to slot ≡ Some waiting
     → slice_get table.table waiting.place ≡ Some (Some there) → HasSet table.slots to slot None slots
-    → Stands (record table { table = set table.table waiting.place (Some (record there { returned = there.returned + 1 })); slots = slots })
+    → Stands (record table {
+      table = set table.table waiting.place (Some (record there { returned = there.returned + 1 }));
+      slots = slots;
+    })
     (come_back to slot waiting.request operations)
 stands_returned table operations there to slot waiting slots S entry at H =
     subst (Stands (record table { table = places; slots = slots })) (sym back_is)
     (stands_changed f table operations waiting.place there new slots S at
     (λ any. ap (λ (z : Operation). z.synced) (with_back_keeps to slot waiting.request any))
-    (λ any here same. kept_returned there.number to slot waiting.request any (ap (requests_of to slot) (same_Some _ _ (sym here ∙ here_is)) ∙ one.one) ∙ ap (λ (z : Standing). record z { returned = z.returned + 1 }) (sym same))
+    (λ any here same. kept_returned there.number to slot waiting.request any
+    (ap (requests_of to slot) (same_Some _ _ (sym here ∙ here_is)) ∙ one.one)
+    ∙ ap (λ (z : Standing). record z { returned = z.returned + 1 }) (sym same))
     says)
   where
     f : Operation → Operation
@@ -210,7 +295,10 @@ stands_returned table operations there to slot waiting slots S entry at H =
     outs_are : outs to slot 1 operations ≡ out ∷ []
     outs_are =
         let it = said table operations to slot waiting S entry in
-        it.2 ∙ ap (λ (z : Standing). record { operation = z.number; request = waiting.request } ∷ []) (same_Some _ _ (same_Some _ _ (sym it.1 ∙ at)))
+        it.2 ∙ ap (λ (z : Standing). record {
+          operation = z.number;
+          request = waiting.request;
+        } ∷ []) (same_Some _ _ (same_Some _ _ (sym it.1 ∙ at)))
 
     one : IsOne to slot 1 operations out
     one = one_out to slot 1 operations out outs_are
@@ -221,19 +309,26 @@ stands_returned table operations there to slot waiting slots S entry at H =
     back_is : come_back to slot waiting.request operations ≡ change f operations there.number
     back_is = one.changes ∙ ap (change f operations) {x = suc one.place} (omega (arith, one.numbered_so))
 
-    says : (node other : ℕ) → Says places (entry_at slots node other) (outs node other 1 (change f operations there.number))
+    says : (node other : ℕ)
+        → Says places (entry_at slots node other) (outs node other 1 (change f operations there.number))
     says node other =
-        let elsewhere : (node ≡ to → other ≡ slot → ⊥) → Says places (entry_at slots node other) (outs node other 1 (change f operations there.number)) = λ apart. (
-        let kept_so : outs node other 1 (change f operations there.number) ≡ outs node other 1 operations = ap (outs node other 1) (sym back_is) ∙ outs_other to slot waiting.request node other 1 operations apart in
-        subst (λ found. Says places found (outs node other 1 (change f operations there.number))) (sym (H.others node other apart))
+        let elsewhere : (node ≡ to → other ≡ slot → ⊥)
+        → Says places (entry_at slots node other) (outs node other 1 (change f operations there.number)) = λ apart. (
+        let kept_so : outs node other 1 (change f operations there.number) ≡ outs node other 1 operations =
+        ap (outs node other 1) (sym back_is) ∙ outs_other to slot waiting.request node other 1 operations apart in
+        subst (λ found. Says places found (outs node other 1 (change f operations there.number)))
+        (sym (H.others node other apart))
         (subst (λ found. Says places (entry_at table.slots node other) found) (sym kept_so)
-        (says_rewritten table.table waiting.place there new (entry_at table.slots node other) (outs node other 1 operations) at refl (S.says node other)))) in
+        (says_rewritten table.table waiting.place there new (entry_at table.slots node other)
+        (outs node other 1 operations) at refl (S.says node other)))) in
         elim (cases_eq node to) [
           | inr apart ↦ elsewhere (λ same. absurd (apart same))
           | inl same_node ↦ elim (cases_eq other slot) [
             | inr apart ↦ elsewhere (λ any same. absurd (apart same))
             | inl same_slot ↦
-                subst (λ found. Says places found (outs node other 1 (change f operations there.number))) (sym (ap₂ (entry_at slots) same_node same_slot ∙ H.here))
-                (ap₂ (λ n s. outs n s 1 (change f operations there.number)) same_node same_slot ∙ (ap (outs to slot 1) (sym back_is) ∙ one.gone))
+                subst (λ found. Says places found (outs node other 1 (change f operations there.number)))
+                (sym (ap₂ (entry_at slots) same_node same_slot ∙ H.here))
+                (ap₂ (λ n s. outs n s 1 (change f operations there.number)) same_node same_slot
+                ∙ (ap (outs to slot 1) (sym back_is) ∙ one.gone))
           ]
         ]

@@ -1,5 +1,6 @@
 -- There are as many records as operations that stand.
-use Rattle.std.proofs.Common.{◌≡◌, inl, inr, ℕ, zero, suc, ◌+◌, Bool, true, false, true≢false, if◌then◌else◌, List, [], ◌∷◌, Option, None, Some, length, refl, sym, ap, ◌∙◌, arith, eqb, eq-eqb, ne_eqb}
+use Rattle.std.proofs.Common.{◌≡◌, inl, inr, ℕ, zero, suc, ◌+◌, Bool, true, false, true≢false, if◌then◌else◌, List, []}
+use Rattle.std.proofs.Common.{◌∷◌, Option, None, Some, length, refl, sym, ap, ◌∙◌, arith, eqb, eq-eqb, ne_eqb}
 use Rattle.std.specs.Cmp.{IsEquivalence}
 use Rattle.std.specs.List.{slice_get, list_any, IsDistinct, AllByRecursion}
 use Rattle.std.proofs.lemmas.Bool.{cases_Bool, cases_eq, eqb-true}
@@ -28,7 +29,8 @@ length-serials (Some r ∷ places) = ap suc (length-serials places)
 
 length-numbers : (k : ℕ) (operations : List Operation) → length (numbers k operations) ≡ standing operations
 length-numbers k [] = refl
-length-numbers k (o ∷ operations) = let ih = length-numbers (suc k) operations in elim (cases_Bool o.synced) [ inl t ↦ rw t ih | inr f ↦ rw f (ap suc ih) ]
+length-numbers k (o ∷ operations) = let ih = length-numbers (suc k) operations in
+    elim (cases_Bool o.synced) [ inl t ↦ rw t ih | inr f ↦ rw f (ap suc ih) ]
 
 serials_at : (places : List (Option Standing)) (q : ℕ) → list_any (eqb q) (serials places) ≡ true
     → (p : ℕ) × (r : Standing) × (slice_get places p ≡ Some (Some r)) × (r.number ≡ q)
@@ -44,8 +46,10 @@ serials_from : (places : List (Option Standing)) (p : ℕ) (r : Standing) → sl
 serials_from [] p r e = absurd (cc)
 serials_from (None ∷ places) zero r e = absurd (cc)
 serials_from (None ∷ places) (suc p) r e = serials_from places p r e
-serials_from (Some v ∷ places) zero r e = let same : v ≡ r = same_Some v r (same_Some (Some v) (Some r) e) in rw (eq-eqb r.number v.number (ap (λ (z : Standing). z.number) (sym same))) refl
-serials_from (Some v ∷ places) (suc p) r e = let ih = serials_from places p r e in elim (cases_Bool (eqb r.number v.number)) [ inl t ↦ rw t refl | inr f ↦ rw f ih ]
+serials_from (Some v ∷ places) zero r e = let same : v ≡ r = same_Some v r (same_Some (Some v) (Some r) e) in
+    rw (eq-eqb r.number v.number (ap (λ (z : Standing). z.number) (sym same))) refl
+serials_from (Some v ∷ places) (suc p) r e = let ih = serials_from places p r e in
+    elim (cases_Bool (eqb r.number v.number)) [ inl t ↦ rw t refl | inr f ↦ rw f ih ]
 
 numbers_at : (k : ℕ) (operations : List Operation) (q : ℕ) → list_any (eqb q) (numbers k operations) ≡ true
     → (a : ℕ) × (o : Operation) × (slice_get operations a ≡ Some o) × (o.synced ≡ false) × (q ≡ k + a)
@@ -69,7 +73,8 @@ numbers_from k (z ∷ operations) zero o e n =
     let same = same_Some z o e in
     rw (ap (λ (y : Operation). y.synced) same ∙ n, eq-eqb (k + 0) k (omega arith)) refl
 numbers_from k (z ∷ operations) (suc a) o e n =
-    let ih = ap (λ q. list_any (eqb q) (numbers (suc k) operations)) (omega arith) ∙ numbers_from (suc k) operations a o e n in
+    let ih = ap (λ q. list_any (eqb q) (numbers (suc k) operations)) (omega arith)
+    ∙ numbers_from (suc k) operations a o e n in
     elim (cases_Bool z.synced) [
       | inl t ↦ rw t (more (k + suc a) ih)
       | inr f ↦ rw f (elim (cases_Bool (eqb (k + suc a) k)) [ inl t ↦ rw t refl | inr g ↦ rw g (more (k + suc a) ih) ])
@@ -81,16 +86,23 @@ numbers_from k (z ∷ operations) (suc a) o e n =
 
 none_same : (q : ℕ) (xs : List ℕ) → (list_any (eqb q) xs ≡ true → ⊥) → AllByRecursion (λ y. eqb q y ≡ false) xs
 none_same q [] n = tt
-none_same q (x ∷ xs) n = (ne_eqb q x (λ e. n (rw (eq-eqb q x e) refl)), none_same q xs (λ h. n (elim (cases_Bool (eqb q x)) [ inl t ↦ rw t refl | inr f ↦ rw f h ])))
+none_same q (x ∷ xs) n = (
+  ne_eqb q x (λ e. n (rw (eq-eqb q x e) refl)),
+  none_same q xs (λ h. n (elim (cases_Bool (eqb q x)) [ inl t ↦ rw t refl | inr f ↦ rw f h ])),
+)
 
 distinct_serials : (places : List (Option Standing))
-    → ((p q : ℕ) (r v : Standing) → slice_get places p ≡ Some (Some r) → slice_get places q ≡ Some (Some v) → r.number ≡ v.number → p ≡ q)
+    → ((p q : ℕ) (r v : Standing) → slice_get places p ≡ Some (Some r) → slice_get places q ≡ Some (Some v)
+    → r.number ≡ v.number → p ≡ q)
     → IsDistinct eqb (serials places)
 unfolding IsDistinct
 distinct_serials [] once = tt
-distinct_serials (None ∷ places) once = distinct_serials places (λ p q r v e f s. (let h = once (suc p) (suc q) r v e f s in omega (arith, h)))
+distinct_serials (None ∷ places) once =
+    distinct_serials places (λ p q r v e f s. (let h = once (suc p) (suc q) r v e f s in omega (arith, h)))
 distinct_serials (Some r ∷ places) once = (
-  none_same r.number (serials places) (λ e. (let h = serials_at places r.number e in let z = once 0 (suc h.0) r h.1 refl h.2 (sym h.3) in absurd (omega (arith, z)))),
+  none_same r.number (serials places)
+      (λ e. (let h = serials_at places r.number e in let z = once 0 (suc h.0) r h.1 refl h.2 (sym h.3) in
+      absurd (omega (arith, z)))),
   distinct_serials places (λ p q u v e f s. (let h = once (suc p) (suc q) u v e f s in omega (arith, h))),
 )
 
@@ -106,7 +118,10 @@ distinct_none = tt
 
 distinct_numbers : (k : ℕ) (operations : List Operation) → IsDistinct eqb (numbers k operations)
 distinct_numbers k [] = distinct_none
-distinct_numbers k (o ∷ operations) = distinct_cons k o.synced (numbers (suc k) operations) (λ e. (let h = numbers_at (suc k) operations k e in absurd (omega (arith, h.4)))) (distinct_numbers (suc k) operations)
+distinct_numbers k (o ∷ operations) =
+    distinct_cons k o.synced (numbers (suc k) operations)
+    (λ e. (let h = numbers_at (suc k) operations k e in absurd (omega (arith, h.4))))
+    (distinct_numbers (suc k) operations)
 
 eqb_laws : IsEquivalence eqb
 eqb_laws = record {
@@ -122,12 +137,19 @@ number_at operations (suc a) o e = (a, omega arith, e)
 
 -- the count follows from the rest
 pub count_from : (places : List (Option Standing)) (operations : List Operation)
-    → ((p : ℕ) (r : Standing) → slice_get places p ≡ Some (Some r) → (o : Operation) × (numbered operations r.number ≡ Some o) × (o.synced ≡ false) × (r ≡ kept r.number o))
-    → ((h : ℕ) (o : Operation) → numbered operations h ≡ Some o → o.synced ≡ false → (p : ℕ) × (slice_get places p ≡ Some (Some (kept h o))))
-    → ((p q : ℕ) (r v : Standing) → slice_get places p ≡ Some (Some r) → slice_get places q ≡ Some (Some v) → r.number ≡ v.number → p ≡ q)
+    → ((p : ℕ) (r : Standing) → slice_get places p ≡ Some (Some r)
+    → (o : Operation) × (numbered operations r.number ≡ Some o) × (o.synced ≡ false) × (r ≡ kept r.number o))
+    → ((h : ℕ) (o : Operation) → numbered operations h ≡ Some o → o.synced ≡ false
+    → (p : ℕ) × (slice_get places p ≡ Some (Some (kept h o))))
+    → ((p q : ℕ) (r v : Standing) → slice_get places p ≡ Some (Some r) → slice_get places q ≡ Some (Some v)
+    → r.number ≡ v.number → p ≡ q)
     → taken places ≡ standing operations
 count_from places operations each all once =
-    sym (length-serials places) ∙ (length-from_same_keys eqb_laws (serials places) (numbers 1 operations) (distinct_serials places once) (distinct_numbers 1 operations) (λ q. same_test (list_any (eqb q) (serials places)) (list_any (eqb q) (numbers 1 operations)) (forth q) (back q)) ∙ length-numbers 1 operations)
+    sym (length-serials places)
+    ∙ (length-from_same_keys eqb_laws (serials places) (numbers 1 operations) (distinct_serials places once)
+    (distinct_numbers 1 operations)
+    (λ q. same_test (list_any (eqb q) (serials places)) (list_any (eqb q) (numbers 1 operations)) (forth q)
+    (back q)) ∙ length-numbers 1 operations)
   where
     forth : (q : ℕ) → list_any (eqb q) (serials places) ≡ true → list_any (eqb q) (numbers 1 operations) ≡ true
     forth q e =

@@ -1,17 +1,19 @@
 -- A slot of a node has one entry, which no write of another one changes.
-use Rattle.std.proofs.Common.{◌≡◌, inl, inr, ℕ, ◌+◌, ◌*◌, ◌/◌, ◌<◌, ◌&&◌, nat_lt, Option, length, set, refl, sym, ap, ◌∙◌, arith, lt-ltb}
+use Rattle.std.proofs.Common.{◌≡◌, inl, inr, ℕ, ◌+◌, ◌*◌, ◌/◌, ◌<◌, ◌&&◌, nat_lt, Option, length, set, refl, sym, ap}
+use Rattle.std.proofs.Common.{◌∙◌, arith, lt-ltb}
 use Rattle.std.proofs.lemmas.Bool.{cases_Bool, and_parts, ltb-true}
 use Rattle.std.proofs.lemmas.Nat.{div-mul-add, mul-add-lt}
 use Rattle.lists.proofs.Indexes.{get-set_same, get-set_other}
 use Rattle.put_get.specs.declared.slots.Waiting.{Waiting}
 use Rattle.put_get.specs.Table.{flat}
-use Rattle.put_get.specs.Slots.{SlotsState, HasSet}
+use Rattle.put_get.specs.SlotsState.{SlotsState, HasSet}
 
 -- a place of the grid is that of one slot of one node
 one_slot : (to slot node other width : ℕ) → slot < width → other < width → to * width + slot ≡ node * width + other
     → (to ≡ node) × (slot ≡ other)
 one_slot to slot node other width within also same =
-    let row : to ≡ node = sym (div-mul-add to width slot within) ∙ (ap (λ n. n / width) same ∙ div-mul-add node width other also) in
+    let row : to ≡ node = sym (div-mul-add to width slot within)
+    ∙ (ap (λ n. n / width) same ∙ div-mul-add node width other also) in
     let start : to * width ≡ node * width = ap (λ n. n * width) row in
     (row, omega (arith, same, start))
 
@@ -21,10 +23,15 @@ pub has_set : (slots : SlotsState) (to slot : ℕ) (entry : Option Waiting)
 has_set slots to slot entry whole to_in slot_in = record {
   nodes = refl;
   credits = refl;
-  here = rw (lt-ltb to slots.nodes to_in, lt-ltb slot slots.credits slot_in) (ap flat (get-set_same slots.entries (to * slots.credits + slot) entry (let within = mul-add-lt to slots.credits slot slots.nodes to_in slot_in in omega (arith, within, whole))));
+  here = rw (lt-ltb to slots.nodes to_in, lt-ltb slot slots.credits slot_in)
+      (ap flat (get-set_same slots.entries (to * slots.credits + slot) entry (let within =
+      mul-add-lt to slots.credits slot slots.nodes to_in slot_in in omega (arith, within, whole))));
   others = λ node other apart. elim (cases_Bool (nat_lt node slots.nodes && nat_lt other slots.credits)) [
-    | inl inside ↦ rw inside (ap flat (get-set_other slots.entries (to * slots.credits + slot) entry (node * slots.credits + other) (λ same. (
-        let within : other < slots.credits = ltb-true other slots.credits (and_parts (nat_lt node slots.nodes) (nat_lt other slots.credits) inside).1 in
+    | inl inside ↦
+        rw inside (ap flat
+        (get-set_other slots.entries (to * slots.credits + slot) entry (node * slots.credits + other) (λ same. (
+        let within : other < slots.credits =
+        ltb-true other slots.credits (and_parts (nat_lt node slots.nodes) (nat_lt other slots.credits) inside).1 in
         let is = one_slot node other to slot slots.credits within slot_in same in
         apart is.0 is.1))))
     | inr outside ↦ rw outside refl

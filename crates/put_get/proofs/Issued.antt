@@ -1,5 +1,6 @@
 -- Which operation the next chunk is of, and what a chunk that goes out or comes back leaves of the operations.
-use Rattle.std.proofs.Common.{◌≡◌, ◌⊎◌, inl, inr, ℕ, zero, suc, ◌+◌, ◌==◌, Bool, true, false, true≢false, ◌&&◌, List, [], ◌∷◌, Some, length, refl, sym, ap, ◌∙◌, arith, eq-eqb}
+use Rattle.std.proofs.Common.{◌≡◌, ◌⊎◌, inl, inr, ℕ, zero, suc, ◌+◌, ◌==◌, Bool, true, false, true≢false, ◌&&◌, List}
+use Rattle.std.proofs.Common.{[], ◌∷◌, Some, length, refl, sym, ap, ◌∙◌, arith, eq-eqb}
 use Rattle.std.specs.List.{slice_get}
 use Rattle.std.proofs.lemmas.Bool.{cases_Bool, and_parts, and_from, eqb-true}
 use Rattle.std.proofs.lemmas.List.{length-map}
@@ -9,7 +10,8 @@ use Rattle.lists.specs.Update.{update}
 use Rattle.lists.proofs.Numbered.{numbered_map, numbered_mapped}
 use Rattle.lists.proofs.Update.{update-on}
 use Rattle.put_get.specs.declared.operation.Next.{Next}
-use Rattle.put_get.specs.Operation.{Operation, target, has_next, chunk_of, next_chunk, with_sent, issue, with_back, come_back, IsFirst}
+use Rattle.put_get.specs.Operation.{Operation, target, has_next, chunk_of, next_chunk, with_sent, issue, with_back}
+use Rattle.put_get.specs.Operation.{come_back, IsFirst}
 
 -- ---- the next chunk
 
@@ -32,11 +34,13 @@ first_from can number (first ∷ later) next is = elim (cases_Bool (has_next fir
         sym found ∙ ap (λ n. chunk_of n first) (omega arith),
         both.0,
         both.1,
-        λ slot request bytes. rw (and_from _ _ both.0 (eq-eqb (target first.transfer) (target first.transfer) refl)) refl,
+        λ slot request bytes. rw (and_from _ _ both.0 (eq-eqb (target first.transfer) (target first.transfer) refl))
+            refl,
       ))
   | inr isnt ↦ (
       let it = first_from can (suc number) later next (rw isnt at is) in
-      let passed : (has_next first && (target first.transfer == target it.1.transfer)) ≡ false = elim (cases_Bool (has_next first && (target first.transfer == target it.1.transfer))) [
+      let passed : (has_next first && (target first.transfer == target it.1.transfer)) ≡ false =
+      elim (cases_Bool (has_next first && (target first.transfer == target it.1.transfer))) [
         | inl taken ↦ (
             let both = and_parts (has_next first) (target first.transfer == target it.1.transfer) taken in
             let same = eqb-true (target first.transfer) (target it.1.transfer) both.1 in
@@ -49,7 +53,8 @@ first_from can number (first ∷ later) next is = elim (cases_Bool (has_next fir
         it.3 ∙ ap (λ n. chunk_of n it.1) (omega arith),
         it.4,
         it.5,
-        λ slot request bytes. rw passed (ap (λ rest. first ∷ rest) (it.6 slot request bytes) ∙ sym (update-on first later it.0 (with_sent slot request bytes))),
+        λ slot request bytes. rw passed (ap (λ rest. first ∷ rest) (it.6 slot request bytes)
+            ∙ sym (update-on first later it.0 (with_sent slot request bytes))),
       ))
 ]
 
@@ -76,10 +81,11 @@ next_is_first can operations next is =
 pub length-issue : (to slot request : ℕ) (bytes : List ℕ) (operations : List Operation)
     → length (issue to slot request bytes operations) ≡ length operations
 length-issue to slot request bytes [] = refl
-length-issue to slot request bytes (first ∷ later) = elim (cases_Bool (has_next first && (target first.transfer == to))) [
-  | inl here ↦ rw here refl
-  | inr isnt ↦ rw isnt (ap suc (length-issue to slot request bytes later))
-]
+length-issue to slot request bytes (first ∷ later) =
+    elim (cases_Bool (has_next first && (target first.transfer == to))) [
+      | inl here ↦ rw here refl
+      | inr isnt ↦ rw isnt (ap suc (length-issue to slot request bytes later))
+    ]
 
 -- the operation has one chunk more that went to the node, or is as it was
 abbrev pub IsAsIssued : (to slot request : ℕ) → (bytes : List ℕ) → (was now : Operation) → Type 0
@@ -91,19 +97,22 @@ pub issue_was : (to slot request : ℕ) (bytes : List ℕ) (operations : List Op
     → slice_get (issue to slot request bytes operations) place ≡ Some now
     → (was : Operation) × (slice_get operations place ≡ Some was) × IsAsIssued to slot request bytes was now
 issue_was to slot request bytes [] place now at = absurd (cc)
-issue_was to slot request bytes (first ∷ later) place now at = elim (cases_Bool (has_next first && (target first.transfer == to))) [
-  | inl here ↦ here_was place (rw here at at) (and_parts (has_next first) (target first.transfer == to) here)
-  | inr isnt ↦ later_was place (λ p e. issue_was to slot request bytes later p now e) (rw isnt at at)
-]
+issue_was to slot request bytes (first ∷ later) place now at =
+    elim (cases_Bool (has_next first && (target first.transfer == to))) [
+      | inl here ↦ here_was place (rw here at at) (and_parts (has_next first) (target first.transfer == to) here)
+      | inr isnt ↦ later_was place (λ p e. issue_was to slot request bytes later p now e) (rw isnt at at)
+    ]
   where
     here_was : (p : ℕ) → slice_get (with_sent slot request bytes first ∷ later) p ≡ Some now
         → (has_next first ≡ true) × ((target first.transfer == to) ≡ true)
         → (was : Operation) × (slice_get (first ∷ later) p ≡ Some was) × IsAsIssued to slot request bytes was now
-    here_was zero e both = (first, refl, inr (sym (same_Some _ _ e), both.0, eqb-true (target first.transfer) to both.1))
+    here_was zero e both =
+        (first, refl, inr (sym (same_Some _ _ e), both.0, eqb-true (target first.transfer) to both.1))
     here_was (suc p) e both = (now, e, inl refl)
 
     later_was : (p : ℕ)
-        → ((q : ℕ) → slice_get (issue to slot request bytes later) q ≡ Some now → (was : Operation) × (slice_get later q ≡ Some was) × IsAsIssued to slot request bytes was now)
+        → ((q : ℕ) → slice_get (issue to slot request bytes later) q ≡ Some now
+        → (was : Operation) × (slice_get later q ≡ Some was) × IsAsIssued to slot request bytes was now)
         → slice_get (first ∷ issue to slot request bytes later) p ≡ Some now
         → (was : Operation) × (slice_get (first ∷ later) p ≡ Some was) × IsAsIssued to slot request bytes was now
     later_was zero rest e = (first, refl, inl (sym (same_Some _ _ e)))
@@ -115,10 +124,11 @@ pub issue_has : (to slot request : ℕ) (bytes : List ℕ) (operations : List Op
     → (now : Operation) × (slice_get (issue to slot request bytes operations) place ≡ Some now)
     × IsAsIssued to slot request bytes was now
 issue_has to slot request bytes [] place was at = absurd (cc)
-issue_has to slot request bytes (first ∷ later) place was at = elim (cases_Bool (has_next first && (target first.transfer == to))) [
-  | inl here ↦ rw here (here_has place at (and_parts (has_next first) (target first.transfer == to) here))
-  | inr isnt ↦ rw isnt (later_has place (λ p e. issue_has to slot request bytes later p was e) at)
-]
+issue_has to slot request bytes (first ∷ later) place was at =
+    elim (cases_Bool (has_next first && (target first.transfer == to))) [
+      | inl here ↦ rw here (here_has place at (and_parts (has_next first) (target first.transfer == to) here))
+      | inr isnt ↦ rw isnt (later_has place (λ p e. issue_has to slot request bytes later p was e) at)
+    ]
   where
     here_has : (p : ℕ) → slice_get (first ∷ later) p ≡ Some was
         → (has_next first ≡ true) × ((target first.transfer == to) ≡ true)
@@ -128,12 +138,20 @@ issue_has to slot request bytes (first ∷ later) place was at = elim (cases_Boo
         let same : first ≡ was = same_Some _ _ e in (
           with_sent slot request bytes first,
           refl,
-          inr (ap (with_sent slot request bytes) same, ap has_next (sym same) ∙ both.0, ap (λ (o : Operation). target o.transfer) (sym same) ∙ eqb-true (target first.transfer) to both.1),
+          inr (
+            ap (with_sent slot request bytes) same,
+            ap has_next (sym same)
+                ∙ both.0,
+            ap (λ (o : Operation). target o.transfer) (sym same)
+                ∙ eqb-true (target first.transfer) to both.1,
+          ),
         )
     here_has (suc p) e both = (was, e, inl refl)
 
     later_has : (p : ℕ)
-        → ((q : ℕ) → slice_get later q ≡ Some was → (now : Operation) × (slice_get (issue to slot request bytes later) q ≡ Some now) × IsAsIssued to slot request bytes was now)
+        → ((q : ℕ) → slice_get later q ≡ Some was
+        → (now : Operation) × (slice_get (issue to slot request bytes later) q ≡ Some now)
+        × IsAsIssued to slot request bytes was now)
         → slice_get (first ∷ later) p ≡ Some was
         → (now : Operation) × (slice_get (first ∷ issue to slot request bytes later) p ≡ Some now)
         × IsAsIssued to slot request bytes was now
@@ -158,10 +176,12 @@ with_back_keeps from slot request operation = elim (cases_Bool (target operation
 pub come_back_was : (from slot request : ℕ) (operations : List Operation) (number : ℕ) (now : Operation)
     → numbered (come_back from slot request operations) number ≡ Some now
     → (was : Operation) × (numbered operations number ≡ Some was) × (with_back from slot request was ≡ now)
-come_back_was from slot request operations number now at = numbered_mapped (with_back from slot request) operations number now at
+come_back_was from slot request operations number now at =
+    numbered_mapped (with_back from slot request) operations number now at
 
 -- and what had a number has it
 pub come_back_has : (from slot request : ℕ) (operations : List Operation) (number : ℕ) (was : Operation)
     → numbered operations number ≡ Some was
     → numbered (come_back from slot request operations) number ≡ Some (with_back from slot request was)
-come_back_has from slot request operations number was at = numbered_map (with_back from slot request) operations number was at
+come_back_has from slot request operations number was at =
+    numbered_map (with_back from slot request) operations number was at

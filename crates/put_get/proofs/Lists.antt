@@ -1,5 +1,7 @@
 -- Syncs of lists of handles.
-use Rattle.std.proofs.Common.{◌≡◌, inl, inr, ℕ, zero, suc, ◌+◌, ◌==◌, Bool, true, false, true≢false, not, ◌&&◌, ◌||◌, List, [], ◌∷◌, Option, None, Some, take, length, get_or, ◌<◌, refl, sym, ap, ap₂, ◌∙◌, arith}
+use Rattle.std.proofs.Common.{◌≡◌, inl, inr, ℕ, zero, suc, ◌+◌, ◌==◌, Bool, true, false, true≢false, not, ◌&&◌, ◌||◌}
+use Rattle.std.proofs.Common.{List, [], ◌∷◌, Option, None, Some, take, length, get_or, ◌<◌, refl, sym, ap, ap₂, ◌∙◌}
+use Rattle.std.proofs.Common.{arith}
 use Rattle.std.specs.List.{slice_get, list_any}
 use Rattle.std.proofs.lemmas.Bool.{cases_Bool, and_parts}
 use Rattle.std.proofs.lemmas.Option.{same_Some}
@@ -22,11 +24,13 @@ any_next test (first ∷ xs) zero x at = or_none (test first) ∙ ap test (same_
     or_none : (one : Bool) → (one || false) ≡ one
     or_none true = refl
     or_none false = refl
-any_next test (first ∷ xs) (suc index) x at = let later = any_next test xs index x at in elim (cases_Bool (test first)) [ inl is ↦ rw is refl | inr isnt ↦ rw isnt later ]
+any_next test (first ∷ xs) (suc index) x at = let later = any_next test xs index x at in
+    elim (cases_Bool (test first)) [ inl is ↦ rw is refl | inr isnt ↦ rw isnt later ]
 
 pub any_take : {X : Type 0} (test : X → Bool) (xs : List X) (index : ℕ) (x : X) → slice_get xs index ≡ Some x
     → list_any test (take (index + 1) xs) ≡ (list_any test (take index xs) || test x)
-any_take test xs index x at = let same : index + 1 ≡ suc index = omega arith in ap (λ n. list_any test (take n xs)) same ∙ any_next test xs index x at
+any_take test xs index x at = let same : index + 1 ≡ suc index = omega arith in
+    ap (λ n. list_any test (take n xs)) same ∙ any_next test xs index x at
 
 pub or_assoc : (one two three : Bool) → ((one || two) || three) ≡ (one || (two || three))
 or_assoc true two three = refl
@@ -39,15 +43,21 @@ any_agrees places operations handles K = record { chosen = chosen_so handles; op
     chosen_so : (hs : List Handle) (number : ℕ) (operation : Operation) → operation.synced ≡ false
         → members_of hs operations number operation ≡ member_of_any places hs (kept number operation)
     chosen_so [] number operation stands = refl
-    chosen_so (handle ∷ hs) number operation stands = ap₂ (λ here later. (not (handle.serial == 0) && here) || later) ((members_agree places operations handle.serial K).chosen number operation stands) (chosen_so hs number operation stands)
+    chosen_so (handle ∷ hs) number operation stands =
+        ap₂ (λ here later. (not (handle.serial == 0) && here) || later)
+        ((members_agree places operations handle.serial K).chosen number operation stands)
+        (chosen_so hs number operation stands)
 
     open_so : (hs : List Handle) (number : ℕ) (operation : Operation) → members_of hs operations number operation ≡ true
         → operation.synced ≡ false
     open_so [] number operation is = absurd (true≢false (sym is))
-    open_so (handle ∷ hs) number operation is = elim (cases_Bool (not (handle.serial == 0) && members handle.serial operations number operation)) [
-      | inl here ↦ (members_agree places operations handle.serial K).open_only number operation (and_parts (not (handle.serial == 0)) (members handle.serial operations number operation) here).1
-      | inr isnt ↦ open_so hs number operation (rw isnt at is)
-    ]
+    open_so (handle ∷ hs) number operation is =
+        elim (cases_Bool (not (handle.serial == 0) && members handle.serial operations number operation)) [
+          | inl here ↦
+              (members_agree places operations handle.serial K).open_only number operation
+              (and_parts (not (handle.serial == 0)) (members handle.serial operations number operation) here).1
+          | inr isnt ↦ open_so hs number operation (rw isnt at is)
+        ]
 
 pub or_false : (one : Bool) → (one || false) ≡ one
 or_false true = refl
@@ -77,7 +87,8 @@ never_ok : (thread : ℕ) (operations : List Operation) (handles : List Handle)
 never_ok thread operations [] is = absurd (cc)
 never_ok thread operations (handle ∷ later) is = elim (cases_Bool (handle.serial == 0)) [
   | inl invalid ↦ never_ok thread operations later (rw invalid at is)
-  | inr valid ↦ here (chosen (members handle.serial operations) 1 operations) (never_ok thread operations later) (rw valid at is)
+  | inr valid ↦ here (chosen (members handle.serial operations) 1 operations) (never_ok thread operations later)
+      (rw valid at is)
 ]
   where
     here : (ms : List Operation) → (fault_of thread operations later ≡ Some synced.Ok → ⊥)
@@ -110,7 +121,8 @@ pub fault_stays : (table : Transfers) (operations : List Operation) (thread : �
     → fault_of thread operations handles ≡ Some fault → Stands table operations
     → Stands table (left_by fault choice operations)
 fault_stays table operations thread handles choice fault is S =
-    left_alone table operations choice fault (λ ok. never_ok thread operations handles (is ∙ ap (λ (x : Synced). Some x) ok)) S
+    left_alone table operations choice fault
+    (λ ok. never_ok thread operations handles (is ∙ ap (λ (x : Synced). Some x) ok)) S
 
 pub at_get : {X : Type 0} (xs : List X) (index : ℕ) (default : X) → index < length xs
     → slice_get xs index ≡ Some (get_or xs index default)

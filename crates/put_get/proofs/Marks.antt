@@ -1,5 +1,6 @@
 -- What is marked is what a test holds of.
-use Rattle.std.proofs.Common.{◌≡◌, ℕ, zero, suc, ◌<◌, Bool, true, false, true≢false, ◌&&◌, ◌||◌, List, [], ◌∷◌, Option, None, Some, length, unwrap_or, replicate, refl, sym, ap, ◌∙◌, arith}
+use Rattle.std.proofs.Common.{◌≡◌, ℕ, zero, suc, ◌<◌, Bool, true, false, true≢false, ◌&&◌, ◌||◌, List, [], ◌∷◌, Option}
+use Rattle.std.proofs.Common.{None, Some, length, unwrap_or, replicate, refl, sym, ap, ◌∙◌, arith}
 use Rattle.std.specs.List.{slice_get}
 use Rattle.lists.proofs.Places.{slice_get-replicate}
 use Rattle.put_get.specs.declared.table.Standing.{Standing}
@@ -12,7 +13,8 @@ pub mark_is : (test : Standing → Bool) (places : List (Option Standing)) (mark
     (there : Option Standing)
     → AreMarks test places marks → place < 256 → slice_get places place ≡ Some there
     → flag_at marks place ≡ on_place test there
-mark_is test places marks place there M less at = ap (λ mark. unwrap_or mark false) (M.each place less) ∙ ap (λ found. on_place test (flat found)) at
+mark_is test places marks place there M less at = ap (λ mark. unwrap_or mark false) (M.each place less)
+    ∙ ap (λ found. on_place test (flat found)) at
 
 picks_test : (test : Standing → Bool) (check : Check) (there : Option Standing)
     → picks (on_place test there) check there ≡ on_place (λ r. test r && passes check r) there
@@ -23,7 +25,8 @@ pub picks_is : (test : Standing → Bool) (check : Check) (places : List (Option
     (place : ℕ) (there : Option Standing)
     → AreMarks test places marks → place < 256 → slice_get places place ≡ Some there
     → picks (flag_at marks place) check there ≡ on_place (λ r. test r && passes check r) there
-picks_is test check places marks place there M less at = ap (λ mark. picks mark check there) (mark_is test places marks place there M less at) ∙ picks_test test check there
+picks_is test check places marks place there M less at =
+    ap (λ mark. picks mark check there) (mark_is test places marks place there M less at) ∙ picks_test test check there
 
 dropped_test : (test : Standing → Bool) (there : Option Standing)
     → unless_marked (on_place test there) there ≡ dropped test there
@@ -34,7 +37,8 @@ pub dropped_is : (test : Standing → Bool) (places : List (Option Standing)) (m
     (there : Option Standing)
     → AreMarks test places marks → place < 256 → slice_get places place ≡ Some there
     → unless_marked (flag_at marks place) there ≡ dropped test there
-dropped_is test places marks place there M less at = ap (λ mark. unless_marked mark there) (mark_is test places marks place there M less at) ∙ dropped_test test there
+dropped_is test places marks place there M less at =
+    ap (λ mark. unless_marked mark there) (mark_is test places marks place there M less at) ∙ dropped_test test there
 
 pub also_is : (test other : Standing → Bool) (there : Option Standing)
     → (on_place test there || on_place other there) ≡ on_place (also test other) there
@@ -43,7 +47,10 @@ also_is test other (Some there) = refl
 
 -- nothing is marked
 pub no_marks : (places : List (Option Standing)) → AreMarks (λ there. false) places (replicate 256 false)
-no_marks places = record { many = refl; each = λ place less. slice_get-replicate 256 place false less ∙ ap Some (sym (never (flat (slice_get places place)))) }
+no_marks places = record {
+  many = refl;
+  each = λ place less. slice_get-replicate 256 place false less ∙ ap Some (sym (never (flat (slice_get places place))));
+}
   where
     never : (there : Option Standing) → on_place (λ r. false) there ≡ false
     never None = refl
@@ -52,7 +59,10 @@ no_marks places = record { many = refl; each = λ place less. slice_get-replicat
 -- a test in the place of an equal one
 pub marks_by : (test other : Standing → Bool) (places : List (Option Standing)) (marks : List Bool)
     → ((there : Standing) → test there ≡ other there) → AreMarks test places marks → AreMarks other places marks
-marks_by test other places marks same M = record { many = M.many; each = λ place less. M.each place less ∙ ap Some (on (flat (slice_get places place))) }
+marks_by test other places marks same M = record {
+  many = M.many;
+  each = λ place less. M.each place less ∙ ap Some (on (flat (slice_get places place)));
+}
   where
     on : (there : Option Standing) → on_place test there ≡ on_place other there
     on None = refl

@@ -1,5 +1,7 @@
 -- What a test finds among the records, it finds among the operations chosen.
-use Rattle.std.proofs.Common.{◌≡◌, inl, inr, ℕ, zero, suc, ◌+◌, ◌≤◌, ◌==◌, Bool, true, false, true≢false, not, ◌&&◌, ◌||◌, List, [], ◌∷◌, Option, None, Some, length, refl, sym, ap, ap₂, ◌∙◌, arith, eqb, nat_lt, lt-ltb, le-ltb}
+use Rattle.std.proofs.Common.{◌≡◌, inl, inr, ℕ, zero, suc, ◌+◌, ◌≤◌, ◌==◌, Bool, true, false, true≢false, not, ◌&&◌}
+use Rattle.std.proofs.Common.{◌||◌, List, [], ◌∷◌, Option, None, Some, length, refl, sym, ap, ap₂, ◌∙◌, arith, eqb}
+use Rattle.std.proofs.Common.{nat_lt, lt-ltb, le-ltb}
 use Rattle.std.specs.List.{slice_get, list_any, list_all}
 use Rattle.std.proofs.lemmas.Bool.{cases_Bool, cases_lt, and_parts, and_from, not-true}
 use Rattle.std.proofs.lemmas.Option.{same_Some}
@@ -27,7 +29,8 @@ chosen_at choice test number (first ∷ operations) any = elim (cases_Bool (choi
   | inr isnt ↦ later (chosen_at choice test (suc number) operations (rw isnt at any))
 ]
   where
-    later : ((place : ℕ) × (operation : Operation) × (slice_get operations place ≡ Some operation) × (choice (suc number + place) operation ≡ true) × (test operation ≡ true))
+    later : ((place : ℕ) × (operation : Operation) × (slice_get operations place ≡ Some operation)
+        × (choice (suc number + place) operation ≡ true) × (test operation ≡ true))
         → (place : ℕ) × (operation : Operation) × (slice_get (first ∷ operations) place ≡ Some operation)
         × (choice (number + place) operation ≡ true) × (test operation ≡ true)
     later it = (suc it.0, it.1, it.2, ap (λ n. choice n it.1) (omega arith) ∙ it.3, it.4)
@@ -40,10 +43,12 @@ pub chosen_from : (choice : Choice) (test : Operation → Bool) (number : ℕ) (
 chosen_from choice test number [] place operation at is passes = absurd (cc)
 chosen_from choice test number (first ∷ operations) zero operation at is passes =
     let same : first ≡ operation = same_Some _ _ at in
-    let here : choice number first ≡ true = ap (choice number) same ∙ (ap (λ n. choice n operation) (omega arith) ∙ is) in
+    let here : choice number first ≡ true =
+    ap (choice number) same ∙ (ap (λ n. choice n operation) (omega arith) ∙ is) in
     rw (here, ap test same ∙ passes) refl
 chosen_from choice test number (first ∷ operations) (suc place) operation at is passes =
-    let later = chosen_from choice test (suc number) operations place operation at (ap (λ n. choice n operation) (omega arith) ∙ is) passes in
+    let later = chosen_from choice test (suc number) operations place operation at
+    (ap (λ n. choice n operation) (omega arith) ∙ is) passes in
     elim (cases_Bool (choice number first)) [
       | inl here ↦ rw here (elim (cases_Bool (test first)) [ inl does ↦ rw does refl | inr isnt ↦ rw isnt later ])
       | inr isnt ↦ rw isnt later
@@ -69,7 +74,9 @@ any_is places operations choice pick test check K A alike = same_test _ _ forth 
         let r = in_place p.1 p.3 in
         let o = K.each p.0 r.0 (p.2 ∙ ap Some r.1) in
         let a = number_at operations r.0.number o.0 o.1 in
-        chosen_from choice test 1 operations a.0 o.0 a.2 (ap (λ n. choice n o.0) (sym a.1) ∙ (A.chosen r.0.number o.0 o.2 ∙ (ap pick (sym o.3) ∙ r.2))) (alike r.0.number o.0 ∙ (ap check (sym o.3) ∙ r.3))
+        chosen_from choice test 1 operations a.0 o.0 a.2 (ap (λ n. choice n o.0) (sym a.1)
+        ∙ (A.chosen r.0.number o.0 o.2 ∙ (ap pick (sym o.3) ∙ r.2)))
+        (alike r.0.number o.0 ∙ (ap check (sym o.3) ∙ r.3))
 
     back : list_any test (chosen choice 1 operations) ≡ true
         → list_any (on_place (λ r. pick r && check r)) places ≡ true
@@ -79,14 +86,16 @@ any_is places operations choice pick test check K A alike = same_test _ _ forth 
         let goes : choice (suc o.0) o.1 ≡ true = ap (λ n. choice n o.1) (sym one) ∙ o.3 in
         let open_now = A.open_only (suc o.0) o.1 goes in
         let p = K.all (suc o.0) o.1 o.2 open_now in
-        any_from (on_place (λ r. pick r && check r)) places p.0 (Some (kept (suc o.0) o.1)) p.1 (and_from _ _ (sym (A.chosen (suc o.0) o.1 open_now) ∙ goes) (sym (alike (suc o.0) o.1) ∙ o.4))
+        any_from (on_place (λ r. pick r && check r)) places p.0 (Some (kept (suc o.0) o.1)) p.1
+        (and_from _ _ (sym (A.chosen (suc o.0) o.1 open_now) ∙ goes) (sym (alike (suc o.0) o.1) ∙ o.4))
 
 -- ---- which records are picked
 
 region_agrees : (handle : ℕ) → Agrees (in_region handle) (picked (pick.Region handle))
 region_agrees handle = record {
   chosen = λ number operation stands. rw stands refl;
-  open_only = λ number operation is. not-true operation.synced (and_parts (not operation.synced) (is_name handle operation.region) is).0;
+  open_only = λ number operation is. not-true operation.synced
+      (and_parts (not operation.synced) (is_name handle operation.region) is).0;
 }
 
 flipped : (operations : List Operation)
@@ -99,7 +108,9 @@ pub any_there : (places : List (Option Standing)) (operations : List Operation) 
     (test : Standing → Bool)
     → Keeps places operations → Agrees choice test
     → has test Any places ≡ not (is_empty (chosen choice 1 operations))
-any_there places operations choice test K A = any_is places operations choice test (λ operation. true) (passes Any) K A (λ number operation. refl) ∙ flipped (chosen choice 1 operations)
+any_there places operations choice test K A =
+    any_is places operations choice test (λ operation. true) (passes Any) K A (λ number operation. refl)
+    ∙ flipped (chosen choice 1 operations)
 
 and_true : (test : Bool) → (test && true) ≡ test
 and_true true = refl
@@ -109,19 +120,22 @@ any_plain : (test : Standing → Bool) (places : List (Option Standing))
     → list_any (on_place (λ there. test there && true)) places ≡ list_any (on_place test) places
 any_plain test [] = refl
 any_plain test (None ∷ places) = any_plain test places
-any_plain test (Some there ∷ places) = ap₂ (λ first later. first || later) (and_true (test there)) (any_plain test places)
+any_plain test (Some there ∷ places) =
+    ap₂ (λ first later. first || later) (and_true (test there)) (any_plain test places)
 
 region_is : (places : List (Option Standing)) (operations : List Operation) (handle : ℕ) → Keeps places operations
     → list_any (on_place (picked (pick.Region handle))) places ≡ not (is_empty (chosen (in_region handle) 1 operations))
 region_is places operations handle K =
-    sym (any_plain (picked (pick.Region handle)) places) ∙ any_there places operations (in_region handle) (picked (pick.Region handle)) K (region_agrees handle)
+    sym (any_plain (picked (pick.Region handle)) places)
+    ∙ any_there places operations (in_region handle) (picked (pick.Region handle)) K (region_agrees handle)
 
 pub members_agree : (places : List (Option Standing)) (operations : List Operation) (handle : ℕ)
     → Keeps places operations → Agrees (members handle operations) (member_in places handle)
 members_agree places operations handle K = elim (cases_Bool (is_empty (chosen (in_region handle) 1 operations))) [
   | inl none ↦ record {
     chosen = λ number operation stands. rw (region_is places operations handle K, none, stands) refl;
-    open_only = λ number operation goes. not-true operation.synced (and_parts (not operation.synced) (eqb number handle) (rw none at goes)).0;
+    open_only = λ number operation goes. not-true operation.synced
+        (and_parts (not operation.synced) (eqb number handle) (rw none at goes)).0;
   }
   | inr some ↦ record {
     chosen = λ number operation stands. rw (region_is places operations handle K, some, stands) refl;
@@ -140,7 +154,8 @@ implicit_agree thread which = record {
 
 count_le : (sent : List Sent) → returned_of sent ≤ length sent
 count_le [] = omega arith
-count_le (one ∷ sent) = let later = count_le sent in elim (cases_Bool one.back) [ inl is ↦ rw is (omega (arith, later)) | inr isnt ↦ rw isnt (omega (arith, later)) ]
+count_le (one ∷ sent) = let later = count_le sent in
+    elim (cases_Bool one.back) [ inl is ↦ rw is (omega (arith, later)) | inr isnt ↦ rw isnt (omega (arith, later)) ]
 
 shifted : (one other : ℕ) → nat_lt one other ≡ nat_lt (1 + one) (suc other)
 shifted one other = elim (cases_lt one other) [
@@ -152,7 +167,9 @@ all_back : (sent : List Sent) → not (list_all (λ (one : Sent). one.back) sent
 all_back [] = refl
 all_back (one ∷ sent) = let later = all_back sent in elim (cases_Bool one.back) [
   | inl is ↦ rw is (later ∙ shifted (returned_of sent) (length sent))
-  | inr isnt ↦ rw isnt (let less = count_le sent in sym (lt-ltb (0 + returned_of sent) (suc (length sent)) (omega (arith, less))))
+  | inr isnt ↦
+      rw isnt (let less = count_le sent in
+      sym (lt-ltb (0 + returned_of sent) (suc (length sent)) (omega (arith, less))))
 ]
 
 pub unfinished_is : (number : ℕ) (operation : Operation)
@@ -165,30 +182,39 @@ unfinished_is number operation = elim (cases_Bool (has_next operation)) [
 pub all_not_any : (operations : List Operation)
     → list_all is_complete operations ≡ not (list_any (λ operation. not (is_complete operation)) operations)
 all_not_any [] = refl
-all_not_any (operation ∷ operations) = let later = all_not_any operations in elim (cases_Bool (is_complete operation)) [ inl is ↦ rw is later | inr isnt ↦ rw isnt refl ]
+all_not_any (operation ∷ operations) = let later = all_not_any operations in
+    elim (cases_Bool (is_complete operation)) [ inl is ↦ rw is later | inr isnt ↦ rw isnt refl ]
 
 -- the looks of a sync
 pub others_is : (places : List (Option Standing)) (operations : List Operation) (choice : Choice)
     (test : Standing → Bool) (thread : ℕ)
     → Keeps places operations → Agrees choice test
     → has test (Others thread) places ≡ list_any (is_other thread) (chosen choice 1 operations)
-others_is places operations choice test thread K A = any_is places operations choice test (is_other thread) (passes (Others thread)) K A (λ number operation. refl)
+others_is places operations choice test thread K A =
+    any_is places operations choice test (is_other thread) (passes (Others thread)) K A (λ number operation. refl)
 
 pub complete_is : (places : List (Option Standing)) (operations : List Operation) (choice : Choice)
     (test : Standing → Bool)
     → Keeps places operations → Agrees choice test
     → list_all is_complete (chosen choice 1 operations) ≡ not (has test Unfinished places)
 complete_is places operations choice test K A =
-    all_not_any (chosen choice 1 operations) ∙ ap not (sym (any_is places operations choice test (λ operation. not (is_complete operation)) (passes Unfinished) K A unfinished_is))
+    all_not_any (chosen choice 1 operations)
+    ∙ ap not (sym
+    (any_is places operations choice test (λ operation. not (is_complete operation))
+    (passes Unfinished) K A unfinished_is))
 
 pub unissued_is : (places : List (Option Standing)) (operations : List Operation) (choice : Choice)
     (test : Standing → Bool)
     → Keeps places operations → Agrees choice test
     → has test Unissued places ≡ list_any has_next (chosen choice 1 operations)
-unissued_is places operations choice test K A = any_is places operations choice test has_next (passes Unissued) K A (λ number operation. refl)
+unissued_is places operations choice test K A =
+    any_is places operations choice test has_next (passes Unissued) K A (λ number operation. refl)
 
 pub to_is : (places : List (Option Standing)) (operations : List Operation) (choice : Choice) (test : Standing → Bool)
     (node : ℕ)
     → Keeps places operations → Agrees choice test
-    → has test (UnissuedTo node) places ≡ list_any (λ operation. has_next operation && (target operation.transfer == node)) (chosen choice 1 operations)
-to_is places operations choice test node K A = any_is places operations choice test (λ operation. has_next operation && (target operation.transfer == node)) (passes (UnissuedTo node)) K A (λ number operation. refl)
+    → has test (UnissuedTo node) places
+    ≡ list_any (λ operation. has_next operation && (target operation.transfer == node)) (chosen choice 1 operations)
+to_is places operations choice test node K A =
+    any_is places operations choice test (λ operation. has_next operation && (target operation.transfer == node))
+    (passes (UnissuedTo node)) K A (λ number operation. refl)

@@ -1,5 +1,7 @@
 -- The least number among the records that are ready is that of the oldest operation.
-use Rattle.std.proofs.Common.{◌≡◌, drop, ◌⊎◌, IfSome, IfNone, is_some, inl, inr, ℕ, zero, suc, ◌+◌, ◌<◌, Bool, true, false, true≢false, not, ◌&&◌, List, [], ◌∷◌, Option, None, Some, refl, sym, ap, ap₂, ◌∙◌, arith, lt-ltb, le-ltb}
+use Rattle.std.proofs.Common.{◌≡◌, drop, ◌⊎◌, IfSome, IfNone, is_some, inl, inr, ℕ, zero, suc, ◌+◌, ◌<◌, Bool, true}
+use Rattle.std.proofs.Common.{false, true≢false, not, ◌&&◌, List, [], ◌∷◌, Option, None, Some, refl, sym, ap, ap₂, ◌∙◌}
+use Rattle.std.proofs.Common.{arith, lt-ltb, le-ltb}
 use Rattle.std.specs.List.{slice_get, list_all, list_any}
 use Rattle.std.proofs.lemmas.Bool.{cases_Bool, cases_eq, cases_lt, and_parts, not-true}
 use Rattle.std.proofs.lemmas.Option.{same_Some, slice_get_within}
@@ -16,22 +18,28 @@ use Rattle.put_get.proofs.Tests.{same_test, any_at, any_from}
 use Rattle.put_get.proofs.Unissued.{none_left}
 
 none_is : (can : ℕ → Bool) (number : ℕ) (operations : List Operation)
-    → ((place : ℕ) (operation : Operation) → slice_get operations place ≡ Some operation → (has_next operation && can (target operation.transfer)) ≡ false)
+    → ((place : ℕ) (operation : Operation) → slice_get operations place ≡ Some operation
+    → (has_next operation && can (target operation.transfer)) ≡ false)
     → next_chunk can number operations ≡ None
 none_is can number [] none = refl
-none_is can number (operation ∷ operations) none = rw (none 0 operation refl) (none_is can (suc number) operations (λ place later at. none (suc place) later at))
+none_is can number (operation ∷ operations) none =
+    rw (none 0 operation refl) (none_is can (suc number) operations (λ place later at. none (suc place) later at))
 
 first_is : (can : ℕ → Bool) (number : ℕ) (operations : List Operation) (place : ℕ) (operation : Operation)
     → slice_get operations place ≡ Some operation → (has_next operation && can (target operation.transfer)) ≡ true
-    → ((before : ℕ) (earlier : Operation) → before < place → slice_get operations before ≡ Some earlier → (has_next earlier && can (target earlier.transfer)) ≡ false)
+    → ((before : ℕ) (earlier : Operation) → before < place → slice_get operations before ≡ Some earlier
+    → (has_next earlier && can (target earlier.transfer)) ≡ false)
     → next_chunk can number operations ≡ Some (chunk_of (number + place) operation)
 first_is can number [] place operation at is none = absurd (cc)
 first_is can number (first ∷ operations) zero operation at is none =
     let same : first ≡ operation = same_Some first operation at in
-    rw (ap (λ (y : Operation). has_next y && can (target y.transfer)) same ∙ is) (ap Some (ap₂ chunk_of (omega arith) same))
+    rw (ap (λ (y : Operation). has_next y && can (target y.transfer)) same ∙ is)
+    (ap Some (ap₂ chunk_of (omega arith) same))
 first_is can number (first ∷ operations) (suc place) operation at is none =
     rw (none 0 first (omega arith) refl)
-    (first_is can (suc number) operations place operation at is (λ before earlier less was. none (suc before) earlier (omega (arith, less)) was) ∙ ap (λ n. Some (chunk_of n operation)) (omega arith))
+    (first_is can (suc number) operations place operation at is
+    (λ before earlier less was. none (suc before) earlier (omega (arith, less)) was)
+    ∙ ap (λ n. Some (chunk_of n operation)) (omega arith))
 
 -- an operation that is ready stands
 stands_ready : (can : ℕ → Bool) (table : Transfers) (operations : List Operation) (place : ℕ) (operation : Operation)
@@ -39,7 +47,11 @@ stands_ready : (can : ℕ → Bool) (table : Transfers) (operations : List Opera
     → (has_next operation && can (target operation.transfer)) ≡ true
     → (at : ℕ) × (slice_get table.table at ≡ Some (Some (kept (suc place) operation)))
 stands_ready can table operations place operation S at is = elim (cases_Bool operation.synced) [
-  | inl synced ↦ absurd (true≢false (sym (and_parts (has_next operation) (can (target operation.transfer)) is).0 ∙ not-true (has_next operation) (and_parts (not (has_next operation)) (list_all (λ (sent : Sent). sent.back) operation.sent) (S.settled (suc place) operation at synced)).0))
+  | inl synced ↦
+      absurd (true≢false (sym (and_parts (has_next operation) (can (target operation.transfer)) is).0
+      ∙ not-true (has_next operation)
+      (and_parts (not (has_next operation)) (list_all (λ (sent : Sent). sent.back) operation.sent)
+      (S.settled (suc place) operation at synced)).0))
   | inr stands ↦ S.keeps.all (suc place) operation at stands
 ]
 
@@ -49,17 +61,23 @@ answer (Some best) = Some (next_of best)
 
 pub oldest_is : (can : ℕ → Bool) (table : Transfers) (operations : List Operation) (best : Option Standing)
     → Stands table operations → IsLeast can table.table 256 best → answer best ≡ next_chunk can 1 operations
-oldest_is can table operations None S least = sym (none_is can 1 operations (λ place operation at. elim (cases_Bool (has_next operation && can (target operation.transfer))) [
-  | inl is ↦ (
-      let found = stands_ready can table operations place operation S at is in
-      absurd (true≢false (sym is ∙ least found.0 (kept (suc place) operation) (let within = slice_get_within table.table found.0 (Some (kept (suc place) operation)) found.1 in let many = S.keeps.many in omega (arith, within, many)) found.1)))
-  | inr isnt ↦ isnt
-]))
+oldest_is can table operations None S least =
+    sym (none_is can 1 operations
+    (λ place operation at. elim (cases_Bool (has_next operation && can (target operation.transfer))) [
+      | inl is ↦ (
+          let found = stands_ready can table operations place operation S at is in
+          absurd (true≢false
+          (sym is ∙ least found.0 (kept (suc place) operation) (let within =
+          slice_get_within table.table found.0 (Some (kept (suc place) operation)) found.1 in let many = S.keeps.many in
+          omega (arith, within, many)) found.1)))
+      | inr isnt ↦ isnt
+    ]))
 oldest_is can table operations (Some best) S least =
     let o = S.keeps.each least.0.0 best least.0.1 in
     let a = number_at operations best.number o.0 o.1 in
     let ready : (has_next o.0 && can (target o.0.transfer)) ≡ true = ap (is_ready can) (sym o.3) ∙ least.0.2 in
-    sym (first_is can 1 operations a.0 o.0 a.2 ready (λ before earlier less at. elim (cases_Bool (has_next earlier && can (target earlier.transfer))) [
+    sym (first_is can 1 operations a.0 o.0 a.2 ready
+    (λ before earlier less at. elim (cases_Bool (has_next earlier && can (target earlier.transfer))) [
       | inl is ↦ (
           let found = stands_ready can table operations before earlier S at is in
           let within = slice_get_within table.table found.0 (Some (kept (suc before) earlier)) found.1 in
@@ -75,7 +93,11 @@ least_none can places place there less at = absurd (omega arith)
 
 before_blank : (places : List (Option Standing)) (end place : ℕ) (there : Standing) → slice_get places end ≡ Some None
     → place < end + 1 → slice_get places place ≡ Some (Some there) → place < end
-before_blank places end place there blank less at = elim (cases_eq place end) [ inl same ↦ absurd (none there (sym blank ∙ (ap (slice_get places) (sym same) ∙ at))) | inr apart ↦ omega (arith, apart, less) ]
+before_blank places end place there blank less at =
+    elim (cases_eq place end) [
+      | inl same ↦ absurd (none there (sym blank ∙ (ap (slice_get places) (sym same) ∙ at)))
+      | inr apart ↦ omega (arith, apart, less)
+    ]
   where
     none : (other : Standing) → ◌≡◌ {A = Option (Option Standing)} (Some None) (Some (Some other)) → ⊥
     none other is = cc
@@ -85,7 +107,9 @@ at_or_before : (places : List (Option Standing)) (end place : ℕ) (last there :
     → slice_get places end ≡ Some (Some last) → place < end + 1 → slice_get places place ≡ Some (Some there)
     → (last ≡ there) ⊎ (place < end)
 at_or_before places end place last there at_end less at = elim (cases_eq place end) [
-  | inl same ↦ inl (same_Some last there (same_Some (Some last) (Some there) (sym at_end ∙ (ap (slice_get places) (sym same) ∙ at))))
+  | inl same ↦
+      inl (same_Some last there
+      (same_Some (Some last) (Some there) (sym at_end ∙ (ap (slice_get places) (sym same) ∙ at))))
   | inr apart ↦ inr (omega (arith, apart, less))
 ]
 
@@ -119,10 +143,11 @@ ready_more can places end last (Some best) at_end ready least = elim (cases_lt l
 idle_more : (can : ℕ → Bool) (places : List (Option Standing)) (end : ℕ) (last : Standing) (best : Option Standing)
     → slice_get places end ≡ Some (Some last) → is_ready can last ≡ false
     → IsLeast can places end best → IsLeast can places (end + 1) best
-idle_more can places end last None at_end idle least = λ place there less at. elim (at_or_before places end place last there at_end less at) [
-  | inl same ↦ ap (is_ready can) (sym same) ∙ idle
-  | inr before ↦ least place there before at
-]
+idle_more can places end last None at_end idle least =
+    λ place there less at. elim (at_or_before places end place last there at_end less at) [
+      | inl same ↦ ap (is_ready can) (sym same) ∙ idle
+      | inr before ↦ least place there before at
+    ]
 idle_more can places end last (Some best) at_end idle least = (
   least.0,
   λ place there less at is. elim (at_or_before places end place last there at_end less at) [
@@ -136,8 +161,10 @@ pub least_more : (can : ℕ → Bool) (places : List (Option Standing)) (end : �
     (best : Option Standing)
     → slice_get places end ≡ Some there → IsLeast can places end best
     → IsLeast can places (end + 1) (better can there best)
-least_more can places end None None at_end least = λ place there less at. least place there (before_blank places end place there at_end less at) at
-least_more can places end None (Some best) at_end least = (least.0, λ place there less at. least.1 place there (before_blank places end place there at_end less at) at)
+least_more can places end None None at_end least =
+    λ place there less at. least place there (before_blank places end place there at_end less at) at
+least_more can places end None (Some best) at_end least =
+    (least.0, λ place there less at. least.1 place there (before_blank places end place there at_end less at) at)
 least_more can places end (Some last) best at_end least = elim (cases_Bool (is_ready can last)) [
   | inl ready ↦ rw ready (ready_more can places end last best at_end ready least)
   | inr idle ↦ rw idle (idle_more can places end last best at_end idle least)
@@ -207,12 +234,16 @@ idle_is table operations S = same_test _ _ forth back
 -- no chunk is next where none is unissued
 pub idle_next : (can : ℕ → Bool) (operations : List Operation) → list_any has_next operations ≡ false
     → next_chunk can 1 operations ≡ None
-idle_next can operations none = none_is can 1 operations (λ place operation at. ap (λ has. has && can (target operation.transfer)) (any_here has_next operations none place operation at))
+idle_next can operations none =
+    none_is can 1 operations
+    (λ place operation at. ap (λ has. has && can (target operation.transfer))
+    (any_here has_next operations none place operation at))
 
 -- ---- one operation
 
 -- a place was found for the operation of that number where a chunk of it is unissued
-pub unissued_is : (table : Transfers) (operations : List Operation) (number : ℕ) (place : Option ℕ) → Stands table operations
+pub unissued_is : (table : Transfers) (operations : List Operation) (number : ℕ) (place : Option ℕ)
+    → Stands table operations
     → IfSome place (λ at. IsPlaceOf table.table number Unissued at)
     → IfNone place ((at : ℕ) → IsPlaceOf table.table number Unissued at → ⊥)
     → is_some place ≡ has_unissued number operations
@@ -228,7 +259,8 @@ unissued_is table operations number None S found none = nowhere (numbered operat
       | inl is ↦ (
           let at = number_at operations number operation here in
           let there = stands_ready (λ node. true) table operations at.0 operation S at.2 (rw is refl) in
-          let number_is = at.1 in absurd (none there.0 (kept (suc at.0) operation, there.1, omega (arith, number_is), is)))
+          let number_is = at.1 in
+          absurd (none there.0 (kept (suc at.0) operation, there.1, omega (arith, number_is), is)))
     ]
 
     nowhere : (operation : Option Operation) → numbered operations number ≡ operation → false ≡ has_next_in operation

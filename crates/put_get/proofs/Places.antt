@@ -1,5 +1,6 @@
 -- The places are what a slab has under their keys: what is read, written and added there.
-use Rattle.std.proofs.Common.{◌≡◌, ◌⊎◌, inl, inr, ℕ, zero, suc, List, [], ◌∷◌, ◌++◌, Option, None, Some, length, get_or, set, ◌<◌, refl, sym, ap, ◌∙◌, ap₂, arith}
+use Rattle.std.proofs.Common.{◌≡◌, ◌⊎◌, inl, inr, ℕ, zero, suc, List, [], ◌∷◌, ◌++◌, Option, None, Some, length, get_or}
+use Rattle.std.proofs.Common.{set, ◌<◌, refl, sym, ap, ◌∙◌, ap₂, arith}
 use Rattle.std.specs.List.{slice_get}
 use Rattle.std.proofs.lemmas.Bool.{cases_eq}
 use Rattle.std.proofs.lemmas.List.{length-map, map-append}
@@ -15,7 +16,8 @@ places_length keys slab = length-map keys (λ key. flat (get slab key))
 place_at : {X : Type 0} (keys : List ℕ) (slab : Slab (Option X)) (place key : ℕ) (there : Option X)
     → slice_get keys place ≡ Some key → get slab key ≡ Some there → slice_get (places_of keys slab) place ≡ Some there
 place_at [] slab place key there at is = absurd (cc)
-place_at (first ∷ keys) slab zero key there at is = ap Some (ap (λ k. flat (get slab k)) (same_Some first key at) ∙ ap flat is)
+place_at (first ∷ keys) slab zero key there at is =
+    ap Some (ap (λ k. flat (get slab k)) (same_Some first key at) ∙ ap flat is)
 place_at (first ∷ keys) slab (suc place) key there at is = place_at keys slab place key there at is
 
 -- what was read under the key of one of the 256 places stands there
@@ -29,7 +31,8 @@ read_there keys slab place key there less many is read =
 none_in : {X : Type 0} (keys : List ℕ) (old new : Slab (Option X)) (key : ℕ) (v : Option (Option X))
     → Updates old new key v → ((p : ℕ) → slice_get keys p ≡ Some key → ⊥) → places_of keys new ≡ places_of keys old
 none_in [] old new key v u n = refl
-none_in (k ∷ ks) old new key v u n = ap₂ (λ x xs. x ∷ xs) (ap flat (u.others k (λ e. n 0 (ap Some e)))) (none_in ks old new key v u (λ p e. n (suc p) e))
+none_in (k ∷ ks) old new key v u n =
+    ap₂ (λ x xs. x ∷ xs) (ap flat (u.others k (λ e. n 0 (ap Some e)))) (none_in ks old new key v u (λ p e. n (suc p) e))
 
 -- a place is written where its key's record is
 pub places_set : {X : Type 0} (keys : List ℕ) (old new : Slab (Option X)) (key p : ℕ) (v : Option X)
@@ -38,9 +41,11 @@ pub places_set : {X : Type 0} (keys : List ℕ) (old new : Slab (Option X)) (key
 places_set [] old new key p v u a e = absurd (cc)
 places_set (k ∷ ks) old new key zero v u a e =
     let same : k ≡ key = same_Some _ _ e in
-    ap₂ (λ x xs. x ∷ xs) (ap flat (ap (get new) same ∙ u.changed)) (none_in ks old new key (Some v) u (λ q f. absurd (omega (arith, a 0 (suc q) key e f))))
+    ap₂ (λ x xs. x ∷ xs) (ap flat (ap (get new) same ∙ u.changed))
+    (none_in ks old new key (Some v) u (λ q f. absurd (omega (arith, a 0 (suc q) key e f))))
 places_set (k ∷ ks) old new key (suc p) v u a e =
-    ap₂ (λ x xs. x ∷ xs) (ap flat (u.others k (λ same. absurd (omega (arith, a 0 (suc p) key (ap Some same) e))))) (places_set ks old new key p v u (λ q r j f g. (let h = a (suc q) (suc r) j f g in omega (arith, h))) e)
+    ap₂ (λ x xs. x ∷ xs) (ap flat (u.others k (λ same. absurd (omega (arith, a 0 (suc p) key (ap Some same) e)))))
+    (places_set ks old new key p v u (λ q r j f g. (let h = a (suc q) (suc r) j f g in omega (arith, h))) e)
 
 -- and the keys stay as they were
 pub keyed_set : {X : Type 0} (keys : List ℕ) (old new : Slab (Option X)) (key : ℕ) (v : Option X)
@@ -59,7 +64,8 @@ get_push : (keys : List ℕ) (key p k : ℕ) → slice_get (keys ++ key ∷ []) 
 get_push [] key zero k e = inr (refl, same_Some _ _ e)
 get_push [] key (suc p) k e = absurd (cc)
 get_push (j ∷ keys) key zero k e = inl e
-get_push (j ∷ keys) key (suc p) k e = elim (get_push keys key p k e) [ inl h ↦ inl h | inr h ↦ inr (omega (arith, h.0), h.1) ]
+get_push (j ∷ keys) key (suc p) k e =
+    elim (get_push keys key p k e) [ inl h ↦ inl h | inr h ↦ inr (omega (arith, h.0), h.1) ]
 
 -- a vacant key is none of them
 vacant_new : {X : Type 0} (keys : List ℕ) (old : Slab (Option X)) (key : ℕ) → get old key ≡ None → IsKeyed keys old
@@ -96,4 +102,6 @@ keyed_push keys old new key v n u K = record {
 pub places_push : {X : Type 0} (keys : List ℕ) (old new : Slab (Option X)) (key : ℕ) (v : Option X) → get old key ≡ None
     → Updates old new key (Some v) → IsKeyed keys old → places_of (keys ++ key ∷ []) new ≡ places_of keys old ++ v ∷ []
 places_push keys old new key v n u K =
-    map-append (λ k. flat (get new k)) keys (key ∷ []) ∙ ap₂ (λ xs ys. xs ++ ys) (none_in keys old new key (Some v) u (vacant_new keys old key n K)) (ap (λ o. flat o ∷ []) u.changed)
+    map-append (λ k. flat (get new k)) keys (key ∷ [])
+    ∙ ap₂ (λ xs ys. xs ++ ys) (none_in keys old new key (Some v) u (vacant_new keys old key n K))
+    (ap (λ o. flat o ∷ []) u.changed)

@@ -1,5 +1,6 @@
 -- What an entry says stays so, as records are written elsewhere or go.
-use Rattle.std.proofs.Common.{◌≡◌, inl, inr, ℕ, ◌<◌, ◌&&◌, Bool, false, nat_lt, List, [], ◌∷◌, Option, None, Some, set, refl, sym, ap, ◌∙◌, subst}
+use Rattle.std.proofs.Common.{◌≡◌, inl, inr, ℕ, ◌<◌, ◌&&◌, Bool, false, nat_lt, List, [], ◌∷◌, Option, None, Some, set}
+use Rattle.std.proofs.Common.{refl, sym, ap, ◌∙◌, subst}
 use Rattle.std.specs.List.{slice_get}
 use Rattle.std.proofs.lemmas.Bool.{cases_Bool, cases_eq, and_parts, ltb-true}
 use Rattle.std.proofs.lemmas.Option.{same_Some, slice_get_within}
@@ -8,17 +9,19 @@ use Rattle.put_get.specs.declared.table.Standing.{Standing}
 use Rattle.put_get.specs.declared.slots.Waiting.{Waiting}
 use Rattle.put_get.specs.declared.transfers.Transfers.{Transfers}
 use Rattle.put_get.specs.Operation.{Operation}
-use Rattle.put_get.specs.Slots.{SlotsState, entry_at}
+use Rattle.put_get.specs.SlotsState.{SlotsState, entry_at}
 use Rattle.put_get.specs.Outs.{Out, outs}
 use Rattle.put_get.specs.Table.{AreDropped}
 use Rattle.put_get.specs.Stands.{Says, Stands}
 
-pub says_blank : (places : List (Option Standing)) (place : ℕ) (new : Standing) (entry : Option Waiting) (out : List Out)
+pub says_blank : (places : List (Option Standing)) (place : ℕ) (new : Standing) (entry : Option Waiting)
+    (out : List Out)
     → slice_get places place ≡ Some None → Says places entry out → Says (set places place (Some new)) entry out
 says_blank places place new None out blank says = says
 says_blank places place new (Some waiting) out blank says = (
   says.0,
-  get-set_other places place (Some new) waiting.place (λ same. apart says.0 (sym blank ∙ (ap (slice_get places) (sym same) ∙ says.1))) ∙ says.1,
+  get-set_other places place (Some new) waiting.place
+      (λ same. apart says.0 (sym blank ∙ (ap (slice_get places) (sym same) ∙ says.1))) ∙ says.1,
   says.2,
 )
   where
@@ -35,8 +38,12 @@ says_rewritten places place there new (Some waiting) out at number says = elim (
   | inl same ↦ (
       let is : says.0 ≡ there = same_Some _ _ (same_Some _ _ (sym says.1 ∙ (ap (slice_get places) same ∙ at))) in (
         new,
-        ap (slice_get (set places place (Some new))) same ∙ get-set_same places place (Some new) (slice_get_within places place (Some there) at),
-        says.2 ∙ ap (λ n. record { operation = n; request = waiting.request } ∷ []) (ap (λ (z : Standing). z.number) is ∙ number),
+        ap (slice_get (set places place (Some new))) same
+            ∙ get-set_same places place (Some new) (slice_get_within places place (Some there) at),
+        says.2 ∙ ap (λ n. record {
+          operation = n;
+          request = waiting.request;
+        } ∷ []) (ap (λ (z : Standing). z.number) is ∙ number),
       ))
   | inr apart ↦ (says.0, get-set_other places place (Some new) waiting.place apart ∙ says.1, says.2)
 ]
@@ -44,7 +51,10 @@ says_rewritten places place there new (Some waiting) out at number says = elim (
 -- records that go, where none of which a chunk is out does
 pub says_dropped : (old new : List (Option Standing)) (test : Standing → Bool) (entry : Option Waiting) (out : List Out)
     → AreDropped test old new
-    → ((place : ℕ) (there : Standing) (request : ℕ) → slice_get old place ≡ Some (Some there) → out ≡ record { operation = there.number; request = request } ∷ [] → test there ≡ false)
+    → ((place : ℕ) (there : Standing) (request : ℕ) → slice_get old place ≡ Some (Some there) → out ≡ record {
+      operation = there.number;
+      request = request;
+    } ∷ [] → test there ≡ false)
     → Says old entry out → Says new entry out
 says_dropped old new test None out D stays says = says
 says_dropped old new test (Some waiting) out D stays says = (
@@ -57,7 +67,8 @@ says_dropped old new test (Some waiting) out D stays says = (
 pub entry_within : (slots : SlotsState) (to slot : ℕ) (waiting : Waiting) → entry_at slots to slot ≡ Some waiting
     → (to < slots.nodes) × (slot < slots.credits)
 entry_within slots to slot waiting at = elim (cases_Bool (nat_lt to slots.nodes && nat_lt slot slots.credits)) [
-  | inl inside ↦ (let both = and_parts (nat_lt to slots.nodes) (nat_lt slot slots.credits) inside in (ltb-true to slots.nodes both.0, ltb-true slot slots.credits both.1))
+  | inl inside ↦ (let both = and_parts (nat_lt to slots.nodes) (nat_lt slot slots.credits) inside in
+      (ltb-true to slots.nodes both.0, ltb-true slot slots.credits both.1))
   | inr outside ↦ absurd (none (rw outside at at))
 ]
   where
@@ -67,8 +78,10 @@ entry_within slots to slot waiting at = elim (cases_Bool (nat_lt to slots.nodes 
 -- what an entry says, where there is one, and where there is none
 pub said : (table : Transfers) (operations : List Operation) (to slot : ℕ) (waiting : Waiting) → Stands table operations
     → entry_at table.slots to slot ≡ Some waiting → Says table.table (Some waiting) (outs to slot 1 operations)
-said table operations to slot waiting S at = subst (λ entry. Says table.table entry (outs to slot 1 operations)) at (S.says to slot)
+said table operations to slot waiting S at =
+    subst (λ entry. Says table.table entry (outs to slot 1 operations)) at (S.says to slot)
 
 pub said_none : (table : Transfers) (operations : List Operation) (to slot : ℕ) → Stands table operations
     → entry_at table.slots to slot ≡ None → outs to slot 1 operations ≡ []
-said_none table operations to slot S at = subst (λ entry. Says table.table entry (outs to slot 1 operations)) at (S.says to slot)
+said_none table operations to slot S at =
+    subst (λ entry. Says table.table entry (outs to slot 1 operations)) at (S.says to slot)

@@ -1,5 +1,6 @@
 -- Those of a list of handles that are complete.
-use Rattle.std.proofs.Common.{◌≡◌, inl, inr, ℕ, ◌+◌, ◌==◌, true, false, true≢false, not, ◌&&◌, ◌||◌, List, [], ◌∷◌, Option, Some, refl, sym, ap, ap₂, ◌∙◌}
+use Rattle.std.proofs.Common.{◌≡◌, inl, inr, ℕ, ◌+◌, ◌==◌, true, false, true≢false, not, ◌&&◌, ◌||◌, List, [], ◌∷◌}
+use Rattle.std.proofs.Common.{Option, Some, refl, sym, ap, ap₂, ◌∙◌}
 use Rattle.std.specs.List.{slice_get, list_any, list_all}
 use Rattle.std.proofs.lemmas.Bool.{cases_Bool, and_parts, not-true}
 use Rattle.put_get.specs.declared.table.Standing.{Standing}
@@ -12,12 +13,16 @@ use Rattle.put_get.proofs.Gone.{chosen_complete}
 
 pub whole_is : (places : List (Option Standing)) (operations : List Operation) (handle : Handle)
     → Keeps places operations → is_whole operations handle ≡ is_whole_in places handle
-whole_is places operations handle K = ap (λ all. not (handle.serial == 0) && all) (complete_is places operations (members handle.serial operations) (member_in places handle.serial) K (members_agree places operations handle.serial K))
+whole_is places operations handle K =
+    ap (λ all. not (handle.serial == 0) && all)
+    (complete_is places operations (members handle.serial operations) (member_in places handle.serial) K
+    (members_agree places operations handle.serial K))
 
 pub any_whole_is : (places : List (Option Standing)) (operations : List Operation) (handles : List Handle)
     → Keeps places operations → list_any (is_whole operations) handles ≡ list_any (is_whole_in places) handles
 any_whole_is places operations [] K = refl
-any_whole_is places operations (handle ∷ handles) K = ap₂ (λ here later. here || later) (whole_is places operations handle K) (any_whole_is places operations handles K)
+any_whole_is places operations (handle ∷ handles) K =
+    ap₂ (λ here later. here || later) (whole_is places operations handle K) (any_whole_is places operations handles K)
 
 pub whole_agrees : (places : List (Option Standing)) (operations : List Operation) (handles : List Handle)
     → Keeps places operations → Agrees (whole_of handles operations) (whole_in places handles)
@@ -28,35 +33,46 @@ whole_agrees places operations handles K = record { chosen = chosen_so handles; 
     chosen_so [] number operation stands = refl
     chosen_so (handle ∷ hs) number operation stands =
         ap₂ (λ here later. here || later)
-        (ap₂ (λ whole member. whole && member) (whole_is places operations handle K) ((members_agree places operations handle.serial K).chosen number operation stands))
+        (ap₂ (λ whole member. whole && member) (whole_is places operations handle K)
+        ((members_agree places operations handle.serial K).chosen number operation stands))
         (chosen_so hs number operation stands)
 
     open_so : (hs : List Handle) (number : ℕ) (operation : Operation) → whole_of hs operations number operation ≡ true
         → operation.synced ≡ false
     open_so [] number operation is = absurd (true≢false (sym is))
-    open_so (handle ∷ hs) number operation is = elim (cases_Bool (is_whole operations handle && members handle.serial operations number operation)) [
-      | inl here ↦ (members_agree places operations handle.serial K).open_only number operation (and_parts (is_whole operations handle) (members handle.serial operations number operation) here).1
-      | inr isnt ↦ open_so hs number operation (rw isnt at is)
-    ]
+    open_so (handle ∷ hs) number operation is =
+        elim (cases_Bool (is_whole operations handle && members handle.serial operations number operation)) [
+          | inl here ↦
+              (members_agree places operations handle.serial K).open_only number operation
+              (and_parts (is_whole operations handle) (members handle.serial operations number operation) here).1
+          | inr isnt ↦ open_so hs number operation (rw isnt at is)
+        ]
 
 whole_complete : (operations : List Operation) (handles : List Handle) (place : ℕ) (operation : Operation)
     → slice_get operations place ≡ Some operation → whole_of handles operations (1 + place) operation ≡ true
     → is_complete operation ≡ true
 whole_complete operations [] place operation at is = absurd (true≢false (sym is))
-whole_complete operations (handle ∷ handles) place operation at is = elim (cases_Bool (is_whole operations handle && members handle.serial operations (1 + place) operation)) [
-  | inl here ↦ (
-      let both = and_parts (is_whole operations handle) (members handle.serial operations (1 + place) operation) here in
-      let all = (and_parts (not (handle.serial == 0)) (list_all is_complete (chosen (members handle.serial operations) 1 operations)) both.0).1 in
-      chosen_complete (members handle.serial operations) 1 operations place operation all at both.1)
-  | inr isnt ↦ whole_complete operations handles place operation at (rw isnt at is)
-]
+whole_complete operations (handle ∷ handles) place operation at is =
+    elim (cases_Bool (is_whole operations handle && members handle.serial operations (1 + place) operation)) [
+      | inl here ↦ (
+          let both = and_parts (is_whole operations handle) (members handle.serial operations (1 + place) operation)
+          here in
+          let all = (and_parts (not (handle.serial == 0))
+          (list_all is_complete (chosen (members handle.serial operations) 1 operations)) both.0).1 in
+          chosen_complete (members handle.serial operations) 1 operations place operation all at both.1)
+      | inr isnt ↦ whole_complete operations handles place operation at (rw isnt at is)
+    ]
 
 -- all that go are complete
 pub all_whole : (operations : List Operation) (handles : List Handle)
     → list_all is_complete (chosen (whole_of handles operations) 1 operations) ≡ true
-all_whole operations handles = elim (cases_Bool (list_any (λ operation. not (is_complete operation)) (chosen (whole_of handles operations) 1 operations))) [
-  | inl some ↦ (
-      let it = chosen_at (whole_of handles operations) (λ operation. not (is_complete operation)) 1 operations some in
-      absurd (true≢false (sym (whole_complete operations handles it.0 it.1 it.2 it.3) ∙ not-true (is_complete it.1) it.4)))
-  | inr none ↦ all_not_any (chosen (whole_of handles operations) 1 operations) ∙ ap not none
-]
+all_whole operations handles =
+    elim (cases_Bool
+    (list_any (λ operation. not (is_complete operation)) (chosen (whole_of handles operations) 1 operations))) [
+      | inl some ↦ (
+          let it = chosen_at (whole_of handles operations) (λ operation. not (is_complete operation)) 1 operations
+          some in
+          absurd (true≢false (sym (whole_complete operations handles it.0 it.1 it.2 it.3)
+          ∙ not-true (is_complete it.1) it.4)))
+      | inr none ↦ all_not_any (chosen (whole_of handles operations) 1 operations) ∙ ap not none
+    ]

@@ -1,6 +1,6 @@
 pub mod Operation
 pub mod Syncs
 pub mod Table
-pub mod Slots
+pub mod SlotsState
 pub mod Outs
 pub mod Stands

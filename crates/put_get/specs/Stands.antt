@@ -12,7 +12,7 @@ use Rattle.put_get.specs.declared.table.Check.TheVariants.{Unissued, UnissuedTo,
 use Rattle.put_get.specs.declared.transfers.Transfers.{Transfers}
 use Rattle.put_get.specs.Operation.{Operation, returned_of, target, size, chunk_start, chunk_size, is_complete}
 use Rattle.put_get.specs.Operation.{standing}
-use Rattle.put_get.specs.Slots.{entry_at}
+use Rattle.put_get.specs.SlotsState.{entry_at}
 use Rattle.put_get.specs.Outs.{Out, outs}
 use Rattle.put_get.specs.Table.{taken, on_place, picked, is_unissued, has, IsPlaceOf}
 use Rattle.put_get.specs.Syncs.{Choice, is_name, is_implicit}

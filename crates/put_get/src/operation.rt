@@ -5,15 +5,16 @@ ghost use Rattle.put_get.specs.Operation.{target, size, is_get, chunks};
 
 use std::fmt::Debug;
 
-/// What an operation of the extended API is called by. Number 0 is GASNET_INVALID_HANDLE: it stands for a finished operation.
+/// What an operation of the extended API is called by. Number 0 is GASNET_INVALID_HANDLE: it stands for a finished
+/// operation.
 #[derive(Clone, Copy, Debug, PartialEq, Eq)]
 pub struct Handle {
     /// The number of the operation, or the name of an access region; numbers are counted from 1.
     pub serial: u64,
 }
 
-/// A contiguous transfer to or from another node's segment (GASNet 1.8.1 extended API, put, get and memset). Offsets and
-/// lengths are in bytes; `remote` is an offset into the target's segment and `local` one into the own.
+/// A contiguous transfer to or from another node's segment (GASNet 1.8.1 extended API, put, get and memset). Offsets
+/// and lengths are in bytes; `remote` is an offset into the target's segment and `local` one into the own.
 #[derive(Clone, Copy, Debug, PartialEq, Eq)]
 pub enum Transfer {
     /// Bytes of the own segment are written into the target's (gasnet_put).
@@ -46,8 +47,8 @@ pub enum Mode {
     Explicit,
     /// With the thread's implicit operations (gasnet_put_nbi_bulk and its like).
     Implicit,
-    /// With its access region, by the region's name. `None` begins a new region, which is named by the operation's own number
-    /// (gasnet_begin_nbi_accessregion).
+    /// With its access region, by the region's name. `None` begins a new region, which is named by the operation's own
+    /// number (gasnet_begin_nbi_accessregion).
     InRegion(Option<u64>),
 }
 
@@ -73,7 +74,8 @@ pub enum Synced {
     NotYours,
     /// No operation and no region that stands has the handle's number.
     BadHandle,
-    /// Some chunk can't be issued any more: the numbers to this node are worn out. It is the smallest such node (profile).
+    /// Some chunk can't be issued any more: the numbers to this node are worn out. It is the smallest such node
+    /// (profile).
     WornOut(u16),
 }
 

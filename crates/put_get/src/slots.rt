@@ -1,7 +1,7 @@
 //! Which chunk is out in which slot of which node.
 
 ghost use Rattle.std.specs.Prelude.{◌≡◌, ◌<◌, None, IfOk, ℕ};
-ghost use Rattle.put_get.specs.Slots.{entry_at, HasSet};
+ghost use Rattle.put_get.specs.SlotsState.{entry_at, HasSet};
 
 use std::alloc::{AllocError, Global};
 use std::marker::Model;
@@ -23,7 +23,7 @@ pub(crate) struct Slots {
 
 impl Model for Slots {
     ghost use Rattle.std.specs.Prelude.{◌≡◌, ◌*◌, length};
-    ghost use Rattle.put_get.specs.Slots.{SlotsState};
+    ghost use Rattle.put_get.specs.SlotsState.{SlotsState};
 
     ghost Value = { SlotsState };
 

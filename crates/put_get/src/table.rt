@@ -1,8 +1,10 @@
 //! The records of a node's operations, in 256 places.
 
-ghost use Rattle.std.specs.Prelude.{◌≡◌, ◌<◌, ◌≤◌, ℕ, List, Option, None, Some, length, replicate, slice_get, slice_set, IfOk, IfSome, IfNone, Bool, not, ◌||◌};
+ghost use Rattle.std.specs.Prelude.{◌≡◌, ◌<◌, ◌≤◌, ℕ, List, Option, None, Some, length, replicate, slice_get};
+ghost use Rattle.std.specs.Prelude.{slice_set, IfOk, IfSome, IfNone, Bool, not, ◌||◌};
 ghost use Rattle.put_get.specs.Syncs.{is_kind, flag_at};
-ghost use Rattle.put_get.specs.Table.{taken, is_unissued, unissued_in, unissued_count, passes, picked, on_place, picks, unless_marked, also, has, AreMarks, has_number, IsPlaceOf, AreDropped};
+ghost use Rattle.put_get.specs.Table.{taken, is_unissued, unissued_in, unissued_count, passes, picked, on_place, picks};
+ghost use Rattle.put_get.specs.Table.{unless_marked, also, has, AreMarks, has_number, IsPlaceOf, AreDropped};
 ghost use Rattle.std.specs.List.{list_any};
 
 use crate::operation::{Some3, Transfer};

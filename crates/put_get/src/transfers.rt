@@ -1,14 +1,20 @@
 //! The calls on the operations of a node.
 
-ghost use Rattle.std.specs.Prelude.{◌≡◌, ◌<◌, ◌≤◌, length, ℕ, List, [], Option, None, Some, Bool, true, false, not, IfOk, IfSome, IfNone};
+ghost use Rattle.std.specs.Prelude.{◌≡◌, ◌<◌, ◌≤◌, length, ℕ, List, [], Option, None, Some, Bool, true, false, not};
+ghost use Rattle.std.specs.Prelude.{IfOk, IfSome, IfNone};
 ghost use Rattle.put_get.specs.declared.table.Standing.{Standing};
 ghost use Rattle.std.specs.List.{list_any, list_all};
 ghost use Rattle.put_get.specs.declared.operation.Handle.{Handle};
 ghost use Rattle.std.specs.Prelude.{◌==◌};
-ghost use Rattle.put_get.specs.Operation.{Operation, target, region_of, begin_answer, after_begin, has_next, has_unissued, next_chunk, issue, has_out, come_back, IsFreeSlot};
-ghost use Rattle.put_get.specs.Syncs.{Choice, is_implicit, chosen, flag_at, members, sync_answer, handle_answer, after_handle, implicit_of, implicit_answer, left_by, issued_answer, fault_here, fault_of, members_of, all_answer, whole_of, some_here, some_answer, is_whole};
+ghost use Rattle.put_get.specs.Operation.{Operation, target, region_of, begin_answer, after_begin, has_next};
+ghost use Rattle.put_get.specs.Operation.{has_unissued, next_chunk, issue, has_out, come_back, IsFreeSlot};
+ghost use Rattle.put_get.specs.Syncs.{Choice, is_implicit, chosen, flag_at, members, sync_answer, handle_answer};
+ghost use Rattle.put_get.specs.Syncs.{after_handle, implicit_of, implicit_answer, left_by, issued_answer, fault_here};
+ghost use Rattle.put_get.specs.Syncs.{fault_of, members_of, all_answer, whole_of, some_here, some_answer, is_whole};
 ghost use Rattle.put_get.specs.Table.{AreMarks, also, is_unissued};
-ghost use Rattle.put_get.specs.Stands.{HasOperations, room_of, Stands, Agrees, member_in, member_of, member_of_any, is_whole_in, whole_here, whole_in, IsFirstWorn, is_ready, better, IsLeast, CanNote, next_of, older};
+ghost use Rattle.put_get.specs.Stands.{HasOperations, room_of, Stands, Agrees, member_in, member_of, member_of_any};
+ghost use Rattle.put_get.specs.Stands.{is_whole_in, whole_here, whole_in, IsFirstWorn, is_ready, better, IsLeast};
+ghost use Rattle.put_get.specs.Stands.{CanNote, next_of, older};
 
 use crate::operation::{Handle, Mode, Next, Some3, Synced, TooMany, Transfer};
 use crate::slots::{Slots, Waiting};
@@ -95,9 +101,9 @@ impl Transfers {
         })
     }
 
-    /// An operation of another node begins: its handle. `TooMany` exactly where 256 records stand, or number 2^64 - 1 was given.
-    /// Nothing is issued yet. `InRegion(None)` names a new region by the operation's own number. (GASNet 1.8.1 extended API,
-    /// gasnet_put_nb_bulk, gasnet_get_nbi and their like.)
+    /// An operation of another node begins: its handle. `TooMany` exactly where 256 records stand, or number 2^64 - 1
+    /// was given. Nothing is issued yet. `InRegion(None)` names a new region by the operation's own number. (GASNet
+    /// 1.8.1 extended API, gasnet_put_nb_bulk, gasnet_get_nbi and their like.)
     pub fn begin(&mut self, thread: u16, transfer: Transfer, mode: Mode) -> Result<Handle, TooMany>
         ensures answer { (operations : List Operation) → Stands self.old operations
             → result ≡ begin_answer operations }
@@ -127,8 +133,8 @@ impl Transfers {
         Ok(Handle { serial: number })
     }
 
-    /// The next chunk of the oldest operation that has an unissued chunk to a node that can be asked; `can` has a flag for each
-    /// node. Chunks of one operation come in the order of their ranges.
+    /// The next chunk of the oldest operation that has an unissued chunk to a node that can be asked; `can` has a flag
+    /// for each node. Chunks of one operation come in the order of their ranges.
     pub fn next(&self, can: &[bool]) -> Option<Next>
         ensures next { (operations : List Operation) → Stands self.now operations
             → result ≡ next_chunk (flag_at can.now) 1 operations }
@@ -140,8 +146,8 @@ impl Transfers {
         }
     }
 
-    /// The oldest operation that has an unissued chunk to a node that can be asked. No place behind the last record with an
-    /// unissued chunk is looked at.
+    /// The oldest operation that has an unissued chunk to a node that can be asked. No place behind the last record
+    /// with an unissued chunk is looked at.
     fn oldest(&self, can: &[bool]) -> Option<Standing>
         ensures { IsLeast (flag_at can.now) self.now.table 256 result }
     {
@@ -168,8 +174,8 @@ impl Transfers {
         self.table.is_idle()
     }
 
-    /// The next chunk, as `next` gave it, was accepted as this request to its target, in this slot, in which no other chunk is
-    /// out.
+    /// The next chunk, as `next` gave it, was accepted as this request to its target, in this slot, in which no other
+    /// chunk is out.
     pub fn note(&mut self, next: &Next, slot: u16, request: u64)
         requires stands { CanNote self.old next.now.number }
         requires to_in { target next.now.transfer < (room_of self.old).nodes }
@@ -192,7 +198,8 @@ impl Transfers {
         self.slots.set(next.transfer.target(), slot, Some(waiting));
     }
 
-    /// The reply to that request of a node came, in that slot: whether a chunk went as it and wasn't back. If so it is back now.
+    /// The reply to that request of a node came, in that slot: whether a chunk went as it and wasn't back. If so it is
+    /// back now.
     pub fn back(&mut self, to: u16, slot: u16, number: u64) -> bool
         requires { HasOperations self.old }
         ensures answer { (operations : List Operation) → Stands self.old operations
@@ -247,9 +254,10 @@ impl Transfers {
         Some(!self.table.has(&marks, Check::Unissued))
     }
 
-    /// Whether some chunk of the operation with the handle's number is unissued: of that one alone, also where it is in a region
-    /// that has its number as a name. False where no operation has the number, as it is for the invalid handle. It doesn't ask
-    /// whose the operation is. (What gasnet_put_nb and gasnet_put_nbi wait for; of a region `issued` speaks.)
+    /// Whether some chunk of the operation with the handle's number is unissued: of that one alone, also where it is in
+    /// a region that has its number as a name. False where no operation has the number, as it is for the invalid
+    /// handle. It doesn't ask whose the operation is. (What gasnet_put_nb and gasnet_put_nbi wait for; of a region
+    /// `issued` speaks.)
     pub fn has_unissued(&self, handle: Handle) -> bool
         ensures { (operations : List Operation) → Stands self.now operations
             → result ≡ has_unissued handle.serial operations }
@@ -296,8 +304,8 @@ impl Transfers {
         }
     }
 
-    /// What is wrong with a handle whose members are marked, if anything is: no operation and no region has it, or another
-    /// thread's has.
+    /// What is wrong with a handle whose members are marked, if anything is: no operation and no region has it, or
+    /// another thread's has.
     fn fault(&self, thread: u16, marks: &[bool; 256]) -> Option<Synced>
         ensures { (operations : List Operation) (choice : Choice) (test : Standing → Bool)
             → Stands self.now operations
@@ -313,11 +321,11 @@ impl Transfers {
         None
     }
 
-    /// A sync of a handle that doesn't wait; `worn` has a flag for each node whose numbers are worn out. The first of these that
-    /// applies: `Ok` for the invalid handle; `BadHandle` where no operation and no region that stands has the number; `NotYours`
-    /// where it belongs to another thread; `Ok` where the operation is complete, or all those of the region are, and their
-    /// records go; `WornOut` with the smallest worn-out node to which a chunk is unissued; else `NotReady`. (GASNet 1.8.1
-    /// extended API, gasnet_try_syncnb.)
+    /// A sync of a handle that doesn't wait; `worn` has a flag for each node whose numbers are worn out. The first of
+    /// these that applies: `Ok` for the invalid handle; `BadHandle` where no operation and no region that stands has
+    /// the number; `NotYours` where it belongs to another thread; `Ok` where the operation is complete, or all those of
+    /// the region are, and their records go; `WornOut` with the smallest worn-out node to which a chunk is unissued;
+    /// else `NotReady`. (GASNet 1.8.1 extended API, gasnet_try_syncnb.)
     pub fn try_sync(&mut self, worn: &[bool], thread: u16, handle: Handle) -> Synced
         requires { length worn.now ≤ 65536 }
         ensures answer { (operations : List Operation) → Stands self.old operations
@@ -337,8 +345,8 @@ impl Transfers {
         }
     }
 
-    /// A sync of the thread's implicit operations outside regions that doesn't wait: `Ok`, `WornOut` or `NotReady`, as with
-    /// `try_sync`. (GASNet 1.8.1 extended API, gasnet_try_syncnbi_all and its like.)
+    /// A sync of the thread's implicit operations outside regions that doesn't wait: `Ok`, `WornOut` or `NotReady`, as
+    /// with `try_sync`. (GASNet 1.8.1 extended API, gasnet_try_syncnbi_all and its like.)
     pub fn try_sync_implicit(&mut self, worn: &[bool], thread: u16, which: Some3) -> Synced
         requires { length worn.now ≤ 65536 }
         ensures answer { (operations : List Operation) → Stands self.old operations
@@ -402,9 +410,9 @@ impl Transfers {
         }
     }
 
-    /// A sync of all of these handles that doesn't wait. The first of them that is `BadHandle` or `NotYours` decides; then it is
-    /// `Ok` where all are complete or invalid, and their records go; then `WornOut`, then `NotReady`, over all of them. Nothing
-    /// changes unless it is `Ok` (profile). (GASNet 1.8.1 extended API, gasnet_try_syncnb_all.)
+    /// A sync of all of these handles that doesn't wait. The first of them that is `BadHandle` or `NotYours` decides;
+    /// then it is `Ok` where all are complete or invalid, and their records go; then `WornOut`, then `NotReady`, over
+    /// all of them. Nothing changes unless it is `Ok` (profile). (GASNet 1.8.1 extended API, gasnet_try_syncnb_all.)
     pub fn try_sync_all(&mut self, worn: &[bool], thread: u16, handles: &[Handle]) -> Synced
         requires { length worn.now ≤ 65536 }
         ensures answer { (operations : List Operation) → Stands self.old operations
@@ -449,10 +457,11 @@ impl Transfers {
         !self.table.has(&marks, Check::Unfinished)
     }
 
-    /// Whether each of the handle's operations that stand is complete: each chunk of it was issued and is back. True where it has none,
-    /// false for the invalid handle; it doesn't ask whose the handle is.
+    /// Whether each of the handle's operations that stand is complete: each chunk of it was issued and is back. True
+    /// where it has none, false for the invalid handle; it doesn't ask whose the handle is.
     pub fn is_complete(&self, handle: Handle) -> bool
-        ensures { (operations : List Operation) → Stands self.now operations → result ≡ is_whole operations handle }
+        ensures { (operations : List Operation) → Stands self.now operations
+            → result ≡ is_whole operations handle }
     {
         self.is_whole(handle)
     }
@@ -511,8 +520,9 @@ impl Transfers {
         }
     }
 
-    /// A sync of some of these handles that doesn't wait: as `try_sync_all`, but `Ok` where all are invalid or at least one is
-    /// complete, and the records of those that are complete go. (GASNet 1.8.1 extended API, gasnet_try_syncnb_some.)
+    /// A sync of some of these handles that doesn't wait: as `try_sync_all`, but `Ok` where all are invalid or at least
+    /// one is complete, and the records of those that are complete go. (GASNet 1.8.1 extended API,
+    /// gasnet_try_syncnb_some.)
     pub fn try_sync_some(&mut self, worn: &[bool], thread: u16, handles: &[Handle]) -> Synced
         requires { length worn.now ≤ 65536 }
         ensures answer { (operations : List Operation) → Stands self.old operations

@@ -27,16 +27,23 @@ module _ {M : Type 1} {𝓤 : Ura M} (𝓛 : Logic 𝓤) where
     abbrev pub Round : ℕ → Fml
     Round n = fsep (bytes_at p b o) (bytes_at r b (n + o'))
 
-    pub mid_out : (q : List ℕ) → ent 𝓤 (sem 𝓛 (bytes_at (p ++ (q ++ r)) b o)) (sep 𝓤 (sem 𝓛 (bytes_at q b o')) (sem 𝓛 (Round (length q))))
+    pub mid_out : (q : List ℕ)
+        → ent 𝓤 (sem 𝓛 (bytes_at (p ++ (q ++ r)) b o)) (sep 𝓤 (sem 𝓛 (bytes_at q b o')) (sem 𝓛 (Round (length q))))
     mid_out q = qed 𝓛 (‵ (bytes_at (p ++ (q ++ r)) b o) ∷ []) ∵
-        use1 𝓛 (‵ (bytes_at p b o) ⊛ ‵ (bytes_at (q ++ r) b (at o (mem u8).size (length p)))) (cut_app 𝓛 (mem u8) p (q ++ r) b o) $ split ! $ move ! (1 ∷ []) $
+        use1 𝓛 (‵ (bytes_at p b o) ⊛ ‵ (bytes_at (q ++ r) b (at o (mem u8).size (length p))))
+        (cut_app 𝓛 (mem u8) p (q ++ r) b o) $ split ! $ move ! (1 ∷ []) $
         rewrite ! 0 (λ (k : ℕ). ‵ (bytes_at (q ++ r) b k)) (at_byte o (length p) ∙ i) refl $
-        use1 𝓛 (‵ (bytes_at q b o') ⊛ ‵ (bytes_at r b (at o' (mem u8).size (length q)))) (cut_app 𝓛 (mem u8) q r b o') $ split ! $
-        rewrite ! 1 (λ (k : ℕ). ‵ (bytes_at r b k)) (at_byte o' (length q)) refl $ move ! (2 ∷ 1 ∷ []) $ fjoin ! $ move ! (1 ∷ 0 ∷ []) $ done !
+        use1 𝓛 (‵ (bytes_at q b o') ⊛ ‵ (bytes_at r b (at o' (mem u8).size (length q)))) (cut_app 𝓛 (mem u8) q r b o') $
+        split ! $
+        rewrite ! 1 (λ (k : ℕ). ‵ (bytes_at r b k)) (at_byte o' (length q)) refl $ move ! (2 ∷ 1 ∷ []) $ fjoin ! $
+        move ! (1 ∷ 0 ∷ []) $ done !
 
-    pub mid_in : (q : List ℕ) (n : ℕ) → length q ≡ n → ent 𝓤 (sep 𝓤 (sem 𝓛 (bytes_at q b o')) (sem 𝓛 (Round n))) (sem 𝓛 (bytes_at (p ++ (q ++ r)) b o))
+    pub mid_in : (q : List ℕ) (n : ℕ) → length q ≡ n
+        → ent 𝓤 (sep 𝓤 (sem 𝓛 (bytes_at q b o')) (sem 𝓛 (Round n))) (sem 𝓛 (bytes_at (p ++ (q ++ r)) b o))
     mid_in q n l = qed 𝓛 (‵ (bytes_at q b o') ∷ ‵ (Round n) ∷ []) ∵ move ! (1 ∷ []) $ fsplit ! $ move ! (2 ∷ 1 ∷ []) $
-        rewrite ! 1 (λ (k : ℕ). ‵ (bytes_at r b k)) (ap (λ (k : ℕ). k + o') (sym l) ∙ sym (at_byte o' (length q))) refl $
+        rewrite ! 1 (λ (k : ℕ). ‵ (bytes_at r b k)) (ap (λ (k : ℕ). k + o') (sym l)
+        ∙ sym (at_byte o' (length q))) refl $
         use2 𝓛 (‵ (bytes_at (q ++ r) b o')) (join_app 𝓛 (mem u8) q r b o') $
-        rewrite ! 0 (λ (k : ℕ). ‵ (bytes_at (q ++ r) b k)) (sym i ∙ sym (at_byte o (length p))) refl $ move ! (1 ∷ 0 ∷ []) $
+        rewrite ! 0 (λ (k : ℕ). ‵ (bytes_at (q ++ r) b k)) (sym i ∙ sym (at_byte o (length p))) refl $
+        move ! (1 ∷ 0 ∷ []) $
         use2 𝓛 (‵ (bytes_at (p ++ (q ++ r)) b o)) (join_app 𝓛 (mem u8) p (q ++ r) b o) $ done !

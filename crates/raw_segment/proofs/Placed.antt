@@ -135,7 +135,8 @@ parts-next blank filled places part capacity at placed =
       new : Option ℕ → List ℕ
       new = part_at blank (filled ++ blank ∷ [])
 
-      old_place : (o : Option ℕ) → ((place : ℕ) → o ≡ Some place → place < length filled) → new o ≡ part_at blank filled o
+      old_place : (o : Option ℕ) → ((place : ℕ) → o ≡ Some place → place < length filled)
+          → new o ≡ part_at blank filled o
       old_place None inside = refl
       old_place (Some place) inside =
           ap (λ (bytes : Option (List ℕ)). elim bytes as (λ _. List ℕ) [ Some bytes ↦ bytes | None ↦ [] ])
@@ -154,7 +155,8 @@ parts-next blank filled places part capacity at placed =
       here index = elim (eqb_tells index part) [
         | inl same ↦
             ap (λ (j : ℕ). option_map new (slice_get (slice_set places part (Some (length filled))) j)) same.1
-            ∙ (ap (option_map new) (get-set_same places part (Some (length filled)) (slice_get_within places part None at))
+            ∙ (ap (option_map new)
+            (get-set_same places part (Some (length filled)) (slice_get_within places part None at))
             ∙ (ap (λ (bytes : Option (List ℕ)). Some (elim bytes as (λ _. List ℕ) [ Some bytes ↦ bytes | None ↦ [] ]))
             (slice_get_last filled blank)
             ∙ sym (ap (λ (j : ℕ). option_map (part_at blank filled) (slice_get places j)) same.1

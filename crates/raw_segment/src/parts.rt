@@ -16,8 +16,8 @@ pub struct Parts<'a> {
     pub second: &'a mut [u8],
 }
 
-/// Two parts, each an offset and a length. They lie inside and share no byte: ask `Segment::check_parts` first, and lend them of
-/// `Segment::bytes_mut`. No other byte changes.
+/// Two parts, each an offset and a length. They lie inside and share no byte: ask `Segment::check_parts` first, and
+/// lend them of `Segment::bytes_mut`. No other byte changes.
 pub fn two_parts(bytes: &mut [u8], first_range: (u64, u64), second_range: (u64, u64)) -> Parts<'_>
     requires { AreGood bytes.old first_range second_range }
     ensures* writes_back { sem 𝓛 (follows_both (Array byte 0) (Array byte 0) (Array byte 0)

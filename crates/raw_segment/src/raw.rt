@@ -5,7 +5,7 @@ ghost use denote.RawPtr.{Ptr};
 ghost use Rattle.raw_segment.specs.Ownership.{bytes_own, bytes_shared, bytes_type};
 
 use std::alloc::Allocator;
-use std::marker::{Model, PhantomData};
+use std::marker::{Model, PhantomData, Send};
 use std::slice::{from_raw_parts, from_raw_parts_mut};
 
 // The bytes `items`, which lie at `at`. Whoever has them knows how many they are.
@@ -31,6 +31,11 @@ pub struct Lease<A: Allocator> {
 impl<A: Allocator> Model for Lease<A> {
     ghost also_owns = { λ l. A.dealloc_token l.alloc (bytes_type l.len) l.at };
 }
+
+// Both may go to another thread: nobody else has these bytes, and the allocator may take its block back there.
+unsafe impl Send for Bytes {}
+
+unsafe impl<A: Allocator + Send> Send for Lease<A> {}
 
 impl Bytes {
     ghost use Rattle.std.specs.Prelude.{◌≡◌, ◌<◌, ◌^◌, length, replicate, IfSome};

@@ -49,7 +49,8 @@ impl<T> Offset<T> {
     }
 }
 
-/// A node's segment, the memory that other nodes' messages reach: bytes in one raw allocation. Its value is the list of them.
+/// A node's segment, the memory that other nodes' messages reach: bytes in one raw allocation. Its value is the list of
+/// them.
 ///
 /// Offsets and lengths are in bytes; a range of 0 bytes at the end lies inside.
 pub struct Segment {
@@ -83,7 +84,8 @@ impl Drop for Segment {
 }
 
 impl Segment {
-    ghost use Rattle.std.specs.Prelude.{◌⊎◌, ℕ, ◌%◌, ◌<◌, length, replicate, IfOk, IfErr, IfSome, IfNone, OnErr, OnOk};
+    ghost use Rattle.std.specs.Prelude.{◌⊎◌, ℕ, ◌%◌, ◌<◌, length, replicate, IfOk, IfErr, IfSome};
+    ghost use Rattle.std.specs.Prelude.{IfNone, OnErr, OnOk};
     ghost use Rattle.std.specs.Borrow.{sem, Lends, Array, u8 as byte};
     ghost use Rattle.raw_segment.specs.Bytes.{IsInside, part, with_part, refilled, with_lent};
     ghost use Rattle.raw_segment.specs.Faults.{RefusesTyped};
@@ -177,7 +179,8 @@ impl Segment {
         self.bytes.run_mut(0, len)
     }
 
-    /// Whether two parts, each an offset and a length, can be lent at once by `two_parts`: both lie inside and share no byte.
+    /// Whether two parts, each an offset and a length, can be lent at once by `two_parts`: both lie inside and share no
+    /// byte.
     ///
     /// # Errors
     ///
@@ -247,8 +250,8 @@ impl Segment {
     ///
     /// # Errors
     ///
-    /// `Outside` exactly where its bytes pass the end, and `Unaligned` where they lie inside and the offset is no multiple of
-    /// the number's size.
+    /// `Outside` exactly where its bytes pass the end, and `Unaligned` where they lie inside and the offset is no
+    /// multiple of the number's size.
     pub fn load<T: Plain>(&self, at: Offset<T>) -> Result<T, TypedFault>
         ensures ok { IfOk result (λ value. IsInside self.now at.byte T.width
             × (at.byte % T.width ≡ 0) × (value ≡ T.value_of (part self.now at.byte T.width))) }

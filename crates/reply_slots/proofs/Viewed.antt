@@ -12,14 +12,14 @@ use Rattle.lists.specs.Cut.{cut, start_of, count_at, total_of, part_of}
 use Rattle.lists.proofs.Update.{update-Some, update-None, length-update, slice_get-update, slice_get-update_other}
 use Rattle.lists.proofs.Cut.{get-part, get-cut, length-cut, length-part, count-inside, cut-update, sum-cut, start-whole}
 use Rattle.slot_table.proofs.New.{count-of}
-use Rattle.slot_table.specs.State.{SlotState, Vacant, Opened, Sealed, TableState, slot_in, place_of}
-use Rattle.slot_table.specs.State.{with_change, number_of, message_number, message_of, is_taken, opened_bytes}
-use Rattle.slot_table.specs.State.{counts_of, new_table}
-use Rattle.slot_table.specs.State.{with_written as slot_written, sealed as slot_sealed, IsOpened as SlotOpened}
-use Rattle.reply_slots.specs.State.{ReplyState, Unused, RepliesState, slot_at, slot_count}
-use Rattle.reply_slots.specs.State.{with_slot_changed, with_written, sealed, has_run, last_number, held_count}
-use Rattle.reply_slots.specs.State.{IsOpened, opened_bytes as reply_bytes, message_of as reply_message}
-use Rattle.reply_slots.specs.State.{message_number as reply_number}
+use Rattle.slot_table.specs.TableState.{SlotState, Vacant, Opened, Sealed, TableState, slot_in, place_of}
+use Rattle.slot_table.specs.TableState.{with_change, number_of, message_number, message_of, is_taken, opened_bytes}
+use Rattle.slot_table.specs.TableState.{counts_of, new_table}
+use Rattle.slot_table.specs.TableState.{with_written as slot_written, sealed as slot_sealed, IsOpened as SlotOpened}
+use Rattle.reply_slots.specs.RepliesState.{ReplyState, Unused, RepliesState, slot_at, slot_count}
+use Rattle.reply_slots.specs.RepliesState.{with_slot_changed, with_written, sealed, has_run, last_number, held_count}
+use Rattle.reply_slots.specs.RepliesState.{IsOpened, opened_bytes as reply_bytes, message_of as reply_message}
+use Rattle.reply_slots.specs.RepliesState.{message_number as reply_number}
 use Rattle.reply_slots.specs.Views.{reply_of, replies_view, IsReplies}
 
 -- a change of one slot, seen as one of its reply

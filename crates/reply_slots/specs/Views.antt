@@ -1,8 +1,8 @@
 -- How the value of the kept replies is read off the table of slots.
 use Rattle.std.specs.Prelude.{ℕ, ◌≡◌, ◌≢◌, length, map, Some, slice_get}
 use Rattle.lists.specs.Cut.{cut, total_of}
-use Rattle.slot_table.specs.State.{SlotState, Vacant, Opened, Sealed, TableState, number_of}
-use Rattle.reply_slots.specs.State.{ReplyState, Unused, Opened as Placed, Kept, RepliesState}
+use Rattle.slot_table.specs.TableState.{SlotState, Vacant, Opened, Sealed, TableState, number_of}
+use Rattle.reply_slots.specs.RepliesState.{ReplyState, Unused, Opened as Placed, Kept, RepliesState}
 
 -- a slot as one that keeps a reply: its time is left out
 abbrev pub reply_of : SlotState → ReplyState

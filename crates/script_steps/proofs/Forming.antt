@@ -9,7 +9,7 @@ use Rattle.endpoint_rules.specs.EndpointLocal.{EndpointLocal}
 use Rattle.endpoint_rules.specs.Sends.{sends}
 use Rattle.endpoint_rules.specs.TransferCalls.{Begin}
 use Rattle.endpoint_rules.specs.declared.answer.Answer.{Answer}
-use Rattle.gas_endpoint.specs.Endpoints.{EndpointState, EndpointStands, ForItsRecord}
+use Rattle.gas_endpoint.specs.EndpointState.{EndpointState, EndpointStands, ForItsRecord}
 use Rattle.job_text.specs.declared.job.ScheduledCall.{ScheduledCall}
 use Rattle.job_text.specs.declared.job.ScheduledCall.TheVariants as call
 use Rattle.job_text.specs.declared.job.TransferText.{TransferText}

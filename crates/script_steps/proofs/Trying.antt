@@ -21,7 +21,7 @@ use Rattle.endpoint_rules.specs.EndpointRules.{OtherCall, RecordEvent, told, tra
 use Rattle.endpoint_rules.specs.Sends.{sends}
 use Rattle.endpoint_rules.specs.declared.answer.Answer.{Answer}
 use Rattle.endpoint_rules.specs.declared.call.Call.{Call}
-use Rattle.gas_endpoint.specs.Endpoints.{EndpointState, EndpointStands, ForItsRecord, NodeSteps, job_here}
+use Rattle.gas_endpoint.specs.EndpointState.{EndpointState, EndpointStands, ForItsRecord, NodeSteps, job_here}
 use Rattle.gas_endpoint.specs.Sends.{AreThatOf, NodeSends, slot_of as endpoint_slot}
 use Rattle.job_text.specs.declared.job.ScriptStep.{ScriptStep}
 use Rattle.node_runs.specs.Actions.{Form, Once, Again, Until, Twice, Looks, Progress, call_of, ended_by, begins}

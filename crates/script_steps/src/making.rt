@@ -4,7 +4,7 @@ ghost use Rattle.std.specs.Prelude.{◌≡◌, None, Some};
 ghost use Rattle.node_runs.specs.Actions.{unless};
 ghost use Rattle.endpoint_rules.specs.Called.{meant};
 ghost use Rattle.endpoint_rules.specs.Sends.{sends};
-ghost use Rattle.gas_endpoint.specs.Endpoints.{ForItsRecord, MayBeCalled};
+ghost use Rattle.gas_endpoint.specs.EndpointState.{ForItsRecord, MayBeCalled};
 ghost use Rattle.script_steps.specs.Forms.{is_sent};
 ghost use Rattle.script_steps.specs.Tries.{Makes, made_by};
 

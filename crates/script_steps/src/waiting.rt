@@ -3,7 +3,7 @@
 ghost use Rattle.std.specs.Prelude.{◌≡◌, ◌<◌, ℤ, List, None, Some};
 ghost use Rattle.endpoint_rules.specs.Called.{meant};
 ghost use Rattle.endpoint_rules.specs.declared.answer.Answer.{Answer};
-ghost use Rattle.gas_endpoint.specs.Endpoints.{ForItsRecord, MayBeCalled};
+ghost use Rattle.gas_endpoint.specs.EndpointState.{ForItsRecord, MayBeCalled};
 ghost use Rattle.job_text.specs.declared.job.WaitingStep.{WaitingStep};
 ghost use Rattle.node_runs.specs.Actions.{Again, Looks};
 ghost use Rattle.node_script.specs.ScheduleLine.{IsCallable};

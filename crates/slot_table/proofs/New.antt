@@ -18,7 +18,7 @@ use Rattle.lists.proofs.Cut.{start-whole}
 use Rattle.slot_table.specs.declared.Contents.{Contents}
 use Rattle.slot_table.specs.declared.Contents.TheVariants.{Nothing}
 use Rattle.slot_table.specs.declared.Peer.{Peer}
-use Rattle.slot_table.specs.State.{SlotState, Vacant, counts_of, new_table, slots_of}
+use Rattle.slot_table.specs.TableState.{SlotState, Vacant, counts_of, new_table, slots_of}
 use Rattle.slot_table.specs.Views.{views, is_nothing, is_something, FitsBuffer, peer_counts, IsCounted}
 use Rattle.lists.proofs.Places.{slice_get_last}
 use Rattle.slot_table.specs.Views.{IsBuffered, table_view}

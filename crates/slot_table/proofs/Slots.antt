@@ -6,7 +6,7 @@ use Rattle.std.proofs.lemmas.Option.{slice_get_cases}
 use Rattle.std.proofs.Math.Seq.{take-append_seam}
 use Rattle.lists.specs.Cut.{count_at, total_of}
 use Rattle.lists.proofs.Cut.{start-inside}
-use Rattle.slot_table.specs.State.{TableState, SlotState, slot_in, place_of, refill}
+use Rattle.slot_table.specs.TableState.{TableState, SlotState, slot_in, place_of, refill}
 
 -- a slot in range is there
 pub place-there : (table : TableState) (node slot : ℕ) → slot < count_at table.counts node

@@ -22,9 +22,9 @@ use Rattle.raw_segment.specs.Blocks.{with_part}
 use Rattle.slot_table.specs.declared.Contents.{Contents}
 use Rattle.slot_table.specs.declared.Contents.TheVariants.{Nothing, Draft, Message}
 use Rattle.slot_table.specs.declared.Peer.{Peer}
-use Rattle.slot_table.specs.State.{SlotState, TableState, Opened, is_vacant, is_taken, slot_in}
-use Rattle.slot_table.specs.State.{slots_of, HasSlot, with_written, with_change, message_of, message_number}
-use Rattle.slot_table.specs.State.{opened_time, sealed, sent_again, IsOpened, opened_bytes, opened_bytes_in}
+use Rattle.slot_table.specs.TableState.{SlotState, TableState, Opened, is_vacant, is_taken, slot_in}
+use Rattle.slot_table.specs.TableState.{slots_of, HasSlot, with_written, with_change, message_of, message_number}
+use Rattle.slot_table.specs.TableState.{opened_time, sealed, sent_again, IsOpened, opened_bytes, opened_bytes_in}
 use Rattle.slot_table.specs.Views.{slot_view, views, is_nothing, is_something, FitsBuffer, peer_counts, IsCounted}
 use Rattle.slot_table.specs.Views.{IsBuffered, table_view}
 use Rattle.slot_table.proofs.Masks.{old-at, count-of_peer}

@@ -3,7 +3,7 @@ use Rattle.std.specs.Prelude.{ℕ, ◌≡◌, ◌≤◌, Bool, true, false, not,
 use Rattle.std.specs.Prelude.{slice_get, Some, count_by, ◌^◌, if◌then◌else◌}
 use lib.Lanes.{mask_l}
 use Rattle.lists.specs.Cut.{start_of, total_of, part_of}
-use Rattle.slot_table.specs.State.{TableState, SlotState, Vacant, Opened, Sealed}
+use Rattle.slot_table.specs.TableState.{TableState, SlotState, Vacant, Opened, Sealed}
 use Rattle.slot_table.specs.declared.Contents.{Contents}
 use Rattle.slot_table.specs.declared.Contents.TheVariants.{Nothing, Draft, Message}
 use Rattle.slot_table.specs.declared.Peer.{Peer}
@@ -17,8 +17,8 @@ slot_view (Message number time len) bytes = Sealed number time (take len bytes)
 -- each slot's value, by its contents and its buffer
 abbrev pub views : List Contents → List (List ℕ) → List SlotState
 views [] buffers = []
-views (c ∷ contents) [] = slot_view c [] ∷ views contents []
-views (c ∷ contents) (buffer ∷ buffers) = slot_view c buffer ∷ views contents buffers
+views (first ∷ contents) [] = slot_view first [] ∷ views contents []
+views (first ∷ contents) (buffer ∷ buffers) = slot_view first buffer ∷ views contents buffers
 
 -- nothing stands in the slot
 abbrev pub is_nothing : Contents → Bool
@@ -59,15 +59,15 @@ pub record IsCounted (peers : List Peer) (contents : List Contents) (held : ℕ)
 pub record IsBuffered (contents : List Contents) (buffers : List (List ℕ)) : Type 0 where
   pub enough : length buffers ≡ length contents
   pub sizes : (place : ℕ) (buffer : List ℕ) → slice_get buffers place ≡ Some buffer → length buffer ≡ 8296
-  pub fits : (place : ℕ) (c : Contents) → slice_get contents place ≡ Some c → FitsBuffer c
+  pub fits : (place : ℕ) (kept : Contents) → slice_get contents place ≡ Some kept → FitsBuffer kept
 
 -- the weight of a bit that may be set
 abbrev pub bit : Bool → ℕ → ℕ
-bit buffer slot = if buffer then 2 ^ slot else 0
+bit is_set slot = if is_set then 2 ^ slot else 0
 
 -- 1 for true
 abbrev pub one : Bool → ℕ
-one buffer = if buffer then 1 else 0
+one is_so = if is_so then 1 else 0
 
 -- the value of a table
 abbrev pub table_view : List Peer → List Contents → List (List ℕ) → TableState

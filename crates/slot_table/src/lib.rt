@@ -1,14 +1,15 @@
 //! A table of the slots of several peers, each with a buffer that is lent while the slot is written.
 //!
-//! The peers' slots stand one after another, and so do their buffers, in one block. How many slots are taken, which slots of a peer
-//! are vacant and where its slots begin is kept, and costs no search.
+//! The peers' slots stand one after another, and so do their buffers, in one block. How many slots are taken, which
+//! slots of a peer are vacant and where its slots begin is kept, and costs no search.
 //!
-//! What is proved: the table is a list of slots of each peer, each with a state (vacant, being written, with a message) and a buffer
-//! of 8,296 bytes; each call is one equation on it (`specs/State.antt`). Only what stands in the buffer of a slot that was just
-//! opened is left open. No call after `new` takes memory.
+//! What is proved: the table is a list of slots of each peer, each with a state (vacant, being written, with a message)
+//! and a buffer of 8,296 bytes; each call is one equation on it (`specs/TableState.antt`). Only what stands in the
+//! buffer of a slot that was just opened is left open. No call after `new` takes memory.
 #![tactic(auto)]
 
-ghost use Rattle.std.specs.Prelude.{◌≡◌, ℕ, ◌+◌, ◌<◌, ◌≤◌, ◌^◌, length, slice_get, slice_set, IfOk, Some, map, position, count_by, All, if◌then◌else◌, ◌==◌};
+ghost use Rattle.std.specs.Prelude.{◌≡◌, ℕ, ◌+◌, ◌<◌, ◌≤◌, ◌^◌, length, slice_get, slice_set, IfOk};
+ghost use Rattle.std.specs.Prelude.{Some, map, position, count_by, All, if◌then◌else◌, ◌==◌};
 ghost use Rattle.std.specs.Option.{option_copied};
 ghost use Rattle.std.specs.Borrow.{sem, Lends, Array, u8 as byte};
 ghost use Rattle.slot_table.specs.Views.{is_nothing, peer_counts, IsLaid, IsCounted, bit, one};
@@ -59,7 +60,7 @@ pub struct SlotTable {
 }
 
 impl Model for SlotTable {
-    ghost use Rattle.slot_table.specs.State.{TableState};
+    ghost use Rattle.slot_table.specs.TableState.{TableState};
     ghost use Rattle.slot_table.specs.Views.{table_view, IsCounted, IsBuffered};
 
     ghost Value = { TableState };
@@ -162,7 +163,11 @@ fn put(
 }
 
 impl SlotTable {
-    ghost use Rattle.slot_table.specs.State.{is_vacant, is_taken, HasSlot, slot_in, slots_of, number_of, message_number, message_of, opened_time, place_of, IsOpened, OpensSlot, with_change, sealed, sent_again, with_written, opened_bytes_in, Vacant, new_table, counts_of};
+    ghost use Rattle.slot_table.specs.TableState.{is_vacant, is_taken, HasSlot, slot_in, slots_of};
+    ghost use Rattle.slot_table.specs.TableState.{number_of, message_number, message_of, opened_time};
+    ghost use Rattle.slot_table.specs.TableState.{place_of, IsOpened, OpensSlot, with_change, sealed};
+    ghost use Rattle.slot_table.specs.TableState.{sent_again, with_written, opened_bytes_in, Vacant};
+    ghost use Rattle.slot_table.specs.TableState.{new_table, counts_of};
     ghost use Rattle.slot_table.specs.Lending.{table_row};
     ghost use Rattle.std.specs.Prelude.{IsSomeAnd, option_and_then};
 

@@ -10,7 +10,7 @@ use Rattle.endpoint_lock.specs.declared.ends.End.{End}
 use Rattle.endpoint_lock.specs.declared.ends.End.TheVariants.{Over, Stuck, LinkFault, JournalFull, NoMemory}
 use Rattle.endpoint_lock.specs.declared.ends.Ended.{Ended}
 use Rattle.endpoint_lock.specs.Leaving.{Leaves}
-use Rattle.endpoint_lock.specs.Stations.{Opening, opened_with}
+use Rattle.endpoint_lock.specs.StationState.{Opening, opened_with}
 use Rattle.gasnet_trace.specs.TraceText.{trace_text}
 use Rattle.gasnet_trace.specs.declared.trace.Trace.{Trace}
 use Rattle.station_run.specs.declared.node.Node.{Node}

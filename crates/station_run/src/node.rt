@@ -1,13 +1,12 @@
 //! A node that runs to its end.
 
 ghost use Rattle.std.specs.Prelude.{◌≡◌, ◌≤◌, ◌∷◌, [], ℕ};
-ghost use Rattle.gas_outside.specs.Faults.{Rose};
-ghost use Rattle.gas_outside.specs.Whole.{WritesAll, IsWriteFault};
+ghost use Rattle.gas_outside.specs.Buffered.{GathersAll, outbox};
 ghost use Rattle.endpoint_lock.specs.Leaving.{Leaves};
 ghost use Rattle.station_run.specs.NodeRuns.{RunsNode, node_text, opening_over};
 
 use endpoint_lock::{End, Ended, Station, Unmade, run_threads};
-use gas_outside::{Clock, Gate, Link, LinkAnswer, Sink, Wrote};
+use gas_outside::{BufferedSink, Clock, Gate, Link, LinkAnswer, Sink, Wrote};
 use gasnet_trace::{Trace, print_trace};
 use machine::{Journal, Machine};
 use std::alloc::Global;
@@ -134,13 +133,11 @@ fn run_to_end<
 fn write_left<K: Sink, M, L, C>(
     place: Place,
     left: Ended<M, L, C>,
-    sink: &mut K,
+    sink: &mut BufferedSink<K>,
 ) -> NodeRun<M, L, C>
     ensures left { result.left ≡ left }
-    ensures written { WritesAll (K.taken sink.old) (K.taken sink.new)
-        (node_text place left) result.wrote }
-    ensures later { K.faults sink.old ≤ K.faults sink.new }
-    ensures fault { IsWriteFault result.wrote → Rose (K.faults sink.old) (K.faults sink.new) }
+    ensures written { GathersAll (outbox K.taken K.faults sink.old)
+        (outbox K.taken K.faults sink.new) (node_text place left) result.wrote }
 {
     if let End::NoMemory = left.end {
         return NodeRun {
@@ -174,9 +171,8 @@ fn write_left<K: Sink, M, L, C>(
 /// Runs a node to its end, and writes the trace of what it did.
 ///
 /// Its link is bound first; where that fails the end is `LinkFault`, and the trace has no turns. Then its threads take
-/// turns under one lock, as `run_threads` says. `wrote` is `Fault` only where the sink's count of faults rose (or
-/// stands at its last value); a front of the text was written then. Where memory ran out the end is `NoMemory`, and
-/// nothing is written.
+/// turns under one lock, as `run_threads` says. `wrote` is `Fault` only where the sink failed; a front of the text went
+/// in then. Where memory ran out the end is `NoMemory`, and nothing is written.
 pub fn run_node<
     R: Threads + Wait + Sync,
     M: Machine + Send,
@@ -184,13 +180,17 @@ pub fn run_node<
     C: Clock + Send,
     G: Gate + Sync,
     K: Sink,
->(rt: &R, alloc: Global, node: Node<M, L, C>, gate: &G, sink: &mut K) -> NodeRun<M, L, C>
+>(
+    rt: &R,
+    alloc: Global,
+    node: Node<M, L, C>,
+    gate: &G,
+    sink: &mut BufferedSink<K>,
+) -> NodeRun<M, L, C>
     requires { 1 ≤ node.patience }
     ensures runs { RunsNode M.Machine L.Link C.Clock node result.left }
-    ensures written { WritesAll (K.taken sink.old) (K.taken sink.new)
-        (node_text node.place result.left) result.wrote }
-    ensures later { K.faults sink.old ≤ K.faults sink.new }
-    ensures fault { IsWriteFault result.wrote → Rose (K.faults sink.old) (K.faults sink.new) }
+    ensures written { GathersAll (outbox K.taken K.faults sink.old)
+        (outbox K.taken K.faults sink.new) (node_text node.place result.left) result.wrote }
 {
     let place = node.place;
     let left = run_to_end(rt, alloc, node, gate);

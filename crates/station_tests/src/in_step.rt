@@ -1,8 +1,10 @@
+//! A gate that holds two threads in step.
+
 use gas_outside::Gate;
 use std::sync::atomic::{AtomicU64, Ordering};
 use std::thread;
 
-// Holds the first eight calls of each thread until the other thread has come as often.
+/// Holds the first eight calls of each thread until the other thread has come as often.
 #[derive(Drop)]
 pub struct InStep {
     came: [AtomicU64; 2],
@@ -10,7 +12,7 @@ pub struct InStep {
 }
 
 impl InStep {
-    // Before the first call.
+    /// Before the first call.
     pub fn new() -> InStep {
         InStep {
             came: [AtomicU64::new(0), AtomicU64::new(0)],
@@ -18,7 +20,7 @@ impl InStep {
         }
     }
 
-    // Whether both threads came at least eight times, and each time the other came too.
+    /// Whether both threads came at least eight times, and each time the other came too.
     pub fn held(&self) -> bool {
         self.failures.load(Ordering::SeqCst) == 0
             && self

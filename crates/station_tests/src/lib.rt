@@ -4,6 +4,9 @@
 ghost use Rattle.std.specs.Prelude.{◌≡◌, ◌≤◌, false};
 ghost use Rattle.station_tests.specs.Steps.{step_of};
 
+mod in_step;
+
+pub use in_step::InStep;
 use machine::{Machine, Turned};
 
 /// How far two threads are. Thread 1 has one step, in which it sets a cell. Thread 0 waits until the cell is set, and then has a step in
@@ -93,8 +96,6 @@ impl Machine for TwoThreads {
     }
 }
 
-#[cfg(test)]
-mod in_step;
 #[cfg(test)]
 mod node_tests;
 #[cfg(test)]

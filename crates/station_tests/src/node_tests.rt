@@ -1,9 +1,10 @@
 ghost use Rattle.std.specs.Prelude.{◌≤◌};
 
-use crate::TwoThreads;
-use crate::in_step::InStep;
+use crate::{InStep, TwoThreads};
 use endpoint_lock::End;
-use gas_outside::{FixedClock, Link, LinkAnswer, MemoryLink, MemorySink, Received, Wrote};
+use gas_outside::{
+    BufferedSink, FixedClock, Link, LinkAnswer, MemoryLink, MemorySink, Received, Wrote,
+};
 use station_run::{Node, Place, run_node};
 use std::alloc::Global;
 use std::test::Fail;
@@ -82,11 +83,25 @@ fn link_failing_at(alloc: Global, call: u64) -> Result<MemoryLink, Fail> {
     Ok(MemoryLink::new(alloc, Vec::new(alloc), vec![in alloc; call]?)?)
 }
 
+// A sink that gathers, before one in memory that fails at a call.
+fn sink_failing_at(alloc: Global, call: u64) -> Result<BufferedSink<MemorySink>, Fail> {
+    Ok(BufferedSink::new(MemorySink::new(alloc, vec![in alloc; call]?)?))
+}
+
+// What the sink in memory took in the end.
+fn taken(alloc: Global, sink: BufferedSink<MemorySink>) -> Result<Vec<u8>, Fail> {
+    let mut sink = sink;
+    if sink.flush() == Wrote::Fault {
+        return Err(Fail::from("a fault"));
+    }
+    Ok(Vec::from_slice(alloc, sink.into_inner().taken())?)
+}
+
 #[test]
 fn writes_the_trace_of_a_node(rt: HostRuntime) -> Result<(), Fail> {
     let alloc = rt.alloc();
     let gate = InStep::new();
-    let mut sink = MemorySink::new(alloc, Vec::new(alloc))?;
+    let mut sink = sink_failing_at(alloc, 0)?;
     let run = run_node(
         &rt,
         alloc,
@@ -96,7 +111,7 @@ fn writes_the_trace_of_a_node(rt: HostRuntime) -> Result<(), Fail> {
     );
     assert_eq!(rt; (run.left.end, run.wrote), (End::Over, Wrote::Done));
     assert_eq!(rt; run.left.link.sent().len(), 2);
-    assert_eq!(rt; sink.taken(), WHOLE.as_bytes());
+    assert_eq!(rt; taken(alloc, sink)?.as_slice(), WHOLE.as_bytes());
     assert!(rt; gate.held());
     Ok(())
 }
@@ -107,7 +122,7 @@ fn writes_the_trace_of_a_node(rt: HostRuntime) -> Result<(), Fail> {
 fn writes_the_trace_before_a_fault(rt: HostRuntime) -> Result<(), Fail> {
     let alloc = rt.alloc();
     for call in 1..3 {
-        let mut sink = MemorySink::new(alloc, Vec::new(alloc))?;
+        let mut sink = sink_failing_at(alloc, 0)?;
         let node = node_over(link_failing_at(alloc, call)?);
         let run = run_node(&rt, alloc, node, &InStep::new(), &mut sink);
         assert_eq!(rt;
@@ -115,9 +130,13 @@ fn writes_the_trace_before_a_fault(rt: HostRuntime) -> Result<(), Fail> {
             (End::LinkFault, Wrote::Done),
             "call {call}"
         );
-        assert_eq!(rt; sink.taken(), EMPTY.as_bytes(), "call {call}");
+        assert_eq!(rt;
+            taken(alloc, sink)?.as_slice(),
+            EMPTY.as_bytes(),
+            "call {call}"
+        );
     }
-    let mut sink = MemorySink::new(alloc, Vec::new(alloc))?;
+    let mut sink = sink_failing_at(alloc, 0)?;
     let run = run_node(
         &rt,
         alloc,
@@ -126,19 +145,19 @@ fn writes_the_trace_before_a_fault(rt: HostRuntime) -> Result<(), Fail> {
         &mut sink,
     );
     assert_eq!(rt; (run.left.end, run.wrote), (End::LinkFault, Wrote::Done));
-    assert_eq!(rt; sink.taken(), WHOLE.as_bytes());
+    assert_eq!(rt; taken(alloc, sink)?.as_slice(), WHOLE.as_bytes());
     Ok(())
 }
 
+// The text waits until the sink has no room for more; then the sink behind fails.
 #[test]
 fn tells_a_fault_of_its_sink(rt: HostRuntime) -> Result<(), Fail> {
     let alloc = rt.alloc();
-    let mut sink = MemorySink::new(alloc, vec![in alloc; 4u64]?)?;
+    let mut sink = sink_failing_at(alloc, 1)?;
+    assert_eq!(rt; sink.write_all(&[b' '; 8_192]), Wrote::Done);
     let node = node_over(link_failing_at(alloc, 0)?);
     let run = run_node(&rt, alloc, node, &InStep::new(), &mut sink);
     assert_eq!(rt; (run.left.end, run.wrote), (End::Over, Wrote::Fault));
-    let taken = sink.taken();
-    assert_eq!(rt; WHOLE.as_bytes().get(..taken.len()), Some(taken));
-    assert!(rt; taken.len() < WHOLE.len());
+    assert!(rt; sink.into_inner().taken().is_empty());
     Ok(())
 }

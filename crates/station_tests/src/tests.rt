@@ -1,5 +1,5 @@
 ghost use Rattle.std.specs.Prelude.{◌≡◌, ◌≤◌, IfOk};
-ghost use Rattle.endpoint_lock.specs.Stations.{opened, opening_of};
+ghost use Rattle.endpoint_lock.specs.StationState.{opened, opening_of};
 
 use crate::TwoThreads;
 use crate::in_step::InStep;

@@ -1,10 +1,11 @@
 //! Rows of transfers and barriers through the top call: what each line of a schedule is answered.
 
-use gas_outside::{MemorySink, MemorySource};
+use crate::calls::call;
 use std::alloc::Global;
 use std::process::Abort;
+use std::sync::Wait;
 use std::test::Fail;
-use top_call::{Outside, gasnet};
+use std::thread::Threads;
 
 /// A row: its settings, the lines of its schedule, and what is said of them, and of the nodes where that is known.
 #[derive(Clone, Copy)]
@@ -488,35 +489,30 @@ fn job_of(alloc: Global, row: &Row) -> Result<Vec<u8>, Fail> {
     Ok(Vec::from_slice(alloc, text.as_bytes())?)
 }
 
-/// What the program says of a job's text, and its code.
-fn said_of(alloc: Global, input: Vec<u8>) -> Result<(u8, Vec<u8>), Fail> {
-    let mut words = Vec::new(alloc);
-    words.push(String::from_str(alloc, "world")?)?;
-    let source = MemorySource::new(input, Vec::from_slice(alloc, &[0])?)?;
-    let sink = MemorySink::new(alloc, Vec::from_slice(alloc, &[0])?)?;
-    let (status, after) = gasnet(alloc, &words, Outside { source, sink });
-    Ok((status.code, Vec::from_slice(alloc, after.sink.taken())?))
-}
-
 /// The first bytes, as many as there are of so many.
 fn first_bytes(bytes: &[u8], count: usize) -> &[u8] {
     let (front, _) = bytes.split_at(count.min(bytes.len()));
     front
 }
 
+/// What is said of the lines of a row, and of its nodes where that is known.
+fn bytes_told<'a>(row: &Row, said: &'a [u8], count: usize) -> &'a [u8] {
+    match row.ends {
+        Some(_) => said,
+        None => first_bytes(said, count),
+    }
+}
+
 /// Checks that each line of a row is answered as it should be, and that its nodes end so.
-fn check(rt: &(impl Abort + AllocGlobal), row: &Row) -> Result<(), Fail> {
-    let (code, said) = said_of(rt.alloc(), job_of(rt.alloc(), row)?)?;
-    assert_eq!(rt; code, 0, "{}", row.name);
+fn check(rt: &(impl Abort + AllocGlobal + Threads + Wait + Sync), row: &Row) -> Result<(), Fail> {
+    let said = call(rt, &["world"], job_of(rt.alloc(), row)?)?;
+    assert_eq!(rt; said.code, 0, "{}", row.name);
     let mut wanted = String::from_str(rt.alloc(), row.answers)?;
     if let Some(ends) = row.ends {
         wanted.push_str(ends)?;
         wanted.push_str("status 0 ok\n")?;
     }
-    let told = match row.ends {
-        Some(_) => said.as_slice(),
-        None => first_bytes(&said, wanted.len()),
-    };
+    let told = bytes_told(row, &said.bytes, wanted.len());
     assert_eq!(rt; told, wanted.as_bytes(), "{}", row.name);
     Ok(())
 }
@@ -553,8 +549,8 @@ fn a_257th_operation_is_one_too_many(rt: HostRuntime) -> Result<(), Fail> {
         write!(&mut wanted, "node {node} held 0 most 0 violations 0\n")?;
     }
     wanted.push_str("status 0 ok\n")?;
-    let (code, said) = said_of(rt.alloc(), many(rt.alloc(), 257)?)?;
-    assert_eq!(rt; code, 0);
-    assert_eq!(rt; said.as_slice(), wanted.as_bytes());
+    let said = call(&rt, &["world"], many(rt.alloc(), 257)?)?;
+    assert_eq!(rt; said.code, 0);
+    assert_eq!(rt; said.bytes.as_slice(), wanted.as_bytes());
     Ok(())
 }

@@ -970,27 +970,29 @@ fn tells_sizes(rt: HostRuntime) -> Result<(), Fail> {
     Ok(())
 }
 
-#[test]
-fn a_job_has_64_pairs(rt: HostRuntime) -> Result<(), Fail> {
-    let alloc = rt.alloc();
-    let mut bytes = Vec::new(alloc);
-    bytes.extend_from_slice(
-        b"gasnet 2\njob 7\nnodes 80\ncredits 1\nthreads 1\nsegment 4096\nlast 9\nresend 8\npatience 1\nsieve 0 0 0\n",
+/// A job of 80 nodes with the pairs of node 0 and nodes 1 to 64, and with this behind them.
+fn with_64_pairs(alloc: Global, tail: &str) -> Result<Vec<u8>, Fail> {
+    let mut text = String::from_str(
+        alloc,
+        "gasnet 2\njob 7\nnodes 80\ncredits 1\nthreads 1\nsegment 4096\nlast 9\nresend 8\npatience 1\nsieve 0 0 0\n",
     )?;
     for to in 1..65 {
-        let line = format!(in alloc; "pair 0 {to} 2\n")?;
-        bytes.extend_from_slice(line.as_bytes())?;
+        write!(&mut text, "pair 0 {to} 2\n")?;
     }
-    let mut most = Vec::new(alloc);
-    most.extend_from_slice(&bytes)?;
-    most.extend_from_slice(b"done\n")?;
-    assert_eq!(rt; refused(alloc, &most), None);
-    let mut again = Vec::new(alloc);
-    again.extend_from_slice(&bytes)?;
-    again.extend_from_slice(b"pair 0 64 3\n")?;
-    assert_eq!(rt; refused(alloc, &again), Some((75, JobWhy::Entry)));
-    bytes.extend_from_slice(b"pair 0 65 2\n")?;
-    assert_eq!(rt; refused(alloc, &bytes), Some((75, JobWhy::Count)));
+    text.push_str(tail)?;
+    Ok(Vec::from_slice(alloc, text.as_bytes())?)
+}
+
+#[test]
+fn a_job_has_64_pairs(rt: HostRuntime) -> Result<(), Fail> {
+    for (tail, want) in [
+        ("done\n", None),
+        ("pair 0 64 3\n", Some((75, JobWhy::Entry))),
+        ("pair 0 65 2\n", Some((75, JobWhy::Count))),
+    ] {
+        let bytes = with_64_pairs(rt.alloc(), tail)?;
+        assert_eq!(rt; refused(rt.alloc(), &bytes), want, "{tail}");
+    }
     Ok(())
 }
 

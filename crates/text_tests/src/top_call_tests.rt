@@ -1,30 +1,13 @@
 //! Tests of what no clause says: texts written out, and each public call once with ample memory.
 
-use gas_outside::{MemorySink, MemorySource};
+use crate::calls::{call, call_with_faults, outside_of};
 use std::alloc::Global;
 use std::io::{self, Read};
 use std::process::{Abort, ExitCode};
+use std::sync::Wait;
 use std::test::Fail;
-use top_call::{Outside, gasnet, run_streams};
-
-/// Calls `gasnet` with these words, and answers the code and the bytes taken; one read and one write are to fail, or
-/// none for 0.
-fn call(
-    alloc: Global,
-    words: &[&str],
-    input: Vec<u8>,
-    read_fails: u64,
-    write_fails: u64,
-) -> Result<(u8, Vec<u8>), Fail> {
-    let mut all = Vec::new(alloc);
-    for word in words {
-        all.push(String::from_str(alloc, word)?)?;
-    }
-    let source = MemorySource::new(input, Vec::from_slice(alloc, &[read_fails])?)?;
-    let sink = MemorySink::new(alloc, Vec::from_slice(alloc, &[write_fails])?)?;
-    let (status, after) = gasnet(alloc, &all, Outside { source, sink });
-    Ok((status.code, Vec::from_slice(alloc, after.sink.taken())?))
-}
+use std::thread::Threads;
+use top_call::run_streams;
 
 /// The first ten lines of a job with this many nodes, credits and numbers.
 fn head(text: &mut String, nodes: u16, credits: u16, last: u64) -> Result<(), Fail> {
@@ -347,7 +330,7 @@ status 0 ok
 ];
 
 /// Checks that a row ends and says as it should.
-fn check(rt: &(impl Abort + AllocGlobal), row: &Row) -> Result<(), Fail> {
+fn check(rt: &(impl Abort + AllocGlobal + Threads + Wait + Sync), row: &Row) -> Result<(), Fail> {
     let mut text = String::new(rt.alloc());
     head(&mut text, row.nodes, row.credits, row.last)?;
     write!(
@@ -356,9 +339,9 @@ fn check(rt: &(impl Abort + AllocGlobal), row: &Row) -> Result<(), Fail> {
         row.handlers, row.schedule
     )?;
     let input = Vec::from_slice(rt.alloc(), text.as_bytes())?;
-    let (code, said) = call(rt.alloc(), &["world"], input, 0, 0)?;
-    assert_eq!(rt; code, row.code, "{}", row.name);
-    assert_eq!(rt; said.as_slice(), row.said.as_bytes(), "{}", row.name);
+    let said = call(rt, &["world"], input)?;
+    assert_eq!(rt; said.code, row.code, "{}", row.name);
+    assert_eq!(rt; said.bytes.as_slice(), row.said.as_bytes(), "{}", row.name);
     Ok(())
 }
 
@@ -468,9 +451,9 @@ fn refused_bytes(alloc: Global, row: &Refused) -> Result<Vec<u8>, Fail> {
 fn the_first_bad_line_is_told(rt: HostRuntime) -> Result<(), Fail> {
     for row in &REFUSED {
         let bytes = refused_bytes(rt.alloc(), row)?;
-        let (code, said) = call(rt.alloc(), &["world"], bytes, 0, 0)?;
-        assert_eq!(rt; code, 3, "{}", row.text);
-        assert_eq!(rt; said.as_slice(), row.said.as_bytes(), "{}", row.text);
+        let said = call(&rt, &["world"], bytes)?;
+        assert_eq!(rt; said.code, 3, "{}", row.text);
+        assert_eq!(rt; said.bytes.as_slice(), row.said.as_bytes(), "{}", row.text);
     }
     Ok(())
 }
@@ -482,18 +465,21 @@ fn too_many_bytes_are_refused(rt: HostRuntime) -> Result<(), Fail> {
         (4_194_305, "status 3 bad-job 0 size\n"),
     ] {
         let input = vec![in rt.alloc(); b'\n'; len]?;
-        let (code, said) = call(rt.alloc(), &["world"], input, 0, 0)?;
-        assert_eq!(rt; code, 3);
-        assert_eq!(rt; said.as_slice(), want.as_bytes());
+        let said = call(&rt, &["world"], input)?;
+        assert_eq!(rt; said.code, 3);
+        assert_eq!(rt; said.bytes.as_slice(), want.as_bytes());
     }
     Ok(())
 }
 
 /// Checks that these words are no command.
-fn check_usage(rt: &(impl Abort + AllocGlobal), words: &[&str]) -> Result<(), Fail> {
-    let (code, said) = call(rt.alloc(), words, Vec::new(rt.alloc()), 0, 0)?;
-    assert_eq!(rt; code, 2);
-    assert_eq!(rt; said.as_slice(), b"status 2 usage\n".as_slice());
+fn check_usage(
+    rt: &(impl Abort + AllocGlobal + Threads + Wait + Sync),
+    words: &[&str],
+) -> Result<(), Fail> {
+    let said = call(rt, words, Vec::new(rt.alloc()))?;
+    assert_eq!(rt; said.code, 2);
+    assert_eq!(rt; said.bytes.as_slice(), b"status 2 usage\n".as_slice());
     Ok(())
 }
 
@@ -501,6 +487,8 @@ fn check_usage(rt: &(impl Abort + AllocGlobal), words: &[&str]) -> Result<(), Fa
 fn other_words_are_refused(rt: HostRuntime) -> Result<(), Fail> {
     check_usage(&rt, &["world", "3"])?;
     check_usage(&rt, &["World"])?;
+    check_usage(&rt, &["upgrade", "2"])?;
+    check_usage(&rt, &["upgrades"])?;
     check_usage(&rt, &[])
 }
 
@@ -511,9 +499,9 @@ fn faults_of_the_outside_are_told(rt: HostRuntime) -> Result<(), Fail> {
         (0, 1, 5, b"".as_slice()),
     ] {
         let input = vec![in rt.alloc(); b'\n'; 9]?;
-        let (code, said) = call(rt.alloc(), &["world"], input, read_fails, write_fails)?;
-        assert_eq!(rt; code, want);
-        assert_eq!(rt; said.as_slice(), text);
+        let said = call_with_faults(&rt, &["world"], input, (read_fails, write_fails))?;
+        assert_eq!(rt; said.code, want);
+        assert_eq!(rt; said.bytes.as_slice(), text);
     }
     Ok(())
 }
@@ -533,23 +521,81 @@ fn long_job(alloc: Global) -> Result<Vec<u8>, Fail> {
 // A write fails, and the sink would take all that came after it.
 #[test]
 fn after_a_fault_of_the_sink_nothing_is_written(rt: HostRuntime) -> Result<(), Fail> {
-    let (code, whole) = call(rt.alloc(), &["world"], long_job(rt.alloc())?, 0, 0)?;
-    assert_eq!(rt; code, 0);
+    let whole = call(&rt, &["world"], long_job(rt.alloc())?)?;
+    assert_eq!(rt; whole.code, 0);
     for (write_fails, most) in [(1, 0), (2, 8192), (3, 16_384)] {
-        let (code, said) = call(
-            rt.alloc(),
-            &["world"],
-            long_job(rt.alloc())?,
+        let job = long_job(rt.alloc())?;
+        let said = call_with_faults(&rt, &["world"], job, (0, write_fails))?;
+        assert_eq!(rt; said.code, 5);
+        let count = said.bytes.len();
+        assert!(rt; count <= most, "write {write_fails}: {count} bytes");
+        assert!(rt; whole.bytes.starts_with(&said.bytes), "write {write_fails}");
+    }
+    Ok(())
+}
+
+/// What `upgrade` says of the long job, with the code 0 and no status line.
+fn upgraded(rt: &(impl Abort + AllocGlobal + Threads + Wait + Sync)) -> Result<Vec<u8>, Fail> {
+    let said = call(rt, &["upgrade"], long_job(rt.alloc())?)?;
+    assert_eq!(rt; said.code, 0);
+    Ok(said.bytes)
+}
+
+#[test]
+fn an_upgraded_job_is_the_same_in_version_2(rt: HostRuntime) -> Result<(), Fail> {
+    let job = long_job(rt.alloc())?;
+    let said = upgraded(&rt)?;
+    let (first, others) = said.split_at(said.len().min(9));
+    let (_, wanted) = job.split_at(job.len().min(9));
+    assert_eq!(rt; first, b"gasnet 2\n".as_slice());
+    assert_eq!(rt; others, wanted);
+    Ok(())
+}
+
+#[test]
+fn an_upgraded_job_runs_as_before(rt: HostRuntime) -> Result<(), Fail> {
+    let before = call(&rt, &["world"], long_job(rt.alloc())?)?;
+    assert_eq!(rt; before.code, 0);
+    let after = call(&rt, &["world"], upgraded(&rt)?)?;
+    assert_eq!(rt; after.code, 0);
+    assert_eq!(rt; after.bytes.as_slice(), before.bytes.as_slice());
+    Ok(())
+}
+
+#[test]
+fn what_upgrade_cannot_read_is_told(rt: HostRuntime) -> Result<(), Fail> {
+    for (input, read_fails, want, text) in [
+        (
+            b"gasnet 3\n".as_slice(),
             0,
-            write_fails,
-        )?;
-        assert_eq!(rt; code, 5);
-        assert!(rt;
-            said.len() <= most,
-            "write {write_fails}: {} bytes",
-            said.len()
-        );
-        assert!(rt; whole.starts_with(&said), "write {write_fails}");
+            3,
+            b"status 3 bad-job 1 value\n".as_slice(),
+        ),
+        (
+            b"gasnet 1\n".as_slice(),
+            2,
+            4,
+            b"status 4 read-fault\n".as_slice(),
+        ),
+    ] {
+        let input = Vec::from_slice(rt.alloc(), input)?;
+        let said = call_with_faults(&rt, &["upgrade"], input, (read_fails, 0))?;
+        assert_eq!(rt; said.code, want);
+        assert_eq!(rt; said.bytes.as_slice(), text);
+    }
+    Ok(())
+}
+
+#[test]
+fn at_a_fault_of_the_sink_a_front_of_the_job_is_written(rt: HostRuntime) -> Result<(), Fail> {
+    let whole = upgraded(&rt)?;
+    for (write_fails, len) in [(1, 0), (2, 8192), (3, 16_384)] {
+        let job = long_job(rt.alloc())?;
+        let said = call_with_faults(&rt, &["upgrade"], job, (0, write_fails))?;
+        assert_eq!(rt; said.code, 5);
+        let count = said.bytes.len();
+        assert!(rt; count <= len, "write {write_fails}: {count} bytes");
+        assert!(rt; whole.starts_with(&said.bytes), "write {write_fails}");
     }
     Ok(())
 }
@@ -571,39 +617,38 @@ impl Read for Broken {
     }
 }
 
-// What `run_streams` ends with, and what its writer holds.
-#[test]
-fn the_exit_status_is_the_code(rt: HostRuntime) -> Result<(), Fail> {
-    let words = vec![in rt.alloc(); String::from_str(rt.alloc(), "world")?]?;
-    let job = long_job(rt.alloc())?;
-    let mut written = Vec::new(rt.alloc());
-    let (status, _) = run_streams(rt.alloc(), &words, job.as_slice(), &mut written);
-    assert_eq!(rt;
-        status_of(rt.alloc(), status)?.as_str(),
-        "ExitCode(unix_exit_status(0))"
-    );
-    assert!(rt; written.ends_with(b"violations 0\nstatus 0 ok\n"));
-    let mut written = Vec::new(rt.alloc());
-    let (status, _) = run_streams(rt.alloc(), &words, b"gasnet 3\n".as_slice(), &mut written);
-    assert_eq!(rt;
-        status_of(rt.alloc(), status)?.as_str(),
-        "ExitCode(unix_exit_status(3))"
-    );
-    assert_eq!(rt;
-        written.as_slice(),
-        b"status 3 bad-job 1 value\n".as_slice()
-    );
-    let mut written = Vec::new(rt.alloc());
-    let (status, _) = run_streams(rt.alloc(), &words, Broken { gave: false }, &mut written);
-    assert_eq!(rt;
-        status_of(rt.alloc(), status)?.as_str(),
-        "ExitCode(unix_exit_status(4))"
-    );
-    assert_eq!(rt; written.as_slice(), b"status 4 read-fault\n".as_slice());
-    Ok(())
+/// What `run_streams` ends with over a reader, as text, and what its writer holds.
+fn streamed<T: Threads + Wait + Sync + AllocGlobal, R: Read + Drop>(
+    rt: &T,
+    reader: R,
+) -> Result<(String, Vec<u8>), Fail> {
+    let alloc = rt.alloc();
+    let words = vec![in alloc; String::from_str(alloc, "world")?]?;
+    let mut written = Vec::new(alloc);
+    let outside = outside_of(alloc, reader, &mut written)?;
+    let (status, _) = run_streams(rt, alloc, &words, outside);
+    Ok((status_of(alloc, status)?, written))
 }
 
 /// An exit status as text.
 fn status_of(alloc: Global, status: ExitCode) -> Result<String, Fail> {
     Ok(format!(in alloc; "{status:?}")?)
+}
+
+#[test]
+fn the_exit_status_is_the_code(rt: HostRuntime) -> Result<(), Fail> {
+    let job = long_job(rt.alloc())?;
+    let (status, written) = streamed(&rt, job.as_slice())?;
+    assert_eq!(rt; status.as_str(), "ExitCode(unix_exit_status(0))");
+    assert!(rt; written.ends_with(b"violations 0\nstatus 0 ok\n"));
+    let (status, written) = streamed(&rt, b"gasnet 3\n".as_slice())?;
+    assert_eq!(rt; status.as_str(), "ExitCode(unix_exit_status(3))");
+    assert_eq!(rt;
+        written.as_slice(),
+        b"status 3 bad-job 1 value\n".as_slice()
+    );
+    let (status, written) = streamed(&rt, Broken { gave: false })?;
+    assert_eq!(rt; status.as_str(), "ExitCode(unix_exit_status(4))");
+    assert_eq!(rt; written.as_slice(), b"status 4 read-fault\n".as_slice());
+    Ok(())
 }

@@ -1,5 +1,5 @@
 -- Whether words are those of a command.
-use Rattle.std.proofs.Common.{◌≡◌, ℕ, ◌<◌, ◌^◌, List, [], ◌∷◌, length, refl, ap, arith, codes, ◌∙◌}
+use Rattle.std.proofs.Common.{◌≡◌, ℕ, ◌<◌, ◌≤◌, ◌^◌, List, [], ◌∷◌, length, ap, codes, ◌∙◌}
 use Rattle.std.specs.Prelude.{decimal}
 use Rattle.node_script.specs.Lines.{Word}
 use Rattle.top_call.specs.Commands.{Asks, AsksNothing}
@@ -10,12 +10,18 @@ use Rattle.top_call.specs.declared.words.Command.TheVariants as commands
 pub asks_world : (word : Word) → word ≡ codes "world" → Asks (word ∷ []) commands.World
 asks_world word is = record { in_range = tt; words_are = ap (λ (w : Word). w ∷ []) is }
 
-one_other_by : (word : Word) (command : Command) → (word ≡ codes "world" → ⊥) → Asks (word ∷ []) command → ⊥
-one_other_by word commands.World other asks = let same = asks.words_are in other (cc)
-one_other_by word (commands.Drill seed) other asks = let same = asks.words_are in absurd (cc)
+pub asks_upgrade : (word : Word) → word ≡ codes "upgrade" → Asks (word ∷ []) commands.Upgrade
+asks_upgrade word is = record { in_range = tt; words_are = ap (λ (w : Word). w ∷ []) is }
 
-pub one_other : (word : Word) → (word ≡ codes "world" → ⊥) → AsksNothing (word ∷ [])
-one_other word other command = one_other_by word command other
+one_other_by : (word : Word) (command : Command) → (word ≡ codes "world" → ⊥) → (word ≡ codes "upgrade" → ⊥)
+    → Asks (word ∷ []) command → ⊥
+one_other_by word commands.World world upgrade asks = let same = asks.words_are in world (cc)
+one_other_by word commands.Upgrade world upgrade asks = let same = asks.words_are in upgrade (cc)
+one_other_by word (commands.Node rank port) world upgrade asks = let same = asks.words_are in absurd (cc)
+one_other_by word (commands.Drill seed) world upgrade asks = let same = asks.words_are in absurd (cc)
+
+pub one_other : (word : Word) → (word ≡ codes "world" → ⊥) → (word ≡ codes "upgrade" → ⊥) → AsksNothing (word ∷ [])
+one_other word world upgrade command = one_other_by word command world upgrade
 
 -- two words
 pub asks_drill : (name word : Word) (seed : ℕ) → seed < 2 ^ 64 → name ≡ codes "drill" → word ≡ decimal seed
@@ -27,6 +33,8 @@ asks_drill name word seed fits is number = record {
 
 two_other_by : (name word : Word) (command : Command) → (name ≡ codes "drill" → ⊥) → Asks (name ∷ word ∷ []) command → ⊥
 two_other_by name word commands.World other asks = let same = asks.words_are in absurd (cc)
+two_other_by name word commands.Upgrade other asks = let same = asks.words_are in absurd (cc)
+two_other_by name word (commands.Node rank port) other asks = let same = asks.words_are in absurd (cc)
 two_other_by name word (commands.Drill seed) other asks = let same = asks.words_are in other (cc)
 
 pub two_other : (name word : Word) → (name ≡ codes "drill" → ⊥) → AsksNothing (name ∷ word ∷ [])
@@ -35,6 +43,8 @@ two_other name word other command = two_other_by name word command other
 no_seed_by : (name word : Word) (command : Command) → ((seed : ℕ) → seed < 2 ^ 64 → word ≡ decimal seed → ⊥)
     → Asks (name ∷ word ∷ []) command → ⊥
 no_seed_by name word commands.World none asks = let same = asks.words_are in absurd (cc)
+no_seed_by name word commands.Upgrade none asks = let same = asks.words_are in absurd (cc)
+no_seed_by name word (commands.Node rank port) none asks = let same = asks.words_are in absurd (cc)
 no_seed_by name word (commands.Drill seed) none asks =
     let same = asks.words_are in none seed asks.in_range (cc)
 
@@ -42,11 +52,53 @@ pub no_seed : (name word : Word) → ((seed : ℕ) → seed < 2 ^ 64 → word �
     → AsksNothing (name ∷ word ∷ [])
 no_seed name word none command = no_seed_by name word command none
 
+-- three words
+pub asks_node : (rank_word port_word : Word) (rank port : ℕ) → rank ≤ 63 → 1024 ≤ port → port ≤ 65472
+    → rank_word ≡ decimal rank → port_word ≡ decimal port
+    → Asks (codes "node" ∷ rank_word ∷ port_word ∷ []) (commands.Node rank port)
+asks_node rank_word port_word rank port few low high r p = record {
+  in_range = (few, low, high);
+  words_are = ap (λ (w : Word). codes "node" ∷ w ∷ port_word ∷ []) r
+      ∙ ap (λ (w : Word). codes "node" ∷ decimal rank ∷ w ∷ []) p;
+}
+
+-- these words are none where one of the numbers is none of its range
+no_numbers_by : (name rank_word port_word : Word) (command : Command)
+    → ((rank port : ℕ) → rank ≤ 63 → 1024 ≤ port → port ≤ 65472 → rank_word ≡ decimal rank
+    → port_word ≡ decimal port → ⊥)
+    → Asks (name ∷ rank_word ∷ port_word ∷ []) command → ⊥
+no_numbers_by name rank_word port_word commands.World none asks = let same = asks.words_are in absurd (cc)
+no_numbers_by name rank_word port_word commands.Upgrade none asks = let same = asks.words_are in absurd (cc)
+no_numbers_by name rank_word port_word (commands.Drill seed) none asks = let same = asks.words_are in absurd (cc)
+no_numbers_by name rank_word port_word (commands.Node rank port) none asks =
+    let same = asks.words_are in none rank port asks.in_range.0 asks.in_range.1 asks.in_range.2 (cc) (cc)
+
+pub no_numbers : (name rank_word port_word : Word)
+    → ((rank port : ℕ) → rank ≤ 63 → 1024 ≤ port → port ≤ 65472 → rank_word ≡ decimal rank
+    → port_word ≡ decimal port → ⊥)
+    → AsksNothing (name ∷ rank_word ∷ port_word ∷ [])
+no_numbers name rank_word port_word none command = no_numbers_by name rank_word port_word command none
+
+three_other_by : (name rank_word port_word : Word) (command : Command) → (name ≡ codes "node" → ⊥)
+    → Asks (name ∷ rank_word ∷ port_word ∷ []) command → ⊥
+three_other_by name rank_word port_word commands.World other asks = let same = asks.words_are in absurd (cc)
+three_other_by name rank_word port_word commands.Upgrade other asks = let same = asks.words_are in absurd (cc)
+three_other_by name rank_word port_word (commands.Drill seed) other asks = let same = asks.words_are in absurd (cc)
+three_other_by name rank_word port_word (commands.Node rank port) other asks =
+    let same = asks.words_are in other (cc)
+
+pub three_other : (name rank_word port_word : Word) → (name ≡ codes "node" → ⊥)
+    → AsksNothing (name ∷ rank_word ∷ port_word ∷ [])
+three_other name rank_word port_word other command = three_other_by name rank_word port_word command other
+
 -- any other number of words
 other_count_by : (words : List Word) (command : Command) → (length words ≡ 1 → ⊥) → (length words ≡ 2 → ⊥)
-    → Asks words command → ⊥
-other_count_by words commands.World one two asks = one (ap length asks.words_are)
-other_count_by words (commands.Drill seed) one two asks = two (ap length asks.words_are)
+    → (length words ≡ 3 → ⊥) → Asks words command → ⊥
+other_count_by words commands.World one two three asks = one (ap length asks.words_are)
+other_count_by words commands.Upgrade one two three asks = one (ap length asks.words_are)
+other_count_by words (commands.Node rank port) one two three asks = three (ap length asks.words_are)
+other_count_by words (commands.Drill seed) one two three asks = two (ap length asks.words_are)
 
-pub other_count : (words : List Word) → (length words ≡ 1 → ⊥) → (length words ≡ 2 → ⊥) → AsksNothing words
-other_count words one two command = other_count_by words command one two
+pub other_count : (words : List Word) → (length words ≡ 1 → ⊥) → (length words ≡ 2 → ⊥) → (length words ≡ 3 → ⊥)
+    → AsksNothing words
+other_count words one two three command = other_count_by words command one two three

@@ -1,145 +1,55 @@
--- What the exit status of a call says, command by command.
-use Rattle.std.proofs.Common.{◌≡◌, ℕ, ◌<◌, ◌^◌, List, [], ◌∷◌, Option, Some, None, refl, sym, ap, subst, ◌∙◌, arith, lit<, codes}
-use Rattle.std.specs.Prelude.{decimal}
-use Rattle.std.specs.List.{Contains}
-use Rattle.std.proofs.lemmas.Fmt.{decimal_injective}
+-- What the exit status of a call says, by its words.
+use Rattle.std.proofs.Common.{◌≡◌, ℕ, ◌<◌, ◌^◌, List, [], Option, Some, None, refl, sym, ap, subst, ◌∙◌, arith, codes, get_or}
+use Rattle.std.specs.Prelude.{if◌then◌else◌, bytes_eq, decimal}
+use Rattle.std.specs.Str.Parse.{digits_value}
+use Rattle.std.proofs.lemmas.Fmt.{decimal_is_IsNumeral}
 use Rattle.node_script.specs.Lines.{Word}
-use Rattle.job_text.specs.declared.fault.JobWhy.{JobWhy}
-use Rattle.top_call.specs.Outsides.{Call, IsFaultless, read_in, took_in}
+use Rattle.top_call.specs.Outsides.{Call, Course, course_in, took_in}
 use Rattle.top_call.specs.Commands.{Asks, AsksNothing, IsAsked, IsCommand, code_of, command_words}
-use Rattle.top_call.specs.CommandEnds.{DrillEnds, Ends, UsageEnds, WorldEnds, ReadsNoJob}
-use Rattle.top_call.specs.TopCall.{DrillMeans, HoldsJob, IsComplete, Means, StatusMeans, UsageMeans, WorldMeans}
+use Rattle.top_call.specs.HowEnds.{Means}
+use Rattle.top_call.specs.TopCall.{IsComplete, StatusMeans}
+use Rattle.top_call.specs.TopParts.{Ends}
 use Rattle.top_call.specs.declared.ending.End.{End}
-use Rattle.top_call.specs.declared.ending.End.TheVariants as ends
 use Rattle.top_call.specs.declared.words.Command.{Command}
 use Rattle.top_call.specs.declared.words.Command.TheVariants as commands
-use Rattle.top_call.proofs.CallEnds.{not_no_job}
+use Rattle.top_call.proofs.LastLine.{Weakens}
+use Rattle.top_call.proofs.WorldCommand.{weak_world, world_completes, world_means}
+use Rattle.top_call.proofs.UpgradeCommand.{upgrade_completes, upgrade_means, weak_upgrade}
+use Rattle.top_call.proofs.NodeCommand.{node_completes, node_means, weak_node}
+use Rattle.top_call.proofs.DrillCommand.{drill_completes, drill_means, weak_drill}
+use Rattle.top_call.proofs.NoCommand.{usage_means, weak_usage}
 
--- ---- `world`
+-- what each command says where something is claimed of what it gives it says where nothing is
+pub weak_ends : (asked : Option Command) (course : Course) → Weakens (Ends asked course)
+weak_ends None course = weak_usage
+weak_ends (Some commands.World) course = weak_world course.reading
+weak_ends (Some commands.Upgrade) course = weak_upgrade course.reading
+weak_ends (Some (commands.Node rank port)) course = weak_node rank port course
+weak_ends (Some (commands.Drill seed)) course = weak_drill seed
 
-world_means : (call : Call) (end : End) → Means (WorldEnds (read_in call)) (took_in call) call.world end
-    → WorldMeans call (code_of end)
-world_means call ends.Done h = record {
-  is_status = (0, lit< tt, refl);
-  ok = λ e. h;
-  violations = λ e. absurd (omega (arith, e));
-  bad_job = λ e. absurd (omega (arith, e));
-  read_fault = λ e. absurd (omega (arith, e));
-  write_fault = λ e. absurd (omega (arith, e));
-  no_memory = λ e. absurd (omega (arith, e));
-}
-world_means call ends.Violations h = record {
-  is_status = (1, lit< tt, refl);
-  ok = λ e. absurd (omega (arith, e));
-  violations = λ e. h;
-  bad_job = λ e. absurd (omega (arith, e));
-  read_fault = λ e. absurd (omega (arith, e));
-  write_fault = λ e. absurd (omega (arith, e));
-  no_memory = λ e. absurd (omega (arith, e));
-}
-world_means call (ends.BadJob line reason) h = record {
-  is_status = (2, lit< tt, refl);
-  ok = λ e. absurd (omega (arith, e));
-  violations = λ e. absurd (omega (arith, e));
-  bad_job = λ e. (line, reason, h);
-  read_fault = λ e. absurd (omega (arith, e));
-  write_fault = λ e. absurd (omega (arith, e));
-  no_memory = λ e. absurd (omega (arith, e));
-}
-world_means call ends.ReadFault h = record {
-  is_status = (3, lit< tt, refl);
-  ok = λ e. absurd (omega (arith, e));
-  violations = λ e. absurd (omega (arith, e));
-  bad_job = λ e. absurd (omega (arith, e));
-  read_fault = λ e. h;
-  write_fault = λ e. absurd (omega (arith, e));
-  no_memory = λ e. absurd (omega (arith, e));
-}
-world_means call ends.WriteFault h = record {
-  is_status = (4, lit< tt, refl);
-  ok = λ e. absurd (omega (arith, e));
-  violations = λ e. absurd (omega (arith, e));
-  bad_job = λ e. absurd (omega (arith, e));
-  read_fault = λ e. absurd (omega (arith, e));
-  write_fault = λ e. h;
-  no_memory = λ e. absurd (omega (arith, e));
-}
-world_means call ends.NoMemory h = record {
-  is_status = (5, lit< tt, refl);
-  ok = λ e. absurd (omega (arith, e));
-  violations = λ e. absurd (omega (arith, e));
-  bad_job = λ e. absurd (omega (arith, e));
-  read_fault = λ e. absurd (omega (arith, e));
-  write_fault = λ e. absurd (omega (arith, e));
-  no_memory = λ e. h;
-}
-world_means call ends.Usage h = absurd h.ends
+-- ---- the words of a command are those of no other one
 
--- ---- `drill`
+-- the command of these words, if they are those of one
+named : List Word → Command
+named words =
+    let name = get_or words 0 [] in
+    if bytes_eq name (codes "world") then commands.World else
+    if bytes_eq name (codes "upgrade") then commands.Upgrade else
+    if bytes_eq name (codes "node")
+    then commands.Node (digits_value 10 (get_or words 1 [])) (digits_value 10 (get_or words 2 []))
+    else
+    commands.Drill (digits_value 10 (get_or words 1 []))
 
-drill_means : (call : Call) (seed : ℕ) (end : End) → Means (DrillEnds seed) (took_in call) call.world end
-    → DrillMeans call seed (code_of end)
-drill_means call seed ends.Done h = record {
-  is_status = (0, lit< tt, refl);
-  ok = λ e. h;
-  violations = λ e. absurd (omega (arith, e));
-  write_fault = λ e. absurd (omega (arith, e));
-  no_memory = λ e. absurd (omega (arith, e));
-}
-drill_means call seed ends.Violations h = record {
-  is_status = (1, lit< tt, refl);
-  ok = λ e. absurd (omega (arith, e));
-  violations = λ e. h;
-  write_fault = λ e. absurd (omega (arith, e));
-  no_memory = λ e. absurd (omega (arith, e));
-}
-drill_means call seed ends.WriteFault h = record {
-  is_status = (2, lit< tt, refl);
-  ok = λ e. absurd (omega (arith, e));
-  violations = λ e. absurd (omega (arith, e));
-  write_fault = λ e. h;
-  no_memory = λ e. absurd (omega (arith, e));
-}
-drill_means call seed ends.NoMemory h = record {
-  is_status = (3, lit< tt, refl);
-  ok = λ e. absurd (omega (arith, e));
-  violations = λ e. absurd (omega (arith, e));
-  write_fault = λ e. absurd (omega (arith, e));
-  no_memory = λ e. h;
-}
-drill_means call seed ends.Usage h = absurd h.ends
-drill_means call seed (ends.BadJob line reason) h = absurd h.ends
-drill_means call seed ends.ReadFault h = absurd h.ends
-
--- ---- no command
-
-usage_means : (call : Call) (end : End) → Means UsageEnds (took_in call) call.world end → UsageMeans call (code_of end)
-usage_means call ends.Usage h = record {
-  is_status = (0, lit< tt, refl);
-  usage = λ e. h;
-  write_fault = λ e. absurd (omega (arith, e));
-}
-usage_means call ends.WriteFault h = record {
-  is_status = (1, lit< tt, refl);
-  usage = λ e. absurd (omega (arith, e));
-  write_fault = λ e. h;
-}
-usage_means call ends.Done h = absurd (let other = h.ends.0 in cc)
-usage_means call ends.Violations h = absurd (let other = h.ends.0 in cc)
-usage_means call (ends.BadJob line reason) h = absurd (let other = h.ends.0 in cc)
-usage_means call ends.ReadFault h = absurd (let other = h.ends.0 in cc)
-usage_means call ends.NoMemory h = absurd (let other = h.ends.0 in cc)
-
--- ---- all commands
-
--- the words of a command are those of no other one
-one_command : (asked other : Command) → IsCommand asked → IsCommand other
-    → command_words asked ≡ command_words other → asked ≡ other
-one_command commands.World commands.World h k same = refl
-one_command commands.World (commands.Drill seed) h k same = absurd (cc)
-one_command (commands.Drill seed) commands.World h k same = absurd (cc)
-one_command (commands.Drill seed) (commands.Drill other) h k same =
-    ap (λ (n : ℕ). commands.Drill n) (decimal_injective seed other h k (cc))
+names : (command : Command) → IsCommand command → named (command_words command) ≡ command
+unfolding named
+names commands.World h = refl
+names commands.Upgrade h = refl
+names (commands.Node rank port) h =
+    let few : rank < 2 ^ 64 = (let low = h.0 in omega arith) in
+    let short : port < 2 ^ 64 = (let high = h.2 in omega arith) in
+    ap (λ (n : ℕ). commands.Node n (digits_value 10 (decimal port))) (decimal_is_IsNumeral rank few).1
+    ∙ ap (λ (n : ℕ). commands.Node rank n) (decimal_is_IsNumeral port short).1
+names (commands.Drill seed) h = ap (λ (n : ℕ). commands.Drill n) (decimal_is_IsNumeral seed h).1
 
 -- what words ask for is what they are the words of
 is_asked : (words : List Word) (asked : Option Command) (command : Command) → IsAsked words asked
@@ -147,60 +57,42 @@ is_asked : (words : List Word) (asked : Option Command) (command : Command) → 
 is_asked words None command nothing asks = absurd (nothing command asks)
 is_asked words (Some other) command is asks =
     ap (λ (c : Command). Some c)
-    (one_command other command is.in_range asks.in_range (sym is.words_are ∙ asks.words_are))
+    (sym (names other is.in_range) ∙ ap named (sym is.words_are ∙ asks.words_are) ∙ names command asks.in_range)
 
 -- where they ask for nothing, nothing is asked
 none_asked : (words : List Word) (asked : Option Command) → IsAsked words asked → AsksNothing words → asked ≡ None
 none_asked words None is nothing = refl
 none_asked words (Some command) is nothing = absurd (nothing command is)
 
+-- ---- exit statuses
+
 -- how what was asked for ended
 abbrev EndedAs : Call → End → Option Command → Type 0
-EndedAs call end asked = Means (Ends asked (read_in call)) (took_in call) call.world end
+EndedAs call end asked = Means (Ends asked (course_in call)) (took_in call) call.given end
+
+-- a call with the words of this command ended as the command does
+ended_as : (call : Call) (asked : Option Command) (end : End) (command : Command) → IsAsked call.words asked
+    → EndedAs call end asked → Asks call.words command → EndedAs call end (Some command)
+ended_as call asked end command is h asks =
+    subst (EndedAs call end) (is_asked call.words asked command is asks) h
 
 pub status_means : (call : Call) (asked : Option Command) (end : End) → IsAsked call.words asked
     → EndedAs call end asked → StatusMeans call (code_of end)
 status_means call asked end is h = record {
-  world = λ asks.
-      world_means call end (subst (EndedAs call end) (is_asked call.words asked commands.World is asks) h);
-  drill = λ seed asks.
-      drill_means call seed end
-      (subst (EndedAs call end) (is_asked call.words asked (commands.Drill seed) is asks) h);
+  world = λ asks. world_means call end (ended_as call asked end commands.World is h asks);
+  upgrade = λ asks. upgrade_means call end (ended_as call asked end commands.Upgrade is h asks);
+  node = λ rank port asks.
+      node_means call rank port end (ended_as call asked end (commands.Node rank port) is h asks);
+  drill = λ seed asks. drill_means call seed end (ended_as call asked end (commands.Drill seed) is h asks);
   usage = λ nothing. usage_means call end (subst (EndedAs call end) (none_asked call.words asked is nothing) h);
 }
-
--- ---- completeness
-
-world_completes : (call : Call) (end : End) → Means (WorldEnds (read_in call)) (took_in call) call.world end
-    → HoldsJob call.before.source → IsFaultless call → Contains (0 ∷ 1 ∷ 8 ∷ []) (code_of end)
-world_completes call ends.Done h holds faultless = (0, lit< tt, refl)
-world_completes call ends.Violations h holds faultless = (1, lit< tt, refl)
-world_completes call ends.NoMemory h holds faultless = (2, lit< tt, refl)
-world_completes call ends.Usage h holds faultless = absurd h.ends
-world_completes call ends.ReadFault h holds faultless = absurd (faultless.source h.ends.rose)
-world_completes call ends.WriteFault h holds faultless = absurd (faultless.sink h.cut.0)
-world_completes call (ends.BadJob line reason) h holds faultless =
-    let left = call.after.source.left in
-    absurd
-    (not_no_job holds.bytes left holds.job line reason holds.text
-    (subst (λ (before : Option (List ℕ)). ReadsNoJob before left line reason) holds.told h.ends.read))
-
-drill_completes : (call : Call) (seed : ℕ) (end : End) → Means (DrillEnds seed) (took_in call) call.world end
-    → IsFaultless call → Contains (0 ∷ 1 ∷ 8 ∷ []) (code_of end)
-drill_completes call seed ends.Done h faultless = (0, lit< tt, refl)
-drill_completes call seed ends.Violations h faultless = (1, lit< tt, refl)
-drill_completes call seed ends.NoMemory h faultless = (2, lit< tt, refl)
-drill_completes call seed ends.WriteFault h faultless = absurd (faultless.sink h.cut.0)
-drill_completes call seed ends.Usage h faultless = absurd h.ends
-drill_completes call seed (ends.BadJob line reason) h faultless = absurd h.ends
-drill_completes call seed ends.ReadFault h faultless = absurd h.ends
 
 pub completes : (call : Call) (asked : Option Command) (end : End) → IsAsked call.words asked
     → EndedAs call end asked → IsComplete call (code_of end)
 completes call asked end is h = record {
-  world = λ asks.
-      world_completes call end (subst (EndedAs call end) (is_asked call.words asked commands.World is asks) h);
-  drill = λ seed asks.
-      drill_completes call seed end
-      (subst (EndedAs call end) (is_asked call.words asked (commands.Drill seed) is asks) h);
+  world = λ asks. world_completes call end (ended_as call asked end commands.World is h asks);
+  upgrade = λ asks. upgrade_completes call end (ended_as call asked end commands.Upgrade is h asks);
+  node = λ rank port asks.
+      node_completes call rank port end (ended_as call asked end (commands.Node rank port) is h asks);
+  drill = λ seed asks. drill_completes call seed end (ended_as call asked end (commands.Drill seed) is h asks);
 }

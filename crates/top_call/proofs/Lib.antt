@@ -1,3 +1,12 @@
-pub mod CallEnds
+pub mod LastLine
+pub mod RunTold
+pub mod JobRead
+pub mod Statuses
+pub mod WorldCommand
+pub mod UpgradeText
+pub mod UpgradeCommand
+pub mod NodeCommand
+pub mod DrillCommand
+pub mod NoCommand
 pub mod CallStatus
 pub mod AskedWords

@@ -1,5 +1,5 @@
 -- The commands, and the words of their ends.
-use Rattle.std.specs.Prelude.{◌≡◌, ℕ, ◌<◌, ◌^◌, List, [], ◌∷◌, Bool, if◌then◌else◌, Option, Some, None, codes, decimal}
+use Rattle.std.specs.Prelude.{◌≡◌, ℕ, ◌<◌, ◌≤◌, ◌^◌, List, [], ◌∷◌, Bool, if◌then◌else◌, Option, Some, None, codes, decimal}
 use Rattle.job_text.specs.declared.fault.JobWhy.{JobWhy}
 use Rattle.job_text.specs.declared.fault.JobWhy.TheVariants as why
 use Rattle.node_script.specs.Lines.{Word, Line}
@@ -13,11 +13,15 @@ use Rattle.top_call.specs.declared.words.Command.TheVariants as commands
 -- the words of a command
 abbrev pub command_words : Command → List Word
 command_words commands.World = codes "world" ∷ []
+command_words commands.Upgrade = codes "upgrade" ∷ []
+command_words (commands.Node rank port) = codes "node" ∷ decimal rank ∷ decimal port ∷ []
 command_words (commands.Drill seed) = codes "drill" ∷ decimal seed ∷ []
 
--- the command's number is in range
+-- the command's numbers are in range
 abbrev pub IsCommand : Command → Type 0
 IsCommand commands.World = Unit {0}
+IsCommand commands.Upgrade = Unit {0}
+IsCommand (commands.Node rank port) = (rank ≤ 63) × (1024 ≤ port) × (port ≤ 65472)
 IsCommand (commands.Drill seed) = seed < 2 ^ 64
 
 -- the words are those of the command
@@ -44,7 +48,10 @@ code_of ends.Usage = 2
 code_of (ends.BadJob line reason) = 3
 code_of ends.ReadFault = 4
 code_of ends.WriteFault = 5
+code_of ends.LinkFault = 6
 code_of ends.NoMemory = 8
+code_of ends.Stuck = 9
+code_of ends.JournalFull = 10
 
 -- the word of a reason why bytes are no job's text
 abbrev pub why_word : JobWhy → Word
@@ -66,7 +73,10 @@ status_line (ends.BadJob line reason) =
     codes "status" ∷ codes "3" ∷ codes "bad-job" ∷ decimal line ∷ why_word reason ∷ []
 status_line ends.ReadFault = codes "status" ∷ codes "4" ∷ codes "read-fault" ∷ []
 status_line ends.WriteFault = codes "status" ∷ codes "5" ∷ codes "write-fault" ∷ []
+status_line ends.LinkFault = codes "status" ∷ codes "6" ∷ codes "link-fault" ∷ []
 status_line ends.NoMemory = codes "status" ∷ codes "8" ∷ codes "no-memory" ∷ []
+status_line ends.Stuck = codes "status" ∷ codes "9" ∷ codes "stuck" ∷ []
+status_line ends.JournalFull = codes "status" ∷ codes "10" ∷ codes "journal-full" ∷ []
 
 -- the end of a run that came to its end
 abbrev pub end_of : (violated : Bool) → End

@@ -1,6 +1,14 @@
 pub mod Outsides
 pub mod Commands
-pub mod CommandEnds
+pub mod HowEnds
+pub mod Statuses
+pub mod JobReads
+pub mod RunReports
+pub mod WorldCommand
+pub mod UpgradeCommand
+pub mod NodeCommand
+pub mod DrillCommand
+pub mod NoCommand
 pub mod TopCall
 pub mod TopParts
 pub mod Standard

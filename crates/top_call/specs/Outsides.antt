@@ -2,12 +2,18 @@
 use Rattle.std.specs.Prelude.{ℕ, List, Option}
 use Rattle.std.specs.Io.KnownBytes.{Appends}
 use Rattle.gas_outside.specs.Faults.{Rose}
+use Rattle.gas_outside.specs.declared.source.Source.{Ghosts as SourceGhosts}
+use Rattle.gas_outside.specs.declared.sink.Sink.{Ghosts as SinkGhosts}
+use Rattle.gas_outside.specs.declared.link.Link.{Ghosts as LinkGhosts}
+use Rattle.gas_outside.specs.declared.clock.Clock.{Ghosts as ClockGhosts}
 use Rattle.gas_outside.specs.Whole.{TakesUpTo}
 use Rattle.gas_outside.specs.declared.writing.Wrote.{Wrote}
 use Rattle.gas_outside.specs.declared.writing.Wrote.TheVariants as wrote
-use Rattle.gas_world.specs.Worlds.{WorldState}
 use Rattle.node_script.specs.Lines.{Word}
+use Rattle.node_call.specs.Seen.{DevicesSeen, devices_seen}
+use Rattle.top_call.specs.declared.ending.Given.{Given}
 use Rattle.top_call.specs.declared.outside.Outside.{Outside}
+use Rattle.top_call.specs.declared.top.Status.{Status}
 
 -- a source: the bytes that are left, where it tells them, and its count of faults
 pub record Input : Type 0 where
@@ -25,27 +31,35 @@ pub record Output : Type 0 where
 abbrev pub output : {K : Type 0} → (taken : K → Option (List ℕ)) → (faults : K → ℕ) → K → Output
 output taken faults sink = record { taken = taken sink; faults = faults sink }
 
--- an outside: what is seen of its source and of its sink
+-- an outside: what is seen of its source, of its sink, and of what a node runs over
 pub record Seen : Type 0 where
   pub source : Input
   pub sink : Output
+  pub devices : DevicesSeen
 
-abbrev pub seen : {S K : Type 0} → (left : S → Option (List ℕ)) → (source_faults : S → ℕ)
-    → (taken : K → Option (List ℕ)) → (sink_faults : K → ℕ) → Outside S K → Seen
-seen left source_faults taken sink_faults outside =
-    record { source = input left source_faults outside.source; sink = output taken sink_faults outside.sink }
+abbrev pub seen : {S K L C G : Type 0} → SourceGhosts S → SinkGhosts K → LinkGhosts L → ClockGhosts C
+    → Outside S K L C G → Seen
+seen sources sinks links clocks outside = record {
+  source = input sources.left sources.faults outside.source;
+  sink = output sinks.taken sinks.faults outside.sink;
+  devices = devices_seen links clocks outside.link outside.clock;
+}
 
 -- ---- a call
 
--- its words, its outside before and after it, and the world that it gives
+-- its words, its outside before and after it, and what it gives besides its exit status
 pub record Call : Type 0 where
   pub words : List Word
   pub before : Seen
   pub after : Seen
-  pub world : Option WorldState
+  pub given : Given
 
-abbrev pub call_of : List Word → (before after : Seen) → Option WorldState → Call
-call_of words before after world = record { words = words; before = before; after = after; world = world }
+abbrev pub call_of : List Word → (before after : Seen) → Given → Call
+call_of words before after given = record { words = words; before = before; after = after; given = given }
+
+-- what a call gives besides its exit status
+abbrev pub given_by : Status → Given
+given_by status = record { world = status.world; node = status.node }
 
 -- a source before and after it was read
 pub record Reading : Type 0 where
@@ -58,6 +72,22 @@ reading_of before after = record { before = before; after = after }
 -- that of a call
 abbrev pub read_in : Call → Reading
 read_in call = reading_of call.before.source call.after.source
+
+-- how a source was read, and what a node ran over before and after
+pub record Course : Type 0 where
+  pub reading : Reading
+  pub before : DevicesSeen
+  pub after : DevicesSeen
+
+abbrev pub course_with : Reading → (before after : DevicesSeen) → Course
+course_with reading before after = record { reading = reading; before = before; after = after }
+
+abbrev pub course_of : (old new : Input) → (before after : DevicesSeen) → Course
+course_of old new before after = course_with (reading_of old new) before after
+
+-- that of a call
+abbrev pub course_in : Call → Course
+course_in call = course_with (read_in call) call.before.devices call.after.devices
 
 -- what a sink took of some bytes: all of them; or it failed, and a front of them
 abbrev pub Takes : (old new : Output) → List ℕ → Wrote → Type 0

@@ -1,55 +1,100 @@
 -- The parts of the top call.
-use Rattle.std.specs.Prelude.{◌≡◌, ◌⊎◌, List, Option, Some, None, ⊤}
+use Rattle.std.specs.Prelude.{◌≡◌, ◌⊎◌, List, Option, Some, None, Result, Ok, Err, ⊤}
 use Rattle.gas_outside.specs.Buffered.{Outbox, Gathers, GathersAll, GathersFront, Flushes}
 use Rattle.gas_outside.specs.declared.writing.Wrote.TheVariants as wrote
-use Rattle.gas_world.specs.Worlds.{WorldState}
-use Rattle.job_text.specs.declared.job.Job.{Job as JobState}
 use Rattle.gas_outside.specs.Faults.{Rose}
 use Rattle.node_script.specs.Lines.{Word, line_text}
+use Rattle.job_text.specs.declared.job.Job.{Job as JobState}
 use Rattle.world_run.specs.declared.run.RunEnd.{RunEnd}
 use Rattle.world_run.specs.declared.run.RunEnd.TheVariants as runs
-use Rattle.top_call.specs.Outsides.{Input, Reading}
+use Rattle.node_call.specs.declared.calling.NodeEnd.{NodeEnd}
+use Rattle.node_call.specs.declared.calling.NodeEnd.TheVariants as nodes
+use Rattle.gas_endpoint.specs.EndpointState.{EndpointState}
+use Rattle.top_call.specs.Outsides.{Course, Reading}
 use Rattle.top_call.specs.Commands.{IsAsked, end_of, status_line}
-use Rattle.top_call.specs.CommandEnds.{EndsHow, Ends, ReadsJob, ReadsNoJob}
-use Rattle.top_call.specs.TopCall.{Means}
-use Rattle.top_call.specs.declared.command.JobRead.{JobRead}
-use Rattle.top_call.specs.declared.command.JobRead.TheVariants as reads
+use Rattle.top_call.specs.HowEnds.{EndsHow, Means, node_given, nothing, world_given}
+use Rattle.top_call.specs.JobReads.{GivesJob, ReadsNoJob}
+use Rattle.top_call.specs.WorldCommand.{WorldEnds}
+use Rattle.top_call.specs.UpgradeCommand.{UpgradeEnds}
+use Rattle.top_call.specs.NodeCommand.{NodeEnds}
+use Rattle.top_call.specs.DrillCommand.{DrillEnds}
+use Rattle.top_call.specs.NoCommand.{UsageEnds}
 use Rattle.top_call.specs.declared.ending.End.{End}
 use Rattle.top_call.specs.declared.ending.End.TheVariants as ends
 use Rattle.top_call.specs.declared.ending.Ended.{Ended}
+use Rattle.top_call.specs.declared.ending.Given.{Given}
 use Rattle.top_call.specs.declared.words.Command.{Command}
+use Rattle.top_call.specs.declared.words.Command.TheVariants as commands
 
--- what reading a job gave, by its source before and after
-abbrev pub ReadsOrNot : (old new : Input) → JobRead → Type 0
-ReadsOrNot old new (reads.Job job) = ReadsJob old.left new.left job
-ReadsOrNot old new (reads.NoJob line why) = ReadsNoJob old.left new.left line why
-ReadsOrNot old new reads.Fault = Rose old.faults new.faults
-ReadsOrNot old new reads.NoMemory = ⊤
+-- ---- commands
+
+-- how what was asked for may end, by how the source was read, and by what a node ran over before and after
+abbrev pub Ends : Option Command → Course → EndsHow
+Ends None course = UsageEnds
+Ends (Some commands.World) course = WorldEnds course.reading
+Ends (Some commands.Upgrade) course = UpgradeEnds course.reading
+Ends (Some (commands.Node rank port)) course = NodeEnds rank port course
+Ends (Some (commands.Drill seed)) course = DrillEnds seed
+
+-- how a command ended, by what went into a sink that gathers
+abbrev pub EndsBy : EndsHow → (old new : Outbox) → Ended → Type 0
+EndsBy Ends old new ended = Means Ends (GathersAll old new) ended.given ended.end
+
+-- how the words' command ended
+pub record EndsAsked (words : List Word) (course : Course) (old new : Outbox) (ended : Ended) : Type 0 where
+  pub asked : Option Command
+  pub asked_is : IsAsked words asked
+  pub ends : EndsBy (Ends asked course) old new ended
+
+-- ---- reading
+
+-- why reading a job gave none
+abbrev pub IsUnread : Reading → End → Type 0
+IsUnread reading (ends.BadJob line why) = ReadsNoJob reading.before.left reading.after.left line why
+IsUnread reading ends.ReadFault = Rose reading.before.faults reading.after.faults
+IsUnread reading ends.NoMemory = ⊤
+IsUnread reading ends.Done = ⊥
+IsUnread reading ends.Violations = ⊥
+IsUnread reading ends.Usage = ⊥
+IsUnread reading ends.WriteFault = ⊥
+IsUnread reading ends.LinkFault = ⊥
+IsUnread reading ends.Stuck = ⊥
+IsUnread reading ends.JournalFull = ⊥
+
+-- what reading a job gave
+abbrev pub ReadsOrNot : Reading → Result JobState End → Type 0
+ReadsOrNot reading (Ok job) = GivesJob reading job
+ReadsOrNot reading (Err end) = IsUnread reading end
+
+-- ---- saying
 
 -- how a command ends whose sink failed
 abbrev pub cut : Ended
-cut = record { end = ends.WriteFault; world = None }
+cut = record { end = ends.WriteFault; given = nothing }
 
--- the job, unless memory ran out
-abbrev pub IsReadJob : JobState → JobRead → Type 0
-IsReadJob job (reads.Job read) = read ≡ job
-IsReadJob job (reads.NoJob line why) = ⊥
-IsReadJob job reads.Fault = ⊥
-IsReadJob job reads.NoMemory = ⊤
-
--- the status line of this end went in, and so the command ended, with this world; or the sink failed, and a front of
--- that line went in
-abbrev pub Says : End → Option WorldState → (old new : Outbox) → Ended → Type 0
-Says end world old new ended =
-    ((ended ≡ record { end = end; world = world }) × Gathers old new (line_text (status_line end)))
+-- the status line of this end went in, and so the command ended, and gave this; or the sink failed, and a front of that
+-- line went in
+abbrev pub Says : End → Given → (old new : Outbox) → Ended → Type 0
+Says end given old new ended =
+    ((ended ≡ record { end = end; given = given }) × Gathers old new (line_text (status_line end)))
     ⊎ ((ended ≡ cut) × GathersFront old new (line_text (status_line end)))
 
 -- what is said behind the lines of a run that ended so: the status line, with the world after the run; nothing where
 -- the sink failed
 abbrev pub SaysRun : RunEnd → (old new : Outbox) → Ended → Type 0
-SaysRun (runs.Done violated world) old new ended = Says (end_of violated) (Some world) old new ended
+SaysRun (runs.Done violated world) old new ended = Says (end_of violated) (world_given world) old new ended
 SaysRun runs.Fault old new ended = (ended ≡ cut) × (new ≡ old)
-SaysRun runs.NoMemory old new ended = Says ends.NoMemory None old new ended
+SaysRun runs.NoMemory old new ended = Says ends.NoMemory nothing old new ended
+
+-- what is said behind the trace of a node whose run ended so: the status line, with this node, where one is left;
+-- nothing where the sink failed
+abbrev pub SaysNode : NodeEnd → Option EndpointState → (old new : Outbox) → Ended → Type 0
+SaysNode (nodes.Over violated) left old new ended = Says (end_of violated) (node_given left) old new ended
+SaysNode nodes.Stuck left old new ended = Says ends.Stuck (node_given left) old new ended
+SaysNode nodes.LinkFault left old new ended = Says ends.LinkFault (node_given left) old new ended
+SaysNode nodes.JournalFull left old new ended = Says ends.JournalFull (node_given left) old new ended
+SaysNode nodes.NoMemory left old new ended = Says ends.NoMemory (node_given left) old new ended
+SaysNode nodes.WriteFault left old new ended = (ended ≡ cut) × (new ≡ old)
 
 -- what waited was given on, and the end stays; or the sink failed at that. After a fault nothing more is given on
 abbrev pub GivesOn : (old new : Outbox) → (before after : Ended) → Type 0
@@ -57,13 +102,3 @@ GivesOn old new before after =
     ((before.end ≡ ends.WriteFault) × (after ≡ before) × (new ≡ old))
     ⊎ (((before.end ≡ ends.WriteFault → ⊥) × (after ≡ before) × Flushes old new wrote.Done)
     ⊎ ((before.end ≡ ends.WriteFault → ⊥) × (after ≡ cut) × Flushes old new wrote.Fault))
-
--- how a command ended, by what went into a sink that gathers
-abbrev pub EndsBy : EndsHow → (old new : Outbox) → Ended → Type 0
-EndsBy Ends old new ended = Means Ends (GathersAll old new) ended.world ended.end
-
--- how the words' command ended
-pub record EndsAsked (words : List Word) (reading : Reading) (old new : Outbox) (ended : Ended) : Type 0 where
-  pub asked : Option Command
-  pub asked_is : IsAsked words asked
-  pub ends : EndsBy (Ends asked reading) old new ended

@@ -2,18 +2,21 @@
 
 ghost use Rattle.std.specs.Prelude.{◌≡◌};
 ghost use Rattle.top_call.specs.Commands.{code_of, end_of, why_word};
+ghost use Rattle.top_call.specs.HowEnds.{node_given, nothing, world_given};
+ghost use Rattle.top_call.specs.TopParts.{cut};
 
+use gas_endpoint::Endpoint;
 use gas_world::World;
 use job_text::JobWhy;
 
 /// How a command ends.
 #[derive(Clone, Copy, Debug, PartialEq, Eq)]
 pub enum End {
-    /// The run came to its end, and no node noted a violation.
+    /// The run came to its end, and no node noted a violation; or the job was written with datagrams of version 2.
     Done,
     /// The run came to its end, and a node noted a violation.
     Violations,
-    /// The words are no command.
+    /// The words are no command; or the rank of `node` is no node of the job.
     Usage,
     /// The bytes read are no job's text, or too many.
     BadJob {
@@ -26,8 +29,14 @@ pub enum End {
     ReadFault,
     /// The sink failed.
     WriteFault,
+    /// The link failed.
+    LinkFault,
     /// Memory ran out.
     NoMemory,
+    /// A node was quiet for so many turns in a row as the job's patience says, and some script isn't over.
+    Stuck,
+    /// A node's journal is full.
+    JournalFull,
 }
 
 impl End {
@@ -49,16 +58,69 @@ impl End {
             End::BadJob { .. } => 3,
             End::ReadFault => 4,
             End::WriteFault => 5,
+            End::LinkFault => 6,
             End::NoMemory => 8,
+            End::Stuck => 9,
+            End::JournalFull => 10,
         }
     }
 }
 
-/// How a command ended, and the world after it; there is one after `Done` and `Violations` alone.
+/// What a command gives its caller besides its end.
+#[derive(Drop)]
+pub struct Given {
+    /// The world after a run in a world; there is one after `Done` and `Violations` alone.
+    pub world: Option<World>,
+    /// The node after a run as a process; there is one after `Done`, `Violations`, `LinkFault`, `Stuck` and `JournalFull` alone.
+    pub node: Option<Endpoint>,
+}
+
+impl Given {
+    /// Nothing.
+    pub fn nothing() -> Given
+        ensures { result ≡ nothing }
+    {
+        Given {
+            world: None,
+            node: None,
+        }
+    }
+
+    /// This world.
+    pub fn world(world: World) -> Given
+        ensures { result ≡ world_given world }
+    {
+        Given {
+            world: Some(world),
+            node: None,
+        }
+    }
+
+    /// This node, where there is one.
+    pub fn node(node: Option<Endpoint>) -> Given
+        ensures { result ≡ node_given node }
+    {
+        Given { world: None, node }
+    }
+}
+
+/// How a command ended, and what it gives.
 #[derive(Drop)]
 pub struct Ended {
     pub end: End,
-    pub world: Option<World>,
+    pub given: Given,
+}
+
+impl Ended {
+    /// The sink failed.
+    pub fn cut() -> Ended
+        ensures { result ≡ cut }
+    {
+        Ended {
+            end: End::WriteFault,
+            given: Given::nothing(),
+        }
+    }
 }
 
 /// The word of a reason why bytes are no job's text.

@@ -1,10 +1,16 @@
 //! The outside of a call.
 
-/// The outside of a call: what it reads, and where it writes.
+/// The outside of a call: what it reads, where it writes, and what the command `node` runs over.
 #[derive(Debug, Drop)]
-pub struct Outside<S, K> {
+pub struct Outside<S, K, L, C, G> {
     /// What the call reads.
     pub source: S,
     /// Where it writes.
     pub sink: K,
+    /// The link of a node, which isn't bound yet.
+    pub link: L,
+    /// The clock of a node.
+    pub clock: C,
+    /// The gate that a node's threads pass before each turn.
+    pub gate: G,
 }

@@ -4,14 +4,14 @@ ghost use Rattle.std.specs.Prelude.{◌≡◌, ◌∷◌, [], codes, decimal};
 ghost use Rattle.gas_outside.specs.Buffered.{GathersAll, outbox};
 ghost use Rattle.node_script.specs.Lines.{line_text};
 ghost use Rattle.top_call.specs.Commands.{status_line, why_word};
-ghost use Rattle.top_call.specs.TopParts.{Says};
+ghost use Rattle.top_call.specs.TopParts.{Says, SaysRun};
 
-use crate::ending::{End, Ended, why_word};
+use crate::ending::{End, Ended, Given, why_word};
 use gas_outside::{BufferedSink, Sink, Wrote};
-use gas_world::World;
 use itoa::Buffer;
 use job_text::JobWhy;
 use node_script::write_line;
+use world_run::RunEnd;
 
 /// Writes a status line of a number and a name.
 fn write_named<K: Sink>(sink: &mut BufferedSink<K>, code: &[u8], name: &[u8]) -> Wrote
@@ -52,21 +52,35 @@ pub fn write_status<K: Sink>(sink: &mut BufferedSink<K>, end: End) -> Wrote
         End::BadJob { line, why } => write_bad_job(sink, line, why),
         End::ReadFault => write_named(sink, b"4", b"read-fault"),
         End::WriteFault => write_named(sink, b"5", b"write-fault"),
+        End::LinkFault => write_named(sink, b"6", b"link-fault"),
         End::NoMemory => write_named(sink, b"8", b"no-memory"),
+        End::Stuck => write_named(sink, b"9", b"stuck"),
+        End::JournalFull => write_named(sink, b"10", b"journal-full"),
     }
 }
 
-/// Writes the status line of an end behind what was written before, and answers how the command ended: so, with this world;
-/// or, without one, as the sink failed.
-pub fn say<K: Sink>(sink: &mut BufferedSink<K>, end: End, world: Option<World>) -> Ended
-    ensures { Says end world (outbox K.taken K.faults sink.old)
+/// Writes the status line of an end behind what was written before, and answers how the command ended: so, and it gives
+/// this; or as the sink failed, and it gives nothing.
+pub fn say<K: Sink>(sink: &mut BufferedSink<K>, end: End, given: Given) -> Ended
+    ensures { Says end given (outbox K.taken K.faults sink.old)
         (outbox K.taken K.faults sink.new) result }
 {
     match write_status(sink, end) {
-        Wrote::Done => Ended { end, world },
-        Wrote::Fault => Ended {
-            end: End::WriteFault,
-            world: None,
-        },
+        Wrote::Done => Ended { end, given },
+        Wrote::Fault => Ended::cut(),
+    }
+}
+
+/// Says the status line behind the lines of a run, and answers how the command ended.
+pub fn say_run<K: Sink>(sink: &mut BufferedSink<K>, run: RunEnd) -> Ended
+    ensures { SaysRun run (outbox K.taken K.faults sink.old)
+        (outbox K.taken K.faults sink.new) result }
+{
+    match run {
+        RunEnd::Done { violated, world } => {
+            say(sink, End::of_run(violated), Given::world(world))
+        }
+        RunEnd::Fault => Ended::cut(),
+        RunEnd::NoMemory => say(sink, End::NoMemory, Given::nothing()),
     }
 }

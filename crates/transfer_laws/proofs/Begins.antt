@@ -126,10 +126,10 @@ begins_by caller transfer mode local number is =
       after_is = ap (λ says. (after_beginning caller transfer mode says local).operations) is ∙ left;
     }
 
-begun_same : (one other : Begun) → answers.Begun one ≡ answers.Begun other → one ≡ other
+pub begun_same : (one other : Begun) → answers.Begun one ≡ answers.Begun other → one ≡ other
 begun_same one other e = cc
 
-started_same : (one other : Begun) → answers.Started one ≡ answers.Started other → one ≡ other
+pub started_same : (one other : Begun) → answers.Started one ≡ answers.Started other → one ≡ other
 started_same one other e = cc
 
 answer_same : (one other : Answer) → ◌≡◌ {A = WorldAnswer Answer} (OfNode (OfCall one)) (OfNode (OfCall other)) → one

@@ -11,14 +11,7 @@ use Rattle.lists.proofs.Indexes.{get-append_left}
 use Rattle.raw_segment.specs.Image.{Write, FitsIn, AllFit, overwritten, written_by, image}
 use Rattle.raw_segment.proofs.Images.{length-overwritten, length-image, image-append}
 use Rattle.transfer_laws.specs.Chunks.{Touches, LeaveAlone}
-
--- what is appended
-get-append_right : {A : Type 0} (xs ys : List A) (index : ℕ) → slice_get (xs ++ ys) (length xs + index)
-    ≡ slice_get ys index
-get-append_right [] ys index = let same : 0 + index ≡ index = omega arith in ap (slice_get ys) same
-get-append_right (x ∷ xs) ys index =
-    let same : suc (length xs) + index ≡ suc (length xs + index) = omega arith in
-    ap (slice_get (x ∷ (xs ++ ys))) same ∙ get-append_right xs ys index
+use Rattle.lists.proofs.Appended.{get-append_right}
 
 get-append_from : {A : Type 0} (xs ys : List A) (at index : ℕ) → at ≡ length xs + index
     → slice_get (xs ++ ys) at ≡ slice_get ys index

@@ -24,8 +24,8 @@ use Rattle.put_get.specs.declared.operation.Synced.TheVariants as synced
 use Rattle.put_get.specs.declared.operation.Transfer.{Transfer}
 use Rattle.put_get.specs.Operation.{Operation, target, size, is_complete, is_full}
 use Rattle.put_get.specs.Syncs.{Choice, chosen, go, members, members_of, whole_of, is_whole, implicit_of, is_implicit}
-use Rattle.put_get.specs.Syncs.{is_kind, is_empty, is_other, handle_answer, after_handle, members_answer, sync_answer}
-use Rattle.put_get.specs.Syncs.{worn_of, worn_or, fault_of, fault_here, unless_fault, all_answer, some_answer}
+use Rattle.put_get.specs.Syncs.{is_kind, is_empty, is_other, handle_answer, after_handle, members_answer}
+use Rattle.put_get.specs.Syncs.{fault_of, fault_here, unless_fault, all_answer, some_answer}
 use Rattle.put_get.specs.Syncs.{implicit_answer, left_by}
 use Rattle.put_get.proofs.Gone.{chosen_complete}
 use Rattle.endpoint_rules.specs.declared.answer.Answer.{Answer}
@@ -43,27 +43,10 @@ use Rattle.endpoint_rules.specs.TransferCalls.{handle_in, transfer_fault, is_at_
 use Rattle.endpoint_rules.specs.TransferCalls.{after_beginning, implicit_mode, written_at_once}
 use Rattle.transfer_laws.specs.Chunks.{writes_at}
 use Rattle.transfer_laws.specs.TransferLaws.{called, members_by, synced_by, OkGoes, OwnIsDone}
-use Rattle.transfer_laws.proofs.Begins.{caller_of, left_there, told_there, allowed_there}
+use Rattle.transfer_laws.proofs.Begins.{caller_of, left_there, told_there, allowed_there, begun_same, started_same}
+use Rattle.endpoint_rules.proofs.Syncing.{sync_all, bad_handle, not_yours}
 
 -- ---- a sync of operations that answers Ok
-
-not_worn : (worn : Option ℕ) → worn_or worn ≡ synced.Ok → ⊥
-not_worn None e = cc
-not_worn (Some node) e = cc
-
--- all are complete
-sync_all : (worn : ℕ → Bool) (operations : List Operation) → sync_answer worn operations ≡ synced.Ok
-    → list_all is_complete operations ≡ true
-sync_all worn operations e = elim (cases_Bool (list_all is_complete operations)) [
-  | inl all ↦ all
-  | inr some ↦ absurd (not_worn (worn_of worn operations) (rw some at e))
-]
-
-bad_handle : synced.BadHandle ≡ synced.Ok → ⊥
-bad_handle e = cc
-
-not_yours : synced.NotYours ≡ synced.Ok → ⊥
-not_yours e = cc
 
 -- none is another thread's, and all are complete
 members_say : (worn : ℕ → Bool) (thread : ℕ) (operations : List Operation)
@@ -444,12 +427,6 @@ own_by caller transfer mode local is =
       ];
       written = ap (λ says. (after_beginning caller transfer mode says local).core.writes) is;
     }
-
-begun_same : (one other : Begun) → answers.Begun one ≡ answers.Begun other → one ≡ other
-begun_same one other e = cc
-
-started_same : (one other : Begun) → answers.Started one ≡ answers.Started other → one ≡ other
-started_same one other e = cc
 
 pub own_is_done : (settings : Parameters) (table : List (Option Entry)) (meaning : Meaning)
     → OwnIsDone (job_of settings table meaning)

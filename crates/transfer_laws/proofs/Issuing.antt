@@ -40,6 +40,7 @@ use Rattle.transfer_laws.proofs.LocalSteps.{LocalStep, Same, Notes, RunsHere, Ru
 use Rattle.transfer_laws.proofs.Marking.{Chunked, Evolves, evolves_same, evolves_alike, evolves_back}
 use Rattle.transfer_laws.proofs.Effects.{Extends, extends_same, extends_more, run_extends, take_extends, call_effect}
 use Rattle.am_core.specs.HandlerRuns.{handlers_of, run_request}
+use Rattle.endpoint_rules.proofs.Sending.{issued_operations}
 
 -- ---- what a tick sends
 
@@ -107,12 +108,6 @@ note_keeps : (settings : Parameters) (contact : Contact) (content : Content) (lo
     → (content.handler == note_handler) ≡ true → (after_sent settings contact content local).operations
     ≡ local.operations
 note_keeps settings contact content local is = rw is refl
-
-chunk_issues : (settings : Parameters) (contact : Contact) (content : Content) (local : EndpointLocal)
-    → (content.handler == note_handler) ≡ false
-    → (after_sent settings contact content local).operations
-    ≡ issue contact.peer contact.slot contact.number content.payload local.operations
-chunk_issues settings contact content local is = rw is refl
 
 -- writes stay
 sent_writes : (settings : Parameters) (contact : Contact) (content : Content) (local : EndpointLocal)
@@ -229,7 +224,7 @@ chunk_sent settings table meaning node p q a first chunk is to says =
     let operations : (q.local node).operations
     ≡ change (with_sent first.request.label first.claim.number bytes) (p.local node).operations chunk.number
     = ap (λ (l : EndpointLocal). l.operations) local
-    ∙ (chunk_issues settings contact first.request.content (p.local node) other
+    ∙ (issued_operations settings contact first.request.content (p.local node) other
     ∙ (ap (λ n. issue n first.request.label first.claim.number bytes (p.local node).operations) to
     ∙ it.issued first.request.label first.claim.number bytes)) in
     record {

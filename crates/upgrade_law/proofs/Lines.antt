@@ -1,7 +1,7 @@
 -- The lines of a run, by two versions.
-use Rattle.std.proofs.Common.{◌≡◌, ℕ, zero, suc, ◌+◌, ◌≤◌, true, List, [], ◌∷◌, ◌++◌, map, max}
+use Rattle.std.proofs.Common.{◌≡◌, ℕ, zero, suc, ◌+◌, ◌≤◌, Bool, true, List, [], ◌∷◌, ◌++◌, map, max}
 use Rattle.std.proofs.Common.{refl, ap, ◌∙◌}
-use Rattle.std.specs.Prelude.{decimal}
+use Rattle.std.specs.Prelude.{decimal, not, ◌==◌, ◌||◌}
 use Rattle.std.proofs.Math.Path.{fun_ext}
 use Rattle.datagram_grammar.specs.Content.{is_version}
 use Rattle.datagram_grammar.specs.Notes.{most_nodes}
@@ -11,7 +11,7 @@ use Rattle.endpoint_rules.specs.EndpointLocal.{IsEndpointKept, nothing_begun}
 use Rattle.endpoint_rules.specs.EndpointRules.{OtherCall, Records, at_the_opening, all_rules, timed}
 use Rattle.endpoint_rules.proofs.Kept.{opening_kept}
 use Rattle.endpoint_rules.proofs.Sound.{rules_sound}
-use Rattle.gas_world.specs.Told.{world_told}
+use Rattle.gas_world.specs.WorldTold.{world_told}
 use Rattle.gas_world.proofs.Among.{AreAmong, both_among}
 use Rattle.job_text.specs.JobReading.{lines_of}
 use Rattle.job_text.specs.JobText.{IsJob}
@@ -33,8 +33,9 @@ use Rattle.plain_world.proofs.Worlds.{opening_holds}
 use Rattle.lists.proofs.Numbered.{numbered_nil}
 use Rattle.world_run.specs.RunText.{world_words, event_words, words_by, line_words, answer_lines, node_of, node_lines}
 use Rattle.world_run.specs.RunText.{lines_of_node, node_line, violations, last_violations, violation_line, end_lines}
-use Rattle.world_run.specs.RunText.{run_records, run_most, run_lines}
+use Rattle.world_run.specs.RunText.{any_violation, run_records, run_most}
 use Rattle.upgrade_law.specs.Respelled.{Versions, one_job, other_job, respell_world, respelled}
+use Rattle.upgrade_law.specs.Upgraded.{IsSameRun, in_version}
 use Rattle.upgrade_law.proofs.Agreeing.{rules_agree}
 use Rattle.upgrade_law.proofs.Bodies.{script_ignores}
 use Rattle.upgrade_law.proofs.Ends.{held_alike, sight_alike}
@@ -172,12 +173,19 @@ versions_of job version is known few = record {
       (script_ignores version job.handlers) is.settings known few;
 }
 
--- the lines of the run of a job are those of the run of the job with another version
-pub lines_are : (job : JobState) (version : ℕ) → IsJob job → is_version version ≡ true
+-- whether one of them noted a violation
+violated_alike : (v : Versions) (world : Records) (node count : ℕ)
+    → any_violation (respell_world v.spell world) node count ≡ any_violation world node count
+violated_alike v world node zero = refl
+violated_alike v world node (suc count) =
+    ap (λ (rest : Bool). not (violations (world node) == 0) || rest) (violated_alike v world (node + 1) count)
+
+-- the run of a job is that of the job with another version
+pub same_run : (job : JobState) (version : ℕ) → IsJob job → is_version version ≡ true
     → job.settings.nodes ≤ most_nodes version
-    → run_lines (record job { settings = record job.settings { version = version } }) ≡ run_lines job
+    → IsSameRun job (in_version job version)
 unfolding versions_of
-lines_are job version is known few =
+same_run job version is known few =
     let v = versions_of job version is known few in
     let settings = job.settings in
     let table = (registered job.handlers).table in
@@ -202,8 +210,12 @@ lines_are job version is known few =
     let records_are : run_records other ≡ respell_world v.spell records =
     ap (λ (es : List (Timed OtherCall)). run (other_job v) es start) alike.events ∙ after.0
     in
-    ap (λ (ls : List Line). ls ++ end_lines other.settings (run_records other) (run_most other)) alike.lines
-    ∙ ap (λ (ls : List Line). answer_lines (one_job v) 1 entries start ++ ls)
-    (ap (λ (w : Records). end_lines other.settings w (run_most other)) records_are
-    ∙ (ap (λ (m : ℕ → ℕ). end_lines other.settings (respell_world v.spell records) m) most_is
-    ∙ nodes_alike v records most 0 settings.nodes))
+    record {
+      lines = ap (λ (ls : List Line). ls ++ end_lines other.settings (run_records other) (run_most other)) alike.lines
+          ∙ ap (λ (ls : List Line). answer_lines (one_job v) 1 entries start ++ ls)
+          (ap (λ (w : Records). end_lines other.settings w (run_most other)) records_are
+          ∙ (ap (λ (m : ℕ → ℕ). end_lines other.settings (respell_world v.spell records) m) most_is
+          ∙ nodes_alike v records most 0 settings.nodes));
+      violated = ap (λ (w : Records). any_violation w 0 settings.nodes) records_are
+          ∙ violated_alike v records 0 settings.nodes;
+    }

@@ -9,7 +9,8 @@ ghost use Rattle.upgrade_law.specs.Upgraded.{RunsAlike};
 
 /// Carries what this crate proves, for the check alone: it has no code.
 ///
-/// The run of a job with datagrams of another version, which has so many nodes, has the same lines as the run of the job.
+/// The run of a job with datagrams of another version, which has so many nodes, has the same lines as the run of the job, and a
+/// node notes a violation in both or in neither.
 pub fn upgrade_law()
     ensures { RunsAlike }
 {}

@@ -5,7 +5,7 @@ use Rattle.plain_world.specs.MostHeld.{most_after}
 use Rattle.endpoint_rules.specs.EndpointRules.{OtherCall, Records}
 use Rattle.gas_world.specs.Settling.{WorldJob, Moves}
 use Rattle.gas_world.specs.Stands.{Stands}
-use Rattle.gas_world.specs.Worlds.{WorldState}
+use Rattle.gas_world.specs.WorldState.{WorldState}
 use Rattle.gas_world.proofs.Moving.{run_append, most_append}
 use Rattle.world_run.specs.ScheduleRun.{StandsAfter}
 

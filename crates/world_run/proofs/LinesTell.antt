@@ -17,7 +17,7 @@ use Rattle.plain_world.specs.World.{reply_event, falls, answer_at, world_after, 
 use Rattle.plain_world.specs.PlainStep.{named}
 use Rattle.plain_world.specs.Headline.{Headline, after_first, Happens, IsRanAnswer, IsReturned}
 use Rattle.endpoint_rules.specs.EndpointRules.{OtherCall, Records, RecordsEvent, at_the_opening, timed}
-use Rattle.gas_world.specs.Told.{world_told}
+use Rattle.gas_world.specs.WorldTold.{world_told}
 use Rattle.endpoint_rules.specs.declared.answer.Answer.{Answer}
 use Rattle.node_script.specs.Lines.{Line}
 use Rattle.job_text.specs.declared.job.Job.{Job as JobState}

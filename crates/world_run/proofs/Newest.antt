@@ -6,7 +6,7 @@ use Rattle.std.proofs.lemmas.Option.{same_Some}
 use Rattle.std.proofs.lemmas.Bool.{cases_Bool}
 use Rattle.std.proofs.lemmas.Bool.Decides.{nat_tests}
 use Rattle.std.proofs.lemmas.List.{length-drop}
-use Rattle.handler_rules.specs.Logged.{from_end, log_of}
+use Rattle.handler_rules.specs.LogState.{from_end, log_of}
 use Rattle.handler_rules.specs.declared.rules.Violation.{Violation}
 
 -- what a list has at a place is the first of what it has from there on

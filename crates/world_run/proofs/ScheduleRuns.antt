@@ -6,9 +6,9 @@ use Rattle.gas_outside.specs.declared.writing.Wrote.{Wrote}
 use Rattle.handler_rules.specs.Runs.{Meaning}
 use Rattle.plain_world.specs.World.{Timed, world_answer, world_after}
 use Rattle.endpoint_rules.specs.EndpointRules.{OtherCall, Records, RecordsEvent, timed, transition}
-use Rattle.gas_world.specs.Told.{world_told}
+use Rattle.gas_world.specs.WorldTold.{world_told}
 use Rattle.gas_world.specs.Events.{ForItsRecords, Steps, job_in}
-use Rattle.gas_world.specs.Worlds.{WorldState}
+use Rattle.gas_world.specs.WorldState.{WorldState}
 use Rattle.gas_world.specs.declared.event.WorldAnswer.{WorldAnswer}
 use Rattle.gas_world.specs.declared.event.WorldAnswer.TheVariants as answers
 use Rattle.node_script.specs.AnswerWords.{sight_of}

@@ -47,12 +47,12 @@ use Rattle.endpoint_rules.specs.TransferCalls.{TransferCall, Begin, BeginImplici
 use Rattle.endpoint_rules.specs.TransferCalls.{SyncSome, SyncImplicit, RegionBegin, RegionEnd, Caller, ended}
 use Rattle.endpoint_rules.specs.TransferCalls.{transfer_does, transfer_kind}
 use Rattle.endpoint_rules.proofs.Works.{sending_well}
-use Rattle.gas_world.specs.Told.{world_told}
+use Rattle.gas_world.specs.WorldTold.{world_told}
 use Rattle.endpoint_rules.specs.Memory.{SegmentCall, Show, Set, Fill, LoadWord, SetWord, segment_does, unless_fault}
-use Rattle.gas_endpoint.specs.Endpoints.{EndpointState, EndpointStands}
+use Rattle.gas_endpoint.specs.EndpointState.{EndpointState, EndpointStands}
 use Rattle.gas_world.specs.Events.{Steps, job_in}
 use Rattle.gas_world.specs.Stands.{Stands}
-use Rattle.gas_world.specs.Worlds.{WorldState}
+use Rattle.gas_world.specs.WorldState.{WorldState}
 use Rattle.endpoint_rules.specs.declared.answer.Answer.{Answer}
 use Rattle.endpoint_rules.specs.declared.answer.Answer.TheVariants as answers
 use Rattle.endpoint_rules.specs.declared.answer.Local.{Local as LocalAnswer}
@@ -67,21 +67,21 @@ use Rattle.world_run.specs.ScheduleRun.{Stood, TellsWhatIs}
 -- ---- no other event is answered as a tick
 
 -- a call that is judged by the rule table
-judged_names : (endpoint : EndpointState) (rules : Behaviour Local) (thread : ℕ)
+pub judged_names : (endpoint : EndpointState) (rules : Behaviour Local) (thread : ℕ)
     (judged : Result (Unit {0}) Forbidden) (answer : Answer) (local : Local) → NamesWhatIs endpoint answer
     → NamesWhatIs endpoint (if_allowed rules thread judged answer local).0
 judged_names endpoint rules thread (Ok allowed) answer local names = names
 judged_names endpoint rules thread (Err forbidden) answer local names = tt
 
 -- a call on the own segment that passes its end
-range_names : (endpoint : EndpointState) (far : Bool) (outcome : LocalAnswer × List Write)
+pub range_names : (endpoint : EndpointState) (far : Bool) (outcome : LocalAnswer × List Write)
     → NamesItsBytes endpoint outcome.0
     → NamesItsBytes endpoint (unless_fault (if far then Some local.Outside else None) outcome).0
 range_names endpoint true outcome names = tt
 range_names endpoint false outcome names = names
 
 -- a number of the own segment
-word_names : (endpoint : EndpointState) (far aligned : Bool) (outcome : LocalAnswer × List Write)
+pub word_names : (endpoint : EndpointState) (far aligned : Bool) (outcome : LocalAnswer × List Write)
     → NamesItsBytes endpoint outcome.0
     → NamesItsBytes endpoint
     (unless_fault (if far then Some local.Outside else (if aligned then None else Some local.Unaligned)) outcome).0
@@ -90,7 +90,7 @@ word_names endpoint false true outcome names = names
 word_names endpoint false false outcome names = tt
 
 -- a range that is shown
-show_names : (endpoint : EndpointState) (size offset len : ℕ) (far : Bool) → nat_lt size (offset + len) ≡ far
+pub show_names : (endpoint : EndpointState) (size offset len : ℕ) (far : Bool) → nat_lt size (offset + len) ≡ far
     → ((offset + len ≤ size) → HasRange endpoint offset len)
     → NamesItsBytes endpoint
     (unless_fault (if far then Some local.Outside else None) (local.Shown offset len, [])).0
@@ -145,7 +145,7 @@ ended_names endpoint caller register (Some was) local = elim (cases_option was.n
 ]
 
 -- a call on transfers
-transfer_names : (endpoint : EndpointState) (caller : Caller) (call : TransferCall) (local : EndpointLocal)
+pub transfer_names : (endpoint : EndpointState) (caller : Caller) (call : TransferCall) (local : EndpointLocal)
     → NamesWhatIs endpoint (transfer_does caller call local).0
 transfer_names endpoint caller (Begin register transfer) local = tt
 transfer_names endpoint caller (BeginImplicit transfer) local = tt
@@ -162,13 +162,13 @@ transfer_names endpoint caller (RegionEnd register) local =
     ended_names endpoint caller register (region_of local.regions caller.thread) local
 
 -- a call on the barrier
-barrier_names : (endpoint : EndpointState) (caller : Caller) (call : BarrierCall) (barrier : BarrierRecord)
+pub barrier_names : (endpoint : EndpointState) (caller : Caller) (call : BarrierCall) (barrier : BarrierRecord)
     → NamesWhatIs endpoint (barrier_does caller call barrier).0
 barrier_names endpoint caller (Notify id flags) barrier = tt
 barrier_names endpoint caller (TryBarrier id flags) barrier = tt
 
 -- a call that the rule table judges
-unless_names : (endpoint : EndpointState) (rules : Behaviour EndpointLocal) (thread : ℕ)
+pub unless_names : (endpoint : EndpointState) (rules : Behaviour EndpointLocal) (thread : ℕ)
     (judged : Result (Unit {0}) Forbidden) (local : EndpointLocal) (outcome : Answer × EndpointLocal)
     → NamesWhatIs endpoint outcome.0 → NamesWhatIs endpoint (unless_forbidden rules thread judged local outcome).0
 unless_names endpoint rules thread (Ok allowed) local outcome names = names
@@ -189,7 +189,7 @@ call_names endpoint rules own caller (OnBarrier call) local has =
     (barrier_names endpoint caller call local.barrier)
 
 -- a request
-asked_names : (endpoint : EndpointState) (answer : Asked) → NamesWhatIs endpoint (asked_answer answer)
+pub asked_names : (endpoint : EndpointState) (answer : Asked) → NamesWhatIs endpoint (asked_answer answer)
 asked_names endpoint (asked.Accepted to slot number) = tt
 asked_names endpoint asked.Ran = tt
 asked_names endpoint (asked.BadArg part) = tt

@@ -1,7 +1,7 @@
 -- How the run of a job ends.
 use Rattle.std.specs.Prelude.{◌≡◌, List, Bool}
 use Rattle.gas_outside.specs.Buffered.{Outbox, Gathers, GathersFront}
-use Rattle.gas_world.specs.Worlds.{WorldState}
+use Rattle.gas_world.specs.WorldState.{WorldState}
 use Rattle.node_script.specs.Lines.{Line, spell}
 use Rattle.job_text.specs.declared.job.Job.{Job as JobState}
 use Rattle.world_run.specs.LinesWritten.{LinesUpTo}

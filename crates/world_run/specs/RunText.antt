@@ -2,7 +2,7 @@
 use Rattle.std.specs.Prelude.{ℕ, zero, suc, ◌+◌, ◌==◌, ◌||◌, Bool, false, not, List, [], ◌∷◌, ◌++◌, map}
 use Rattle.std.specs.Prelude.{Option, None, Some, codes, decimal}
 use Rattle.datagram_grammar.specs.Parameters.{Parameters}
-use Rattle.handler_rules.specs.Logged.{log_of}
+use Rattle.handler_rules.specs.LogState.{log_of}
 use Rattle.handler_rules.specs.declared.rules.Context.{Context}
 use Rattle.handler_rules.specs.declared.rules.Context.TheVariants as context
 use Rattle.handler_rules.specs.declared.rules.Fault.{Fault}
@@ -14,7 +14,7 @@ use Rattle.endpoint_rules.specs.EndpointLocal.{EndpointLocal}
 use Rattle.plain_world.specs.World.{Asks, Does, RequestComes, ReplyComes, Ticks, Timed, world_answer, world_after, run}
 use Rattle.plain_world.specs.MostHeld.{most_after}
 use Rattle.endpoint_rules.specs.EndpointRules.{OtherCall, Records, RecordsEvent, at_the_opening, timed}
-use Rattle.gas_world.specs.Told.{world_told}
+use Rattle.gas_world.specs.WorldTold.{world_told}
 use Rattle.gas_world.specs.declared.event.WorldAnswer.{WorldAnswer}
 use Rattle.gas_world.specs.declared.event.WorldAnswer.TheVariants as answers
 use Rattle.node_script.specs.Lines.{Word, Line}

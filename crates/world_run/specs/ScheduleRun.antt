@@ -8,9 +8,9 @@ use Rattle.plain_world.specs.MostHeld.{most_after}
 use Rattle.endpoint_rules.specs.EndpointRules.{OtherCall, Records}
 use Rattle.gas_world.specs.Events.{ForItsRecords, job_in}
 use Rattle.gas_world.specs.Stands.{Stands}
-use Rattle.gas_endpoint.specs.Endpoints.{EndpointState, EndpointStands}
-use Rattle.gas_endpoint.specs.Endpoints.{IsNodeOf}
-use Rattle.gas_world.specs.Worlds.{WorldState}
+use Rattle.gas_endpoint.specs.EndpointState.{EndpointState, EndpointStands}
+use Rattle.gas_endpoint.specs.EndpointState.{IsNodeOf}
+use Rattle.gas_world.specs.WorldState.{WorldState}
 use Rattle.gas_world.specs.declared.event.WorldAnswer.{WorldAnswer}
 use Rattle.gas_world.specs.declared.event.WorldAnswer.TheVariants as answers
 use Rattle.node_script.specs.AnswerWords.{sight_of}

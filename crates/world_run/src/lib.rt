@@ -24,6 +24,7 @@ mod run;
 mod said;
 mod violations;
 
-pub use output::{any_violation, write_nodes};
+pub use output::{any_violation, write_node_line, write_nodes};
 pub use run::{RunEnd, run_job};
 pub use said::Said;
+pub use violations::write_violations;

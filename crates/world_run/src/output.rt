@@ -45,7 +45,7 @@ pub fn write_event_answer<K: Sink>(
 
 /// Writes the line of a node by its numbers: what it holds, the most that it held, and how many violations it
 /// noted.
-fn write_node_line<K: Sink>(
+pub fn write_node_line<K: Sink>(
     sink: &mut BufferedSink<K>,
     node: u16,
     held: usize,

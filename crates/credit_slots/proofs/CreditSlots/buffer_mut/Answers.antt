@@ -1,10 +1,10 @@
 use Rattle.std.proofs.Common.{ℕ, Option, Some, None, List, []}
 use Rattle.std.proofs.Common.{ap, sym, ◌∙◌, subst, refl}
 use Rattle.std.specs.Prelude.{IsSomeAnd}
-use Rattle.credit_slots.specs.State.{SlotState, SlotsState}
-use Rattle.credit_slots.specs.State.{slot_at}
-use Rattle.credit_slots.specs.State.{opened_bytes, opened_bytes_at, IsOpened, with_slot_changed}
-use Rattle.credit_slots.specs.State.{with_written}
+use Rattle.credit_slots.specs.SlotsState.{SlotState, SlotsState}
+use Rattle.credit_slots.specs.SlotsState.{slot_at}
+use Rattle.credit_slots.specs.SlotsState.{opened_bytes, opened_bytes_at, IsOpened, with_slot_changed}
+use Rattle.credit_slots.specs.SlotsState.{with_written}
 use Rattle.credit_slots.proofs.Viewed.{seen-there, slot-is, changed-is}
 use Rattle.credit_slots.proofs.Viewed.{credits-after}
 use Rattle.credit_slots.proofs.Viewed.{said-of, matches-written}

@@ -1,7 +1,7 @@
 use Rattle.std.proofs.Common.{ap, sym, ◌∙◌}
 use Rattle.std.specs.Prelude.{option_and_then}
-use Rattle.credit_slots.specs.State.{SlotsState}
-use Rattle.credit_slots.specs.State.{message_of, message_at}
+use Rattle.credit_slots.specs.SlotsState.{SlotsState}
+use Rattle.credit_slots.specs.SlotsState.{message_of, message_at}
 use Rattle.credit_slots.proofs.Viewed.{slot-is}
 use Rattle.credit_slots.proofs.Viewed.{in-range}
 use Rattle.credit_slots.proofs.CreditSlots.bytes.Goals as goal

@@ -2,11 +2,11 @@ use Rattle.std.proofs.Common.{ℕ, ◌≡◌, ◌+◌, ◌<◌, Option, Some, No
 use Rattle.std.proofs.Common.{length, ap, sym, ◌∙◌, subst, refl, arith, length-set}
 use Rattle.std.specs.Prelude.{slice_get, slice_set}
 use Rattle.lists.specs.Cut.{total_of}
-use Rattle.slot_table.specs.State.{TableState, slot_in, place_of, with_change}
-use Rattle.credit_slots.specs.State.{Sealed, SlotsState}
-use Rattle.credit_slots.specs.State.{slot_count}
-use Rattle.credit_slots.specs.State.{with_slot_changed}
-use Rattle.credit_slots.specs.State.{sent_again}
+use Rattle.slot_table.specs.TableState.{TableState, slot_in, place_of, with_change}
+use Rattle.credit_slots.specs.SlotsState.{Sealed, SlotsState}
+use Rattle.credit_slots.specs.SlotsState.{slot_count}
+use Rattle.credit_slots.specs.SlotsState.{with_slot_changed}
+use Rattle.credit_slots.specs.SlotsState.{sent_again}
 use Rattle.credit_slots.specs.declared.order.Due.{Due}
 use Rattle.credit_slots.specs.Views.{credits_view, IsCredits}
 use Rattle.credit_slots.proofs.Viewed.{count-is, changed-is}

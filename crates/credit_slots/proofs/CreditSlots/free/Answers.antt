@@ -1,7 +1,7 @@
 use Rattle.std.proofs.Common.{◌<◌}
 use Rattle.std.proofs.Common.{length, ap, sym, ◌∙◌}
-use Rattle.credit_slots.specs.State.{SlotsState}
-use Rattle.credit_slots.specs.State.{vacant_count}
+use Rattle.credit_slots.specs.SlotsState.{SlotsState}
+use Rattle.credit_slots.specs.SlotsState.{vacant_count}
 use Rattle.credit_slots.proofs.Viewed.{vacant-is, node-range}
 use Rattle.credit_slots.proofs.CreditSlots.free.Goals as goal
 

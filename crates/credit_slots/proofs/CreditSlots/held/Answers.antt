@@ -1,5 +1,5 @@
 use Rattle.std.proofs.Common.{ap, sym, ◌∙◌}
-use Rattle.credit_slots.specs.State.{held_count}
+use Rattle.credit_slots.specs.SlotsState.{held_count}
 use Rattle.credit_slots.proofs.Viewed.{held-is}
 use Rattle.credit_slots.proofs.CreditSlots.held.Goals as goal
 

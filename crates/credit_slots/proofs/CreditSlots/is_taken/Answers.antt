@@ -1,7 +1,7 @@
 use Rattle.std.proofs.Common.{ℕ, rules, ◌≡◌, Some, ap, sym, ◌∙◌}
 use Rattle.std.specs.Prelude.{option_and_then}
-use Rattle.slot_table.specs.State.{slot_in}
-use Rattle.credit_slots.specs.State.{slot_at, number_of}
+use Rattle.slot_table.specs.TableState.{slot_in}
+use Rattle.credit_slots.specs.SlotsState.{slot_at, number_of}
 use Rattle.std.proofs.lemmas.Option.{same_Some}
 use Rattle.credit_slots.proofs.Viewed.{slot-seen, in-range}
 use Rattle.credit_slots.proofs.Dues.{taken-no, taken-yes}

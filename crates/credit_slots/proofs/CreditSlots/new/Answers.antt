@@ -3,9 +3,9 @@ use Rattle.std.proofs.Common.{length, ap, sym, ◌∙◌, subst, refl, arith, re
 use Rattle.std.specs.Prelude.{slice_get}
 use Rattle.std.specs.Prelude.{if◌then◌else◌, ◌==◌}
 use Rattle.lists.specs.Cut.{count_at, total_of}
-use Rattle.slot_table.specs.State.{TableState, slots_of}
-use Rattle.slot_table.specs.State.{counts_of}
-use Rattle.credit_slots.specs.State.{SlotState, Vacant}
+use Rattle.slot_table.specs.TableState.{TableState, slots_of}
+use Rattle.slot_table.specs.TableState.{counts_of}
+use Rattle.credit_slots.specs.SlotsState.{SlotState, Vacant}
 use Rattle.credit_slots.specs.declared.order.Due.{Due}
 use Rattle.credit_slots.specs.Views.{Matches}
 use Rattle.slot_table.proofs.New.{slots-new, count-of}

@@ -1,9 +1,9 @@
 use Rattle.std.proofs.Common.{◌≡◌, ◌+◌, ◌<◌, ◌≤◌, Option, Some, None}
 use Rattle.std.proofs.Common.{length, ap, sym, ◌∙◌, subst, refl, arith}
 use Rattle.std.specs.Prelude.{slice_get, position, IfSome}
-use Rattle.slot_table.specs.State.{slots_of}
-use Rattle.credit_slots.specs.State.{Vacant, is_vacant, PeerState, SlotsState}
-use Rattle.credit_slots.specs.State.{CanClaim, Refuses}
+use Rattle.slot_table.specs.TableState.{slots_of}
+use Rattle.credit_slots.specs.SlotsState.{Vacant, is_vacant, PeerState, SlotsState}
+use Rattle.credit_slots.specs.SlotsState.{CanClaim, Refuses}
 use Rattle.credit_slots.specs.declared.NoClaim.TheVariants.{WornOut, NotYet}
 use Rattle.std.proofs.lemmas.List.Quantifiers.{position-Some}
 use Rattle.lists.proofs.Indexes.{read-at}

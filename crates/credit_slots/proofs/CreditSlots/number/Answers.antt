@@ -1,8 +1,8 @@
 use Rattle.std.proofs.Common.{ap, sym, ◌∙◌}
 use Rattle.std.specs.Prelude.{option_and_then}
-use Rattle.credit_slots.specs.State.{SlotsState}
-use Rattle.credit_slots.specs.State.{message_number}
-use Rattle.credit_slots.specs.State.{number_at}
+use Rattle.credit_slots.specs.SlotsState.{SlotsState}
+use Rattle.credit_slots.specs.SlotsState.{message_number}
+use Rattle.credit_slots.specs.SlotsState.{number_at}
 use Rattle.credit_slots.proofs.Viewed.{slot-is}
 use Rattle.credit_slots.proofs.Viewed.{in-range}
 use Rattle.credit_slots.proofs.CreditSlots.number.Goals as goal

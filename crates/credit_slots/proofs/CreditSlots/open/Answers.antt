@@ -1,8 +1,8 @@
 use Rattle.std.proofs.Common.{ap, sym, ◌∙◌, subst, refl, arith, length-set}
 use Rattle.std.specs.Prelude.{slice_set}
-use Rattle.slot_table.specs.State.{TableState}
-use Rattle.credit_slots.specs.State.{Vacant, Opened, SlotsState}
-use Rattle.credit_slots.specs.State.{with_given}
+use Rattle.slot_table.specs.TableState.{TableState}
+use Rattle.credit_slots.specs.SlotsState.{Vacant, Opened, SlotsState}
+use Rattle.credit_slots.specs.SlotsState.{with_given}
 use Rattle.credit_slots.specs.Views.{credits_view, IsCredits}
 use Rattle.lists.proofs.Cut.{count-inside}
 use Rattle.credit_slots.proofs.Viewed.{seen-there}

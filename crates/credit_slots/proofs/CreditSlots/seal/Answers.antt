@@ -1,8 +1,8 @@
 use Rattle.std.proofs.Common.{ℕ, ◌≡◌, ◌<◌, Option, Some, None, List, length, ap, sym, ◌∙◌, subst, refl, length-set}
 use Rattle.std.specs.Prelude.{slice_get, slice_set, option_and_then}
 use Rattle.lists.specs.Cut.{count_at}
-use Rattle.slot_table.specs.State.{TableState, slot_in, place_of, with_change, opened_time}
-use Rattle.credit_slots.specs.State.{SlotState, Opened, SlotsState, with_slot_changed, sealed}
+use Rattle.slot_table.specs.TableState.{TableState, slot_in, place_of, with_change, opened_time}
+use Rattle.credit_slots.specs.SlotsState.{SlotState, Opened, SlotsState, with_slot_changed, sealed}
 use Rattle.credit_slots.specs.declared.order.Due.{Due}
 use Rattle.credit_slots.specs.Views.{credits_view, Matches, IsCredits}
 use Rattle.std.proofs.lemmas.Option.{slice_get_within}

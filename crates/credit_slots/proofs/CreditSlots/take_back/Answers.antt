@@ -1,13 +1,13 @@
 use Rattle.std.proofs.Common.{ℕ, rules, ◌≡◌, Option, Some, None, List, ap, sym, ◌∙◌, subst, refl, length-set}
 use Rattle.std.specs.Prelude.{slice_get, slice_set, option_and_then}
-use Rattle.slot_table.specs.State.{TableState, slot_in, place_of, with_change}
-use Rattle.credit_slots.specs.State.{Vacant, SlotsState, slot_at, with_slot_changed}
+use Rattle.slot_table.specs.TableState.{TableState, slot_in, place_of, with_change}
+use Rattle.credit_slots.specs.SlotsState.{Vacant, SlotsState, slot_at, with_slot_changed}
 use Rattle.credit_slots.specs.declared.order.Due.{Due}
 use Rattle.credit_slots.specs.Views.{credits_view, IsCredits}
 use Rattle.std.proofs.lemmas.Option.{slice_get_within, same_Some}
 use Rattle.credit_slots.proofs.Viewed.{slot-seen, changed-is, credits-after, in-range}
 use Rattle.lists.proofs.Indexes.{get-set_same, get-set_other}
-use Rattle.credit_slots.specs.State.{number_of}
+use Rattle.credit_slots.specs.SlotsState.{number_of}
 use Rattle.credit_slots.proofs.Dues.{taken-no, taken-yes}
 use Rattle.credit_slots.proofs.CreditSlots.take_back.Goals as goal
 use Rattle.slot_table.proofs.Slots.{place-there}

@@ -2,8 +2,8 @@ use Rattle.std.proofs.Common.{◌≡◌, ◌<◌, Some}
 use Rattle.std.proofs.Common.{length, ap, sym, ◌∙◌, arith}
 use Rattle.std.specs.Prelude.{slice_get}
 use Rattle.lists.proofs.Indexes.{read-at}
-use Rattle.credit_slots.specs.State.{SlotsState}
-use Rattle.credit_slots.specs.State.{is_worn_out}
+use Rattle.credit_slots.specs.SlotsState.{SlotsState}
+use Rattle.credit_slots.specs.SlotsState.{is_worn_out}
 use Rattle.credit_slots.proofs.Viewed.{worn-is, node-range}
 use Rattle.credit_slots.proofs.CreditSlots.worn_out.Goals as goal
 

@@ -28,7 +28,14 @@ returns-clause-order c =
     read-at entries at found (on-inside entries at order on) c.index.ensures in
     let second_read = c.index_mut-2.result.now in
     let third_read = c.index_mut-3.result.now in
-    let entry : Entry = record { time = c.args.due.time; node = c.args.due.node; slot = c.args.due.slot; previous = at; next = found.next; listed = true } in
+    let entry : Entry = record {
+      time = c.args.due.time;
+      node = c.args.due.node;
+      slot = c.args.due.slot;
+      previous = at;
+      next = found.next;
+      listed = true;
+    } in
     let first_written = slice_set entries place entry in
     let second_written = slice_set first_written at (record second_read { next = place }) in
     let long₁ : length first_written ≡ length entries = length-set entries place entry in
@@ -54,7 +61,14 @@ returns-clause-listed c =
     read-at entries at found (on-inside entries at order on) c.index.ensures in
     let second_read = c.index_mut-2.result.now in
     let third_read = c.index_mut-3.result.now in
-    let entry : Entry = record { time = c.args.due.time; node = c.args.due.node; slot = c.args.due.slot; previous = at; next = found.next; listed = true } in
+    let entry : Entry = record {
+      time = c.args.due.time;
+      node = c.args.due.node;
+      slot = c.args.due.slot;
+      previous = at;
+      next = found.next;
+      listed = true;
+    } in
     let first_written = slice_set entries place entry in
     let second_written = slice_set first_written at (record second_read { next = place }) in
     let long₁ : length first_written ≡ length entries = length-set entries place entry in

@@ -4,7 +4,10 @@ use Rattle.datagram_grammar.proofs.Addressing.{for_handler}
 use Rattle.datagram_grammar.proofs.content.long_reply.Goals as goal
 
 pub returns-clause-value : goal.returns-clause-value
-returns-clause-value c = ap (λ (m : Message). record m { offset = c.args.offset; payload = c.args.payload.now }) c.bare.ensures
+returns-clause-value c = ap (λ (m : Message). record m {
+  offset = c.args.offset;
+  payload = c.args.payload.now;
+}) c.bare.ensures
 
 pub returns-clause-formed : goal.returns-clause-formed
 returns-clause-formed c = subst (λ (m : Message). IsWellFormed m) (sym (returns-clause-value c))

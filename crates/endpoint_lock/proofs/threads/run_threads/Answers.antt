@@ -1,5 +1,5 @@
 use Rattle.std.proofs.Common.{refl, sym, subst}
-use Rattle.endpoint_lock.specs.Stations.{opening_of}
+use Rattle.endpoint_lock.specs.StationState.{opening_of}
 use Rattle.endpoint_lock.specs.Leaving.{Leaves}
 use Rattle.endpoint_lock.proofs.Leaving.{leaves}
 use Rattle.endpoint_lock.proofs.threads.run_threads.Goals as goal

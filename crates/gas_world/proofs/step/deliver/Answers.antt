@@ -1,6 +1,6 @@
 use Rattle.std.proofs.Common.{◌≡◌, ◌<◌, ◌+◌, List, length, get_or, arith}
 use Rattle.std.proofs.lemmas.Option.{slice_get-get_or}
-use Rattle.gas_endpoint.specs.Endpoints.{EndpointState}
+use Rattle.gas_endpoint.specs.EndpointState.{EndpointState}
 use Rattle.gas_world.proofs.Halves.{here_left, here_right, changed_left, changed_right}
 use Rattle.gas_world.proofs.step.deliver.Goals as goal
 

@@ -1,7 +1,7 @@
 use Rattle.std.proofs.Common.{rules, ◌≡◌, ◌<◌, get_or, length, sym, subst}
 use Rattle.std.specs.Prelude.{Bool}
 use Rattle.std.proofs.lemmas.Option.{slice_get-get_or}
-use Rattle.gas_endpoint.specs.Endpoints.{EndpointState}
+use Rattle.gas_endpoint.specs.EndpointState.{EndpointState}
 use Rattle.gas_world.specs.Scenes.{IsBetween}
 use Rattle.gas_world.specs.declared.event.WorldEvent.{WorldEvent}
 use Rattle.gas_world.proofs.Sendings.{tick_happens}

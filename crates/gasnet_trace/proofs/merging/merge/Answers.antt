@@ -37,32 +37,52 @@ rounds-init g c =
 
 pub overflow_add-number : goal.overflow_add-number
 overflow_add-number g c =
-    let x = walk_next g.M.Machine c.args.traces.now c.entries.front c.entries.machines c.go_next.new.machines
-    c.as_slice-places.result.now c.entries.marks c.go_next.new.marks c.nodes.node c.entries.invariant.walk
-    c.go_next.ensures.took in
+    let x = walk_next g.M.Machine (record {
+      machines = c.entries.machines;
+      traces = c.args.traces.now;
+      front = c.entries.front;
+      places = c.as_slice-places.result.now;
+      marks = c.entries.marks;
+    }) c.go_next.new.machines c.go_next.new.marks c.nodes.node
+    c.entries.invariant.walk c.go_next.ensures.took in
     let l = x.below in
     let b = ends_below c.args.traces.now c.nodes.node c.requires.entries in omega arith
 
 pub overflow_cast-number : goal.overflow_cast-number
 overflow_cast-number g c =
-    let x = walk_next g.M.Machine c.args.traces.now c.entries.front c.entries.machines c.go_next.new.machines
-    c.as_slice-places.result.now c.entries.marks c.go_next.new.marks c.nodes.node c.entries.invariant.walk
-    c.go_next.ensures.took in
+    let x = walk_next g.M.Machine (record {
+      machines = c.entries.machines;
+      traces = c.args.traces.now;
+      front = c.entries.front;
+      places = c.as_slice-places.result.now;
+      marks = c.entries.marks;
+    }) c.go_next.new.machines c.go_next.new.marks c.nodes.node
+    c.entries.invariant.walk c.go_next.ensures.took in
     let l = x.below in
     let b = ends_below c.args.traces.now c.nodes.node c.requires.entries in omega arith
 
 pub entries-smaller : goal.entries-smaller
 entries-smaller g c =
-    let x = walk_next g.M.Machine c.args.traces.now c.entries.front c.entries.machines c.go_next.new.machines
-    c.as_slice-places.result.now c.entries.marks c.go_next.new.marks c.nodes.node c.entries.invariant.walk
-    c.go_next.ensures.took in
+    let x = walk_next g.M.Machine (record {
+      machines = c.entries.machines;
+      traces = c.args.traces.now;
+      front = c.entries.front;
+      places = c.as_slice-places.result.now;
+      marks = c.entries.marks;
+    }) c.go_next.new.machines c.go_next.new.marks c.nodes.node
+    c.entries.invariant.walk c.go_next.ensures.took in
     let n = x.counts in omega arith
 
 pub entries-preserved : goal.entries-preserved
 entries-preserved g c =
-    let x = walk_next g.M.Machine c.args.traces.now c.entries.front c.entries.machines c.go_next.new.machines
-    c.as_slice-places.result.now c.entries.marks c.go_next.new.marks c.nodes.node c.entries.invariant.walk
-    c.go_next.ensures.took in
+    let x = walk_next g.M.Machine (record {
+      machines = c.entries.machines;
+      traces = c.args.traces.now;
+      front = c.entries.front;
+      places = c.as_slice-places.result.now;
+      marks = c.entries.marks;
+    }) c.go_next.new.machines c.go_next.new.marks c.nodes.node
+    c.entries.invariant.walk c.go_next.ensures.took in
     let n = x.counts in
     let r = c.entries.invariant.rose in
     let each : HavePlaces c.as_slice-places.result.now c.args.traces.now = subst (λ ps. HavePlaces ps c.args.traces.now)
@@ -74,8 +94,13 @@ entries-preserved g c =
       stood = λ rs stand. subst (Stood g.M.Machine (nodes_of rs c.args.traces.now)
           (advance c.entries.front c.nodes.node) c.go_next.new.machines (IsNoted c.as_slice-places.result.now
           c.go_next.new.marks)) (sym c.in-Ok-push.ensures.items)
-          (stood_next g.M.Machine rs c.args.traces.now c.entries.front c.entries.machines c.go_next.new.machines
-          c.as_slice-places.result.now c.entries.marks c.go_next.new.marks c.nodes.node c.may_go_next.result
+          (stood_next g.M.Machine rs (record {
+            machines = c.entries.machines;
+            traces = c.args.traces.now;
+            front = c.entries.front;
+            places = c.as_slice-places.result.now;
+            marks = c.entries.marks;
+          }) c.go_next.new.machines c.go_next.new.marks c.nodes.node c.may_go_next.result
           c.entries.placed.items
           c.entries.invariant.walk c.may_go_next.ensures.judges c.entries-test.true c.go_next.ensures.took
           (got_spot rs c.args.traces.now c.as_slice-places.result.now count each)
@@ -97,10 +122,20 @@ nodes-preserved g c =
       rose = omega arith;
       less = less_then c.nodes.went c.entries.went (sum c.rounds.front) (sum c.nodes.front) (sum c.entries.front)
           c.nodes.invariant.less r2 c.entries.invariant.less r1;
-      none = λ is. blocked_more g.M.Machine c.entries.machines c.args.traces.now (IsNoted c.as_slice-places.result.now
-          c.entries.marks) c.entries.front c.nodes.node (c.entries.invariant.none is)
-          (judged_blocked g.M.Machine c.entries.machines c.args.traces.now (IsNoted c.as_slice-places.result.now
-          c.entries.marks) c.entries.front c.nodes.node c.may_go_next.result c.may_go_next.ensures.judges
+      none = λ is. blocked_more g.M.Machine (record {
+        machines = c.entries.machines;
+        traces = c.args.traces.now;
+        front = c.entries.front;
+        places = c.as_slice-places.result.now;
+        marks = c.entries.marks;
+      }) c.nodes.node (c.entries.invariant.none is)
+          (judged_blocked g.M.Machine (record {
+            machines = c.entries.machines;
+            traces = c.args.traces.now;
+            front = c.entries.front;
+            places = c.as_slice-places.result.now;
+            marks = c.entries.marks;
+          }) c.nodes.node c.may_go_next.result c.may_go_next.ensures.judges
           c.entries-test.false);
     }
 
@@ -128,9 +163,14 @@ returns-in_default-vec-clause-front g c = (
 
 pub returns-in_default-push-clause-front : goal.returns-in_default-push-clause-front
 returns-in_default-push-clause-front g c =
-    let x = walk_next g.M.Machine c.args.traces.now c.entries.front c.entries.machines c.go_next.new.machines
-    c.as_slice-places.result.now c.entries.marks c.go_next.new.marks c.nodes.node c.entries.invariant.walk
-    c.go_next.ensures.took in
+    let x = walk_next g.M.Machine (record {
+      machines = c.entries.machines;
+      traces = c.args.traces.now;
+      front = c.entries.front;
+      places = c.as_slice-places.result.now;
+      marks = c.entries.marks;
+    }) c.go_next.new.machines c.go_next.new.marks c.nodes.node
+    c.entries.invariant.walk c.go_next.ensures.took in
     let each : HavePlaces c.as_slice-places.result.now c.args.traces.now = subst (λ ps. HavePlaces ps c.args.traces.now)
     (sym c.as_slice-places.ensures.value) c.in-Ok.ensures.each in
     let count : length c.as_slice-places.result.now ≡ length c.args.traces.now =
@@ -138,8 +178,13 @@ returns-in_default-push-clause-front g c =
       advance c.entries.front c.nodes.node,
       λ rs stand. merges_cut g.M.Machine (nodes_of rs c.args.traces.now) (advance c.entries.front c.nodes.node)
           c.go_next.new.machines (IsNoted c.as_slice-places.result.now c.go_next.new.marks) _
-          (stood_next g.M.Machine rs c.args.traces.now c.entries.front c.entries.machines c.go_next.new.machines
-          c.as_slice-places.result.now c.entries.marks c.go_next.new.marks c.nodes.node c.may_go_next.result
+          (stood_next g.M.Machine rs (record {
+            machines = c.entries.machines;
+            traces = c.args.traces.now;
+            front = c.entries.front;
+            places = c.as_slice-places.result.now;
+            marks = c.entries.marks;
+          }) c.go_next.new.machines c.go_next.new.marks c.nodes.node c.may_go_next.result
           c.entries.placed.items
           c.entries.invariant.walk c.may_go_next.ensures.judges c.entries-test.true c.go_next.ensures.took
           (got_spot rs c.args.traces.now c.as_slice-places.result.now count each)
@@ -177,8 +222,13 @@ pub returns-clause-front : goal.returns-clause-front
 returns-clause-front g c = (
   c.rounds.front,
   λ rs stand. let k = stand_length g.M.Machine c.args.machines.now rs stand in
-      merges_stuck g.M.Machine rs c.args.traces.now c.rounds.front c.rounds.machines
-      (IsNoted c.as_slice-places.result.now c.rounds.marks) c.rounds.placed.items c.in-Some.node (omega arith)
+      merges_stuck g.M.Machine rs (record {
+        machines = c.rounds.machines;
+        traces = c.args.traces.now;
+        front = c.rounds.front;
+        places = c.as_slice-places.result.now;
+        marks = c.rounds.marks;
+      }) c.rounds.placed.items c.in-Some.node (omega arith)
       (omega arith) (c.rounds.invariant.stood rs stand)
       (c.rounds.invariant.none c.rounds-test.false) c.in-Some.ensures.some.0 c.in-Some.ensures.some.1,
 )

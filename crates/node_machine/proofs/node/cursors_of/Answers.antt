@@ -2,7 +2,7 @@
 use Rattle.std.proofs.Common.{List, None, ap, ◌∙◌}
 use Rattle.job_text.specs.declared.job.NodeScript.{NodeScript}
 use Rattle.job_text.specs.declared.job.ScriptStep.{ScriptStep}
-use Rattle.node_machine.specs.States.{steps_of_thread}
+use Rattle.node_machine.specs.NodeState.{steps_of_thread}
 use Rattle.node_runs.specs.Actions.{Progress}
 use Rattle.node_machine.proofs.Opening.{first_push}
 use Rattle.node_machine.proofs.node.cursors_of.Goals as goal

@@ -1,5 +1,5 @@
 use Rattle.std.proofs.Common.{◌≡◌}
-use Rattle.credit_slots.specs.State.{slot_count}
+use Rattle.credit_slots.specs.SlotsState.{slot_count}
 use Rattle.part_tests.proofs.credit_slots_tests.check_deeds.Given as goal
 
 -- its slots towards node 1 stay

@@ -2,10 +2,10 @@ use Rattle.std.proofs.Common.{ℕ, ◌≡◌, ◌<◌, Option, Some, None, List,
 use Rattle.std.specs.Prelude.{IsSomeAnd}
 use Rattle.std.specs.Option.{option_map}
 use Rattle.lists.specs.Cut.{count_at}
-use Rattle.slot_table.specs.State.{SlotState, with_written as slot_written}
-use Rattle.slot_table.specs.State.{IsOpened as SlotOpened, opened_bytes as slot_bytes}
-use Rattle.reply_slots.specs.State.{ReplyState, RepliesState, slot_at, with_slot_changed, with_written}
-use Rattle.reply_slots.specs.State.{IsOpened, opened_bytes}
+use Rattle.slot_table.specs.TableState.{SlotState, with_written as slot_written}
+use Rattle.slot_table.specs.TableState.{IsOpened as SlotOpened, opened_bytes as slot_bytes}
+use Rattle.reply_slots.specs.RepliesState.{ReplyState, RepliesState, slot_at, with_slot_changed, with_written}
+use Rattle.reply_slots.specs.RepliesState.{IsOpened, opened_bytes}
 use Rattle.reply_slots.specs.Views.{reply_of}
 use Rattle.reply_slots.proofs.Viewed.{changed-is, written-is, slot-is}
 use Rattle.reply_slots.proofs.Viewed.{bytes-is, opened-is, replies-after, number-written, said-of, slot-there}

@@ -2,8 +2,8 @@ use Rattle.std.proofs.Common.{◌≡◌, ◌<◌, Some, ap, sym, ◌∙◌}
 use Rattle.std.specs.Prelude.{option_and_then}
 use Rattle.std.specs.Option.{option_map}
 use Rattle.lists.specs.Cut.{count_at}
-use Rattle.slot_table.specs.State.{message_of as slot_message}
-use Rattle.reply_slots.specs.State.{RepliesState, slot_at, message_of}
+use Rattle.slot_table.specs.TableState.{message_of as slot_message}
+use Rattle.reply_slots.specs.RepliesState.{RepliesState, slot_at, message_of}
 use Rattle.reply_slots.specs.Views.{reply_of}
 use Rattle.reply_slots.proofs.Viewed.{slot-is, in-range, message-is}
 use Rattle.reply_slots.proofs.ReplySlots.bytes.Goals as goal

@@ -1,5 +1,5 @@
 use Rattle.std.proofs.Common.{ap, sym, ◌∙◌}
-use Rattle.reply_slots.specs.State.{held_count}
+use Rattle.reply_slots.specs.RepliesState.{held_count}
 use Rattle.reply_slots.proofs.Viewed.{held-is}
 use Rattle.reply_slots.proofs.ReplySlots.held.Goals as goal
 

@@ -2,8 +2,8 @@ use Rattle.std.proofs.Common.{ℕ, ◌≡◌, ◌<◌, Option, Some, ap, sym, �
 use Rattle.std.specs.Prelude.{option_and_then, IfSome}
 use Rattle.std.specs.Option.{option_map, unwrap_or}
 use Rattle.lists.specs.Cut.{count_at}
-use Rattle.slot_table.specs.State.{number_of}
-use Rattle.reply_slots.specs.State.{ReplyState, RepliesState, slot_at, last_number, Judges}
+use Rattle.slot_table.specs.TableState.{number_of}
+use Rattle.reply_slots.specs.RepliesState.{ReplyState, RepliesState, slot_at, last_number, Judges}
 use Rattle.reply_slots.specs.declared.Judged.TheVariants.{New, Again, Stale}
 use Rattle.reply_slots.specs.Views.{reply_of}
 use Rattle.reply_slots.proofs.Viewed.{slot-is, in-range, last-is}

@@ -1,8 +1,8 @@
 use Rattle.std.proofs.Common.{length, ap, ◌∙◌, length-set}
 use Rattle.std.specs.Prelude.{slice_get, map}
 use Rattle.lists.proofs.Cut.{length-cut}
-use Rattle.slot_table.specs.State.{TableState}
-use Rattle.slot_table.specs.State.{counts_of, new_table}
+use Rattle.slot_table.specs.TableState.{TableState}
+use Rattle.slot_table.specs.TableState.{counts_of, new_table}
 use Rattle.reply_slots.specs.Views.{reply_of, replies_view}
 use Rattle.reply_slots.proofs.Viewed.{parts-new}
 use Rattle.reply_slots.proofs.ReplySlots.new.Goals as goal

@@ -1,7 +1,7 @@
 use Rattle.std.proofs.Common.{◌≡◌, ◌<◌, ap, sym, ◌∙◌, subst, refl, arith}
 use Rattle.lists.specs.Cut.{count_at}
-use Rattle.slot_table.specs.State.{Opened}
-use Rattle.reply_slots.specs.State.{Opened as Placed, RepliesState, with_slot_changed}
+use Rattle.slot_table.specs.TableState.{Opened}
+use Rattle.reply_slots.specs.RepliesState.{Opened as Placed, RepliesState, with_slot_changed}
 use Rattle.reply_slots.specs.Views.{replies_view, IsReplies}
 use Rattle.reply_slots.proofs.Viewed.{changed-is, in-range, replies-after}
 use Rattle.reply_slots.proofs.ReplySlots.open.Goals as goal

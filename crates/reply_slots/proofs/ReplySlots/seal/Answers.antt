@@ -1,7 +1,7 @@
 use Rattle.std.proofs.Common.{◌<◌, ap, sym, ◌∙◌, subst}
 use Rattle.lists.specs.Cut.{count_at}
-use Rattle.slot_table.specs.State.{sealed as slot_sealed}
-use Rattle.reply_slots.specs.State.{RepliesState, with_slot_changed, sealed}
+use Rattle.slot_table.specs.TableState.{sealed as slot_sealed}
+use Rattle.reply_slots.specs.RepliesState.{RepliesState, with_slot_changed, sealed}
 use Rattle.reply_slots.specs.Views.{replies_view, IsReplies}
 use Rattle.reply_slots.proofs.Viewed.{changed-is, sealed-is, in-range, replies-after, number-sealed}
 use Rattle.reply_slots.proofs.ReplySlots.seal.Goals as goal

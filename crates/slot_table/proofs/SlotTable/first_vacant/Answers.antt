@@ -4,8 +4,8 @@ use Rattle.std.specs.Prelude.{slice_get, map}
 use lib.Lanes.{mask_l}
 use lib.Count.{count_trailing_zeros}
 use Rattle.lists.proofs.Indexes.{read-at}
-use Rattle.slot_table.specs.State.{TableState, is_vacant}
-use Rattle.slot_table.specs.State.{slots_of}
+use Rattle.slot_table.specs.TableState.{TableState, is_vacant}
+use Rattle.slot_table.specs.TableState.{slots_of}
 use Rattle.slot_table.proofs.Viewed.{mask-is, slots-short, first-none, first-some}
 use Rattle.slot_table.proofs.Viewed.{peers-inside}
 use Rattle.slot_table.proofs.SlotTable.first_vacant.Goals as goal

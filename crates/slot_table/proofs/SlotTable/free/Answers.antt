@@ -5,8 +5,8 @@ use lib.Lanes.{mask_l}
 use lib.Count.{ones}
 use Rattle.std.proofs.lemmas.Simd.{ones-mask_l}
 use Rattle.lists.proofs.Indexes.{read-at}
-use Rattle.slot_table.specs.State.{TableState, is_vacant}
-use Rattle.slot_table.specs.State.{slots_of}
+use Rattle.slot_table.specs.TableState.{TableState, is_vacant}
+use Rattle.slot_table.specs.TableState.{slots_of}
 use Rattle.slot_table.proofs.Viewed.{mask-is}
 use Rattle.slot_table.proofs.Viewed.{peers-inside}
 use Rattle.slot_table.proofs.SlotTable.free.Goals as goal

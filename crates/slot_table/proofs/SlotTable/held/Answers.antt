@@ -1,7 +1,7 @@
 use Rattle.std.proofs.Common.{◌<◌, ap, sym}
 use Rattle.std.proofs.Common.{◌∙◌, arith}
 use Rattle.std.specs.Prelude.{count_by}
-use Rattle.slot_table.specs.State.{TableState, is_taken}
+use Rattle.slot_table.specs.TableState.{TableState, is_taken}
 use Rattle.slot_table.proofs.Masks.{held-small}
 use Rattle.slot_table.proofs.Viewed.{taken-views}
 use Rattle.slot_table.proofs.SlotTable.held.Goals as goal

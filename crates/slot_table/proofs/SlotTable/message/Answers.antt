@@ -4,7 +4,7 @@ use Rattle.std.specs.Prelude.{slice_get, option_and_then}
 use Rattle.std.proofs.lemmas.List.{length-take-le}
 use Rattle.lists.specs.Cut.{start_of}
 use Rattle.slot_table.specs.declared.Contents.{Contents}
-use Rattle.slot_table.specs.State.{message_of}
+use Rattle.slot_table.specs.TableState.{message_of}
 use Rattle.slot_table.specs.Views.{slot_view, peer_counts, FitsBuffer}
 use Rattle.slot_table.proofs.Viewed.{here}
 use Rattle.std.proofs.lemmas.Option.{same_Some}

@@ -2,7 +2,7 @@ use Rattle.std.proofs.Common.{ap, sym}
 use Rattle.std.proofs.Common.{◌∙◌}
 use Rattle.std.specs.Prelude.{option_and_then}
 use Rattle.slot_table.specs.declared.Contents.{Contents}
-use Rattle.slot_table.specs.State.{message_number}
+use Rattle.slot_table.specs.TableState.{message_number}
 use Rattle.slot_table.specs.Views.{slot_view}
 use Rattle.slot_table.proofs.Viewed.{here}
 use Rattle.slot_table.proofs.Viewed.{not-message}

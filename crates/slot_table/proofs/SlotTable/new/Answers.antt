@@ -4,7 +4,7 @@ use Rattle.std.proofs.lemmas.Option.{slice_get-get_or}
 use Rattle.std.proofs.lemmas.List.{length-replicate}
 use Rattle.slot_table.proofs.New.{made-more, made-fits, made-counted, made-buffered, made-view}
 use Rattle.slot_table.proofs.New.{start-most, narrow-count, total-small}
-use Rattle.slot_table.specs.State.{counts_of}
+use Rattle.slot_table.specs.TableState.{counts_of}
 use Rattle.slot_table.proofs.SlotTable.new.Goals as goal
 
 pub overflow_add-first : goal.overflow_add-first

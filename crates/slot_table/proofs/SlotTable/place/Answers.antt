@@ -1,6 +1,6 @@
 use Rattle.std.proofs.Common.{length, ap}
 use Rattle.std.proofs.Common.{arith}
-use Rattle.slot_table.specs.State.{TableState}
+use Rattle.slot_table.specs.TableState.{TableState}
 use Rattle.slot_table.proofs.Viewed.{length-views}
 use Rattle.slot_table.proofs.SlotTable.place.Goals as goal
 

@@ -3,8 +3,8 @@ use Rattle.std.proofs.Common.{◌∙◌, subst}
 use Rattle.std.specs.Prelude.{option_and_then}
 use Rattle.slot_table.specs.declared.Contents.{Contents}
 use Rattle.slot_table.specs.declared.Contents.TheVariants.{Message}
-use Rattle.slot_table.specs.State.{opened_time}
-use Rattle.slot_table.specs.State.{sealed}
+use Rattle.slot_table.specs.TableState.{opened_time}
+use Rattle.slot_table.specs.TableState.{sealed}
 use Rattle.slot_table.specs.Views.{slot_view, IsBuffered}
 use Rattle.slot_table.proofs.Viewed.{here, view-changed, change-is, change-none, buffered-after}
 use Rattle.slot_table.proofs.Viewed.{not-draft}

@@ -2,7 +2,7 @@ use Rattle.std.proofs.Common.{List, ap, sym}
 use Rattle.std.proofs.Common.{◌∙◌, subst}
 use Rattle.slot_table.specs.declared.Contents.{Contents}
 use Rattle.slot_table.specs.declared.Contents.TheVariants.{Message}
-use Rattle.slot_table.specs.State.{sent_again}
+use Rattle.slot_table.specs.TableState.{sent_again}
 use Rattle.slot_table.specs.Views.{slot_view, FitsBuffer, IsBuffered}
 use Rattle.slot_table.proofs.Viewed.{here, view-changed, change-is, change-none, buffered-after}
 use Rattle.slot_table.proofs.Viewed.{not-message}

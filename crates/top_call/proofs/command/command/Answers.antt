@@ -2,7 +2,8 @@ use Rattle.std.proofs.Common.{Some, None, map, refl, string_bytes, subst}
 use Rattle.top_call.specs.Commands.{Asks}
 use Rattle.top_call.specs.declared.ending.End.TheVariants as ends
 use Rattle.top_call.specs.declared.words.Command.TheVariants as commands
-use Rattle.top_call.proofs.CallEnds.{alone, says_alone, weak_usage}
+use Rattle.top_call.proofs.LastLine.{alone, says_alone}
+use Rattle.top_call.proofs.NoCommand.{weak_usage}
 use Rattle.top_call.proofs.command.command.Goals as goal
 
 pub returns-in-Some-World : goal.returns-in-Some-World
@@ -12,6 +13,13 @@ returns-in-Some-World g c = record {
   ends = c.world_command.ensures;
 }
 
+pub returns-in-Some-Upgrade : goal.returns-in-Some-Upgrade
+returns-in-Some-Upgrade g c = record {
+  asked = Some commands.Upgrade;
+  asked_is = subst (Asks (map string_bytes c.args.words.now)) c.in-Some-Upgrade.field-0-is c.in-Some-Upgrade.ensures;
+  ends = c.upgrade_command.ensures;
+}
+
 pub returns-in-Some-Drill : goal.returns-in-Some-Drill
 returns-in-Some-Drill g c = record {
   asked = Some (commands.Drill c.in-Some-Drill.seed);
@@ -19,9 +27,18 @@ returns-in-Some-Drill g c = record {
   ends = c.drill_command.ensures;
 }
 
+pub returns-in-Some-Node : goal.returns-in-Some-Node
+returns-in-Some-Node g c = record {
+  asked = Some (commands.Node c.in-Some-Node.rank c.in-Some-Node.port);
+  asked_is = subst (Asks (map string_bytes c.args.words.now)) c.in-Some-Node.field-0-is c.in-Some-Node.ensures;
+  ends = c.node_command.ensures;
+}
+
 pub returns-in-None : goal.returns-in-None
 returns-in-None g c = record {
   asked = None;
   asked_is = c.in-None.ensures;
-  ends = says_alone _ _ _ ends.Usage c.say.result weak_usage tt (refl, alone ends.Usage) c.say.ensures;
+  ends =
+      let says = rw c.nothing.ensures at c.say.ensures in
+      says_alone _ _ _ ends.Usage c.say.result weak_usage tt (refl, alone ends.Usage) says;
 }

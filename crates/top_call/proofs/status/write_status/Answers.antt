@@ -20,3 +20,12 @@ returns-in-WriteFault g c = rw c.in-WriteFault.is c.write_named-in-WriteFault.en
 
 pub returns-in-NoMemory : goal.returns-in-NoMemory
 returns-in-NoMemory g c = rw c.in-NoMemory.is c.write_named-in-NoMemory.ensures
+
+pub returns-in-LinkFault : goal.returns-in-LinkFault
+returns-in-LinkFault g c = rw c.in-LinkFault.is c.write_named-in-LinkFault.ensures
+
+pub returns-in-Stuck : goal.returns-in-Stuck
+returns-in-Stuck g c = rw c.in-Stuck.is c.write_named-in-Stuck.ensures
+
+pub returns-in-JournalFull : goal.returns-in-JournalFull
+returns-in-JournalFull g c = rw c.in-JournalFull.is c.write_named-in-JournalFull.ensures

@@ -1,4 +1,4 @@
-use Rattle.std.proofs.Common.{◌≡◌, ℕ, List, [], ◌∷◌, length, map, get_or, refl, sym, ap, subst, ◌∙◌, arith, string_bytes}
+use Rattle.std.proofs.Common.{◌≡◌, List, [], ◌∷◌, length, map, get_or, refl, sym, ap, subst, ◌∙◌, arith, string_bytes}
 use Rattle.std.proofs.lemmas.List.{length-map}
 use Rattle.node_script.specs.Lines.{Word}
 use Rattle.top_call.specs.Commands.{IsAsked}
@@ -17,6 +17,14 @@ two_words f [] d e h = absurd (omega arith)
 two_words f (w ∷ []) d e h = absurd (omega arith)
 two_words f (w ∷ v ∷ []) d e h = refl
 two_words f (w ∷ v ∷ u ∷ ws) d e h = absurd (omega arith)
+
+three_words : {A B : Type 0} (f : A → B) (words : List A) (d e g : A) → length words ≡ 3
+    → map f words ≡ f (get_or words 0 d) ∷ f (get_or words 1 e) ∷ f (get_or words 2 g) ∷ []
+three_words f [] d e g h = absurd (omega arith)
+three_words f (w ∷ []) d e g h = absurd (omega arith)
+three_words f (w ∷ v ∷ []) d e g h = absurd (omega arith)
+three_words f (w ∷ v ∷ u ∷ []) d e g h = refl
+three_words f (w ∷ v ∷ u ∷ t ∷ ws) d e g h = absurd (omega arith)
 
 pub returns-in-len1 : goal.returns-in-len1
 returns-in-len1 c =
@@ -39,8 +47,10 @@ pub returns-in_default : goal.returns-in_default
 returns-in_default c =
     let long = length-map c.args.words.now string_bytes in
     other_count _ (λ one. absurd (omega (arith, long, one))) (λ two. absurd (omega (arith, long, two)))
+    (λ three. absurd (omega (arith, long, three)))
 
 pub returns-in_default-2 : goal.returns-in_default-2
 returns-in_default-2 c =
     let long = length-map c.args.words.now string_bytes in
     other_count _ (λ one. absurd (omega (arith, long, one))) (λ two. absurd (omega (arith, long, two)))
+    (λ three. absurd (omega (arith, long, three)))

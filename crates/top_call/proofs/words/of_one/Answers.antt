@@ -1,6 +1,6 @@
 use Rattle.std.proofs.Common.{codes, sym, ◌∙◌}
 use Rattle.std.proofs.lemmas.Slice.Eq.{bytes_eq-Decides}
-use Rattle.top_call.proofs.AskedWords.{asks_world, one_other}
+use Rattle.top_call.proofs.AskedWords.{asks_upgrade, asks_world, one_other}
 use Rattle.top_call.proofs.words.of_one.Goals as goal
 
 pub returns-then-eq : goal.returns-then-eq
@@ -8,10 +8,19 @@ returns-then-eq c =
     asks_world c.args.word.now
     ((bytes_eq-Decides c.args.word.now (codes "world")).0 (sym c.eq.ensures ∙ c.if-eq.true))
 
-pub returns-else-eq : goal.returns-else-eq
-returns-else-eq c =
+pub returns-then-eq-2 : goal.returns-then-eq-2
+returns-then-eq-2 c =
+    asks_upgrade c.args.word.now
+    ((bytes_eq-Decides c.args.word.now (codes "upgrade")).0 (sym c.eq-else-eq.ensures ∙ c.if-eq-2.true))
+
+pub returns-else-eq-2 : goal.returns-else-eq-2
+returns-else-eq-2 c =
     one_other c.args.word.now
     (λ is.
     let yes = c.eq.ensures ∙ (bytes_eq-Decides c.args.word.now (codes "world")).1 is in
     let no = c.if-eq.false in
+    absurd (cc))
+    (λ is.
+    let yes = c.eq-else-eq.ensures ∙ (bytes_eq-Decides c.args.word.now (codes "upgrade")).1 is in
+    let no = c.if-eq-2.false in
     absurd (cc))

@@ -1,5 +1,5 @@
 use Rattle.std.proofs.Common.{◌≡◌, ◌-◌, ◌<◌, sym, ap, ◌∙◌, arith}
-use Rattle.handler_rules.specs.Logged.{Logged}
+use Rattle.handler_rules.specs.LogState.{Logged}
 use Rattle.world_run.specs.RunText.{any_violation}
 use Rattle.world_run.proofs.EndText.{any_passed, any_found}
 use Rattle.world_run.proofs.output.any_violation.Goals as goal

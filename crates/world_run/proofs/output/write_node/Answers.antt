@@ -2,7 +2,7 @@ use Rattle.std.proofs.Common.{◌≡◌, ◌≤◌, length, map, refl, ap, subst
 use Rattle.datagram_grammar.specs.Parameters.{Parameters}
 use Rattle.gas_outside.specs.Buffered.{GathersAll, outbox}
 use Rattle.gas_outside.proofs.Outboxes.{nothing_yet, past_done, past_fault, past_last}
-use Rattle.handler_rules.specs.Logged.{Logged}
+use Rattle.handler_rules.specs.LogState.{Logged}
 use Rattle.node_record.specs.Held.{held}
 use Rattle.node_script.specs.Lines.{spell}
 use Rattle.world_run.specs.RunText.{violation_line}

@@ -1,7 +1,7 @@
 use Rattle.std.proofs.Common.{rules, sym, subst, ℕ, take}
 use Rattle.node_record.specs.declared.answer.Side.TheVariants as side
-use Rattle.credit_slots.specs.State.{IsNew}
-use Rattle.reply_slots.specs.State.{IsNew as IsNewReplies}
+use Rattle.credit_slots.specs.SlotsState.{IsNew}
+use Rattle.reply_slots.specs.RepliesState.{IsNew as IsNewReplies}
 use Rattle.am_core.specs.Sizes.{AreSlots}
 use Rattle.am_core.proofs.CoreStands.{core_opens}
 use Rattle.am_core.proofs.Sized.{sized_new}

@@ -1,5 +1,5 @@
 use Rattle.std.proofs.Common.{ap, ◌∙◌}
-use Rattle.credit_slots.specs.State.{is_worn_out}
+use Rattle.credit_slots.specs.SlotsState.{is_worn_out}
 use Rattle.am_core.specs.CoreState.{CoreState}
 use Rattle.am_core.proofs.Readings.{worn_out_is}
 use Rattle.am_core.proofs.node.Core.worn_out.Goals as goal

@@ -14,7 +14,12 @@ returns-then-entry c =
     let entry = c.index-entry.result.now in
     let at : slice_get entries c.args.place ≡ Some entry =
     read-at entries c.args.place entry
-    (omega (arith, c.requires, ap (λ (dues : List (Option Due)). length dues) c.self.view_is, length-map entries due_view))
+    (omega (
+      arith,
+      c.requires,
+      ap (λ (dues : List (Option Due)). length dues) c.self.view_is,
+      length-map entries due_view,
+    ))
     c.index-entry.ensures in
     sym (ap (λ (dues : List (Option Due)). slice_get dues c.args.place) (sym c.self.view_is)
     ∙ slice_get-map due_view entries c.args.place ∙ ap (option_map due_view) at
@@ -26,7 +31,12 @@ returns-else-entry c =
     let entry = c.index-entry.result.now in
     let at : slice_get entries c.args.place ≡ Some entry =
     read-at entries c.args.place entry
-    (omega (arith, c.requires, ap (λ (dues : List (Option Due)). length dues) c.self.view_is, length-map entries due_view))
+    (omega (
+      arith,
+      c.requires,
+      ap (λ (dues : List (Option Due)). length dues) c.self.view_is,
+      length-map entries due_view,
+    ))
     c.index-entry.ensures in
     sym (ap (λ (dues : List (Option Due)). slice_get dues c.args.place) (sym c.self.view_is)
     ∙ slice_get-map due_view entries c.args.place ∙ ap (option_map due_view) at

@@ -50,7 +50,8 @@ returns-then-is_some c = λ range.
 pub overflow_sub-sum : goal.overflow_sub-sum
 overflow_sub-sum c =
     let pair = pair_of c.args.from c.args.to c.args.credits in
-    let none = sym c.own_credits.ensures ∙ is_none_of c.own_credits.result (sym c.is_some.ensures ∙ c.if-is_some.false) in
+    let none = sym c.own_credits.ensures
+    ∙ is_none_of c.own_credits.result (sym c.is_some.ensures ∙ c.if-is_some.false) in
     let total = sum_added c.self.inside pair c.self.invariant (record {
       from = c.if-from-self.false;
       to = c.if-to-self.false;
@@ -84,7 +85,8 @@ taken c =
       some_credit = c.if-credits-lt1.false;
       credits = c.if-credits-gt32.false;
     } in
-    let none = sym c.own_credits.ensures ∙ is_none_of c.own_credits.result (sym c.is_some.ensures ∙ c.if-is_some.false) in
+    let none = sym c.own_credits.ensures
+    ∙ is_none_of c.own_credits.result (sym c.is_some.ensures ∙ c.if-is_some.false) in
     let total = sum_added c.self.inside pair c.self.invariant good none in
     record {
       takes = record {

@@ -4,7 +4,7 @@ use Rattle.am_core.specs.AskedFor.{ask_of}
 use Rattle.endpoint_rules.specs.EndpointRules.{RecordEvent, transition, asked_answer}
 use Rattle.endpoint_rules.specs.Called.{called}
 use Rattle.endpoint_rules.specs.declared.answer.Answer.{Answer}
-use Rattle.gas_endpoint.specs.Endpoints.{EndpointState, NodeSteps}
+use Rattle.gas_endpoint.specs.EndpointState.{EndpointState, NodeSteps}
 use Rattle.gas_endpoint.specs.Parts.{endpoint_of}
 use Rattle.gas_endpoint.proofs.Calling.{same_extended}
 use Rattle.gas_endpoint.proofs.Stepping.{stays_whole, has_next}
@@ -17,10 +17,14 @@ invariant_of-self g c =
     let extended = c.self.inside.extended in
     let N = request_steps (g.H.Handlers.meaning c.args.handlers.now) core c.request.new.self extended c.args.now
     (ask_of c.in-Some.asking) c.request.result (g.met.H.Handlers.is_lawful c.args.handlers.now) c.request.ensures in
-    stays_whole (record { core = core; extended = extended }) (record { core = c.request.new.self; extended = extended })
+    stays_whole (record {
+      core = core;
+      extended = extended;
+    }) (record { core = c.request.new.self; extended = extended })
     c.self.invariant N.same (same_extended extended)
     (has_next (g.H.Handlers.meaning c.args.handlers.now) (endpoint_of core extended)
-    (endpoint_of c.request.new.self extended) c.args.now (Asks (ask_of c.in-Some.asking)) (asked_answer c.request.result)
+    (endpoint_of c.request.new.self extended) c.args.now (Asks (ask_of c.in-Some.asking))
+    (asked_answer c.request.result)
     N c.self.invariant.record_)
 
 pub returns-in-Some : goal.returns-in-Some

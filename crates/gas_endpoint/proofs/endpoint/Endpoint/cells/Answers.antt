@@ -1,7 +1,7 @@
 use Rattle.std.proofs.Common.{◌≡◌, subst}
 use Rattle.node_record.specs.Under.{under}
 use Rattle.endpoint_rules.specs.EndpointLocal.{core_of}
-use Rattle.gas_endpoint.specs.Endpoints.{EndpointState, ForItsRecord}
+use Rattle.gas_endpoint.specs.EndpointState.{EndpointState, ForItsRecord}
 use Rattle.gas_endpoint.proofs.endpoint.Endpoint.cells.Goals as goal
 
 pub returns : goal.returns

@@ -1,7 +1,7 @@
 use Rattle.std.proofs.Common.{subst, arith}
 use Rattle.endpoint_rules.specs.EndpointRules.{transition}
 use Rattle.endpoint_rules.specs.declared.answer.Answer.TheVariants as answers
-use Rattle.gas_endpoint.specs.Endpoints.{EndpointState, BytesCome}
+use Rattle.gas_endpoint.specs.EndpointState.{EndpointState, BytesCome}
 use Rattle.gas_endpoint.specs.Parts.{endpoint_of}
 use Rattle.gas_endpoint.proofs.Delivering.{bytes_steps, bytes_whole}
 use Rattle.gas_endpoint.proofs.endpoint.Endpoint.deliver.Goals as goal
@@ -10,7 +10,8 @@ pub invariant_of-self : goal.invariant_of-self
 invariant_of-self g c =
     bytes_whole (g.H.Handlers.meaning c.args.handlers.now) c.self.inside.core c.deliver-answer.new.self
     c.self.inside.extended c.hear.new.self c.args.bytes.now c.deliver-answer.result
-    (g.met.H.Handlers.is_lawful c.args.handlers.now) (λ i. omega (arith, c.type_inv.bytes i)) c.self.invariant c.deliver-answer.ensures c.hear.ensures
+    (g.met.H.Handlers.is_lawful c.args.handlers.now) (λ i. omega (arith, c.type_inv.bytes i)) c.self.invariant
+    c.deliver-answer.ensures c.hear.ensures
 
 pub returns : goal.returns
 returns g c =

@@ -3,7 +3,7 @@ use Rattle.node_record.specs.Credits.{greatest_holding}
 use Rattle.node_record.specs.Held.{held}
 use Rattle.node_record.specs.Under.{under}
 use Rattle.endpoint_rules.specs.EndpointLocal.{core_of}
-use Rattle.gas_endpoint.specs.Endpoints.{EndpointState, ForItsRecord}
+use Rattle.gas_endpoint.specs.EndpointState.{EndpointState, ForItsRecord}
 use Rattle.gas_endpoint.proofs.endpoint.Endpoint.held.Goals as goal
 
 pub returns-clause-is : goal.returns-clause-is

@@ -1,7 +1,7 @@
 use Rattle.std.proofs.Common.{ap, sym, subst, ◌∙◌}
 use Rattle.datagram_grammar.specs.Parameters.{Parameters}
 use Rattle.endpoint_rules.specs.declared.answer.Answer.TheVariants as answers
-use Rattle.gas_endpoint.specs.Endpoints.{EndpointState, MayBeCalled}
+use Rattle.gas_endpoint.specs.EndpointState.{EndpointState, MayBeCalled}
 use Rattle.gas_endpoint.specs.Parts.{CallSteps, endpoint_of}
 use Rattle.gas_endpoint.proofs.Stepping.{nothing_runs}
 use Rattle.gas_endpoint.proofs.Calling.{allowed_whole, allowed_steps, forbidden_steps, same_extended, call_whole}

@@ -1,8 +1,8 @@
 use Rattle.std.proofs.Common.{◌≡◌, subst}
-use Rattle.handler_rules.specs.Logged.{log_of}
+use Rattle.handler_rules.specs.LogState.{log_of}
 use Rattle.node_record.specs.Under.{under}
 use Rattle.endpoint_rules.specs.EndpointLocal.{core_of}
-use Rattle.gas_endpoint.specs.Endpoints.{EndpointState, ForItsRecord}
+use Rattle.gas_endpoint.specs.EndpointState.{EndpointState, ForItsRecord}
 use Rattle.gas_endpoint.proofs.endpoint.Endpoint.log.Goals as goal
 
 pub returns : goal.returns

@@ -3,7 +3,7 @@ use Rattle.std.specs.Prelude.{option_copied}
 use Rattle.node_record.specs.SlotMessages.{message_at}
 use Rattle.node_record.specs.Under.{under}
 use Rattle.endpoint_rules.specs.EndpointLocal.{core_of}
-use Rattle.gas_endpoint.specs.Endpoints.{EndpointState, ForItsRecord}
+use Rattle.gas_endpoint.specs.EndpointState.{EndpointState, ForItsRecord}
 use Rattle.gas_endpoint.proofs.endpoint.Endpoint.message.Goals as goal
 
 pub returns : goal.returns

@@ -3,7 +3,7 @@ use Rattle.std.specs.Prelude.{None, Some}
 use Rattle.am_core.specs.Library.{Note}
 use Rattle.put_get.specs.Operation.{target}
 use Rattle.endpoint_rules.specs.EndpointRules.{chunk_work}
-use Rattle.gas_endpoint.specs.Endpoints.{EndpointState, IsTickTarget}
+use Rattle.gas_endpoint.specs.EndpointState.{EndpointState, IsTickTarget}
 use Rattle.gas_endpoint.specs.Parts.{endpoint_of}
 use Rattle.gas_endpoint.proofs.Ticks.{FindsNote, TellsDue, target_due, target_next, target_none, note_next, chunk_next}
 use Rattle.gas_endpoint.proofs.Ticks.{nothing_next, note_may, chunk_may}

@@ -2,7 +2,7 @@ use Rattle.std.proofs.Common.{sym, subst}
 use Rattle.endpoint_rules.specs.EndpointRules.{transition}
 use Rattle.endpoint_rules.specs.declared.call.Event.{Event}
 use Rattle.endpoint_rules.specs.declared.answer.Answer.TheVariants as answers
-use Rattle.gas_endpoint.specs.Endpoints.{EndpointSteps}
+use Rattle.gas_endpoint.specs.EndpointState.{EndpointSteps}
 use Rattle.gas_endpoint.proofs.endpoint.Endpoint.step_as_recorded.Goals as goal
 
 pub returns-in-Tick : goal.returns-in-Tick

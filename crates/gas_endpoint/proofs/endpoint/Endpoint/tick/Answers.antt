@@ -7,7 +7,7 @@ use Rattle.am_core.specs.Library.{Note}
 use Rattle.put_get.specs.Operation.{target}
 use Rattle.endpoint_rules.specs.EndpointRules.{transition, chunk_work}
 use Rattle.endpoint_rules.specs.declared.answer.Answer.TheVariants as answers
-use Rattle.gas_endpoint.specs.Endpoints.{EndpointState, NodeSteps}
+use Rattle.gas_endpoint.specs.EndpointState.{EndpointState, NodeSteps}
 use Rattle.gas_endpoint.specs.Parts.{IsWhole, endpoint_of}
 use Rattle.gas_endpoint.proofs.Stepping.{nothing_runs, nothing_lawful, same_node}
 use Rattle.gas_endpoint.proofs.Ticks.{CoreTicks, FindsNote, resend_steps, rests_whole, sent_steps, rest_steps}

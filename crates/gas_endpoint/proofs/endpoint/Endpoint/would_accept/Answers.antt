@@ -12,7 +12,7 @@ use Rattle.endpoint_rules.specs.EndpointLocal.{core_of}
 use Rattle.endpoint_rules.specs.EndpointRules.{transition}
 use Rattle.endpoint_rules.specs.declared.call.Event.{Event}
 use Rattle.endpoint_rules.proofs.Over.{endpoint_over}
-use Rattle.gas_endpoint.specs.Endpoints.{EndpointState, WouldAcceptCall, WouldAcceptAt, job_here}
+use Rattle.gas_endpoint.specs.EndpointState.{EndpointState, WouldAcceptCall, WouldAcceptAt, job_here}
 use Rattle.gas_endpoint.specs.Parts.{endpoint_of, HasRecord}
 use Rattle.gas_endpoint.proofs.Ticks.{one_target}
 use Rattle.gas_endpoint.proofs.endpoint.Endpoint.would_accept.Goals as goal
@@ -33,7 +33,8 @@ returns-in-Some c =
     (subst (λ (e : EndpointState). WouldAcceptCall e c.in-Call.thread (meant c.in-Call.call) would) c.self.view_is
     (subst (λ m. WouldAcceptCall (endpoint_of core extended) c.in-Call.thread m would) (sym c.in-Some.ensures.1)
     (λ meaning node S.
-    subst (λ t. would ≡ is_accepted (request_answer (site_of (job_here meaning (endpoint_of core extended)) core.me) node
+    subst (λ t. would
+    ≡ is_accepted (request_answer (site_of (job_here meaning (endpoint_of core extended)) core.me) node
     (record { thread = t; to = asking.to; what = asking_of asking }))) c.in-Some.ensures.0
     (c.would_accept.ensures meaning (under core_of node) S.core
     ∙ ap is_accepted (sym (request_alike core_of (rules core.settings core.table meaning)

@@ -7,20 +7,26 @@ use Rattle.node_record.specs.NodeStep.{site_of}
 use Rattle.node_record.specs.Under.{under}
 use Rattle.am_core.specs.ClientRules.{rules}
 use Rattle.endpoint_rules.specs.EndpointLocal.{core_of}
-use Rattle.gas_endpoint.specs.Endpoints.{job_here}
+use Rattle.gas_endpoint.specs.EndpointState.{job_here}
 use Rattle.gas_endpoint.specs.Parts.{endpoint_of}
 use Rattle.gas_endpoint.proofs.Flags.{flag-none, flags_more, flags_above}
 use Rattle.gas_endpoint.proofs.extended.Extended.can.Goals as goal
 
 pub loop-to-init : goal.loop-to-init
-loop-to-init c = record { many = length-replicate 256 false; below = λ meaning node S to low. absurd (omega (arith, low)); above = λ to high. flag-none 256 to }
+loop-to-init c = record {
+  many = length-replicate 256 false;
+  below = λ meaning node S to low. absurd (omega (arith, low));
+  above = λ to high. flag-none 256 to;
+}
 
 pub loop-to-preserved : goal.loop-to-preserved
 loop-to-preserved c = record {
   many = length-set c.loop-to.can c.loop-to.to c.can_ask.result ∙ c.loop-to.invariant.many;
   below = λ meaning node S.
-      flags_more (can_ask (site_of (job_here meaning (endpoint_of c.args.core.now c.args.self.now)) c.args.core.now.me) node)
-      c.loop-to.can c.loop-to.to c.can_ask.result (omega (arith, c.requires.few, c.requires.nodes, c.loop-to.invariant.many))
+      flags_more (can_ask (site_of (job_here meaning (endpoint_of c.args.core.now c.args.self.now)) c.args.core.now.me)
+      node)
+      c.loop-to.can c.loop-to.to c.can_ask.result
+      (omega (arith, c.requires.few, c.requires.nodes, c.loop-to.invariant.many))
       (c.can_ask.ensures (rules c.args.core.now.settings c.args.core.now.table meaning) (under core_of node) S.core)
       (c.loop-to.invariant.below meaning node S);
   above = flags_above c.loop-to.can c.loop-to.to c.can_ask.result c.loop-to.invariant.above;

@@ -5,7 +5,7 @@ use Rattle.node_record.specs.Step.{can_ask}
 use Rattle.node_record.specs.NodeStep.{site_of}
 use Rattle.put_get.specs.Syncs.{flag_at}
 use Rattle.endpoint_rules.specs.EndpointLocal.{EndpointLocal}
-use Rattle.gas_endpoint.specs.Endpoints.{EndpointStands, job_here}
+use Rattle.gas_endpoint.specs.EndpointState.{EndpointStands, job_here}
 use Rattle.gas_endpoint.specs.Parts.{endpoint_of}
 use Rattle.gas_endpoint.proofs.extended.Extended.can.Given as goal
 

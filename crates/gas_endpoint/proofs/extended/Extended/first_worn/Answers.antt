@@ -5,7 +5,8 @@ use Rattle.node_record.specs.Step.{is_worn_out}
 use Rattle.named_barrier.specs.Record.{owes}
 use Rattle.gas_endpoint.proofs.Barriers.{first_here, first_none}
 use Rattle.gas_endpoint.proofs.extended.Extended.first_worn.Goals as goal
-use Rattle.gas_endpoint.proofs.extended.Extended.first_worn.Goals.{else-is_worn-via-then-is_worn+else-owes, else-is_worn-via-else-is_worn}
+use Rattle.gas_endpoint.proofs.extended.Extended.first_worn.Goals.{else-is_worn-via-then-is_worn+else-owes}
+use Rattle.gas_endpoint.proofs.extended.Extended.first_worn.Goals.{else-is_worn-via-else-is_worn}
 
 pub returns-then-owes : goal.returns-then-owes
 returns-then-owes c thread node S =
@@ -20,7 +21,8 @@ returns-then-owes c thread node S =
 
 pub returns : goal.returns
 returns c thread node S =
-    sym (c.loop-node.invariant node S 0 (omega (arith, c.loop-node-test.false, c.loop-node.auto.node-end, c.requires.nodes)))
+    sym (c.loop-node.invariant node S 0
+    (omega (arith, c.loop-node-test.false, c.loop-node.auto.node-end, c.requires.nodes)))
 
 pub loop-node-preserved : goal.loop-node-preserved
 loop-node-preserved c node S rest e =
@@ -30,7 +32,8 @@ loop-node-preserved c node S rest e =
     ∙ first_none (λ to. is_worn_out core.settings node to && owes core.settings.nodes core.me node.local.barrier to)
     at rest (elim c.else-is_worn.branch [
       | else-is_worn-via-then-is_worn+else-owes w ↦
-          and_right _ _ (sym (w.owes.ensures core.settings.nodes core.me node.local.barrier S.barrier) ∙ w.if-owes.false)
+          and_right _ _ (sym (w.owes.ensures core.settings.nodes core.me node.local.barrier S.barrier)
+          ∙ w.if-owes.false)
       | else-is_worn-via-else-is_worn w ↦
           and_left _ _ (sym (c.is_worn.ensures node S) ∙ w.if-is_worn.false)
     ])

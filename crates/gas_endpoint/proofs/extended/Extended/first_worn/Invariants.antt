@@ -5,7 +5,7 @@ use Rattle.node_record.specs.Step.{is_worn_out}
 use Rattle.named_barrier.specs.Record.{owes}
 use Rattle.endpoint_rules.specs.BarrierCalls.{first_where}
 use Rattle.endpoint_rules.specs.EndpointLocal.{EndpointLocal}
-use Rattle.gas_endpoint.specs.Endpoints.{EndpointStands}
+use Rattle.gas_endpoint.specs.EndpointState.{EndpointStands}
 use Rattle.gas_endpoint.specs.Parts.{endpoint_of}
 use Rattle.gas_endpoint.proofs.extended.Extended.first_worn.Given as goal
 

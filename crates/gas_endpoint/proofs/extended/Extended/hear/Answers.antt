@@ -19,7 +19,8 @@ returns-in-Noted c =
       refused = λ reason e. absurd (cc);
       ranged = λ at note e.
           let same : c.in-Noted.note ≡ note = cc in
-          subst (λ (n : BarrierNote). has_ranges n ≡ true) same (subst (λ (n : BarrierNote). has_ranges n ≡ true) is c.note_of-note.ensures.ranged);
+          subst (λ (n : BarrierNote). has_ranges n ≡ true) same
+          (subst (λ (n : BarrierNote). has_ranges n ≡ true) is c.note_of-note.ensures.ranged);
       transfers = λ operations S. S;
       barrier = λ nodes me kept S.
           subst (λ (n : BarrierNote). Stands nodes me c.heard.new.self (hear kept n)) is

@@ -6,7 +6,7 @@ use Rattle.node_record.specs.NodeStep.{site_of}
 use Rattle.node_record.specs.Under.{under}
 use Rattle.am_core.specs.ClientRules.{rules}
 use Rattle.endpoint_rules.specs.EndpointLocal.{core_of}
-use Rattle.gas_endpoint.specs.Endpoints.{job_here}
+use Rattle.gas_endpoint.specs.EndpointState.{job_here}
 use Rattle.gas_endpoint.specs.Parts.{endpoint_of}
 use Rattle.gas_endpoint.proofs.Barriers.{among_here, among_none, among_unasked, among_quiet}
 use Rattle.gas_endpoint.proofs.extended.Extended.next_note.Goals as goal
@@ -48,10 +48,12 @@ loop-to-preserved c meaning node S rest e =
       | then-can_ask+in_default w ↦
           among_none (note_to core.settings.nodes core.me node.local.barrier)
           (can_ask (site_of (job_here meaning (endpoint_of core c.args.self.now)) core.me) node) at rest
-          (sym (c.can_ask.ensures (rules core.settings core.table meaning) (under core_of node) S.core) ∙ w.if-can_ask.true)
+          (sym (c.can_ask.ensures (rules core.settings core.table meaning) (under core_of node) S.core)
+          ∙ w.if-can_ask.true)
           (sym (w.note_to.ensures.note core.settings.nodes core.me node.local.barrier S.barrier) ∙ w.in_default.is)
       | else-can_ask w ↦
           among_unasked (note_to core.settings.nodes core.me node.local.barrier)
           (can_ask (site_of (job_here meaning (endpoint_of core c.args.self.now)) core.me) node) at rest
-          (sym (c.can_ask.ensures (rules core.settings core.table meaning) (under core_of node) S.core) ∙ w.if-can_ask.false)
+          (sym (c.can_ask.ensures (rules core.settings core.table meaning) (under core_of node) S.core)
+          ∙ w.if-can_ask.false)
     ])

@@ -6,7 +6,7 @@ use Rattle.node_record.specs.NodeStep.{site_of}
 use Rattle.named_barrier.specs.Record.{note_to}
 use Rattle.endpoint_rules.specs.EndpointRules.{note_among}
 use Rattle.endpoint_rules.specs.EndpointLocal.{EndpointLocal}
-use Rattle.gas_endpoint.specs.Endpoints.{EndpointStands, job_here}
+use Rattle.gas_endpoint.specs.EndpointState.{EndpointStands, job_here}
 use Rattle.gas_endpoint.specs.Parts.{endpoint_of}
 use Rattle.gas_endpoint.proofs.extended.Extended.next_note.Given as goal
 

@@ -32,7 +32,8 @@ returns c =
     subst (λ (t : Ticked). PartSends (record { core = c.args.core.now; extended = c.args.self.now })
     (record { now = c.args.now; to = to; work = chunk_work c.args.next.now }) t
     (record { core = c.ask.new.self; extended = record c.args.self.now { transfers = c.note.new.self } }))
-    (ap (λ at. ticked.Chunk at) (sym (c.request_slot.ensures ∙ ap (λ t. request_slot t c.in-Accepted.slot) c.target-to.ensures)))
+    (ap (λ at. ticked.Chunk at)
+    (sym (c.request_slot.ensures ∙ ap (λ t. request_slot t c.in-Accepted.slot) c.target-to.ensures)))
     (chunk_sends c.args.core.now c.ask.new.self c.args.self.now c.note.new.self c.args.now c.in-Accepted.slot
     c.in-Accepted.number c.args.next.now c.requires.can c.requires.next
     (accepted_own c.args.core.now c.ask.new.self c.args.self.now c.args.now to (chunk_work c.args.next.now)

@@ -3,7 +3,7 @@ use Rattle.node_record.specs.Record.{Node}
 use Rattle.node_record.specs.Step.{is_worn_out}
 use Rattle.put_get.specs.Syncs.{flag_at}
 use Rattle.endpoint_rules.specs.EndpointLocal.{EndpointLocal}
-use Rattle.gas_endpoint.specs.Endpoints.{EndpointStands}
+use Rattle.gas_endpoint.specs.EndpointState.{EndpointStands}
 use Rattle.gas_endpoint.specs.Parts.{endpoint_of}
 use Rattle.gas_endpoint.proofs.extended.Extended.worn.Given as goal
 

@@ -1,5 +1,5 @@
 use Rattle.std.proofs.Common.{suc, ap, sym, ◌∙◌}
-use Rattle.gas_world.specs.State.{front_back}
+use Rattle.gas_world.specs.Exchanges.{front_back}
 use Rattle.gas_world.proofs.Fronts.{front_added}
 use Rattle.gas_world.proofs.exchanges.Exchanges.add.Goals as goal
 

@@ -1,5 +1,5 @@
 use Rattle.std.proofs.Common.{suc, ◌-◌, refl, ap, sym, ◌∙◌}
-use Rattle.gas_world.specs.State.{run}
+use Rattle.gas_world.specs.Exchanges.{run}
 use Rattle.gas_world.proofs.Fronts.{front_same, written_is}
 use Rattle.gas_world.proofs.exchanges.Exchanges.set_ran.Goals as goal
 

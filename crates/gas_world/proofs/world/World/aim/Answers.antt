@@ -12,7 +12,8 @@ pub returns-in-Tick : goal.returns-in-Tick
 returns-in-Tick c =
     let v = c.args.self.now in
     let node = c.in-Tick.node in
-    let aim : Aim = record { node = node; from = node; to = c.unwrap_or.result; target = c.next_target-target.result } in
+    let aim : Aim =
+    record { node = node; from = node; to = c.unwrap_or.result; target = c.next_target-target.result } in
     let there : node < v.settings.nodes =
     subst (λ (e : WorldEvent). IsAmong v.settings (event_of e)) c.in-Tick.is c.requires in
     subst (λ (e : WorldEvent). FallsAt v c.args.now e aim) (sym c.in-Tick.is)

@@ -1,7 +1,7 @@
 use Rattle.std.specs.Prelude.{ℕ, Result, Ok, Err, OnOk}
 use Rattle.std.specs.declared.alloc.AllocError.{AllocError}
 use Rattle.gas_world.specs.Events.{job_in}
-use Rattle.gas_world.specs.Worlds.{WorldState}
+use Rattle.gas_world.specs.WorldState.{WorldState}
 use Rattle.gas_world.specs.Settling.{WorldJob, Moves, tick_events, pair_events, round_events}
 use Rattle.gas_world.proofs.Moving.{same_job, moves_then}
 use Rattle.gas_world.proofs.world.World.round.Goals as goal

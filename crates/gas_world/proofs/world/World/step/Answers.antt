@@ -6,7 +6,7 @@ use Rattle.transfer_laws.proofs.Laws.{transfers_hold}
 use Rattle.barrier_laws.specs.BarrierLaws.{BarrierHolds}
 use Rattle.barrier_laws.proofs.Laws.{barrier_holds}
 use Rattle.gas_world.specs.Events.{event_of}
-use Rattle.gas_world.specs.Worlds.{WorldState}
+use Rattle.gas_world.specs.WorldState.{WorldState}
 use Rattle.gas_world.proofs.Plainly.{plainly, stands_lawful}
 use Rattle.gas_world.proofs.world.World.step.Given.{Over}
 use Rattle.gas_world.proofs.world.World.step.Goals as goal

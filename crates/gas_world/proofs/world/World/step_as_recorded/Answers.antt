@@ -2,13 +2,14 @@ use Rattle.std.proofs.Common.{rules, List, length, take, ◌++◌, ◌<◌, Opti
 use Rattle.plain_world.specs.World.{IsAmong}
 use Rattle.endpoint_rules.specs.EndpointRules.{transition}
 use Rattle.gas_world.specs.Events.{event_of}
-use Rattle.gas_world.specs.Worlds.{WorldState}
+use Rattle.gas_world.specs.WorldState.{WorldState}
 use Rattle.gas_world.specs.Aims.{AimsAt, FallsAt, MayFall}
 use Rattle.gas_world.specs.declared.world.Aim.{Aim}
-use Rattle.gas_endpoint.specs.Endpoints.{EndpointState}
+use Rattle.gas_endpoint.specs.EndpointState.{EndpointState}
 use Rattle.gas_world.specs.Scenes.{Scene, SceneSteps, IsHeld, IsCallable, IsPlanned, ChangesOne}
 use Rattle.gas_world.proofs.Scenes.{sized_after, pair_place, changes_kept}
-use Rattle.gas_world.proofs.Aimed.{Happened, recorded, spot_held, founded_after, unaimed_steps, aim_among, aims_node, callable, planned}
+use Rattle.gas_world.proofs.Aimed.{Happened, recorded, spot_held, founded_after, unaimed_steps, aim_among, aims_node}
+use Rattle.gas_world.proofs.Aimed.{callable, planned}
 use Rattle.gas_world.proofs.world.World.step_as_recorded.Given.{Over}
 use Rattle.gas_world.proofs.Reading.{world_of}
 use Rattle.gas_world.proofs.world.World.step_as_recorded.Goals as goal
@@ -137,7 +138,8 @@ invariant_of-self g c =
           (recorded meaning inside inside _ c.args.now c.args.event.now c.in-Some.aim c.happen.result _
           c.from-node.result c.place_of-place.result (was g c) (is g c) (g.met.H.Handlers.is_lawful c.args.handlers.now)
           refl c.self.invariant
-          (subst (λ (v : WorldState). IsAmong v.settings (event_of c.args.event.now)) (sym c.self.view_is) c.requires.among)
+          (subst (λ (v : WorldState). IsAmong v.settings (event_of c.args.event.now)) (sym c.self.view_is)
+          c.requires.among)
           (happened g c) (changed g c _) refl);
     }
 

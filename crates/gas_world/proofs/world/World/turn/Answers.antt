@@ -5,7 +5,7 @@ use Rattle.plain_world.specs.World.{RequestComes, ReplyComes, Timed}
 use Rattle.endpoint_rules.specs.EndpointRules.{OtherCall, Records, timed}
 use Rattle.gas_world.specs.Events.{job_in}
 use Rattle.gas_world.specs.Settling.{Moves}
-use Rattle.gas_world.specs.Worlds.{WorldState}
+use Rattle.gas_world.specs.WorldState.{WorldState}
 use Rattle.gas_world.proofs.Moving.{same_job, moves_then}
 use Rattle.gas_world.proofs.Turns.{Turn, accepted_is, turn_begins, turn_passes, turn_delivers, turn_ends}
 use Rattle.gas_world.proofs.world.World.turn.Goals as goal

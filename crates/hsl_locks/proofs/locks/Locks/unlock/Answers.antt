@@ -18,7 +18,8 @@ pub returns-in-None-clause-locks : goal.returns-in-None-clause-locks
 returns-in-None-clause-locks c =
     let left : c.retain.new.self.items ≡ without_lock c.args.owner c.args.lock c.self.inside.held.items =
     filter-from_retain _ _ _ (λ x b f' y called. search rules) _ _ c.retain.ensures.filtered in
-    let same : without_lock c.args.owner c.args.lock c.self.inside.held.items ≡ without_lock c.args.owner c.args.lock c.args.self.now =
+    let same : without_lock c.args.owner c.args.lock c.self.inside.held.items ≡ without_lock c.args.owner c.args.lock
+    c.args.self.now =
     ap (λ (held : List Held). without_lock c.args.owner c.args.lock held) c.self.view_is in
     left ∙ (same
     ∙ sym (after_freed c.args.self.now c.args.owner c.args.lock (sym c.unlock_fault.ensures ∙ c.in-None.is)))

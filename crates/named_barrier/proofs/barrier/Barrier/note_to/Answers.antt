@@ -1,6 +1,6 @@
 use Rattle.std.proofs.Common.{sym, ap, ◌∙◌}
 use Rattle.named_barrier.specs.Record.{or_else}
-use Rattle.named_barrier.specs.State.{now_due}
+use Rattle.named_barrier.specs.BarrierState.{now_due}
 use Rattle.named_barrier.proofs.Stepping.{note_is}
 use Rattle.named_barrier.proofs.barrier.Barrier.note_to.Goals as goal
 

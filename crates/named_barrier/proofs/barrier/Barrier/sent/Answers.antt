@@ -1,7 +1,7 @@
 use Rattle.std.proofs.Common.{sym, ap, ◌∙◌, subst}
 use Rattle.std.specs.Prelude.{is_some, IsSome}
 use Rattle.named_barrier.specs.Stands.{Stands}
-use Rattle.named_barrier.specs.State.{last_due, note_at}
+use Rattle.named_barrier.specs.BarrierState.{last_due, note_at}
 use Rattle.named_barrier.specs.Views.{fields_view}
 use Rattle.named_barrier.proofs.Stepping.{sends_last, sends_now}
 use Rattle.named_barrier.proofs.barrier.Barrier.sent.Goals as goal

@@ -3,7 +3,7 @@ use Rattle.std.proofs.Common.{◌∙◌, subst}
 use Rattle.datagram_grammar.specs.Parameters.{Parameters}
 use Rattle.node_record.specs.Record.{opening_node}
 use Rattle.endpoint_rules.specs.EndpointLocal.{nothing_begun}
-use Rattle.gas_endpoint.specs.Endpoints.{EndpointStands}
+use Rattle.gas_endpoint.specs.EndpointState.{EndpointStands}
 use Rattle.node_machine.specs.Cursors.{progress_of_all}
 use Rattle.node_machine.proofs.Opening.{opened_stands, opened_is}
 use Rattle.node_machine.proofs.node.NodeMachine.new.Goals as goal

@@ -3,7 +3,7 @@ use Rattle.std.proofs.Common.{Some, None, sym, ap, ◌∙◌, subst, option_copi
 use Rattle.datagram_grammar.specs.Parameters.{Parameters}
 use Rattle.node_record.specs.SlotMessages.{message_at}
 use Rattle.node_machine.specs.Kept.{MachineKept}
-use Rattle.node_machine.specs.States.{NodeStands}
+use Rattle.node_machine.specs.NodeState.{NodeStands}
 use Rattle.node_machine.specs.Turns.{slots_of}
 use Rattle.node_machine.proofs.Standing.{datagram_is, none_there, one_there}
 use Rattle.node_machine.proofs.node.NodeMachineMachine.outgoing.Goals as goal

@@ -3,7 +3,7 @@ use Rattle.std.proofs.Common.{◌≡◌, refl, sym, ◌∙◌, subst, true, fals
 use Rattle.script_steps.proofs.Calm.{waiting_is_calm}
 use Rattle.node_machine.specs.Kept.{MachineKept, polls_at}
 use Rattle.node_machine.specs.Machines.{with_done}
-use Rattle.node_machine.specs.States.{NodeStands, after_turn}
+use Rattle.node_machine.specs.NodeState.{NodeStands, after_turn}
 use Rattle.node_machine.specs.Turns.{slots_of, TurnTaken}
 use Rattle.node_machine.proofs.Standing.{change_is, empty_turn, quiet_is, still_machine, told_changed, told_quiet}
 use Rattle.node_machine.proofs.node.NodeMachineMachine.turn.Goals as goal

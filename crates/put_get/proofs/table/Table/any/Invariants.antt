@@ -5,4 +5,5 @@ use Rattle.put_get.specs.Table.{on_place, picked}
 use Rattle.put_get.proofs.table.Table.any.Given as goal
 
 abbrev pub invariant-loop-place : goal.invariant-loop-place
-invariant-loop-place l = (place : ℕ) (there : Option Standing) → place < l.place → slice_get l.self place ≡ Some there → on_place (picked l.pick) there ≡ false
+invariant-loop-place l = (place : ℕ) (there : Option Standing) → place < l.place → slice_get l.self place ≡ Some there
+    → on_place (picked l.pick) there ≡ false

@@ -11,20 +11,29 @@ use Rattle.put_get.proofs.table.Table.drop_marked.Goals as goal
 
 pub loop-place-preserved : goal.loop-place-preserved
 loop-place-preserved c =
-    let f : ℕ → Option Standing → Option Standing = λ place there. unless_marked (flag_at c.args.marks.now place) there in
+    let f : ℕ → Option Standing → Option Standing =
+    λ place there. unless_marked (flag_at c.args.marks.now place) there in
     let old = c.args.self.now in
     subst
-    (λ (new : List (Option Standing)). (length new ≡ length old) × ((place : ℕ) (there : Option Standing) → place < c.loop-place.place + 1 → slice_get old place ≡ Some there → slice_get new place ≡ Some (f place there))
-    × ((place : ℕ) (there : Option Standing) → c.loop-place.place + 1 ≤ place → slice_get old place ≡ Some there → slice_get new place ≡ Some there))
-    (sym (c.set.ensures ∙ ap (set c.loop-place.self c.loop-place.place) (c.unless_marked.ensures ∙ ap (λ mark. unless_marked mark c.at.result) c.flag_at.ensures)))
+    (λ (new : List (Option Standing)). (length new ≡ length old)
+    × ((place : ℕ) (there : Option Standing) → place < c.loop-place.place + 1 → slice_get old place ≡ Some there
+    → slice_get new place ≡ Some (f place there))
+    × ((place : ℕ) (there : Option Standing) → c.loop-place.place + 1 ≤ place → slice_get old place ≡ Some there
+    → slice_get new place ≡ Some there))
+    (sym (c.set.ensures
+    ∙ ap (set c.loop-place.self c.loop-place.place) (c.unless_marked.ensures
+    ∙ ap (λ mark. unless_marked mark c.at.result) c.flag_at.ensures)))
     (rewrite_more f old c.loop-place.self c.loop-place.place c.at.result c.at.ensures c.loop-place.invariant)
 
 pub returns : goal.returns
 returns c test M =
-    let many = ap length (sym c.self.view_is) ∙ (places_length c.self.inside.keys.items c.self.inside.records ∙ c.self.invariant.0) in
+    let many = ap length (sym c.self.view_is)
+    ∙ (places_length c.self.inside.keys.items c.self.inside.records ∙ c.self.invariant.0) in
     record {
       many = c.loop-place.invariant.0;
       each = λ place there at. (
           let within = slice_get_within c.args.self.now place there at in
-          c.loop-place.invariant.1 place there (omega (arith, within, many)) at ∙ ap Some (dropped_is test c.args.self.now c.args.marks.now place there M (omega (arith, within, many)) at));
+          c.loop-place.invariant.1 place there (omega (arith, within, many)) at
+          ∙ ap Some (dropped_is test c.args.self.now c.args.marks.now place there M
+          (omega (arith, within, many)) at));
     }

@@ -12,20 +12,29 @@ use Rattle.put_get.proofs.table.Table.has.Goals as goal
 pub returns-then-picks : goal.returns-then-picks
 returns-then-picks c test M =
     let end = c.loop-place-test.true in
-    sym (any_from (on_place (λ r. test r && passes c.args.check r)) c.args.self.now c.loop-place.place c.at.result c.at.ensures
-    (sym (picks_is test c.args.check c.args.self.now c.args.marks.now c.loop-place.place c.at.result M (omega (arith, end)) c.at.ensures) ∙ (ap (λ mark. picks mark c.args.check c.at.result) (sym c.flag_at.ensures) ∙ (sym c.picks.ensures ∙ c.if-picks.true))))
+    sym (any_from (on_place (λ r. test r && passes c.args.check r)) c.args.self.now c.loop-place.place c.at.result
+    c.at.ensures
+    (sym (picks_is test c.args.check c.args.self.now c.args.marks.now c.loop-place.place c.at.result M
+    (omega (arith, end)) c.at.ensures)
+    ∙ (ap (λ mark. picks mark c.args.check c.at.result) (sym c.flag_at.ensures)
+    ∙ (sym c.picks.ensures ∙ c.if-picks.true))))
 
 pub loop-place-preserved : goal.loop-place-preserved
 loop-place-preserved c place there less at = elim (cases_eq place c.loop-place.place) [
   | inl same ↦
       ap (λ n. picks (flag_at c.args.marks.now n) c.args.check there) same
-      ∙ (ap (picks (flag_at c.args.marks.now c.loop-place.place) c.args.check) (same_Some there c.at.result (sym at ∙ (ap (slice_get c.args.self.now) same ∙ c.at.ensures))) ∙ (ap (λ mark. picks mark c.args.check c.at.result) (sym c.flag_at.ensures) ∙ (sym c.picks.ensures ∙ c.if-picks.false)))
+      ∙ (ap (picks (flag_at c.args.marks.now c.loop-place.place) c.args.check)
+      (same_Some there c.at.result (sym at ∙ (ap (slice_get c.args.self.now) same ∙ c.at.ensures)))
+      ∙ (ap (λ mark. picks mark c.args.check c.at.result) (sym c.flag_at.ensures)
+      ∙ (sym c.picks.ensures ∙ c.if-picks.false)))
   | inr apart ↦ c.loop-place.invariant place there (omega arith) at
 ]
 
 pub returns : goal.returns
 returns c test M =
-    let many = ap length (sym c.self.view_is) ∙ (places_length c.self.inside.keys.items c.self.inside.records ∙ c.self.invariant.0) in
+    let many = ap length (sym c.self.view_is)
+    ∙ (places_length c.self.inside.keys.items c.self.inside.records ∙ c.self.invariant.0) in
     sym (none_picked (on_place (λ r. test r && passes c.args.check r)) c.args.self.now (λ place there at.
     let within = slice_get_within c.args.self.now place there at in
-    sym (picks_is test c.args.check c.args.self.now c.args.marks.now place there M (omega (arith, within, many)) at) ∙ c.loop-place.invariant place there (omega (arith, within, many)) at))
+    sym (picks_is test c.args.check c.args.self.now c.args.marks.now place there M (omega (arith, within, many)) at)
+    ∙ c.loop-place.invariant place there (omega (arith, within, many)) at))

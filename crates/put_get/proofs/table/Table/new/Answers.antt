@@ -19,5 +19,7 @@ loop-preserved c =
       omega (arith, e.capacity, I.1),
       ap length (items c) ∙ omega (arith, length-append keys (key ∷ []), I.2),
       subst (λ ks. IsKeyed ks new) (sym (items c)) (keyed_push keys old new key None e.was_vacant e.updates I.3),
-      ap (λ ks. places_of ks new) (items c) ∙ (places_push keys old new key None e.was_vacant e.updates I.3 ∙ (ap (λ xs. xs ++ None ∷ []) I.4 ∙ replicate_more c.loop.counter None)),
+      ap (λ ks. places_of ks new) (items c)
+          ∙ (places_push keys old new key None e.was_vacant e.updates I.3
+          ∙ (ap (λ xs. xs ++ None ∷ []) I.4 ∙ replicate_more c.loop.counter None)),
     )

@@ -11,7 +11,8 @@ pub overflow_sub-self : goal.overflow_sub-self
 overflow_sub-self c =
     let keys = c.self.inside.keys.items in
     let slab = c.self.inside.records in
-    let was = read_there keys slab c.args.place c.index-key.result.now c.index.result.now c.requires c.self.invariant.0 c.index-key.ensures c.index.ensures in
+    let was = read_there keys slab c.args.place c.index-key.result.now c.index.result.now c.requires c.self.invariant.0
+    c.index-key.ensures c.index.ensures in
     let counted = count_at (places_of keys slab) c.args.place c.index.result.now was in
     omega (arith, counted, c.self.invariant.2, c.unissued_in.ensures)
 
@@ -19,14 +20,17 @@ pub overflow_add-self : goal.overflow_add-self
 overflow_add-self c =
     let keys = c.self.inside.keys.items in
     let slab = c.self.inside.records in
-    let was = read_there keys slab c.args.place c.index-key.result.now c.index.result.now c.requires c.self.invariant.0 c.index-key.ensures c.index.ensures in
+    let was = read_there keys slab c.args.place c.index-key.result.now c.index.result.now c.requires c.self.invariant.0
+    c.index-key.ensures c.index.ensures in
     let most = recount_le (places_of keys slab) c.args.place c.index.result.now c.args.standing was in
     let long = places_length keys slab in
     omega (arith, most, long, c.self.invariant.0, c.self.invariant.2, c.unissued_in.ensures, c.unissued_in-2.ensures)
 
 updates : (c : goal.After-self-3-1)
-    → Updates c.self.inside.records (with_value c.self.inside.records c.index-key.result.now c.args.standing) c.index-key.result.now (Some c.args.standing)
-updates c = Updates-with_value c.self.inside.records c.index-key.result.now c.args.standing (ap is_some c.index_mut.ensures.value)
+    → Updates c.self.inside.records (with_value c.self.inside.records c.index-key.result.now c.args.standing)
+    c.index-key.result.now (Some c.args.standing)
+updates c = Updates-with_value c.self.inside.records c.index-key.result.now c.args.standing
+    (ap is_some c.index_mut.ensures.value)
 
 -- the place alone is written
 written : (c : goal.After-self-3-1)
@@ -34,18 +38,24 @@ written : (c : goal.After-self-3-1)
     ≡ slice_set (places_of c.self.inside.keys.items c.self.inside.records) c.args.place c.args.standing
 written c =
     let keys = c.self.inside.keys.items in
-    let key_at = slice_get_read keys 256 c.args.place c.index-key.result.now (sym c.self.invariant.0) c.requires c.index-key.ensures in
-    places_set keys c.self.inside.records _ c.index-key.result.now c.args.place c.args.standing (updates c) c.self.invariant.1.apart key_at
+    let key_at =
+    slice_get_read keys 256 c.args.place c.index-key.result.now
+    (sym c.self.invariant.0) c.requires c.index-key.ensures in
+    places_set keys c.self.inside.records _ c.index-key.result.now c.args.place c.args.standing
+    (updates c) c.self.invariant.1.apart key_at
 
 pub invariant_of-self : goal.invariant_of-self
 invariant_of-self c =
     let keys = c.self.inside.keys.items in
     let slab = c.self.inside.records in
-    let was = read_there keys slab c.args.place c.index-key.result.now c.index.result.now c.requires c.self.invariant.0 c.index-key.ensures c.index.ensures in (
+    let was = read_there keys slab c.args.place c.index-key.result.now c.index.result.now c.requires c.self.invariant.0
+    c.index-key.ensures c.index.ensures in (
       c.self.invariant.0,
       keyed_set keys _ _ c.index-key.result.now c.args.standing (updates c) c.self.invariant.1,
-      ap₂ (λ left gained. left + gained) (ap₂ (λ all gone. all - gone) c.self.invariant.2 c.unissued_in.ensures) c.unissued_in-2.ensures
-          ∙ (recount (places_of keys slab) c.args.place c.index.result.now c.args.standing was ∙ ap unissued_count (sym (written c))),
+      ap₂ (λ left gained. left + gained) (ap₂ (λ all gone. all - gone) c.self.invariant.2 c.unissued_in.ensures)
+          c.unissued_in-2.ensures
+          ∙ (recount (places_of keys slab) c.args.place c.index.result.now c.args.standing was
+          ∙ ap unissued_count (sym (written c))),
     )
 
 pub returns : goal.returns

@@ -7,7 +7,8 @@ use Rattle.put_get.proofs.transfers.Transfers.fault.Goals as goal
 pub returns-then-not-has : goal.returns-then-not-has
 returns-then-not-has c operations choice test S M A =
     let there = any_there c.args.self.now.table operations choice test S.keeps A in
-    rw (not-false (is_empty (chosen choice 1 operations)) (sym there ∙ (sym (c.has.ensures test M) ∙ c.if-not-has.true))) refl
+    rw (not-false (is_empty (chosen choice 1 operations))
+    (sym there ∙ (sym (c.has.ensures test M) ∙ c.if-not-has.true))) refl
 
 pub returns-then-has : goal.returns-then-has
 returns-then-has c operations choice test S M A =

@@ -5,7 +5,8 @@ use Rattle.put_get.specs.declared.table.Check.TheVariants.{UnissuedTo}
 use Rattle.put_get.specs.Table.{has}
 use Rattle.put_get.proofs.Marks.{flag_within}
 use Rattle.put_get.proofs.transfers.Transfers.first_worn.Goals as goal
-use Rattle.put_get.proofs.transfers.Transfers.first_worn.Goals.{else-flag_at-via-then-flag_at+else-has, else-flag_at-via-else-flag_at}
+use Rattle.put_get.proofs.transfers.Transfers.first_worn.Goals.{else-flag_at-via-then-flag_at+else-has}
+use Rattle.put_get.proofs.transfers.Transfers.first_worn.Goals.{else-flag_at-via-else-flag_at}
 
 pub returns-then-has : goal.returns-then-has
 returns-then-has c test M = (
@@ -17,8 +18,11 @@ returns-then-has c test M = (
 pub loop-node-preserved : goal.loop-node-preserved
 loop-node-preserved c other test less M is = elim (cases_eq other c.loop-node.node) [
   | inl same ↦ elim c.else-flag_at.branch [
-    | else-flag_at-via-then-flag_at+else-has w ↦ ap (λ node. has test (UnissuedTo node) c.args.self.now.table) same ∙ (sym (w.has.ensures test M) ∙ w.if-has.false)
-    | else-flag_at-via-else-flag_at w ↦ absurd (true≢false (sym is ∙ (ap (flag_at c.args.worn.now) same ∙ (sym c.flag_at.ensures ∙ w.if-flag_at.false))))
+    | else-flag_at-via-then-flag_at+else-has w ↦ ap (λ node. has test (UnissuedTo node) c.args.self.now.table) same
+        ∙ (sym (w.has.ensures test M) ∙ w.if-has.false)
+    | else-flag_at-via-else-flag_at w ↦
+        absurd (true≢false
+        (sym is ∙ (ap (flag_at c.args.worn.now) same ∙ (sym c.flag_at.ensures ∙ w.if-flag_at.false))))
   ]
   | inr apart ↦ c.loop-node.invariant other test (omega (arith, less, apart)) M is
 ]

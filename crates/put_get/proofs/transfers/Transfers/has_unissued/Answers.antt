@@ -3,4 +3,7 @@ use Rattle.put_get.proofs.Oldest.{unissued_is}
 use Rattle.put_get.proofs.transfers.Transfers.has_unissued.Goals as goal
 
 pub returns : goal.returns
-returns c operations S = c.is_some.ensures ∙ unissued_is c.args.self.now operations c.args.handle.serial c.place_of.result S c.place_of.ensures.found c.place_of.ensures.none
+returns c operations S =
+    c.is_some.ensures
+    ∙ unissued_is c.args.self.now operations c.args.handle.serial c.place_of.result S c.place_of.ensures.found
+    c.place_of.ensures.none

@@ -10,4 +10,6 @@ returns-clause-idle c operations S = c.is_idle.ensures ∙ ap not (idle_is c.arg
 
 pub returns-clause-next : goal.returns-clause-next
 returns-clause-next c can operations S is =
-    idle_next can operations (not-true (list_any has_next operations) (sym (ap not (idle_is c.args.self.now operations S)) ∙ (sym c.is_idle.ensures ∙ is)))
+    idle_next can operations
+    (not-true (list_any has_next operations) (sym (ap not (idle_is c.args.self.now operations S))
+    ∙ (sym c.is_idle.ensures ∙ is)))

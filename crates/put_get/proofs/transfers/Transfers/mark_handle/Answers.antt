@@ -7,7 +7,8 @@ use Rattle.put_get.proofs.transfers.Transfers.mark_handle.Goals as goal
 
 pub returns-then-handle-ne0 : goal.returns-then-handle-ne0
 returns-then-handle-ne0 c test M =
-    marks_by (also test (member_in c.args.self.now.table c.args.handle.serial)) (also test (member_of c.args.self.now.table c.args.handle)) c.args.self.now.table c.mark_members.new.marks
+    marks_by (also test (member_in c.args.self.now.table c.args.handle.serial))
+    (also test (member_of c.args.self.now.table c.args.handle)) c.args.self.now.table c.mark_members.new.marks
     (λ there. rw (ne_eqb c.args.handle.serial 0 c.if-handle-ne0.true) refl) (c.mark_members.ensures test M)
 
 pub returns-else-handle-ne0 : goal.returns-else-handle-ne0

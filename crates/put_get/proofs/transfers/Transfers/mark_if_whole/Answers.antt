@@ -9,4 +9,5 @@ returns-then-is_whole c test M =
     let table = c.args.self.now.table in
     let member = member_in table c.args.handle.serial in
     marks_by (also test member) (also test (whole_here table c.args.handle)) table c.mark_members.new.marks
-    (λ there. ap (λ whole. test there || (whole && member there)) (sym (sym c.is_whole.ensures ∙ c.if-is_whole.true))) (c.mark_members.ensures test M)
+    (λ there. ap (λ whole. test there || (whole && member there)) (sym (sym c.is_whole.ensures ∙ c.if-is_whole.true)))
+    (c.mark_members.ensures test M)

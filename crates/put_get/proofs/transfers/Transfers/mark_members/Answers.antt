@@ -7,10 +7,12 @@ use Rattle.put_get.proofs.transfers.Transfers.mark_members.Goals as goal
 
 pub returns-then-any : goal.returns-then-any
 returns-then-any c test M =
-    marks_by (also test (picked (pick.Region c.args.handle))) (also test (member_in c.args.self.now.table c.args.handle)) c.args.self.now.table c.mark.new.marks
+    marks_by (also test (picked (pick.Region c.args.handle)))
+    (also test (member_in c.args.self.now.table c.args.handle)) c.args.self.now.table c.mark.new.marks
     (λ there. rw (sym c.any.ensures ∙ c.if-any.true) refl) (c.mark.ensures test M)
 
 pub returns-else-any : goal.returns-else-any
 returns-else-any c test M =
-    marks_by (also test (picked (pick.Number c.args.handle))) (also test (member_in c.args.self.now.table c.args.handle)) c.args.self.now.table c.mark-else-any.new.marks
+    marks_by (also test (picked (pick.Number c.args.handle)))
+    (also test (member_in c.args.self.now.table c.args.handle)) c.args.self.now.table c.mark-else-any.new.marks
     (λ there. rw (sym c.any.ensures ∙ c.if-any.false) refl) (c.mark-else-any.ensures test M)

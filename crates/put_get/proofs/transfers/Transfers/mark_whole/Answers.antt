@@ -14,14 +14,18 @@ loop-handle-preserved c test M =
     let before = also test (whole_in table (take index c.args.handles.now)) in
     let handle : Handle = get_or c.args.handles.now index (record { serial = 0 }) in
     let within = c.loop-handle-test.true in
-    marks_by (also before (whole_here table handle)) (also test (whole_in table (take (index + 1) c.args.handles.now))) table c.mark_if_whole.new.marks
+    marks_by (also before (whole_here table handle)) (also test (whole_in table (take (index + 1) c.args.handles.now)))
+    table c.mark_if_whole.new.marks
     (λ there.
     or_assoc (test there) (whole_in table (take index c.args.handles.now) there) (whole_here table handle there)
-    ∙ ap (λ later. test there || later) (sym (any_take (λ (h : Handle). whole_here table h there) c.args.handles.now index handle (at_get c.args.handles.now index (record { serial = 0 }) (omega (arith, within))))))
+    ∙ ap (λ later. test there || later)
+    (sym (any_take (λ (h : Handle). whole_here table h there) c.args.handles.now index handle
+    (at_get c.args.handles.now index (record { serial = 0 }) (omega (arith, within))))))
     (c.mark_if_whole.ensures before (c.loop-handle.invariant test M))
 
 pub returns : goal.returns
 returns c test M =
     let past = c.loop-handle-test.false in
-    subst (λ handles. AreMarks (also test (whole_in c.args.self.now.table handles)) c.args.self.now.table c.loop-handle.marks)
+    subst (λ handles. AreMarks (also test (whole_in c.args.self.now.table handles)) c.args.self.now.table
+    c.loop-handle.marks)
     (take_all c.loop-handle.handle-index c.args.handles.now (omega (arith, past))) (c.loop-handle.invariant test M)

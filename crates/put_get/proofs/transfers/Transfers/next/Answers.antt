@@ -9,10 +9,12 @@ next_of-requires c = unissued_of (flag_at c.args.can.now) c.args.self.now.table 
 
 pub returns-in-Some-clause-next : goal.returns-in-Some-clause-next
 returns-in-Some-clause-next c operations S =
-    ap Some c.next_of.ensures ∙ oldest_is (flag_at c.args.can.now) c.args.self.now operations (Some c.in-Some.standing) S c.in-Some.ensures
+    ap Some c.next_of.ensures
+    ∙ oldest_is (flag_at c.args.can.now) c.args.self.now operations (Some c.in-Some.standing) S c.in-Some.ensures
 
 pub returns-in-None-clause-next : goal.returns-in-None-clause-next
-returns-in-None-clause-next c operations S = oldest_is (flag_at c.args.can.now) c.args.self.now operations None S c.in-None.ensures
+returns-in-None-clause-next c operations S =
+    oldest_is (flag_at c.args.can.now) c.args.self.now operations None S c.in-None.ensures
 
 pub returns-in-Some-clause-can_note : goal.returns-in-Some-clause-can_note
 returns-in-Some-clause-can_note c =

@@ -4,7 +4,7 @@ use Rattle.put_get.specs.declared.table.Standing.{Standing}
 use Rattle.put_get.specs.declared.operation.Next.{Next}
 use Rattle.put_get.specs.Operation.{Operation, target, with_sent, issue}
 use Rattle.lists.specs.Numbered.{numbered, change}
-use Rattle.put_get.specs.Slots.{HasSet}
+use Rattle.put_get.specs.SlotsState.{HasSet}
 use Rattle.put_get.specs.Stands.{Stands}
 use Rattle.put_get.proofs.Issued.{next_is_first}
 use Rattle.put_get.proofs.Changed.{stands_noted}
@@ -19,12 +19,26 @@ returns-clause-stands c can operations bytes S next free =
     let found = c.in-Some.ensures.found in
     let at = c.in-Some-at.ensures in
     let same : found.0 ≡ c.in-Some-at.standing = same_Some _ _ (same_Some _ _ (sym found.1 ∙ at)) in
-    let number : c.in-Some-at.standing.number ≡ c.args.next.now.number = ap (λ (z : Standing). z.number) (sym same) ∙ found.2 in
+    let number : c.in-Some-at.standing.number ≡ c.args.next.now.number = ap (λ (z : Standing). z.number) (sym same)
+    ∙ found.2 in
     let o = S.keeps.each c.in-Some.place c.in-Some-at.standing at in
     let here : o.0 ≡ first.operation = same_Some _ _ (sym o.1 ∙ (ap (numbered operations) number ∙ first.here)) in
     let to : target c.in-Some-at.standing.transfer ≡ target c.args.next.now.transfer =
-    ap (λ (z : Standing). target z.transfer) o.3 ∙ (ap (λ (z : Operation). target z.transfer) here ∙ ap (λ (z : Next). target z.transfer) (sym first.chunk)) in
-    let H = subst (λ node. HasSet c.args.self.now.slots node c.args.slot (Some (record { request = c.args.request; place = c.in-Some.place })) c.set-2.new.self) c.target.ensures c.set-2.ensures in
-    subst (λ places. Stands (record c.args.self.now { table = places; slots = c.set-2.new.self }) (issue (target c.args.next.now.transfer) c.args.slot c.args.request bytes operations)) (sym c.set.ensures)
-    (subst (Stands (record c.args.self.now { table = set c.args.self.now.table c.in-Some.place (Some (record c.in-Some-at.standing { issued = c.in-Some-at.standing.issued + 1 })); slots = c.set-2.new.self })) (ap (change (with_sent c.args.slot c.args.request bytes) operations) number ∙ sym (first.issued c.args.slot c.args.request bytes))
-    (stands_noted c.args.self.now operations c.in-Some.place c.in-Some-at.standing (target c.args.next.now.transfer) c.args.slot c.args.request bytes c.set-2.new.self S at to free H))
+    ap (λ (z : Standing). target z.transfer) o.3
+    ∙ (ap (λ (z : Operation). target z.transfer) here ∙ ap (λ (z : Next). target z.transfer) (sym first.chunk)) in
+    let H = subst (λ node. HasSet c.args.self.now.slots node c.args.slot (Some (record {
+      request = c.args.request;
+      place = c.in-Some.place;
+    })) c.set-2.new.self) c.target.ensures c.set-2.ensures in
+    subst (λ places. Stands (record c.args.self.now {
+      table = places;
+      slots = c.set-2.new.self;
+    }) (issue (target c.args.next.now.transfer) c.args.slot c.args.request bytes operations)) (sym c.set.ensures)
+    (subst (Stands (record c.args.self.now {
+      table = set c.args.self.now.table c.in-Some.place
+          (Some (record c.in-Some-at.standing { issued = c.in-Some-at.standing.issued + 1 }));
+      slots = c.set-2.new.self;
+    })) (ap (change (with_sent c.args.slot c.args.request bytes) operations) number
+    ∙ sym (first.issued c.args.slot c.args.request bytes))
+    (stands_noted c.args.self.now operations c.in-Some.place c.in-Some-at.standing
+    (target c.args.next.now.transfer) c.args.slot c.args.request bytes c.set-2.new.self S at to free H))

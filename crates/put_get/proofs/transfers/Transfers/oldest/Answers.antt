@@ -7,7 +7,8 @@ use Rattle.put_get.proofs.transfers.Transfers.oldest.Goals as goal
 
 pub returns-then-left-eq0 : goal.returns-then-left-eq0
 returns-then-left-eq0 c =
-    least_all (flag_at c.args.can.now) c.args.self.now.table c.loop-place.place c.loop-place.best c.loop-place.invariant.0
+    least_all (flag_at c.args.can.now) c.args.self.now.table c.loop-place.place c.loop-place.best
+    c.loop-place.invariant.0
     (sym c.loop-place.invariant.1 ∙ c.if-left-eq0.true)
 
 pub loop-place-preserved : goal.loop-place-preserved
@@ -16,6 +17,7 @@ loop-place-preserved c =
     let table = c.args.self.now.table in
     let counted = count_drop table c.loop-place.place c.at-there.result c.at-there.ensures in (
       subst (IsLeast can table (c.loop-place.place + 1)) (sym c.better-best.ensures)
-          (least_more can table c.loop-place.place c.at-there.result c.loop-place.best c.at-there.ensures c.loop-place.invariant.0),
+          (least_more can table c.loop-place.place c.at-there.result c.loop-place.best c.at-there.ensures
+          c.loop-place.invariant.0),
       omega (arith, counted, c.loop-place.invariant.1, c.unissued_in-left.ensures),
     )

@@ -8,21 +8,28 @@ use Rattle.put_get.proofs.transfers.Transfers.sync_marked.Goals as goal
 
 pub returns-then-not-has-clause-answer : goal.returns-then-not-has-clause-answer
 returns-then-not-has-clause-answer c operations choice test S M A =
-    rw (complete_is c.args.self.now.table operations choice test S.keeps A ∙ ap not (sym (c.has.ensures test M) ∙ c.if-not-has.true)) refl
+    rw (complete_is c.args.self.now.table operations choice test S.keeps A
+    ∙ ap not (sym (c.has.ensures test M) ∙ c.if-not-has.true)) refl
 
 pub returns-then-not-has-clause-stands : goal.returns-then-not-has-clause-stands
 returns-then-not-has-clause-stands c operations choice test S M A =
     stands_gone c.args.self.now c.drop_marked.new.self operations choice test S A (c.drop_marked.ensures test M)
-    (complete_is c.args.self.now.table operations choice test S.keeps A ∙ ap not (sym (c.has.ensures test M) ∙ c.if-not-has.true))
+    (complete_is c.args.self.now.table operations choice test S.keeps A
+    ∙ ap not (sym (c.has.ensures test M) ∙ c.if-not-has.true))
 
 pub returns-in-Some-clause-answer : goal.returns-in-Some-clause-answer
 returns-in-Some-clause-answer c operations choice test S M A =
-    rw (complete_is c.args.self.now.table operations choice test S.keeps A ∙ ap not (sym (c.has.ensures test M) ∙ c.if-not-has.false))
-    (ap worn_or (worn_is (flag_at c.args.worn.now) c.args.self.now.table operations choice test (Some c.in-Some.node) S.keeps A
-    (subst (IsFirstWorn (flag_at c.args.worn.now) test c.args.self.now.table) c.in-Some.is (c.first_worn.ensures test M))))
+    rw (complete_is c.args.self.now.table operations choice test S.keeps A
+    ∙ ap not (sym (c.has.ensures test M) ∙ c.if-not-has.false))
+    (ap worn_or (worn_is (flag_at c.args.worn.now) c.args.self.now.table operations choice test
+    (Some c.in-Some.node) S.keeps A
+    (subst (IsFirstWorn (flag_at c.args.worn.now) test c.args.self.now.table) c.in-Some.is
+    (c.first_worn.ensures test M))))
 
 pub returns-in-None-clause-answer : goal.returns-in-None-clause-answer
 returns-in-None-clause-answer c operations choice test S M A =
-    rw (complete_is c.args.self.now.table operations choice test S.keeps A ∙ ap not (sym (c.has.ensures test M) ∙ c.if-not-has.false))
+    rw (complete_is c.args.self.now.table operations choice test S.keeps A
+    ∙ ap not (sym (c.has.ensures test M) ∙ c.if-not-has.false))
     (ap worn_or (worn_is (flag_at c.args.worn.now) c.args.self.now.table operations choice test None S.keeps A
-    (subst (IsFirstWorn (flag_at c.args.worn.now) test c.args.self.now.table) c.in-None.is (c.first_worn.ensures test M))))
+    (subst (IsFirstWorn (flag_at c.args.worn.now) test c.args.self.now.table) c.in-None.is
+    (c.first_worn.ensures test M))))

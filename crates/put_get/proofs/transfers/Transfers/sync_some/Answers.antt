@@ -10,7 +10,9 @@ use Rattle.put_get.proofs.transfers.Transfers.sync_some.Goals as goal
 
 pub returns-then-either-clause-answer : goal.returns-then-either-clause-answer
 returns-then-either-clause-answer c operations S =
-    let go = c.either.ensures ∙ ap₂ (λ invalid whole. invalid || whole) c.all_invalid.ensures (c.any_whole.ensures ∙ sym (any_whole_is c.args.self.now.table operations c.args.handles.now S.keeps)) in
+    let go = c.either.ensures
+    ∙ ap₂ (λ invalid whole. invalid || whole) c.all_invalid.ensures
+    (c.any_whole.ensures ∙ sym (any_whole_is c.args.self.now.table operations c.args.handles.now S.keeps)) in
     rw (sym go ∙ c.if-either.true) refl
 
 pub returns-then-either-clause-stands : goal.returns-then-either-clause-stands
@@ -18,8 +20,11 @@ returns-then-either-clause-stands c operations S =
     let table = c.args.self.now.table in
     let handles = c.args.handles.now in
     let test = whole_in table handles in
-    stands_gone c.args.self.now c.drop_marked.new.self operations (whole_of handles operations) test S (whole_agrees table operations handles S.keeps)
-    (c.drop_marked.ensures test (only test table c.mark_whole.new.marks (c.mark_whole.ensures (λ there. false) (no_marks table)))) (all_whole operations handles)
+    stands_gone c.args.self.now c.drop_marked.new.self operations (whole_of handles operations) test S
+    (whole_agrees table operations handles S.keeps)
+    (c.drop_marked.ensures test
+    (only test table c.mark_whole.new.marks (c.mark_whole.ensures (λ there. false) (no_marks table))))
+    (all_whole operations handles)
 
 pub returns-in-Some-clause-answer : goal.returns-in-Some-clause-answer
 returns-in-Some-clause-answer c operations S =
@@ -27,9 +32,12 @@ returns-in-Some-clause-answer c operations S =
     let handles = c.args.handles.now in
     let test = member_of_any table handles in
     let M = only test table c.mark_all.new.marks (c.mark_all.ensures (λ there. false) (no_marks table)) in
-    let go = c.either.ensures ∙ ap₂ (λ invalid whole. invalid || whole) c.all_invalid.ensures (c.any_whole.ensures ∙ sym (any_whole_is table operations handles S.keeps)) in
+    let go = c.either.ensures
+    ∙ ap₂ (λ invalid whole. invalid || whole) c.all_invalid.ensures
+    (c.any_whole.ensures ∙ sym (any_whole_is table operations handles S.keeps)) in
     rw (sym go ∙ c.if-either.false)
-    (ap worn_or (worn_is (flag_at c.args.worn.now) table operations (members_of handles operations) test (Some c.in-Some.node) S.keeps (any_agrees table operations handles S.keeps)
+    (ap worn_or (worn_is (flag_at c.args.worn.now) table operations (members_of handles operations) test
+    (Some c.in-Some.node) S.keeps (any_agrees table operations handles S.keeps)
     (subst (IsFirstWorn (flag_at c.args.worn.now) test table) c.in-Some.is (c.first_worn.ensures test M))))
 
 pub returns-in-None-clause-answer : goal.returns-in-None-clause-answer
@@ -38,7 +46,10 @@ returns-in-None-clause-answer c operations S =
     let handles = c.args.handles.now in
     let test = member_of_any table handles in
     let M = only test table c.mark_all.new.marks (c.mark_all.ensures (λ there. false) (no_marks table)) in
-    let go = c.either.ensures ∙ ap₂ (λ invalid whole. invalid || whole) c.all_invalid.ensures (c.any_whole.ensures ∙ sym (any_whole_is table operations handles S.keeps)) in
+    let go = c.either.ensures
+    ∙ ap₂ (λ invalid whole. invalid || whole) c.all_invalid.ensures
+    (c.any_whole.ensures ∙ sym (any_whole_is table operations handles S.keeps)) in
     rw (sym go ∙ c.if-either.false)
-    (ap worn_or (worn_is (flag_at c.args.worn.now) table operations (members_of handles operations) test None S.keeps (any_agrees table operations handles S.keeps)
+    (ap worn_or (worn_is (flag_at c.args.worn.now) table operations (members_of handles operations) test None S.keeps
+    (any_agrees table operations handles S.keeps)
     (subst (IsFirstWorn (flag_at c.args.worn.now) test table) c.in-None.is (c.first_worn.ensures test M))))

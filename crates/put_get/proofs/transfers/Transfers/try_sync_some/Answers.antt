@@ -5,8 +5,10 @@ use Rattle.put_get.proofs.transfers.Transfers.try_sync_some.Goals as goal
 
 pub returns-in-Some-clause-stands : goal.returns-in-Some-clause-stands
 returns-in-Some-clause-stands c operations S =
-    fault_stays c.args.self.now operations c.args.thread c.args.handles.now (whole_of c.args.handles.now operations) c.in-Some.fault
+    fault_stays c.args.self.now operations c.args.thread c.args.handles.now
+    (whole_of c.args.handles.now operations) c.in-Some.fault
     (sym (c.first_fault.ensures operations S) ∙ c.in-Some.is) S
 
 pub returns-in-None-clause-answer : goal.returns-in-None-clause-answer
-returns-in-None-clause-answer c operations S = rw (sym (c.first_fault.ensures operations S) ∙ c.in-None.is) (c.sync_some.ensures.answer operations S)
+returns-in-None-clause-answer c operations S =
+    rw (sym (c.first_fault.ensures operations S) ∙ c.in-None.is) (c.sync_some.ensures.answer operations S)

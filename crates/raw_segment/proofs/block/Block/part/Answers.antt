@@ -18,6 +18,7 @@ returns-in-Some-clause-value c =
     (Some c.in-Some.place) _ c.self.view_is c.requires c.index.ensures c.in-Some.is in
     let inside = c.self.invariant.inside c.args.index c.in-Some.place at in
     ap (λ (parts : List (List ℕ)). slice_get parts c.args.index) (sym c.self.view_is)
-    ∙ part-get _ c.self.inside.filled.items c.self.inside.places.items c.args.index c.in-Some.place c.bytes.result.now at
+    ∙ part-get _ c.self.inside.filled.items c.self.inside.places.items c.args.index c.in-Some.place c.bytes.result.now
+    at
     (read-as c.self.inside.filled.items c.in-Some.place c.index-in-Some.result.now c.bytes.result.now
     (omega (arith, inside, c.self.inside.filled.ok.0)) c.index-in-Some.ensures (sym c.bytes.ensures.value))

@@ -23,9 +23,12 @@ small n = flt n (2 ^ 63)
 
 pub shares : statement
 shares = of_Lends C.struct C.the_codes C.the_heap C.the_lent
-    (λ d p. let n = length d.items in beside_shr_laws (said (small n)) (lent_at (Array u8 n) d.at d.items) (said_shr_laws (small n) tt) (lent_at_shr_laws (Array u8 n) (Array-row_laws u8 byte.shr_laws n) d.at d.items))
+    (λ d p. let n = length d.items in
+    beside_shr_laws (said (small n)) (lent_at (Array u8 n) d.at d.items) (said_shr_laws (small n) tt)
+    (lent_at_shr_laws (Array u8 n) (Array-row_laws u8 byte.shr_laws n) d.at d.items))
     (copy_shared RawPtr-field RawPtr-copy, tt)
     (λ M 𝓤 𝓛 d p.
     let n = length d.items in let l : Lft = C.the_row.lives in
-    Lends-both 𝓛 (small n) (lies_at (Array u8 n) full_share d.at d.items) (said (small n)) (lent_at (Array u8 n) d.at d.items) l (Lends-said 𝓛 (small n) tt l)
+    Lends-both 𝓛 (small n) (lies_at (Array u8 n) full_share d.at d.items) (said (small n))
+    (lent_at (Array u8 n) d.at d.items) l (Lends-said 𝓛 (small n) tt l)
     (Lends-lies 𝓛 (Array u8 n) l d.at d.items (Shares-Array 𝓛 u8 tt n l (byte.shares M 𝓤 𝓛) d.items)))

@@ -1,0 +1,175 @@
+//! A world whose nodes have one thread each, and events of it.
+
+ghost use Rattle.std.specs.Prelude.{◌≡◌, IsTrue, IfOk};
+ghost use Rattle.datagram_grammar.specs.Parameters.{Parameters};
+ghost use Rattle.gas_world.specs.Aims.{MayFall};
+ghost use Rattle.gas_world.specs.Events.{event_of};
+ghost use Rattle.plain_world.specs.World.{IsAmong};
+
+use crate::endpoints::has_registers;
+use crate::handlers::{Adds, registered};
+use datagram_grammar::Settings;
+use gas_world::{World, WorldAnswer, WorldEvent};
+use handler_rules::{Handlers, Violation};
+use std::alloc::{AllocError, Global};
+use std::marker::Model;
+use std::process::Abort;
+use std::test::Fail;
+
+/// A world whose nodes have one thread each.
+#[derive(Drop)]
+pub struct TestWorld {
+    pub world: World,
+}
+
+impl Model for TestWorld {
+    ghost use Rattle.std.specs.Prelude.{◌≡◌};
+    ghost use Rattle.gas_world.specs.WorldState.{WorldState};
+
+    ghost Value = { WorldState };
+
+    ghost view = { λ it. it.world };
+
+    ghost invariant = { λ it. it.world.settings.threads ≡ 1 };
+}
+
+/// Whether its nodes are among so many.
+#[tactic(auto, using(crate::proofs::Among::call_among))]
+fn is_among(nodes: u16, event: &WorldEvent<'_>) -> bool
+    ensures { (settings : Parameters) → settings.nodes ≡ nodes → IsTrue result
+        → IsAmong settings (event_of event.now) }
+{
+    match event {
+        WorldEvent::Call { node, .. } => *node < nodes,
+        WorldEvent::Request { from, to, .. } => *from < nodes && *to < nodes,
+        WorldEvent::Reply { from, to, .. } => *from < nodes && *to < nodes,
+        WorldEvent::Tick { node } => *node < nodes,
+    }
+}
+
+/// Whether a call is one of thread 0 without a list of registers.
+fn is_callable(event: &WorldEvent<'_>) -> bool
+    ensures { (settings : Parameters) → settings.threads ≡ 1 → IsTrue result
+        → MayFall settings event.now }
+{
+    match event {
+        WorldEvent::Call { thread, call, .. } => *thread == 0 && !has_registers(call),
+        WorldEvent::Request { .. } | WorldEvent::Reply { .. } | WorldEvent::Tick { .. } => true,
+    }
+}
+
+impl TestWorld {
+    /// A world of job 7, in a version, with so many nodes, and credits of each pair.
+    pub fn new(alloc: Global, version: u8, nodes: u16, credits: u16) -> Result<TestWorld, Fail>
+        ensures nodes { IfOk result (λ it. it.settings.nodes ≡ nodes) }
+    {
+        let settings = Settings::new(version, 7, nodes, credits, 1, 4096, 100, 10).ok_or(
+            "the settings",
+        )?;
+        TestWorld::of_settings(alloc, &settings)
+    }
+
+    /// A world of these settings.
+    pub fn of_settings(alloc: Global, settings: &Settings) -> Result<TestWorld, Fail>
+        requires { settings.now.threads ≡ 1 }
+        ensures { IfOk result (λ it. it.settings ≡ settings.now) }
+    {
+        let table = registered(alloc)?;
+        let world = World::new(alloc, settings, &table)?;
+        Ok(TestWorld { world })
+    }
+
+    /// An event at the time `now`; none where it isn't plain.
+    pub fn step<H: Handlers>(
+        &mut self,
+        handlers: &H,
+        now: u64,
+        event: &WorldEvent<'_>,
+    ) -> Option<WorldAnswer>
+        ensures { self.new.settings ≡ self.old.settings }
+    {
+        if !is_among(self.world.nodes(), event) || !is_callable(event) {
+            return None;
+        }
+        Some(self.world.step(handlers, now, event))
+    }
+
+    /// Checks what each of these events is answered at the time `now`.
+    pub fn check<H: Handlers>(
+        &mut self,
+        rt: &impl Abort,
+        handlers: &H,
+        now: u64,
+        rows: &[(WorldEvent<'_>, WorldAnswer)],
+    )
+        ensures { self.new.settings ≡ self.old.settings }
+    {
+        for (row, (event, want)) in rows.iter().enumerate() {
+            assert_eq!(rt; self.step(handlers, now, event), Some(*want), "row {row}");
+        }
+    }
+
+    /// Whether these bytes stand there in the segment of a node; not where there is no such node.
+    pub fn shows(&self, node: u16, offset: u64, bytes: &[u8]) -> bool {
+        if node >= self.world.nodes() {
+            return false;
+        }
+        match self
+            .world
+            .endpoint(node)
+            .segment()
+            .part(offset, bytes.len() as u64)
+        {
+            Some(there) => there == bytes,
+            None => false,
+        }
+    }
+
+    /// Rounds of ticks and deliveries, by `Adds`, at time 0.
+    pub fn settle(&mut self, rounds: u32) -> Result<(), AllocError>
+        ensures { self.new.settings ≡ self.old.settings }
+    {
+        self.world.settle(&Adds, 0, rounds)
+    }
+
+    /// What cell 0 of a node has; none where there is no such node.
+    pub fn cell(&self, node: u16) -> Option<i32> {
+        if node >= self.world.nodes() {
+            return None;
+        }
+        Some(self.world.endpoint(node).cells().get(0))
+    }
+
+    /// Whether thread 0 of a node may poll; not where there is no such node.
+    pub fn polls(&self, node: u16) -> bool {
+        node < self.world.nodes() && self.world.endpoint(node).polls(0)
+    }
+
+    /// How many requests of a pair of nodes were accepted, whether the one of a number is back, and the first that isn't; none
+    /// where there is no such pair.
+    pub fn pair(&self, from: u16, to: u16, number: u64) -> Option<(u64, bool, u64)> {
+        if from >= self.world.nodes() || to >= self.world.nodes() {
+            return None;
+        }
+        let accepted = self.world.accepted(from, to);
+        let returned = self.world.returned(from, to, number);
+        Some((accepted, returned, self.world.first_out(from, to)))
+    }
+
+    /// The most buffers that a node held; none where there is no such node.
+    pub fn most_held(&self, node: u16) -> Option<usize> {
+        if node >= self.world.nodes() {
+            return None;
+        }
+        Some(self.world.most_held(node))
+    }
+
+    /// How many violations a node noted, and the third newest; none where there is no such node.
+    pub fn noted(&self, node: u16) -> Option<(u64, Option<Violation>)> {
+        if node >= self.world.nodes() {
+            return None;
+        }
+        let log = self.world.endpoint(node).log();
+        Some((log.count(), log.back(2)))
+    }
+}

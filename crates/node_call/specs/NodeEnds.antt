@@ -1,0 +1,125 @@
+-- How the run of a node of a job ends, and what is written.
+-- Origin: this project's profile.
+use Rattle.std.specs.Prelude.{◌≡◌, ◌≢◌, ℕ, Bool, List, [], Option, Some, None}
+use Rattle.gas_outside.specs.Buffered.{Outbox, Gathers, GathersFront}
+use Rattle.gas_outside.specs.Sieve.{Sieving}
+use Rattle.gas_outside.specs.declared.writing.Wrote.{Wrote}
+use Rattle.gas_outside.specs.declared.writing.Wrote.TheVariants as wrote
+use Rattle.gas_endpoint.specs.EndpointState.{EndpointState, ForItsRecord}
+use Rattle.gasnet_trace.specs.Lines.{spell}
+use Rattle.endpoint_lock.specs.declared.ends.End.{End}
+use Rattle.endpoint_lock.specs.declared.ends.End.TheVariants as stations
+use Rattle.endpoint_lock.specs.declared.ends.Ended.{Ended}
+use Rattle.job_text.specs.declared.job.SieveRule.{SieveRule}
+use Rattle.station_run.specs.declared.node.Node.{Node}
+use Rattle.node_machine.specs.Kept.{MachineKept}
+use Rattle.node_machine.specs.NodeState.{NodeStands, opening_state}
+use Rattle.node_call.specs.Seen.{ClockSeen, DevicesSeen, LinkSeen}
+use Rattle.node_call.specs.NodeLeaves.{NodeLeaves, Post, has_noted, node_lines, place_of, record_after}
+use Rattle.node_call.specs.declared.calling.NodeEnd.{NodeEnd}
+use Rattle.node_call.specs.declared.calling.NodeEnd.TheVariants as ends
+use Rattle.node_call.specs.declared.calling.NodeRan.{NodeRan}
+
+-- ---- for a caller
+
+-- the node ran until this end of its station
+pub record RunsTo (post : Post) (before after : DevicesSeen) (end : End) : Type 0 where
+  pub left : Ended MachineKept LinkSeen ClockSeen
+  pub leaves : NodeLeaves post before after left
+  pub end_is : left.end ≡ end
+
+-- the bytes of the trace of a run
+abbrev pub text_of : {post : Post} {before after : DevicesSeen} {end : End} → RunsTo post before after end → List ℕ
+text_of {post} run = spell (node_lines post run.left.journal)
+
+-- it ran until this end, its whole trace went in, and this node is left
+pub record EndsAt (post : Post) (before after : DevicesSeen) (end : End) (old new : Outbox)
+    (node : Option EndpointState) : Type 0 where
+  pub run : RunsTo post before after end
+  pub written : Gathers old new (text_of run)
+  pub node_is : node ≡ Some run.left.machine.endpoint
+
+-- so it ended, with all scripts over, and noted a violation or none
+pub record EndsOver (post : Post) (before after : DevicesSeen) (violated : Bool) (old new : Outbox)
+    (node : Option EndpointState) : Type 0 where
+  pub ends : EndsAt post before after stations.Over old new node
+  pub violated_is : has_noted (record_after post ends.run.left.journal) ≡ violated
+
+-- memory ran out, and nothing went in
+pub record EndsEarly (old new : Outbox) (node : Option EndpointState) : Type 0 where
+  pub written : Gathers old new []
+  pub no_node : node ≡ None
+
+-- it ran until some end, and the sink failed: a front of its trace went in
+pub record EndsUnwritten (post : Post) (before after : DevicesSeen) (old new : Outbox) (node : Option EndpointState)
+    : Type 0 where
+  pub end : End
+  pub some_text : end ≢ stations.NoMemory
+  pub run : RunsTo post before after end
+  pub written : GathersFront old new (text_of run)
+  pub no_node : node ≡ None
+
+-- how the run of a node ended, what went into its sink, and what is left of the node
+abbrev pub EndsNode : Post → (before after : DevicesSeen) → (old new : Outbox) → NodeEnd → Option EndpointState
+    → Type 0
+EndsNode post before after old new (ends.Over violated) left = EndsOver post before after violated old new left
+EndsNode post before after old new ends.Stuck left = EndsAt post before after stations.Stuck old new left
+EndsNode post before after old new ends.LinkFault left = EndsAt post before after stations.LinkFault old new left
+EndsNode post before after old new ends.JournalFull left = EndsAt post before after stations.JournalFull old new left
+EndsNode post before after old new ends.NoMemory left = EndsEarly old new left
+EndsNode post before after old new ends.WriteFault left = EndsUnwritten post before after old new left
+
+-- ---- the parts
+
+-- how the run of a node ended, by the end of its station, by whether its trace was written, and by whether it noted a
+-- violation
+abbrev pub end_for : End → Wrote → (violated : Bool) → NodeEnd
+end_for stations.NoMemory written violated = ends.NoMemory
+end_for _ wrote.Fault violated = ends.WriteFault
+end_for stations.Over wrote.Done violated = ends.Over violated
+end_for stations.Stuck wrote.Done violated = ends.Stuck
+end_for stations.LinkFault wrote.Done violated = ends.LinkFault
+end_for stations.JournalFull wrote.Done violated = ends.JournalFull
+
+-- the node that is left
+abbrev pub node_for : NodeEnd → EndpointState → Option EndpointState
+node_for ends.NoMemory endpoint = None
+node_for ends.WriteFault endpoint = None
+node_for _ endpoint = Some endpoint
+
+-- so the run of a node ended whose threads left this
+pub record EndsSo {L C : Type 0} (left : Ended MachineKept (Sieving L) C) (written : Wrote) (ran : NodeRan L C)
+    : Type 0 where
+  pub violated : Bool
+  pub violated_is : ForItsRecord left.machine.endpoint (λ node. violated ≡ has_noted node)
+  pub end_is : ran.end ≡ end_for left.end written violated
+  pub node_is : ran.node ≡ node_for ran.end left.machine.endpoint
+  pub link : ran.link ≡ left.link.inner
+  pub clock : ran.clock ≡ left.clock
+
+-- nothing was done, for want of memory
+abbrev pub unmade : {L C : Type 0} → L → C → NodeRan L C
+unmade link clock = record { end = ends.NoMemory; node = None; link = link; clock = clock }
+
+-- this link behind the job's sieve, which was handed nothing yet
+abbrev pub sieve_before : {L : Type 0} → SieveRule → L → Sieving L
+sieve_before rule link = record {
+  inner = link;
+  lose = rule.lose;
+  repeat = rule.repeat;
+  swap = rule.swap;
+  number = 0;
+  held = None;
+}
+
+-- a node was made ready to run: its machine stands for the node before all turns
+pub record IsReady {L C : Type 0} (post : Post) (link : L) (clock : C) (node : Node MachineKept (Sieving L) C)
+    : Type 0 where
+  pub opens : NodeStands node.machine (opening_state post.job post.rank)
+  pub node_is : node ≡ record {
+    place = place_of post;
+    machine = node.machine;
+    link = sieve_before post.job.sieve link;
+    clock = clock;
+    patience = post.job.patience;
+  }

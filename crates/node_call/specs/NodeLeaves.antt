@@ -1,0 +1,89 @@
+-- What the threads of a node of a job leave, and the lines of its trace.
+-- Origin: this project's profile.
+use Rattle.std.specs.Prelude.{◌≡◌, ℕ, ◌==◌, Bool, not, List}
+use Rattle.machine.specs.declared.entry.Entry.{Entry}
+use Rattle.machine.specs.declared.turns.Machine.{Ghosts as MachineGhosts}
+use Rattle.machine.specs.Replay.{replayed}
+use Rattle.handler_rules.specs.LogState.{log_of}
+use Rattle.node_record.specs.Record.{Node as Record}
+use Rattle.endpoint_rules.specs.EndpointLocal.{EndpointLocal}
+use Rattle.job_text.specs.declared.job.Job.{Job as JobState}
+use Rattle.endpoint_lock.specs.declared.ends.Ended.{Ended}
+use Rattle.gasnet_trace.specs.Lines.{Line}
+use Rattle.gasnet_trace.specs.TraceText.{trace_lines}
+use Rattle.station_run.specs.declared.node.Node.{Node}
+use Rattle.station_run.specs.declared.node.Place.{Place}
+use Rattle.station_run.specs.NodeRuns.{RunsNode, trace_of}
+use Rattle.node_machine.specs.Kept.{MachineKept, are_done, polls_at}
+use Rattle.node_machine.specs.NodeState.{NodeState, NodeStands, after_turn, opening_state, polls_in, sent, state_steps}
+use Rattle.node_machine.specs.NodeState.{turned}
+use Rattle.node_call.specs.Seen.{ClockSeen, DevicesSeen, IsBehind, LinkSeen, seen_clocks, seen_links, sieved}
+
+-- a node of a job: its number, and the port of rank 0
+pub record Post : Type 0 where
+  pub job : JobState
+  pub rank : ℕ
+  pub port : ℕ
+
+abbrev pub post_of : JobState → (rank port : ℕ) → Post
+post_of job rank port = record { job = job; rank = rank; port = port }
+
+-- the machines of nodes: their states are those of `node_machine`
+abbrev pub node_machines : MachineGhosts MachineKept
+node_machines = record {
+  State = NodeState;
+  stands = NodeStands;
+  thread_count = λ machine. machine.job.settings.threads;
+  polls_at = polls_at;
+  is_over = λ machine. are_done machine.scripts;
+  polls_in = polls_in;
+  after = after_turn;
+  turned = turned;
+  sent = sent;
+}
+
+-- its place in the job, and the version of its trace's text
+abbrev pub place_of : Post → Place
+place_of post = record {
+  version = post.job.settings.version;
+  job = post.job.settings.job;
+  rank = post.rank;
+  nodes = post.job.settings.nodes;
+  port = post.port;
+}
+
+-- the node before it runs, with this machine, over these devices
+abbrev pub node_at : Post → MachineKept → DevicesSeen → Node MachineKept LinkSeen ClockSeen
+node_at post machine devices = record {
+  place = place_of post;
+  machine = machine;
+  link = sieved post.job.sieve devices.link;
+  clock = devices.clock;
+  patience = post.job.patience;
+}
+
+-- what the node's threads left, with its devices before and after
+pub record NodeLeaves (post : Post) (before after : DevicesSeen) (left : Ended MachineKept LinkSeen ClockSeen)
+    : Type 0 where
+  -- it began with a machine that stands for the node before all turns
+  pub machine : MachineKept
+  pub opens : NodeStands machine (opening_state post.job post.rank)
+  -- its threads ran over the link behind the job's sieve, or that couldn't be bound
+  pub runs : RunsNode node_machines seen_links seen_clocks (node_at post machine before) left
+  pub link : IsBehind left.link after.link
+  pub clock : left.clock ≡ after.clock
+
+-- ---- by its journal
+
+-- the record of the node after the turns of a journal
+abbrev pub record_after : Post → List Entry → Record EndpointLocal
+record_after post journal =
+    (replayed state_steps (opening_state post.job post.rank) journal).ranked.state.node
+
+-- it has noted a violation
+abbrev pub has_noted : Record EndpointLocal → Bool
+has_noted node = not ((log_of node.local.core.violations).count == 0)
+
+-- the lines of the node's trace
+abbrev pub node_lines : Post → List Entry → List Line
+node_lines post journal = trace_lines post.job.settings.version (trace_of (place_of post) journal)

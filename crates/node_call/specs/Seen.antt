@@ -1,0 +1,85 @@
+-- What is seen of a node's link and clock.
+-- Origin: this project's profile.
+use Rattle.std.specs.Prelude.{◌≡◌, ℕ, ◌==◌, ◌&&◌, Bool, if◌then◌else◌, List, Option, None, Some}
+use Rattle.std.specs.Option.{ForSome}
+use Rattle.gas_outside.specs.declared.link.Link.{Ghosts as LinkGhosts}
+use Rattle.gas_outside.specs.declared.clock.Clock.{Ghosts as ClockGhosts}
+use Rattle.job_text.specs.declared.job.SieveRule.{SieveRule}
+
+-- a link: what it was bound to last; the datagrams sent, received and waiting, where it tells them; its count of faults
+pub record LinkSeen : Type 0 where
+  pub bound : Option (ℕ × ℕ × ℕ)
+  pub sent : Option (List (ℕ × List ℕ))
+  pub received : Option (List (List ℕ))
+  pub waiting : Option (List (List ℕ))
+  pub faults : ℕ
+
+-- a clock: how often it was asked, what it said last, and the one value that it always says, where it tells that
+pub record ClockSeen : Type 0 where
+  pub asked : ℕ
+  pub said : ℕ
+  pub fixed : Option ℕ
+
+-- what is seen of this link
+abbrev pub link_seen : {L : Type 0} → LinkGhosts L → L → LinkSeen
+link_seen links link = record {
+  bound = links.bound link;
+  sent = links.sent link;
+  received = links.received link;
+  waiting = links.waiting link;
+  faults = links.faults link;
+}
+
+-- what is seen of this clock
+abbrev pub clock_seen : {C : Type 0} → ClockGhosts C → C → ClockSeen
+clock_seen clocks clock = record { asked = clocks.asked clock; said = clocks.said clock; fixed = clocks.fixed clock }
+
+-- the devices of a node
+pub record DevicesSeen : Type 0 where
+  pub link : LinkSeen
+  pub clock : ClockSeen
+
+abbrev pub devices_seen : {L C : Type 0} → LinkGhosts L → ClockGhosts C → L → C → DevicesSeen
+devices_seen links clocks link clock = record { link = link_seen links link; clock = clock_seen clocks clock }
+
+-- ---- what is seen, read as a link and as a clock
+
+abbrev pub seen_links : LinkGhosts LinkSeen
+seen_links = record {
+  bound = λ link. link.bound;
+  sent = λ link. link.sent;
+  received = λ link. link.received;
+  waiting = λ link. link.waiting;
+  faults = λ link. link.faults;
+}
+
+abbrev pub seen_clocks : ClockGhosts ClockSeen
+seen_clocks = record {
+  asked = λ clock. clock.asked;
+  said = λ clock. clock.said;
+  fixed = λ clock. clock.fixed;
+}
+
+-- ---- a link behind a sieve
+
+-- the sieve lets everything pass: its numbers are 0 0 0
+abbrev pub is_plain : SieveRule → Bool
+is_plain rule = (rule.lose == 0) && (rule.repeat == 0) && (rule.swap == 0)
+
+-- what a sieve before the link tells: what the link tells, but of what was sent nothing where it doesn't let all pass
+abbrev pub sieved : SieveRule → LinkSeen → LinkSeen
+sieved rule link = record {
+  bound = link.bound;
+  sent = if is_plain rule then link.sent else None;
+  received = link.received;
+  waiting = link.waiting;
+  faults = link.faults;
+}
+
+-- what a sieve tells, the link behind it tells
+pub record IsBehind (sieve link : LinkSeen) : Type 0 where
+  pub bound : sieve.bound ≡ link.bound
+  pub sent : ForSome sieve.sent (λ datagrams. link.sent ≡ Some datagrams)
+  pub received : sieve.received ≡ link.received
+  pub waiting : sieve.waiting ≡ link.waiting
+  pub faults : sieve.faults ≡ link.faults

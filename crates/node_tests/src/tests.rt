@@ -1,0 +1,281 @@
+use gas_outside::{FixedClock, Gate, MemoryLink, MemorySink, MemorySource, OpenGate};
+use station_tests::InStep;
+use std::alloc::Global;
+use std::process::Abort;
+use std::sync::Wait;
+use std::test::Fail;
+use std::thread::Threads;
+use top_call::{Outside, gasnet};
+
+/// What a call of `gasnet` gave: the exit status, whether there is a node, and what the sink took.
+#[derive(Drop)]
+struct Said {
+    code: u8,
+    has_node: bool,
+    written: Vec<u8>,
+}
+
+/// A call of `gasnet` with the words `node RANK PORT` for this job.
+#[derive(Drop)]
+struct NodeCall<'a> {
+    words: &'a str,
+    job: &'a str,
+    link: MemoryLink,
+    write_fails: u64,
+}
+
+/// Calls `gasnet`.
+fn call<R: Threads + Wait + Sync + AllocGlobal, G: Gate + Sync + Drop>(
+    rt: &R,
+    call: NodeCall<'_>,
+    gate: G,
+) -> Result<(Said, G), Fail> {
+    let alloc = rt.alloc();
+    let mut words = Vec::new(alloc);
+    for word in call.words.split(' ') {
+        words.push(String::from_str(alloc, word)?)?;
+    }
+    let outside = Outside {
+        source: MemorySource::new(
+            Vec::from_slice(alloc, call.job.as_bytes())?,
+            Vec::new(alloc),
+        )?,
+        sink: MemorySink::new(alloc, vec![in alloc; call.write_fails]?)?,
+        link: call.link,
+        clock: FixedClock::new(0),
+        gate,
+    };
+    let (status, after) = gasnet(rt, alloc, &words, outside);
+    let said = Said {
+        code: status.code,
+        has_node: status.node.is_some(),
+        written: Vec::from_slice(alloc, after.sink.taken())?,
+    };
+    Ok((said, after.gate))
+}
+
+/// A link in memory on which these datagrams wait, and which fails at a call; at none for 0.
+fn link_with(alloc: Global, waiting: &[&[u8]], call: u64) -> Result<MemoryLink, Fail> {
+    let mut all = Vec::new(alloc);
+    for bytes in waiting {
+        all.push(Vec::from_slice(alloc, bytes)?)?;
+    }
+    Ok(MemoryLink::new(alloc, all, vec![in alloc; call]?)?)
+}
+
+/// A job of one node with two threads: thread 0 waits for thread 1.
+const TWO_THREADS: &str = "\
+gasnet 1
+job 7
+nodes 1
+credits 1
+threads 2
+segment 4096
+last 100
+resend 10
+patience 100000
+sieve 0 0 0
+script 0 0
+until 0 1
+set-cell 1 5
+end
+script 0 1
+set-cell 0 1
+end
+done
+";
+
+#[test]
+fn two_threads_take_turns(rt: HostRuntime) -> Result<(), Fail> {
+    let node = NodeCall {
+        words: "node 0 20000",
+        job: TWO_THREADS,
+        link: link_with(rt.alloc(), &[], 0)?,
+        write_fails: 0,
+    };
+    let (said, gate) = call(&rt, node, InStep::new())?;
+    assert_eq!(rt; said.code, 0);
+    assert!(rt; said.has_node);
+    assert_eq!(rt;
+        said.written.as_slice(),
+        b"trace 1\njob 7\nrank 0\nturn 1 0 -\nturn 0 0 -\nturn 0 0 -\nend\nstatus 0 ok\n".as_slice()
+    );
+    assert!(rt; gate.held());
+    Ok(())
+}
+
+/// A job of two nodes: node 0 asks node 1, and node 1 waits for the request.
+const TWO_NODES: &str = "\
+gasnet 1
+job 7
+nodes 2
+credits 1
+threads 1
+segment 4096
+last 100
+resend 10
+patience 3
+sieve 0 0 0
+handler 128 request
+add 0 a0
+end
+script 0 0
+short 1 128 5
+end
+script 1 0
+until 0 5
+end
+done
+";
+
+/// The request of node 0.
+const REQUEST: [u8; 44] = [
+    0x47, 0x41, 0x4d, 0x31, 0, 0x80, 1, 0, 0, 0, 0, 0, 0, 0, 0, 7, 0, 0, 0, 1, 0, 0, 0, 0, 0, 0, 0,
+    0, 0, 0, 0, 1, 0, 0, 0, 0, 0, 0, 0, 0, 0, 0, 0, 5,
+];
+
+/// A call for the two nodes: the words, what waits, the call of the link that fails, the exit status, and what is written.
+struct Row {
+    words: &'static str,
+    waiting: &'static [&'static [u8]],
+    link_fails: u64,
+    write_fails: u64,
+    code: u8,
+    written: &'static str,
+}
+
+/// The rows.
+const ROWS: [Row; 13] = [
+    Row {
+        words: "node 0 20000",
+        waiting: &[],
+        link_fails: 1,
+        write_fails: 0,
+        code: 6,
+        written: "trace 1\njob 7\nrank 0\nend\nstatus 6 link-fault\n",
+    },
+    Row {
+        words: "node 0 20000",
+        waiting: &[],
+        link_fails: 2,
+        write_fails: 0,
+        code: 6,
+        written: "trace 1\njob 7\nrank 0\nend\nstatus 6 link-fault\n",
+    },
+    Row {
+        words: "node 0 20000",
+        waiting: &[],
+        link_fails: 3,
+        write_fails: 0,
+        code: 6,
+        written: "trace 1\njob 7\nrank 0\nturn 0 0 -\nend\nstatus 6 link-fault\n",
+    },
+    Row {
+        words: "node 0 20000",
+        waiting: &[],
+        link_fails: 0,
+        write_fails: 0,
+        code: 0,
+        written: "trace 1\njob 7\nrank 0\nturn 0 0 -\nend\nstatus 0 ok\n",
+    },
+    Row {
+        words: "node 0 20000",
+        waiting: &[],
+        link_fails: 0,
+        write_fails: 1,
+        code: 5,
+        written: "",
+    },
+    Row {
+        words: "node 1 20000",
+        waiting: &[],
+        link_fails: 0,
+        write_fails: 0,
+        code: 9,
+        written: "trace 1\njob 7\nrank 1\nend\nstatus 9 stuck\n",
+    },
+    Row {
+        words: "node 1 20000",
+        waiting: &[&REQUEST],
+        link_fails: 0,
+        write_fails: 0,
+        code: 0,
+        written: "trace 1\njob 7\nrank 1\nturn 0 0 x47414d3100800100000000000000000700000001000000000000000000000001000000000000000000000005\nend\nstatus 0 ok\n",
+    },
+    Row {
+        words: "node 2 20000",
+        waiting: &[],
+        link_fails: 0,
+        write_fails: 0,
+        code: 2,
+        written: "status 2 usage\n",
+    },
+    Row {
+        words: "node 64 20000",
+        waiting: &[],
+        link_fails: 0,
+        write_fails: 0,
+        code: 2,
+        written: "status 2 usage\n",
+    },
+    Row {
+        words: "node 0 1023",
+        waiting: &[],
+        link_fails: 0,
+        write_fails: 0,
+        code: 2,
+        written: "status 2 usage\n",
+    },
+    Row {
+        words: "node 0 65473",
+        waiting: &[],
+        link_fails: 0,
+        write_fails: 0,
+        code: 2,
+        written: "status 2 usage\n",
+    },
+    Row {
+        words: "node 00 20000",
+        waiting: &[],
+        link_fails: 0,
+        write_fails: 0,
+        code: 2,
+        written: "status 2 usage\n",
+    },
+    Row {
+        words: "node 0 20000 0",
+        waiting: &[],
+        link_fails: 0,
+        write_fails: 0,
+        code: 2,
+        written: "status 2 usage\n",
+    },
+];
+
+/// Checks a row.
+fn check<R: Threads + Wait + Sync + Abort + AllocGlobal>(rt: &R, row: &Row) -> Result<(), Fail> {
+    let node = NodeCall {
+        words: row.words,
+        job: TWO_NODES,
+        link: link_with(rt.alloc(), row.waiting, row.link_fails)?,
+        write_fails: row.write_fails,
+    };
+    let (said, _) = call(rt, node, OpenGate)?;
+    assert_eq!(rt; said.code, row.code, "{}", row.words);
+    assert_eq!(rt;
+        said.written.as_slice(),
+        row.written.as_bytes(),
+        "{}",
+        row.words
+    );
+    assert_eq!(rt; said.has_node, !matches!(row.code, 2 | 5), "{}", row.words);
+    Ok(())
+}
+
+#[test]
+fn the_rows_end_and_say_as_they_should(rt: HostRuntime) -> Result<(), Fail> {
+    for row in &ROWS {
+        check(&rt, row)?;
+    }
+    Ok(())
+}

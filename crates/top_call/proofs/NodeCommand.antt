@@ -1,0 +1,273 @@
+-- The command `node`.
+use Rattle.std.proofs.Common.{◌≡◌, ℕ, ◌<◌, ◌≤◌, List, [], ◌∷◌, ◌++◌, Bool, true, false, Option, Some, None, refl, sym, ap}
+use Rattle.std.proofs.Common.{subst, inl, inr, lit<, ◌∙◌, arith, append-nil}
+use Rattle.std.specs.List.{Contains}
+use Rattle.gas_outside.specs.Buffered.{Outbox, GathersFront}
+use Rattle.gas_outside.specs.Faults.{Rose}
+use Rattle.gas_outside.proofs.Outboxes.{gathers_first, rose_later}
+use Rattle.node_script.specs.Lines.{spell, line_text}
+use Rattle.gas_endpoint.specs.EndpointState.{EndpointState}
+use Rattle.job_text.specs.declared.job.Job.{Job as JobState}
+use Rattle.job_text.specs.JobText.{JobText}
+use Rattle.endpoint_lock.specs.declared.ends.End.{End as StationEnd}
+use Rattle.endpoint_lock.specs.declared.ends.End.TheVariants as stations
+use Rattle.node_call.specs.NodeLeaves.{has_noted, node_lines, post_of, record_after}
+use Rattle.node_call.specs.NodeEnds.{EndsAt, RunsTo}
+use Rattle.node_call.specs.NodeEnds.{EndsNode as NodeEndsSo}
+use Rattle.node_call.specs.declared.calling.NodeEnd.{NodeEnd}
+use Rattle.node_call.specs.declared.calling.NodeEnd.TheVariants as nodes
+use Rattle.world_run.proofs.LinesWritten.{one_more}
+use Rattle.top_call.specs.Outsides.{Call, Course, Input, course_in, took_in}
+use Rattle.top_call.specs.Commands.{code_of, end_of, status_line}
+use Rattle.top_call.specs.HowEnds.{After, Means, gives, node_given, nothing, said_last, unasked}
+use Rattle.top_call.specs.JobReads.{GivesJob, ReadsJob}
+use Rattle.top_call.specs.NodeCommand.{HoldsNode, LosesLink, NodeCompletes, NodeEnds, NodeMeans}
+use Rattle.top_call.specs.NodeCommand.{RunsNode}
+use Rattle.top_call.specs.TopParts.{EndsBy, Says, SaysNode, cut}
+use Rattle.top_call.specs.declared.ending.End.{End}
+use Rattle.top_call.specs.declared.ending.End.TheVariants as ends
+use Rattle.top_call.specs.declared.ending.Ended.{Ended}
+use Rattle.top_call.specs.declared.ending.Given.{Given}
+use Rattle.top_call.proofs.LastLine.{IsSaid, Weakens, alone, says_alone, says_last, weak_alone}
+use Rattle.top_call.proofs.JobRead.{MayReadNone, was_no_job}
+use Rattle.top_call.proofs.RunTold.{end_said}
+use Rattle.top_call.proofs.Statuses.{code_means}
+
+abbrev weak_runs : (rank port : ℕ) (course : Course) (station : StationEnd) (end : End) (given : Given) (said : List ℕ)
+    → RunsNode rank port course station end (gives given) said → RunsNode rank port course station end unasked said
+weak_runs rank port course station end given said h = record {
+  job = h.job;
+  read = h.read;
+  is_node = h.is_node;
+  run = h.run;
+  said_is = h.said_is;
+  node_after = tt;
+}
+
+pub weak_node : (rank port : ℕ) (course : Course) → Weakens (NodeEnds rank port course)
+weak_node rank port course ends.Done given said h = record {
+  runs = weak_runs rank port course stations.Over (end_of false) given said h.runs;
+  violated_is = h.violated_is;
+}
+weak_node rank port course ends.Violations given said h = record {
+  runs = weak_runs rank port course stations.Over (end_of true) given said h.runs;
+  violated_is = h.violated_is;
+}
+weak_node rank port course ends.Usage given said h = record {
+  job = h.job;
+  read = h.read;
+  too_great = h.too_great;
+  alone = weak_alone ends.Usage given said h.alone;
+}
+weak_node rank port course (ends.BadJob line reason) given said h =
+    record { read = h.read; alone = weak_alone (ends.BadJob line reason) given said h.alone }
+weak_node rank port course ends.ReadFault given said h =
+    record { rose = h.rose; alone = weak_alone ends.ReadFault given said h.alone }
+weak_node rank port course ends.WriteFault given said h = h
+weak_node rank port course ends.LinkFault given said h = record {
+  runs = weak_runs rank port course stations.LinkFault ends.LinkFault given said h.runs;
+  rose = h.rose;
+}
+weak_node rank port course ends.NoMemory given said h = weak_alone ends.NoMemory given said h
+weak_node rank port course ends.Stuck given said h =
+    weak_runs rank port course stations.Stuck ends.Stuck given said h
+weak_node rank port course ends.JournalFull given said h =
+    weak_runs rank port course stations.JournalFull ends.JournalFull given said h
+
+-- ---- a job was read, or none
+
+pub node_none : (rank port : ℕ) (course : Course) → MayReadNone (NodeEnds rank port course) course.reading
+node_none rank port course (ends.BadJob line reason) after said h = h
+node_none rank port course ends.ReadFault after said h = h
+node_none rank port course ends.NoMemory after said h = h
+node_none rank port course ends.Done after said h = absurd h
+node_none rank port course ends.Violations after said h = absurd h
+node_none rank port course ends.Usage after said h = absurd h
+node_none rank port course ends.WriteFault after said h = h
+node_none rank port course ends.LinkFault after said h = absurd h
+node_none rank port course ends.Stuck after said h = absurd h
+node_none rank port course ends.JournalFull after said h = absurd h
+
+-- ---- a node ran
+
+module _ (rank port : ℕ) (course : Course) (job : JobState) (read : GivesJob course.reading job)
+    (is_node : rank < job.settings.nodes) where
+  -- its lines, and its run, as the command says them
+  abbrev ran : (station : StationEnd) (end : End) (after : After) (run : RunsTo (post_of job rank port) course.before course.after station)
+      → after.left run.left.machine.endpoint
+      → RunsNode rank port course station end after (said_last (node_lines (post_of job rank port) run.left.journal) end)
+  ran station end after run left = record {
+    job = job;
+    read = read;
+    is_node = is_node;
+    run = run;
+    said_is = refl;
+    node_after = left;
+  }
+
+  over : (violated : Bool) (after : After)
+      (run : RunsTo (post_of job rank port) course.before course.after stations.Over)
+      → has_noted (record_after (post_of job rank port) run.left.journal) ≡ violated
+      → after.left run.left.machine.endpoint
+      → NodeEnds rank port course (end_of violated) after
+      (said_last (node_lines (post_of job rank port) run.left.journal) (end_of violated))
+  over true after run noted left = record { runs = ran stations.Over (end_of true) after run left; violated_is = noted }
+  over false after run noted left =
+      record { runs = ran stations.Over (end_of false) after run left; violated_is = noted }
+
+  -- where the link failed its count rose
+  link_rose : RunsTo (post_of job rank port) course.before course.after stations.LinkFault
+      → Rose course.before.link.faults course.after.link.faults
+  link_rose run =
+      let faults = run.leaves.link.faults in
+      elim run.leaves.runs [
+        | inl bound ↦ subst (λ (n : ℕ). Rose course.before.link.faults n) faults
+            (rose_later course.before.link.faults bound.link.faults run.left.link.faults bound.later
+            (bound.leaves.fault run.end_is))
+        | inr unbound ↦ subst (λ (n : ℕ). Rose course.before.link.faults n) faults unbound.rose
+      ]
+
+  lost : (after : After) (run : RunsTo (post_of job rank port) course.before course.after stations.LinkFault)
+      → after.left run.left.machine.endpoint
+      → LosesLink rank port course after
+      (said_last (node_lines (post_of job rank port) run.left.journal) ends.LinkFault)
+  lost after run left =
+      record { runs = ran stations.LinkFault ends.LinkFault after run left; rose = link_rose run }
+
+  -- the node is given that is left
+  given_node : (left : Option EndpointState) (endpoint : EndpointState) → left ≡ Some endpoint
+      → node_given left ≡ node_given (Some endpoint)
+  given_node left endpoint is = ap (λ (n : Option EndpointState). node_given n) is
+
+  -- a whole trace, and the status line behind it
+  told : (station : StationEnd) (end : End) (left : Option EndpointState) (old middle new : Outbox) (ended : Ended)
+      (h : EndsAt (post_of job rank port) course.before course.after station old middle left) → IsSaid end
+      → NodeEnds rank port course end (gives (node_given left))
+      (said_last (node_lines (post_of job rank port) h.run.left.journal) end)
+      → Says end (node_given left) middle new ended → EndsBy (NodeEnds rank port course) old new ended
+  told station end left old middle new ended h is_said so says =
+      says_last (NodeEnds rank port course) old middle new (node_lines (post_of job rank port) h.run.left.journal) end
+      (node_given left) ended (weak_node rank port course) is_said so h.written says
+
+  -- how a run ends of which nothing is claimed
+  some_end : (station : StationEnd) → (station ≡ stations.NoMemory → ⊥)
+      → (run : RunsTo (post_of job rank port) course.before course.after station)
+      → (end : End) × NodeEnds rank port course end unasked
+      (said_last (node_lines (post_of job rank port) run.left.journal) end)
+  some_end stations.Over other run =
+      let noted = has_noted (record_after (post_of job rank port) run.left.journal) in
+      (end_of noted, over noted unasked run refl tt)
+  some_end stations.Stuck other run = (ends.Stuck, ran stations.Stuck ends.Stuck unasked run tt)
+  some_end stations.LinkFault other run = (ends.LinkFault, lost unasked run tt)
+  some_end stations.JournalFull other run =
+      (ends.JournalFull, ran stations.JournalFull ends.JournalFull unasked run tt)
+  some_end stations.NoMemory other run = absurd (other refl)
+
+  -- a front of a trace, and nothing behind it
+  untold : (station : StationEnd) (old new : Outbox) → (station ≡ stations.NoMemory → ⊥)
+      → (run : RunsTo (post_of job rank port) course.before course.after station)
+      → GathersFront old new (spell (node_lines (post_of job rank port) run.left.journal))
+      → EndsBy (NodeEnds rank port course) old new cut
+  untold station old new other run front =
+      let end = some_end station other run in
+      let lines = node_lines (post_of job rank port) run.left.journal in
+      record {
+        end = end.0;
+        said = said_last lines end.0;
+        ends = end.1;
+        cut = rw (one_more lines (status_line end.0))
+            (gathers_first old new (spell lines) (line_text (status_line end.0)) front);
+        nothing_given = refl;
+      }
+
+  -- the run ended so, and then its status line was said
+  pub node_told : (old middle new : Outbox) (end : NodeEnd) (left : Option EndpointState) (ended : Ended)
+      → NodeEndsSo (post_of job rank port) course.before course.after old middle end left
+      → SaysNode end left middle new ended → EndsBy (NodeEnds rank port course) old new ended
+  node_told old middle new (nodes.Over violated) left ended h says =
+      told stations.Over (end_of violated) left old middle new ended h.ends (end_said violated)
+      (over violated (gives (node_given left)) h.ends.run h.violated_is
+      (given_node left h.ends.run.left.machine.endpoint h.ends.node_is)) says
+  node_told old middle new nodes.Stuck left ended h says =
+      told stations.Stuck ends.Stuck left old middle new ended h tt
+      (ran stations.Stuck ends.Stuck (gives (node_given left)) h.run
+      (given_node left h.run.left.machine.endpoint h.node_is)) says
+  node_told old middle new nodes.LinkFault left ended h says =
+      told stations.LinkFault ends.LinkFault left old middle new ended h tt
+      (lost (gives (node_given left)) h.run (given_node left h.run.left.machine.endpoint h.node_is)) says
+  node_told old middle new nodes.JournalFull left ended h says =
+      told stations.JournalFull ends.JournalFull left old middle new ended h tt
+      (ran stations.JournalFull ends.JournalFull (gives (node_given left)) h.run
+      (given_node left h.run.left.machine.endpoint h.node_is)) says
+  node_told old middle new nodes.NoMemory left ended h says =
+      let given = ap (λ (n : Option EndpointState). node_given n) h.no_node in
+      says_last (NodeEnds rank port course) old middle new [] ends.NoMemory nothing ended (weak_node rank port course)
+      tt (alone ends.NoMemory) h.written
+      (subst (λ (g : Given). Says ends.NoMemory g middle new ended) given says)
+  node_told old middle new nodes.WriteFault left ended h says =
+      subst (λ (e : Ended). EndsBy (NodeEnds rank port course) old new e) (sym says.0)
+      (subst (λ (out : Outbox). EndsBy (NodeEnds rank port course) old out cut) (sym says.1)
+      (untold h.end old middle h.some_text h.run h.written))
+
+-- no node of the job is asked for
+pub no_node_told : (rank port : ℕ) (course : Course) (job : JobState) (old new : Outbox) (ended : Ended)
+    → GivesJob course.reading job → job.settings.nodes ≤ rank → Says ends.Usage nothing old new ended
+    → EndsBy (NodeEnds rank port course) old new ended
+no_node_told rank port course job old new ended read great says =
+    says_alone (NodeEnds rank port course) old new ends.Usage ended (weak_node rank port course) tt
+    (record { job = job; read = read; too_great = great; alone = alone ends.Usage }) says
+
+-- ---- exit statuses
+
+node_codes : (rank port : ℕ) (call : Call) (end : End)
+    → Means (NodeEnds rank port (course_in call)) (took_in call) call.given end
+    → Contains (0 ∷ 1 ∷ 2 ∷ 3 ∷ 4 ∷ 5 ∷ 6 ∷ 8 ∷ 9 ∷ 10 ∷ []) (code_of end)
+node_codes rank port call ends.Done h = (0, lit< tt, refl)
+node_codes rank port call ends.Violations h = (1, lit< tt, refl)
+node_codes rank port call ends.Usage h = (2, lit< tt, refl)
+node_codes rank port call (ends.BadJob line reason) h = (3, lit< tt, refl)
+node_codes rank port call ends.ReadFault h = (4, lit< tt, refl)
+node_codes rank port call ends.WriteFault h = (5, lit< tt, refl)
+node_codes rank port call ends.LinkFault h = (6, lit< tt, refl)
+node_codes rank port call ends.NoMemory h = (7, lit< tt, refl)
+node_codes rank port call ends.Stuck h = (8, lit< tt, refl)
+node_codes rank port call ends.JournalFull h = (9, lit< tt, refl)
+
+pub node_means : (call : Call) (rank port : ℕ) (end : End)
+    → Means (NodeEnds rank port (course_in call)) (took_in call) call.given end
+    → NodeMeans call rank port (code_of end)
+node_means call rank port end h =
+    code_means call (NodeEnds rank port (course_in call)) _ end (node_codes rank port call end h) h
+
+-- a source that told a job's text gives that job
+one_job : (bytes : List ℕ) (left : Option (List ℕ)) (job other : JobState) → JobText job bytes
+    → ReadsJob (Some bytes) left other → job ≡ other
+one_job bytes None job other text r = absurd r.read
+one_job bytes (Some rest) job other text r =
+    let same : bytes ≡ r.bytes = r.read ∙ ap (λ z. r.bytes ++ z) r.ended ∙ append-nil r.bytes in
+    r.one job (subst (JobText job) same text)
+
+is_no_node : (source : Input) (left : Option (List ℕ)) (rank : ℕ) (job : JobState) → HoldsNode rank source
+    → ReadsJob source.left left job → job.settings.nodes ≤ rank → ⊥
+is_no_node source left rank job holds read great =
+    let same = one_job holds.holds.bytes left holds.holds.job job holds.holds.text
+    (subst (λ (before : Option (List ℕ)). ReadsJob before left job) holds.holds.told read) in
+    let nodes = ap (λ (j : JobState). j.settings.nodes) same in
+    let less = holds.is_node in
+    absurd (omega (arith, great, less, nodes))
+
+pub node_completes : (call : Call) (rank port : ℕ) (end : End)
+    → Means (NodeEnds rank port (course_in call)) (took_in call) call.given end
+    → NodeCompletes call rank (code_of end)
+node_completes call rank port ends.Done h holds faultless linked = (0, lit< tt, refl)
+node_completes call rank port ends.Violations h holds faultless linked = (1, lit< tt, refl)
+node_completes call rank port ends.NoMemory h holds faultless linked = (2, lit< tt, refl)
+node_completes call rank port ends.Stuck h holds faultless linked = (3, lit< tt, refl)
+node_completes call rank port ends.JournalFull h holds faultless linked = (4, lit< tt, refl)
+node_completes call rank port ends.LinkFault h holds faultless linked = absurd (linked h.ends.rose)
+node_completes call rank port ends.ReadFault h holds faultless linked = absurd (faultless.source h.ends.rose)
+node_completes call rank port ends.WriteFault h holds faultless linked = absurd (faultless.sink h.cut.0)
+node_completes call rank port (ends.BadJob line reason) h holds faultless linked =
+    absurd (was_no_job call.before.source call.after.source.left line reason holds.holds h.ends.read)
+node_completes call rank port ends.Usage h holds faultless linked =
+    absurd (is_no_node call.before.source call.after.source.left rank h.ends.job holds h.ends.read h.ends.too_great)

@@ -1,0 +1,76 @@
+-- The command `node`: a job is read, one of its nodes is run, and its trace is written.
+use Rattle.std.specs.Prelude.{◌≡◌, ℕ, ◌<◌, ◌≤◌, List, [], ◌∷◌, Bool, true, false}
+use Rattle.std.specs.List.{Contains}
+use Rattle.gas_outside.specs.Faults.{Rose}
+use Rattle.job_text.specs.declared.job.Job.{Job as JobState}
+use Rattle.endpoint_lock.specs.declared.ends.End.{End as StationEnd}
+use Rattle.endpoint_lock.specs.declared.ends.End.TheVariants as stations
+use Rattle.node_call.specs.NodeLeaves.{has_noted, node_lines, post_of, record_after}
+use Rattle.node_call.specs.NodeEnds.{RunsTo}
+use Rattle.top_call.specs.Outsides.{Call, Course, Input, IsFaultless, course_in}
+use Rattle.top_call.specs.Commands.{end_of}
+use Rattle.top_call.specs.HowEnds.{After, EndsHow, SaysAlone, said_last}
+use Rattle.top_call.specs.JobReads.{FailsToRead, GivesJob, HoldsJob, RefusesJob}
+use Rattle.top_call.specs.Statuses.{CodeMeans}
+use Rattle.top_call.specs.declared.ending.End.{End}
+use Rattle.top_call.specs.declared.ending.End.TheVariants as ends
+
+-- a job was read, and it has no node of this rank: the status line alone
+pub record HasNoNode (rank : ℕ) (course : Course) (after : After) (said : List ℕ) : Type 0 where
+  pub job : JobState
+  pub read : GivesJob course.reading job
+  pub too_great : job.settings.nodes ≤ rank
+  pub alone : SaysAlone ends.Usage after said
+
+-- a job was read, and its node of this rank ran until this end of its station: the trace of its journal, and the status
+-- line; and there is the node after its turns
+pub record RunsNode (rank port : ℕ) (course : Course) (station : StationEnd) (end : End) (after : After)
+    (said : List ℕ) : Type 0 where
+  pub job : JobState
+  pub read : GivesJob course.reading job
+  pub is_node : rank < job.settings.nodes
+  pub run : RunsTo (post_of job rank port) course.before course.after station
+  pub said_is : said ≡ said_last (node_lines (post_of job rank port) run.left.journal) end
+  pub node_after : after.left run.left.machine.endpoint
+
+-- all its scripts came to their ends, and it noted a violation or none
+pub record EndsNode (rank port : ℕ) (course : Course) (violated : Bool) (after : After) (said : List ℕ) : Type 0 where
+  pub runs : RunsNode rank port course stations.Over (end_of violated) after said
+  pub violated_is : has_noted (record_after (post_of runs.job rank port) runs.run.left.journal) ≡ violated
+
+-- its link failed
+pub record LosesLink (rank port : ℕ) (course : Course) (after : After) (said : List ℕ) : Type 0 where
+  pub runs : RunsNode rank port course stations.LinkFault ends.LinkFault after said
+  pub rose : Rose course.before.link.faults course.after.link.faults
+
+-- how it may end, by how its source was read, and by what is seen of its link and clock before and after
+abbrev pub NodeEnds : (rank port : ℕ) → Course → EndsHow
+NodeEnds rank port course ends.Done after said = EndsNode rank port course false after said
+NodeEnds rank port course ends.Violations after said = EndsNode rank port course true after said
+NodeEnds rank port course ends.Usage after said = HasNoNode rank course after said
+NodeEnds rank port course (ends.BadJob line reason) after said = RefusesJob course.reading line reason after said
+NodeEnds rank port course ends.ReadFault after said = FailsToRead course.reading after said
+NodeEnds rank port course ends.WriteFault after said = ⊥
+NodeEnds rank port course ends.LinkFault after said = LosesLink rank port course after said
+NodeEnds rank port course ends.NoMemory after said = SaysAlone ends.NoMemory after said
+NodeEnds rank port course ends.Stuck after said = RunsNode rank port course stations.Stuck ends.Stuck after said
+NodeEnds rank port course ends.JournalFull after said =
+    RunsNode rank port course stations.JournalFull ends.JournalFull after said
+
+-- what each of its exit statuses says
+abbrev pub NodeMeans : Call → (rank port code : ℕ) → Type 0
+NodeMeans call rank port code =
+    CodeMeans call (NodeEnds rank port (course_in call)) (0 ∷ 1 ∷ 2 ∷ 3 ∷ 4 ∷ 5 ∷ 6 ∷ 8 ∷ 9 ∷ 10 ∷ []) code
+
+-- the bytes that are left are told, and they are the text of some job with a node of this rank
+pub record HoldsNode (rank : ℕ) (source : Input) : Type 0 where
+  pub holds : HoldsJob source
+  pub is_node : rank < holds.job.settings.nodes
+
+-- where no count of faults rose, the node of a job that could be read came to its end, got stuck, or filled its
+-- journal, or memory ran out
+abbrev pub NodeCompletes : Call → (rank code : ℕ) → Type 0
+NodeCompletes call rank code =
+    HoldsNode rank call.before.source → IsFaultless call
+    → (Rose call.before.devices.link.faults call.after.devices.link.faults → ⊥)
+    → Contains (0 ∷ 1 ∷ 8 ∷ 9 ∷ 10 ∷ []) code

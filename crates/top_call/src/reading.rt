@@ -1,0 +1,33 @@
+//! Reading a job, of the commands that read one.
+
+ghost use Rattle.top_call.specs.Outsides.{input, reading_of};
+ghost use Rattle.top_call.specs.TopParts.{ReadsOrNot};
+
+use crate::ending::End;
+use gas_outside::{ReadAll, Source, read_all};
+use job_text::{Job, JobFault, JobWhy, read_job};
+use std::alloc::Global;
+
+/// The most bytes of a job's text.
+const LIMIT: usize = 4_194_304;
+
+/// Reads all, and the job whose text it is. Else how the command ends: the bytes are no job's text or too many, the source
+/// failed, or memory ran out.
+pub fn job_from<S: Source>(alloc: Global, source: &mut S) -> Result<Job, End>
+    ensures { ReadsOrNot (reading_of (input S.left S.faults source.old)
+        (input S.left S.faults source.new)) result }
+{
+    match read_all(alloc, source, LIMIT) {
+        ReadAll::Bytes(bytes) => match read_job(alloc, &bytes) {
+            Ok(job) => Ok(job),
+            Err(JobFault::Bad { line, why }) => Err(End::BadJob { line, why }),
+            Err(JobFault::NoMemory) => Err(End::NoMemory),
+        },
+        ReadAll::TooLong => Err(End::BadJob {
+            line: 0,
+            why: JobWhy::Size,
+        }),
+        ReadAll::Fault => Err(End::ReadFault),
+        ReadAll::NoMemory => Err(End::NoMemory),
+    }
+}

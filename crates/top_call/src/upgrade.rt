@@ -1,0 +1,48 @@
+//! The command `upgrade`.
+
+ghost use Rattle.gas_outside.specs.Buffered.{outbox};
+ghost use Rattle.job_text.specs.JobText.{IsJob};
+ghost use Rattle.top_call.specs.JobReads.{GivesJob};
+ghost use Rattle.top_call.specs.Outsides.{Reading, input, reading_of};
+ghost use Rattle.top_call.specs.TopParts.{EndsBy};
+ghost use Rattle.top_call.specs.UpgradeCommand.{UpgradeEnds};
+
+use crate::ending::{End, Ended, Given};
+use crate::reading::job_from;
+use crate::status::say;
+use gas_outside::{BufferedSink, Sink, Source, Wrote};
+use job_print::print_job;
+use job_text::Job;
+use std::alloc::Global;
+
+/// Writes a job that was read with datagrams of version 2, without a status line.
+fn write_upgraded<K: Sink>(job: Job, sink: &mut BufferedSink<K>) -> Ended
+    ensures { (reading : Reading) → GivesJob reading job → EndsBy (UpgradeEnds reading)
+        (outbox K.taken K.faults sink.old) (outbox K.taken K.faults sink.new) result }
+{
+    let upgraded = job.into_upgraded();
+    match print_job(&upgraded, sink) {
+        Wrote::Done => Ended {
+            end: End::Done,
+            given: Given::nothing(),
+        },
+        Wrote::Fault => Ended::cut(),
+    }
+}
+
+/// The command `upgrade`: reads a job, and writes it with datagrams of version 2. All memory is taken by the time that it
+/// writes.
+pub fn upgrade_command<S: Source, K: Sink>(
+    alloc: Global,
+    source: &mut S,
+    sink: &mut BufferedSink<K>,
+) -> Ended
+    ensures { EndsBy
+        (UpgradeEnds (reading_of (input S.left S.faults source.old) (input S.left S.faults source.new)))
+        (outbox K.taken K.faults sink.old) (outbox K.taken K.faults sink.new) result }
+{
+    match job_from(alloc, source) {
+        Ok(job) => write_upgraded(job, sink),
+        Err(end) => say(sink, end, Given::nothing()),
+    }
+}

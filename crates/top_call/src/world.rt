@@ -1,0 +1,48 @@
+//! The command `world`.
+
+ghost use Rattle.gas_outside.specs.Buffered.{outbox};
+ghost use Rattle.job_text.specs.JobText.{IsJob};
+ghost use Rattle.top_call.specs.JobReads.{GivesJob};
+ghost use Rattle.top_call.specs.Outsides.{Reading, input, reading_of};
+ghost use Rattle.top_call.specs.TopParts.{EndsBy};
+ghost use Rattle.top_call.specs.WorldCommand.{WorldEnds};
+
+use crate::ending::{End, Ended, Given};
+use crate::reading::job_from;
+use crate::status::{say, say_run};
+use gas_outside::{BufferedSink, Sink, Source};
+use job_text::Job;
+use node_script::Script;
+use std::alloc::{AllocError, Global};
+use world_run::run_job;
+
+/// Runs a job that was read, and says its lines.
+fn run_read<K: Sink>(alloc: Global, job: Job, sink: &mut BufferedSink<K>) -> Ended
+    requires { IsJob job }
+    ensures { (reading : Reading) → GivesJob reading job → EndsBy (WorldEnds reading)
+        (outbox K.taken K.faults sink.old) (outbox K.taken K.faults sink.new) result }
+{
+    match Script::new(alloc, job) {
+        Ok(script) => {
+            let run = run_job(alloc, &script, sink);
+            say_run(sink, run)
+        }
+        Err(AllocError) => say(sink, End::NoMemory, Given::nothing()),
+    }
+}
+
+/// The command `world`: reads a job, runs it, and says the lines of its run.
+pub fn world_command<S: Source, K: Sink>(
+    alloc: Global,
+    source: &mut S,
+    sink: &mut BufferedSink<K>,
+) -> Ended
+    ensures { EndsBy
+        (WorldEnds (reading_of (input S.left S.faults source.old) (input S.left S.faults source.new)))
+        (outbox K.taken K.faults sink.old) (outbox K.taken K.faults sink.new) result }
+{
+    match job_from(alloc, source) {
+        Ok(job) => run_read(alloc, job, sink),
+        Err(end) => say(sink, end, Given::nothing()),
+    }
+}
