@@ -33,6 +33,7 @@
 mod ends;
 mod exchange;
 mod held;
+mod inbox;
 mod station;
 mod threads;
 

@@ -9,7 +9,8 @@ ghost use Rattle.endpoint_lock.specs.Turns.{Goes, Finishes, AppendsAtMostOne};
 ghost use Rattle.endpoint_lock.specs.Leaving.{left_by};
 
 use crate::ends::{End, Ended, TurnEnd, Unmade};
-use crate::exchange::{Asked, ask, buffer_for, quiet_after, receive_buffer, send_outgoing};
+use crate::exchange::{quiet_after, send_outgoing};
+use crate::inbox::{Asked, Inbox};
 use gas_outside::{Clock, Link, LinkAnswer};
 use machine::{Bytes, Entry, Journal, Machine};
 use std::alloc::Global;
@@ -32,15 +33,13 @@ pub struct Station<M, L, C> {
     idle: u64,
     patience: u32,
     kept: Option<End>,
-    // A receive buffer that no datagram has taken.
-    spare: Option<Vec<u8>>,
+    inbox: Inbox,
 }
 
 impl<M, L, C> Model for Station<M, L, C> {
-    ghost use Rattle.std.specs.Prelude.{◌≡◌, ◌≤◌, vec_len};
-    ghost use Rattle.std.specs.Option.{ForSome};
+    ghost use Rattle.std.specs.Prelude.{◌≡◌, ◌≤◌};
     ghost use Rattle.endpoint_lock.specs.StationState.{StationState};
-    ghost use Rattle.endpoint_lock.specs.Facts.{bytes_in, receive_limit};
+    ghost use Rattle.endpoint_lock.specs.Facts.{bytes_in};
 
     ghost Value = { StationState M L C };
 
@@ -55,8 +54,7 @@ impl<M, L, C> Model for Station<M, L, C> {
       kept = s.kept;
     } };
 
-    ghost invariant = { λ s. (s.bytes ≡ bytes_in s.journal.items) × (s.quiet ≤ s.patience)
-        × ForSome s.spare (λ buffer. vec_len buffer ≡ receive_limit) };
+    ghost invariant = { λ s. (s.bytes ≡ bytes_in s.journal.items) × (s.quiet ≤ s.patience) };
 }
 
 impl<M, L, C> Station<M, L, C> {
@@ -96,7 +94,7 @@ impl<M, L, C> Station<M, L, C> {
             idle: _,
             patience: _,
             kept,
-            spare: _,
+            inbox: _,
         } = self;
         Ended {
             machine,
@@ -132,7 +130,7 @@ impl<M: Machine, L: Link, C: Clock> Station<M, L, C> {
         ensures facts { IfOk result (λ station.
             Facts M.Machine L.Link C.Clock (opened_with machine link clock patience) station) }
     {
-        let Ok(buffer) = receive_buffer(alloc) else {
+        let Ok(inbox) = Inbox::new(alloc) else {
             return Err(Unmade {
                 machine,
                 link,
@@ -150,7 +148,7 @@ impl<M: Machine, L: Link, C: Clock> Station<M, L, C> {
             idle: 0,
             patience,
             kept: None,
-            spare: Some(buffer),
+            inbox,
         })
     }
 
@@ -186,16 +184,15 @@ impl<M: Machine, L: Link, C: Clock> Station<M, L, C> {
           after = self.new;
         }) }
     {
-        let Ok(room) = buffer_for(polls, self.spare.take(), self.alloc) else {
+        if self.inbox.make_room(self.alloc, polls).is_err() {
             return self.keep(End::NoMemory);
-        };
+        }
         if self.journal.reserve(1).is_err() {
             return self.keep(End::NoMemory);
         }
         let now = self.clock.now();
-        match ask(&mut self.link, room, polls) {
-            Asked::Nothing(room) => {
-                self.spare = room;
+        match self.inbox.ask(&mut self.link, polls) {
+            Asked::Nothing => {
                 let turned = self.machine.turn(thread, now, None);
                 if !turned.changed {
                     self.idle = self.idle.saturating_add(1);
