@@ -40,7 +40,7 @@ returns-else-not-turned g c =
     (record {
       asks = record { asked = n.asked; fixed = n.fixed; time = λ v h. n.said ∙ n.one v h };
       said = n.said;
-      gives = rw (← polls) c.in-Nothing.ensures.0;
+      gives = rw (← polls) c.in-Nothing.ensures;
       whether = inr changed;
       turns = record { threads = e.threads; polls = e.polls; stands = e.after; told_is = e.turned };
       begun = ap (λ b. b.kept) c.self.view_is ∙ c.requires.begun;
