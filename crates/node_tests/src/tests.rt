@@ -7,12 +7,13 @@ use std::test::Fail;
 use std::thread::Threads;
 use top_call::{Outside, gasnet};
 
-/// What a call of `gasnet` gave: the exit status, whether there is a node, and what the sink took.
+/// What a call of `gasnet` gave: the exit status, whether there is a node, what the sink took, and what the link was sent.
 #[derive(Drop)]
 struct Said {
     code: u8,
     has_node: bool,
     written: Vec<u8>,
+    sent: Vec<(u16, Vec<u8>)>,
 }
 
 /// A call of `gasnet` with the words `node RANK PORT` for this job.
@@ -50,8 +51,18 @@ fn call<R: Threads + Wait + Sync + AllocGlobal, G: Gate + Sync + Drop>(
         code: status.code,
         has_node: status.node.is_some(),
         written: Vec::from_slice(alloc, after.sink.taken())?,
+        sent: sent_by(alloc, &after.link)?,
     };
     Ok((said, after.gate))
+}
+
+/// The datagrams that a link was sent.
+fn sent_by(alloc: Global, link: &MemoryLink) -> Result<Vec<(u16, Vec<u8>)>, Fail> {
+    let mut all = Vec::new(alloc);
+    for (to, bytes) in link.sent() {
+        all.push((*to, Vec::from_slice(alloc, bytes)?))?;
+    }
+    Ok(all)
 }
 
 /// A link in memory on which these datagrams wait, and which fails at a call; at none for 0.
@@ -134,7 +145,20 @@ const REQUEST: [u8; 44] = [
     0, 0, 0, 0, 1, 0, 0, 0, 0, 0, 0, 0, 0, 0, 0, 0, 5,
 ];
 
-/// A call for the two nodes: the words, what waits, the call of the link that fails, the exit status, and what is written.
+/// The reply of node 1, an Ack.
+const ACK: [u8; 40] = [
+    0x47, 0x41, 0x4d, 0x31, 6, 0, 0, 0, 0, 0, 0, 0, 0, 0, 0, 7, 0, 1, 0, 0, 0, 0, 0, 0, 0, 0, 0, 0,
+    0, 0, 0, 1, 0, 0, 0, 0, 0, 0, 0, 0,
+];
+
+/// A datagram that is sent.
+struct Sent {
+    to: u16,
+    bytes: &'static [u8],
+}
+
+/// A call for the two nodes: the words, what waits, the call of the link that fails and the write that does, the exit
+/// status, what is written, and what is sent.
 struct Row {
     words: &'static str,
     waiting: &'static [&'static [u8]],
@@ -142,6 +166,7 @@ struct Row {
     write_fails: u64,
     code: u8,
     written: &'static str,
+    sent: &'static [Sent],
 }
 
 /// The rows.
@@ -153,6 +178,7 @@ const ROWS: [Row; 13] = [
         write_fails: 0,
         code: 6,
         written: "trace 1\njob 7\nrank 0\nend\nstatus 6 link-fault\n",
+        sent: &[],
     },
     Row {
         words: "node 0 20000",
@@ -161,6 +187,7 @@ const ROWS: [Row; 13] = [
         write_fails: 0,
         code: 6,
         written: "trace 1\njob 7\nrank 0\nend\nstatus 6 link-fault\n",
+        sent: &[],
     },
     Row {
         words: "node 0 20000",
@@ -169,6 +196,7 @@ const ROWS: [Row; 13] = [
         write_fails: 0,
         code: 6,
         written: "trace 1\njob 7\nrank 0\nturn 0 0 -\nend\nstatus 6 link-fault\n",
+        sent: &[],
     },
     Row {
         words: "node 0 20000",
@@ -177,6 +205,10 @@ const ROWS: [Row; 13] = [
         write_fails: 0,
         code: 0,
         written: "trace 1\njob 7\nrank 0\nturn 0 0 -\nend\nstatus 0 ok\n",
+        sent: &[Sent {
+            to: 1,
+            bytes: &REQUEST,
+        }],
     },
     Row {
         words: "node 0 20000",
@@ -185,6 +217,10 @@ const ROWS: [Row; 13] = [
         write_fails: 1,
         code: 5,
         written: "",
+        sent: &[Sent {
+            to: 1,
+            bytes: &REQUEST,
+        }],
     },
     Row {
         words: "node 1 20000",
@@ -193,6 +229,7 @@ const ROWS: [Row; 13] = [
         write_fails: 0,
         code: 9,
         written: "trace 1\njob 7\nrank 1\nend\nstatus 9 stuck\n",
+        sent: &[],
     },
     Row {
         words: "node 1 20000",
@@ -201,6 +238,7 @@ const ROWS: [Row; 13] = [
         write_fails: 0,
         code: 0,
         written: "trace 1\njob 7\nrank 1\nturn 0 0 x47414d3100800100000000000000000700000001000000000000000000000001000000000000000000000005\nend\nstatus 0 ok\n",
+        sent: &[Sent { to: 0, bytes: &ACK }],
     },
     Row {
         words: "node 2 20000",
@@ -209,6 +247,7 @@ const ROWS: [Row; 13] = [
         write_fails: 0,
         code: 2,
         written: "status 2 usage\n",
+        sent: &[],
     },
     Row {
         words: "node 64 20000",
@@ -217,6 +256,7 @@ const ROWS: [Row; 13] = [
         write_fails: 0,
         code: 2,
         written: "status 2 usage\n",
+        sent: &[],
     },
     Row {
         words: "node 0 1023",
@@ -225,6 +265,7 @@ const ROWS: [Row; 13] = [
         write_fails: 0,
         code: 2,
         written: "status 2 usage\n",
+        sent: &[],
     },
     Row {
         words: "node 0 65473",
@@ -233,6 +274,7 @@ const ROWS: [Row; 13] = [
         write_fails: 0,
         code: 2,
         written: "status 2 usage\n",
+        sent: &[],
     },
     Row {
         words: "node 00 20000",
@@ -241,6 +283,7 @@ const ROWS: [Row; 13] = [
         write_fails: 0,
         code: 2,
         written: "status 2 usage\n",
+        sent: &[],
     },
     Row {
         words: "node 0 20000 0",
@@ -249,6 +292,7 @@ const ROWS: [Row; 13] = [
         write_fails: 0,
         code: 2,
         written: "status 2 usage\n",
+        sent: &[],
     },
 ];
 
@@ -269,7 +313,17 @@ fn check<R: Threads + Wait + Sync + Abort + AllocGlobal>(rt: &R, row: &Row) -> R
         row.words
     );
     assert_eq!(rt; said.has_node, !matches!(row.code, 2 | 5), "{}", row.words);
+    check_sent(rt, row, &said.sent);
     Ok(())
+}
+
+/// Checks what a row's link was sent.
+fn check_sent(rt: &impl Abort, row: &Row, sent: &[(u16, Vec<u8>)]) {
+    assert_eq!(rt; sent.len(), row.sent.len(), "{}", row.words);
+    for (one, want) in sent.iter().zip(row.sent) {
+        assert_eq!(rt; one.0, want.to, "{}", row.words);
+        assert_eq!(rt; one.1.as_slice(), want.bytes, "{}", row.words);
+    }
 }
 
 #[test]
