@@ -152,7 +152,7 @@ bytes_steps meaning core new extended heard now bytes answer lawful D H = record
       );
 }
 
-version_at : (version : ℕ) (bytes : List ℕ) → (message_at version bytes).version ≡ version
+pub version_at : (version : ℕ) (bytes : List ℕ) → (message_at version bytes).version ≡ version
 unfolding message_at
 version_at version bytes = refl
 

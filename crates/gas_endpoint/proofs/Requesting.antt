@@ -37,6 +37,7 @@ use Rattle.gas_endpoint.specs.declared.extended.Extended.{Extended}
 use Rattle.gas_endpoint.specs.EndpointState.{EndpointState, NodeSteps, job_here}
 use Rattle.gas_endpoint.specs.Parts.{endpoint_of}
 use Rattle.gas_endpoint.proofs.Stepping.{steps_by, barrier_of}
+use Rattle.lists.proofs.Tests.{some_none}
 
 -- ---- what a request to the own node leaves of the extended API
 
@@ -74,9 +75,6 @@ has_entry settings table asking e = elim (cases_Bool (is_for_requests (entry_at 
   | inl there ↦ there
   | inr none ↦ absurd (some_none (rw none at e))
 ]
-  where
-    some_none : {X : Type 0} {x : X} → Some x ≡ None → ⊥
-    some_none h = cc
 
 -- what isn't the core's is the same
 pub record IsSameRest (old new : EndpointLocal) : Type 0 where

@@ -60,13 +60,12 @@ use Rattle.node_runs.specs.Actions.{tried_step}
 use Rattle.node_runs.specs.Scripts.{ThreadCall}
 use Rattle.node_runs.specs.Turn.{node_run, coming, before_try}
 use Rattle.script_steps.specs.Forms.{step_form, is_held, begun_handle, sync_of, on_transfers}
+use Rattle.lists.proofs.Tests.{some_none}
+use Rattle.script_steps.proofs.Calm.{waits_there}
 
 -- the locks that are held
 abbrev pub locks_in : Node EndpointLocal → List Held
 locks_in node = node.local.core.locks
-
-some_none : {A : Type 0} {x : A} → Some x ≡ None → ⊥
-some_none e = cc
 
 -- ---- what happens to a node
 
@@ -224,10 +223,6 @@ step_free (step.Call _) node free = refl
 step_free (step.Waiting (waiting.Transfer transfer)) node free = (refl, sync_free)
 step_free (step.Waiting _) node free = refl
 
-unless_waits : (waits : Bool) (answer : Answer) → unless waits answer ≡ None → waits ≡ true
-unless_waits true answer e = refl
-unless_waits false answer e = absurd (some_none e)
-
 -- a lock that another one holds is not taken
 held_stays : (held : List Held) (thread lock : ℕ) (answer : LockAnswer)
     → lock_answer held (owner.Thread thread) lock 0 ≡ answer → is_held (answers.Lock answer) ≡ true
@@ -244,7 +239,7 @@ lock_waits : (settings : Parameters) (table : List (Option Entry)) (meaning : Me
     → locks_in (node_after job me node now event) ≡ locks_in node
 lock_waits settings table meaning me thread now lock node waits =
     held_stays (locks_in node) thread lock (lock_answer (locks_in node) (owner.Thread thread) lock 0) refl
-    (unless_waits _ _ waits)
+    (waits_there _ _ waits)
 
 -- a call at which its step waits
 waiting_keeps : (settings : Parameters) (table : List (Option Entry)) (meaning : Meaning) (me thread now : ℕ)

@@ -7,7 +7,7 @@ use Rattle.std.specs.Prelude.{is_some, slice_set}
 use Rattle.std.proofs.lemmas.List.{map-set}
 use Rattle.std.proofs.Math.Path.{fun_ext}
 use Rattle.std.proofs.lemmas.Bool.{cases_eq}
-use Rattle.std.proofs.lemmas.Option.{same_Some}
+use Rattle.std.proofs.lemmas.Option.{same_Some, slice_get-map}
 use Rattle.datagram_grammar.specs.Parameters.{Parameters}
 use Rattle.handler_rules.specs.declared.table.Entry.{Entry}
 use Rattle.hsl_locks.specs.declared.answer.Held.{Held}
@@ -32,7 +32,7 @@ use Rattle.node_runs.specs.Actions.{Progress, OwnScripts, scripts_of}
 use Rattle.node_runs.specs.Scripts.{NodeJob}
 use Rattle.node_runs.specs.Turn.{MachineState, try_of, datagram, is_some_there}
 use Rattle.node_runs.specs.WorldRun.{endpoint_job}
-use Rattle.node_runs.proofs.Emptying.{empty_turns}
+use Rattle.node_runs.proofs.Emptying.{empty_turns, or_parts, none_of}
 use Rattle.script_steps.specs.Forms.{step_form}
 use Rattle.script_steps.specs.Laws.{WaitingIsCalm}
 use Rattle.node_machine.specs.Cursors.{progress_of, progress_of_all}
@@ -180,10 +180,6 @@ none_got : (got : Option (List ℕ)) → is_some got ≡ false → got ≡ None
 none_got None e = refl
 none_got (Some bytes) e = absurd (true≢false e)
 
-or_parts : (a b : Bool) → (a || b) ≡ false → (a ≡ false) × (b ≡ false)
-or_parts true b e = absurd (true≢false e)
-or_parts false b e = (refl, e)
-
 -- of a turn that changed nothing
 pub record IsQuiet (taken : TurnTaken) (done : Done) : Type 0 where
   pub got : taken.got ≡ None
@@ -261,10 +257,6 @@ some_facts : (it : Turning) → (T : IsTurning it)
     → Facts it (some_state it.machine T.is.record_.0) (script_job it.machine.job) it.machine.endpoint.core.me
 some_facts it T = facts_at it T (some_state it.machine T.is.record_.0) T.is.record_.1 refl
 
-no_answer : (o : Option Answer) → is_some o ≡ false → o ≡ None
-no_answer None e = refl
-no_answer (Some answer) e = absurd (true≢false e)
-
 -- whether a thread polls changes only in a turn that ends a step
 pub polls_stay : (it : Turning) → IsTurning it → is_some it.done.ended ≡ false
     → (outgoing : List SlotRef) (answer : Option Answer) (thread : ℕ)
@@ -272,7 +264,7 @@ pub polls_stay : (it : Turning) → IsTurning it → is_some it.done.ended ≡ f
 polls_stay it T none outgoing answer thread =
     let F = some_facts it T in
     let locks : it.endpoint.core.locks ≡ it.machine.endpoint.core.locks =
-    F.node.core.locks_are ∙ (F.goes.locks (no_answer it.done.ended none) ∙ sym T.is.record_.1.core.locks_are) in
+    F.node.core.locks_are ∙ (F.goes.locks (none_of it.done.ended none) ∙ sym T.is.record_.1.core.locks_are) in
     ap (λ (held : List Held). not (holds (owner.Thread thread) held)) locks
 
 -- the machine after it is one
@@ -315,12 +307,6 @@ machine_at job endpoint cursors outgoing answer = record {
   outgoing = outgoing;
   answer = answer;
 }
-
-slice_get-map : {A B : Type 0} (f : A → B) (xs : List A) (i : ℕ)
-    → slice_get (map f xs) i ≡ option_map f (slice_get xs i)
-slice_get-map f [] i = refl
-slice_get-map f (x ∷ xs) zero = refl
-slice_get-map f (x ∷ xs) (suc i) = slice_get-map f xs i
 
 -- the cursor of the thread was read
 pub record Reads (job : JobState) (cursors : List Cursor) (thread : ℕ) (cursor : Cursor) : Type 0 where

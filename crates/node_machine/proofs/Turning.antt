@@ -40,8 +40,9 @@ use Rattle.node_machine.specs.Scripted.{progress_after}
 use Rattle.node_machine.specs.NodeState.{datagram_at, as_there}
 use Rattle.node_machine.specs.Turns.{slots_of, job_at, TurnTaken, turn_by, GoesAsTurn, TakesTurn}
 use Rattle.node_machine.specs.declared.turn.Done.{Done}
-use Rattle.node_machine.proofs.Happening.{happen_then, at_same, same_after, run-append}
+use Rattle.node_machine.proofs.Happening.{happen_then, at_same, run-append}
 use Rattle.node_machine.proofs.Locks.{turn_keeps}
+use Rattle.gas_endpoint.proofs.Stepping.{same_node}
 
 -- ---- the slots of packets
 
@@ -224,7 +225,7 @@ pub turn_goes : (meaning : Meaning) (old mid new : EndpointState) (taken : TurnT
 turn_goes meaning old mid new taken progress polls slots tried done lawful bytes polled before tries slots_is ended_is
     began_is =
     record {
-      same = same_after old.core mid.core new.core before.same tries.happen.same;
+      same = same_node old.core mid.core new.core before.same tries.happen.same;
       said = progress_said progress tried;
       goes = λ state stands own.
           let version = old.core.settings.version in

@@ -9,12 +9,7 @@ use Rattle.machine.specs.Replay.{Steps, replayed, sent_in, given_by}
 use Rattle.machine.specs.Fronts.{Node, replay, sent_of, start, full, advance, WasSent, CanGet, CanGo, GoesOn}
 use Rattle.node_runs.specs.Order.{NodeEntry}
 use Rattle.node_runs.specs.Merged.{next_of, order_of, Carries, carried}
-
-slice_get-map : {A B : Type 0} (f : A → B) (xs : List A) (i : ℕ)
-    → slice_get (map f xs) i ≡ option_map f (slice_get xs i)
-slice_get-map f [] i = refl
-slice_get-map f (x ∷ xs) zero = refl
-slice_get-map f (x ∷ xs) (suc i) = slice_get-map f xs i
+use Rattle.std.proofs.lemmas.Option.{slice_get-map}
 
 replayed_is : {M N : Type 0} (f : M → N) (g : Steps M) (h : Steps N) → Carries f g h → (m : M) (es : List Entry)
     → replayed h (f m) es ≡ f (replayed g m es)

@@ -1,6 +1,6 @@
 -- An empty turn leaves the machine as it was.
 use Rattle.std.proofs.Common.{◌≡◌, ℕ, zero, suc, Bool, true, false, true≢false, cond, ◌||◌, List, [], ◌∷◌, ◌++◌, map}
-use Rattle.std.proofs.Common.{Option, None, Some, refl, sym, ap, ap₂, ◌∙◌, subst}
+use Rattle.std.proofs.Common.{Option, None, Some, refl, sym, ap, ap₂, ◌∙◌, subst, append-nil}
 use Rattle.std.specs.Prelude.{is_some}
 use Rattle.std.specs.Option.{option_map, option_to_list}
 use Rattle.lists.specs.Numbered.{numbered, change}
@@ -49,21 +49,17 @@ no_packets : (packets : List Packet) → is_some_there packets ≡ false → pac
 no_packets [] e = refl
 no_packets (p ∷ packets) e = absurd (true≢false e)
 
-or_parts : (a b : Bool) → (a || b) ≡ false → (a ≡ false) × (b ≡ false)
+pub or_parts : (a b : Bool) → (a || b) ≡ false → (a ≡ false) × (b ≡ false)
 or_parts true b e = absurd (true≢false e)
 or_parts false b e = (refl, e)
 
-none_of : (o : Option Answer) → is_some o ≡ false → o ≡ None
+pub none_of : (o : Option Answer) → is_some o ≡ false → o ≡ None
 none_of None e = refl
 none_of (Some a) e = absurd (true≢false e)
 
 nil_parts : (first second : List Packet) → first ++ second ≡ [] → (first ≡ []) × (second ≡ [])
 nil_parts [] second e = (refl, e)
 nil_parts (p ∷ first) second e = absurd (cons_nil e)
-
-no_end : (packets : List Packet) → packets ++ [] ≡ packets
-no_end [] = refl
-no_end (p ∷ packets) = ap (λ (more : List Packet). p ∷ more) (no_end packets)
 
 -- the machine, from its parts
 machine_is : {Kept Own : Type 0} (state : MachineState Kept Own) (changed : Bool) (node : Node Kept) (own : Own)
@@ -94,7 +90,7 @@ try_calm : {Kept Own : Type 0} (job : NodeJob Kept Own) (me thread now : ℕ) (o
     → node_run job.job me now events node ≡ node
 try_calm job me thread now own node None C is e b s = refl
 try_calm job me thread now own node (Some call) C is e b s =
-    C.node me thread now own node call is e b (sym (no_end _) ∙ s)
+    C.node me thread now own node call is e b (sym (append-nil _) ∙ s)
 
 -- of a turn of a thread that polls or doesn't
 turn_calm : {Kept Own : Type 0} (job : NodeJob Kept Own) (me thread now : ℕ) (state : MachineState Kept Own)

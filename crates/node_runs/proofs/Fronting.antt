@@ -22,6 +22,7 @@ use Rattle.node_runs.specs.Turn.{MachineState, Turn, turn, datagram, is_some_the
 use Rattle.node_runs.specs.Order.{Ranked, job_steps, replay, NodeEntry, own_entries, Machines, turn_of, after_entry}
 use Rattle.node_runs.specs.Order.{given_by, after_all, MayGet, GoInOrder}
 use Rattle.node_runs.specs.Merged.{nodes_from, next_of, next_at, order_of}
+use Rattle.lists.proofs.Cases.{none_some}
 
 some_from : {A : Type 0} (o : Option A) (P : A → Type 0) → IsSomeAnd o P → (x : A) × (o ≡ Some x) × P x
 some_from None P h = absurd h
@@ -29,9 +30,6 @@ some_from (Some x) P h = (x, refl, h)
 
 same_value : {A : Type 0} (x y : A) → Some x ≡ Some y → x ≡ y
 same_value x y e = cc
-
-none_some : {A : Type 0} {x : A} → None ≡ Some x → ⊥
-none_some e = cc
 
 -- a machine with its node's number
 abbrev ranked : {Kept Own : Type 0} → ℕ → MachineState Kept Own → Ranked Kept Own

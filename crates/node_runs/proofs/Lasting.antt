@@ -20,6 +20,7 @@ use Rattle.plain_world.specs.Invariant.{Holds}
 use Rattle.plain_world.specs.Sent.{Packet, Asking, Replying, sender, IsRecorded}
 use Rattle.plain_world.proofs.Worlds.{Came, CameAt, falls_came, step_keeps, opening_holds}
 use Rattle.node_runs.specs.Turn.{receiver, message_of}
+use Rattle.node_record.proofs.NodeKeeps.{opening_keeps}
 
 -- what is asked of an event: a call is one that may be made, and what comes is a message of a node
 abbrev pub IsFit : {Call : Type 0} → Parameters → (NodeEvent Call → Type 0) → NodeEvent Call → Type 0
@@ -56,25 +57,12 @@ no_requests limits = record {
   apart = λ number later request other is. absurd (numbered_nil number request is);
 }
 
-opening_invariant : {Local : Type 0} (settings : Parameters) (IsKept : (me : ℕ) → Local → Type 0) (me : ℕ)
-    (local : Local) → IsKept me local → NodeInvariant settings IsKept me (opening_node local)
-opening_invariant settings IsKept me local kept = record {
-  orderly = λ peer. no_requests (limits_of settings me peer);
-  own = refl;
-  asked = λ peer number request is. absurd (numbered_nil number request is);
-  replied = λ peer place run is. absurd (none place run is);
-  kept = kept;
-}
-  where
-    none : (place : ℕ) (run : Run) → slice_get [] place ≡ Some run → ⊥
-    none place run is = cc
-
 pub opening_lasts : {Local Call Told : Type 0} (job : Job Local Call Told) (IsKept : (me : ℕ) → Local → Type 0)
     (Fits : Local → Type 0) (start : ℕ → Local) → ((node : ℕ) → IsKept node (start node))
     → ((node : ℕ) → Fits (start node)) → Lasts job IsKept Fits (opening start)
 opening_lasts job IsKept Fits start kept fits = record {
   holds = opening_holds job IsKept start kept;
-  nodes = λ node. opening_invariant job.settings IsKept node (start node) (kept node);
+  nodes = λ node. opening_keeps job.settings IsKept node (start node) (kept node);
   fits = fits;
 }
 

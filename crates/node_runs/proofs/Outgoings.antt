@@ -53,6 +53,7 @@ use Rattle.node_runs.specs.Laws.{GotBytes}
 use Rattle.node_runs.specs.Turn.{message_of, node_run, node_sends, MachineState, coming, comes, turn_events}
 use Rattle.node_runs.specs.Outgoing.{slot_of, StaysWell, AreOwn, IsFirst, ComesFirst, SentStands}
 use Rattle.node_runs.proofs.Mosts.{IsOwn}
+use Rattle.lists.proofs.Tests.{gate}
 
 -- ---- what stands in a slot
 
@@ -84,11 +85,6 @@ record IsRepliedIn {Local : Type 0} (settings : Parameters) (me : ℕ) (at : Pla
 abbrev IsInSlot : {Local : Type 0} → Parameters → (me : ℕ) → Packet → Node Local → Type 0
 IsInSlot settings me (Asking at content) node = IsAskedIn settings me at content node
 IsInSlot settings me (Replying at content) node = IsRepliedIn settings me at content node
-
--- the checks of a slot pass
-gate : {X : Type 0} (a b c : Bool) (o : Option X) → a ≡ true → b ≡ false → c ≡ true
-    → (if a && (not b && c) then o else None) ≡ o
-gate a b c o e f g = rw (e, f, g) refl
 
 -- then its message is the one of that slot
 in_slot_message : {Local : Type 0} (settings : Parameters) (IsKept : (me : ℕ) → Local → Type 0) (me : ℕ)

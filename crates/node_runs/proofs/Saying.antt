@@ -32,6 +32,9 @@ use Rattle.am_core.specs.Library.{has_wrong_args, is_no_fetch, is_beyond, natura
 use Rattle.am_core.specs.HandlerRuns.{reply_or_ack}
 use Rattle.node_runs.specs.Fitting.{AreNumbers, AreBytes, ContentFits, ReplyFits, PayloadFits}
 use Rattle.node_runs.proofs.Bytes.{bytes_none, bytes_part, high_fits, low_fits, small_fits}
+use Rattle.lists.proofs.Tests.{not_false}
+use Rattle.endpoint_rules.proofs.Handled.{none_bad}
+use Rattle.am_core.proofs.Landings.{payload_small}
 
 -- wherever it goes it has a spelling
 pub record IsSpoken (content : Content) : Type 0 where
@@ -117,20 +120,6 @@ reply_index table index few is = by_entry (entry_at table index) refl is
 
 -- ---- requests of threads
 
-not_false : (test : Bool) → not test ≡ false → test ≡ true
-not_false true e = refl
-not_false false e = absurd (true≢false e)
-
-none_bad : (lines : List (Bool × Which)) → first_bad lines ≡ None
-    → AllByRecursion (λ (line : Bool × Which). line.0 ≡ false) lines
-none_bad [] e = tt
-none_bad ((true, part) ∷ lines) e = absurd (none_some (sym e))
-none_bad ((false, part) ∷ lines) e = (refl, none_bad lines e)
-
-payload_short : (segment : List ℕ) (payload : PayloadFrom) → length (payload_in segment payload) ≤ payload_len payload
-payload_short segment (Lent bytes) = omega arith
-payload_short segment (Own offset len) = omega (arith, length-take len (drop offset segment))
-
 payload_bytes : (segment : List ℕ) (payload : PayloadFrom) → AreBytes segment → PayloadFits payload
     → AreBytes (payload_in segment payload)
 payload_bytes segment (Lent bytes) all fits = fits
@@ -155,7 +144,7 @@ asked_spoken settings table segment asking range few none args payload bytes = b
     said = payload_in segment asking.payload
 
     small : payload_len asking.payload ≤ 8192 → length said ≤ 8192
-    small less = omega (arith, less, payload_short segment asking.payload)
+    small less = omega (arith, less, payload_small segment asking.payload)
 
     by_category : (category : Category) → asking.category ≡ category → IsSpoken (content_by category asking said)
     by_category Short is = spoken_by (content_by Short asking said) (record {

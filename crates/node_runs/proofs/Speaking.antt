@@ -65,7 +65,7 @@ use Rattle.endpoint_rules.specs.declared.answer.Begun.{Begun}
 use Rattle.endpoint_rules.specs.declared.answer.Begun.TheVariants as begun
 use Rattle.endpoint_rules.specs.declared.answer.Local.{Local as LocalAnswer}
 use Rattle.endpoint_rules.specs.declared.answer.Local.TheVariants as local_answers
-use Rattle.endpoint_rules.proofs.Kept.{IsFaultless, faultless}
+use Rattle.endpoint_rules.proofs.Kept.{IsFaultless, faultless, done_says}
 use Rattle.endpoint_rules.proofs.Handled.{asking_well, run_replies}
 use Rattle.endpoint_rules.proofs.Sending.{IsSent, IsNote, IsChunk, sending_is}
 use Rattle.endpoint_rules.proofs.Works.{note_work_fits, chunk_work_fits, sending_well}
@@ -332,16 +332,6 @@ at_once_bytes settings segment transfer good bytes = elim (cases_Bool (size tran
   | inl none ↦ rw none tt
   | inr some ↦ rw some (own_bytes settings segment transfer good bytes, tt)
 ]
-
-done_says : (caller : Caller) (transfer : Transfer) (operations : List Operation)
-    → begin_says caller transfer operations ≡ begun.Done → IsFaultless caller.settings transfer
-done_says caller transfer operations says =
-    by_fault (transfer_fault caller.settings transfer) _ refl says
-  where
-    by_fault : (fault : Option Which) (answer : Begun) → transfer_fault caller.settings transfer ≡ fault
-        → unless_bad fault answer ≡ begun.Done → IsFaultless caller.settings transfer
-    by_fault None answer is e = faultless caller.settings transfer is
-    by_fault (Some part) answer is e = absurd (cc)
 
 begun_fits : (caller : Caller) (transfer : Transfer) (mode : Mode) (says : Begun) (local : EndpointLocal)
     → begin_says caller transfer local.operations ≡ says → KeptFits local

@@ -25,6 +25,7 @@ use Rattle.node_script.specs.Registration.{Registry, body_among, entry_of, no_ha
 use Rattle.node_script.specs.Registration.{with_index}
 use Rattle.node_script.specs.Places.{AreBodies, ArePlaced, AtRegistering, Placing, body_at, found_body, is_in_turn}
 use Rattle.node_script.specs.Places.{place_at, register_turn}
+use Rattle.lists.proofs.Cases.{option_or_none}
 
 -- ---- one of 128, by its index from 128 up
 
@@ -128,11 +129,6 @@ found_body-append (b ∷ bs) cs index =
     ap (λ (o : Option (List Action)). if b.0 == index then Some b.1 else o) (found_body-append bs cs index)
     ∙ or_if (b.0 == index) b.1 (found_body bs index) (found_body cs index)
 
--- no second choice
-or_None : {A : Type 0} (o : Option A) → option_or o None ≡ o
-or_None None = refl
-or_None (Some x) = refl
-
 -- another index has the body that it had
 found_other : (bs : List (ℕ × List Action)) (index other : ℕ) (body : List Action) → other ≢ index
     → found_body (bs ++ (index, body) ∷ []) other ≡ found_body bs other
@@ -140,7 +136,7 @@ found_other bs index other body ne =
     let test : (index == other) ≡ false = ne_eqb index other (λ e. ne (sym e)) in
     let none : found_body ((index, body) ∷ []) other ≡ None = rw test refl in
     found_body-append bs ((index, body) ∷ []) other
-    ∙ (ap (option_or (found_body bs other)) none ∙ or_None (found_body bs other))
+    ∙ (ap (option_or (found_body bs other)) none ∙ option_or_none (found_body bs other))
 
 -- an index that had none has the new body
 found_new : (bs : List (ℕ × List Action)) (index : ℕ) (body : List Action) → found_body bs index ≡ None

@@ -346,7 +346,7 @@ step_calm place node (step.Call made) = call_calm place node made
 step_calm place node (step.Waiting one) = waiting_calm place node one
 
 -- an answer is no end exactly where it is one to wait at
-waits_there : (waits : Bool) (answer : Answer) → unless waits answer ≡ None → waits ≡ true
+pub waits_there : (waits : Bool) (answer : Answer) → unless waits answer ≡ None → waits ≡ true
 waits_there true answer e = refl
 waits_there false answer e = absurd (cc)
 

@@ -55,7 +55,7 @@ same_slot (Asking place content) = refl
 same_slot (Replying place content) = refl
 
 -- the slot that an answer tells
-slots_told : (told_slot : Option SlotRef) (packets : List Packet) → AreThatOf told_slot packets
+pub slots_told : (told_slot : Option SlotRef) (packets : List Packet) → AreThatOf told_slot packets
     → option_to_list told_slot ≡ map slot_of (packets ++ [])
 slots_told None packets none = ap (λ (list : List Packet). map slot_of (list ++ [])) (sym none)
 slots_told (Some at) packets one =

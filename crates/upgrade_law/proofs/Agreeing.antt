@@ -24,7 +24,7 @@ use Rattle.put_get.specs.Operation.{target, next_chunk}
 use Rattle.node_record.specs.Behaviour.{Asking, Contact, Sending, Category, Short, Medium, Long, asks_well, replies_well}
 use Rattle.node_record.specs.declared.answer.SlotRef.{SlotRef}
 use Rattle.hsl_locks.specs.declared.answer.Held.{Held}
-use Rattle.lists.proofs.Cases.{none_some}
+use Rattle.lists.proofs.Cases.{none_some, none_is}
 use Rattle.put_get.specs.Operation.{come_back}
 use Rattle.endpoint_rules.specs.CoreCalls.{LocalCall, Poll, Attempt, Lock, Unlock, Cell, SetCell, OnSegment}
 use Rattle.am_core.specs.Kept.{Local, segment_of, start_of, with_writes}
@@ -228,12 +228,8 @@ asks_alike settings version table content range known few noted well =
           rw (spelled_note settings.version version content note) (rw handler (rw short (rw args refl)))
       | inr other ↦
           ap (content_refusal (in_version settings version) table) (spelled_other settings.version version content other)
-          ∙ (client_alike settings version table content other ∙ is_none_none (content_refusal settings table content) parts.1)
+          ∙ (client_alike settings version table content other ∙ none_is (content_refusal settings table content) parts.1)
     ]
-  where
-    is_none_none : {A : Type 0} (o : Option A) → is_none o ≡ true → o ≡ None
-    is_none_none None e = refl
-    is_none_none (Some x) e = absurd (true≢false (sym e))
 
 -- a reply is never one of the library's notes
 reply_alike : (settings : Parameters) (version : ℕ) (table : List (Option Entry)) (content : Content)
@@ -244,13 +240,9 @@ reply_alike settings version table content well =
     elim (cases_Bool (content.handler == note_handler)) [
       | inl note ↦ by_kind content.kind refl (eqb-true content.handler note_handler note) parts.0 parts.1
       | inr other ↦ client_alike settings version table content other
-          ∙ is_none_none (content_refusal settings table content) parts.1
+          ∙ none_is (content_refusal settings table content) parts.1
     ]
   where
-    is_none_none : {A : Type 0} (o : Option A) → is_none o ≡ true → o ≡ None
-    is_none_none None e = refl
-    is_none_none (Some x) e = absurd (true≢false (sym e))
-
     by_kind : (k : Kind) → content.kind ≡ k → content.handler ≡ note_handler
         → (if is_request content.kind then false else true) ≡ true
         → is_none (content_refusal settings table content) ≡ true

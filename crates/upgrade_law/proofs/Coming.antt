@@ -23,6 +23,7 @@ use Rattle.upgrade_law.specs.Respelled.{IsNoteIfAny}
 use Rattle.upgrade_law.specs.Respelled.{Versions, one_job, other_job, respell_node, respell_request, respell_run}
 use Rattle.upgrade_law.proofs.Lists.{greatest-respelled, open_at-respelled, change-respelled}
 use Rattle.upgrade_law.proofs.Asking.{put-map, same_credits}
+use Rattle.lists.proofs.Cases.{none_is}
 
 -- ---- requests
 
@@ -54,10 +55,6 @@ request_verdict v me node from number request =
     on_request (address_fault v.settings me (one_request v me from number request))
     (number == greatest request.slot (node.ran from)) (nat_lt number (greatest request.slot (node.ran from)))
     (v.one.messages.waits request.content node.local)
-
-none_is : {A : Type 0} (o : Option A) → is_none o ≡ true → o ≡ None
-none_is None e = refl
-none_is (Some x) e = absurd (cc)
 
 first_none : (reason : Option Why) → first_why reason None ≡ reason
 first_none None = refl

@@ -13,7 +13,7 @@ use Rattle.endpoint_rules.specs.EndpointLocal.{IsEndpointKept}
 use Rattle.endpoint_rules.specs.EndpointRules.{OtherCall, Records, timed}
 use Rattle.gas_world.specs.Settling.{in_turn, open_numbers, exchange_events, turn_events, row_events, pair_events}
 use Rattle.gas_world.specs.Settling.{tick_events, round_events, settle_events}
-use Rattle.gas_world.proofs.Among.{AreAmong, both_among}
+use Rattle.gas_world.proofs.Among.{AreAmong, both_among, numbers_among}
 use Rattle.upgrade_law.specs.Respelled.{Versions, one_job, other_job, respell_request, respell_world, HaveNotes}
 use Rattle.upgrade_law.proofs.Worlds.{run_alike}
 
@@ -80,12 +80,6 @@ open_respelled spell number (r ∷ rs) = elim (cases_Bool r.back) [
   | inl back ↦ rw back (open_respelled spell (suc number) rs)
   | inr out ↦ rw out (ap (λ (numbers : List ℕ). number ∷ numbers) (open_respelled spell (suc number) rs))
 ]
-
-numbers_among : (s : Parameters) (now from to : ℕ) (numbers : List ℕ) → from < s.nodes → to < s.nodes
-    → AreAmong s (flat_map (exchange_events now from to) numbers)
-numbers_among s now from to [] a b = tt
-numbers_among s now from to (number ∷ numbers) a b =
-    ((a, b), ((a, b), numbers_among s now from to numbers a b))
 
 turn_alike : (v : Versions) (now from to : ℕ) → from < v.settings.nodes → to < v.settings.nodes
     → EventsAlike v (λ w. turn_events now from to ((w from).asked to)) (λ w. turn_events now from to ((w from).asked to))

@@ -32,22 +32,9 @@ use Rattle.world_run.specs.RunText.{node_of, world_words, event_words, words_by,
 use Rattle.world_run.specs.RunText.{run_records, run_most}
 use Rattle.world_run.specs.RunLaws.{records_at, IsOneEvent, LinesTell, Tells, RanToldOnce, ReturnedToldOnce}
 use Rattle.world_run.proofs.ScheduleLines.{one_event}
+use Rattle.lists.proofs.Appended.{get-append_kept, get-append_right}
 
 -- ---- lists
-
--- what stands past the first of two lists stands in the second
-get_past : {X : Type 0} (xs ys : List X) (place : ℕ) → slice_get (xs ++ ys) (length xs + place) ≡ slice_get ys place
-get_past [] ys place = ap (slice_get ys) (omega arith)
-get_past (x ∷ xs) ys place =
-    let next : length (x ∷ xs) + place ≡ suc (length xs + place) = omega arith in
-    ap (slice_get (x ∷ (xs ++ ys))) next ∙ get_past xs ys place
-
--- what stands in the first of two lists stands in both
-get_kept : {X : Type 0} (xs ys : List X) (place : ℕ) (x : X) → slice_get xs place ≡ Some x
-    → slice_get (xs ++ ys) place ≡ Some x
-get_kept [] ys place x h = absurd (cc)
-get_kept (y ∷ xs) ys zero x h = h
-get_kept (y ∷ xs) ys (suc place) x h = get_kept xs ys place x h
 
 -- the records after all of some events and the first of those that follow them
 after_past : (job : WorldJob) (xs ys : List (Timed OtherCall)) (w : Records) (count : ℕ)
@@ -118,7 +105,7 @@ told_next job f es w first line e h =
       event = h.event;
       after = after_past job events more w before ∙ h.after;
       is = h.is;
-      at = get_past events more before ∙ h.at;
+      at = get-append_right events more before ∙ h.at;
       told = h.told ∙ ap (λ (n : ℕ). Some (decimal n ∷ event_words job h.records (timed e.time h.event))) number;
     }
 
@@ -143,7 +130,7 @@ pub lines_tell : (j : JobState) → LinesTell j
 lines_tell j line e h one =
     let job = world_job j in
     let a = line_told job (lines_of j.schedule) (at_the_opening j.settings) 1 line e h one in
-    let told = get_kept (answer_lines job 1 (lines_of j.schedule) (at_the_opening j.settings))
+    let told = get-append_kept (answer_lines job 1 (lines_of j.schedule) (at_the_opening j.settings))
     (end_lines j.settings (run_records j) (run_most j)) line
     (decimal (line + 1) ∷ event_words job a.records (timed e.time a.event)) a.told in
     record {

@@ -63,6 +63,7 @@ use Rattle.node_script.specs.AnswersTold.{HasNumber, HasRange, NamesItsBytes, Na
 use Rattle.node_script.proofs.SentNumbers.{first_sent_there, resent_there}
 use Rattle.world_run.specs.RunText.{node_of}
 use Rattle.world_run.specs.ScheduleRun.{Stood, TellsWhatIs}
+use Rattle.endpoint_rules.proofs.CoreKept.{segment_long}
 
 -- ---- no other event is answered as a tick
 
@@ -293,18 +294,13 @@ node_holds old records most node stands low =
       kept = it.3.kept;
     }))
 
--- a segment has its length, whatever was written
-segment_length : (settings : Parameters) (me : ℕ) (kept : Local) → IsKept settings me kept
-    → length (segment_of settings kept) ≡ settings.segment
-segment_length settings me kept holds = length-image settings.segment kept.writes holds.writes
-
 -- a range inside the segment as it was is inside it as it is
 range_there : (settings : Parameters) (me : ℕ) (kept : Local) (endpoint : EndpointState) (after : Node EndpointLocal)
     → IsKept settings me kept → EndpointStands endpoint after → endpoint.core.settings ≡ settings
     → (offset len : ℕ) → offset + len ≤ length (segment_of settings kept) → HasRange endpoint offset len
 range_there settings me kept endpoint after holds stands same = λ offset len inside.
-    let long = segment_length settings me kept holds in
-    let now = segment_length endpoint.core.settings endpoint.core.me after.local.core stands.kept.core in
+    let long = segment_long settings me kept holds in
+    let now = segment_long endpoint.core.settings endpoint.core.me after.local.core stands.kept.core in
     record {
       node = after;
       stands = stands;
