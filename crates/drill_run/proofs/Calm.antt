@@ -7,7 +7,8 @@ use Rattle.datagram_grammar.specs.Content.{Content, code, content_of, is_ack, is
 use Rattle.datagram_grammar.specs.Message.{Message}
 use Rattle.handler_rules.specs.Registered.{entry_at, is_for_replies, is_for_requests}
 use Rattle.handler_rules.specs.Rules.{context_of, rule}
-use Rattle.handler_rules.specs.Runs.{Frame, Outcome, Start, after_answer, answer, closed, first_fault, judged, passes_end}
+use Rattle.handler_rules.specs.Runs.{Frame, Outcome, Start, after_answer, answer, closed, first_fault, judged}
+use Rattle.handler_rules.specs.Runs.{passes_end}
 use Rattle.handler_rules.specs.Runs.{refusal, reply_faults, untouched}
 use Rattle.handler_rules.specs.declared.message.Replied.{Replied}
 use Rattle.handler_rules.specs.declared.message.Replied.TheVariants as replied
@@ -32,7 +33,8 @@ use Rattle.node_record.specs.NodeStep.{Asks as NodeAsks, Does as NodeDoes, Comes
 use Rattle.node_record.specs.NodeStep.{node_after, site_of}
 use Rattle.node_record.specs.Record.{Node, Request, Run}
 use Rattle.node_record.specs.Step.{Site, TickChoice, Resends, Sends, Rests, after_delivery, after_request, after_tick}
-use Rattle.node_record.specs.Step.{claim_answer, first_why, is_worn_out, own_answer, request_answer, request_fault, said}
+use Rattle.node_record.specs.Step.{claim_answer, first_why, is_worn_out, own_answer, request_answer, request_fault}
+use Rattle.node_record.specs.Step.{said}
 use Rattle.node_record.specs.Step.{unless_bad, unless_refused, unless_waiting, tick_choice, verdict, with_sender}
 use Rattle.node_record.specs.Step.{Verdict, Refused, Repeated, Passed, Runs, Missed, Returns, Waits}
 use Rattle.node_record.specs.Step as step
@@ -41,7 +43,8 @@ use Rattle.lists.specs.Put.{put}
 use Rattle.plain_world.specs.World.{Asks, Does, Ticks, after_at, reply_event, request_event}
 use Rattle.plain_world.specs.World.{run, world_after}
 use Rattle.am_core.specs.ClientRules.{content_refusal, short_asking}
-use Rattle.am_core.specs.HandlerRuns.{NodeHandlers, client_outcome, frame_of_run, handlers_of, landing, left_by, outcome}
+use Rattle.am_core.specs.HandlerRuns.{NodeHandlers, client_outcome, frame_of_run, handlers_of, landing, left_by}
+use Rattle.am_core.specs.HandlerRuns.{outcome}
 use Rattle.am_core.specs.HandlerRuns.{run_reply, run_request}
 use Rattle.am_core.specs.Kept.{Local, start_of, with_writes}
 use Rattle.am_core.specs.Library.{is_library, library_outcome, library_refusal}
@@ -69,7 +72,8 @@ use Rattle.node_script.specs.Registration.{registered}
 use Rattle.node_script.specs.Schedules.{schedule_events}
 use Rattle.world_run.specs.RunText.{any_violation, is_violated, run_records, violations}
 use Rattle.drill_run.specs.Draws.{before_round, round_at}
-use Rattle.drill_run.specs.Rounds.{bare_job, deed_lines, drill_job, drill_schedule, drill_settings, number_of, round_lines}
+use Rattle.drill_run.specs.Rounds.{bare_job, deed_lines, drill_job, drill_schedule, drill_settings, number_of}
+use Rattle.drill_run.specs.Rounds.{round_lines}
 use Rattle.drill_run.specs.Rounds.{rounds_lines}
 use Rattle.drill_run.specs.declared.rounds.Deed.{Deed}
 use Rattle.drill_run.specs.declared.rounds.Deed.TheVariants as deeds
@@ -80,7 +84,8 @@ use Rattle.drill_run.proofs.Drilled.{schedule_append}
 -- ---- what the rule table allows
 
 -- a handler without locks may return
-return_allowed : (which : Role) (sent : Bool) → refusal (rule (context_of which) (holds owner.Handler []) sent call.Return)
+return_allowed : (which : Role) (sent : Bool)
+    → refusal (rule (context_of which) (holds owner.Handler []) sent call.Return)
     ≡ []
 return_allowed role.Request sent = refl
 return_allowed role.Reply sent = refl
@@ -162,7 +167,8 @@ handlers table = handlers_of drill_settings table (script_meaning bare_job.handl
 
 outcome_by : (table : List (Option Entry)) (which : Role) (contact : Contact) (content : Content) (start : Start)
     (library : Bool) → (eqb 128 content.handler ≡ true → which ≡ role.Request) → start.locks ≡ []
-    → (cond library (library_outcome content start) (client_outcome (handlers table) which contact content start)).refused
+    → (cond library (library_outcome content start)
+    (client_outcome (handlers table) which contact content start)).refused
     ≡ []
 outcome_by table which contact content start true right locks = refl
 outcome_by table which contact content start false right locks =
@@ -500,5 +506,6 @@ none_noted records node (suc count) all =
 pub drill_calm : (seed : ℕ) → is_violated (drill_job seed) ≡ false
 unfolding drill_schedule
 drill_calm seed =
-    none_noted (run_records (drill_job seed)) 0 4 (rounds_clean (registered bare_job.handlers).table seed 20000 (at_the_opening drill_settings) refl
+    none_noted (run_records (drill_job seed)) 0 4
+    (rounds_clean (registered bare_job.handlers).table seed 20000 (at_the_opening drill_settings) refl
     (λ node. (refl, refl)))

@@ -76,7 +76,8 @@ delivered_counted delivered.Late = each _ refl refl refl refl refl refl refl ref
 delivered_counted (delivered.Deferred lock) = each _ refl refl refl refl refl refl refl refl refl refl
 delivered_counted (delivered.Refused reason) = each _ refl refl refl refl refl refl refl refl refl refl
 
-ticked_counted : (numbers : SlotRef → ℕ) (answer : Ticked) → AreCountedAs (ticked_words numbers answer) (ticked_as answer)
+ticked_counted : (numbers : SlotRef → ℕ) (answer : Ticked)
+    → AreCountedAs (ticked_words numbers answer) (ticked_as answer)
 ticked_counted numbers (ticked.Resend at) = each _ refl refl refl refl refl refl refl refl refl refl
 ticked_counted numbers (ticked.Note at) = each _ refl refl refl refl refl refl refl refl refl refl
 ticked_counted numbers (ticked.Chunk at) = each _ refl refl refl refl refl refl refl refl refl refl
@@ -150,7 +151,8 @@ pub counted_words : (sight : Sight) (answer : WorldAnswer) → AreCountedAs (wor
 counted_words sight (world_answers.Node (answers.Asked answer)) = asked_counted answer
 counted_words sight (world_answers.Node answers.Polled) = each _ refl refl refl refl refl refl refl refl refl refl
 counted_words sight (world_answers.Node answers.Allowed) = each _ refl refl refl refl refl refl refl refl refl refl
-counted_words sight (world_answers.Node (answers.Forbidden rule)) = each _ refl refl refl refl refl refl refl refl refl refl
+counted_words sight (world_answers.Node (answers.Forbidden rule)) =
+    each _ refl refl refl refl refl refl refl refl refl refl
 counted_words sight (world_answers.Node (answers.Lock answer)) = lock_counted answer
 counted_words sight (world_answers.Node (answers.Unlock answer)) = unlock_counted answer
 counted_words sight (world_answers.Node (answers.Begun answer)) = begun_counted answer

@@ -1,10 +1,12 @@
 -- Lines of the drill, one after the other.
-use Rattle.std.proofs.Common.{◌≡◌, ℕ, suc, ◌+◌, List, [], ◌∷◌, ◌++◌, Option, refl, sym, ap, subst, ◌∙◌, append_assoc, arith}
+use Rattle.std.proofs.Common.{◌≡◌, ℕ, suc, ◌+◌, List, [], ◌∷◌, ◌++◌, Option, refl, sym, ap, subst, ◌∙◌, append_assoc}
+use Rattle.std.proofs.Common.{arith}
 use Rattle.datagram_grammar.specs.Parameters.{Parameters}
 use Rattle.handler_rules.specs.declared.table.Entry.{Entry}
 use Rattle.handler_rules.specs.Runs.{Meaning}
 use Rattle.plain_world.specs.World.{Timed, run, world_after, world_answer}
-use Rattle.endpoint_rules.specs.EndpointRules.{OtherCall, Records, RecordsEvent, at_the_opening, job_of, timed, transition}
+use Rattle.endpoint_rules.specs.EndpointRules.{OtherCall, Records, RecordsEvent, at_the_opening, job_of, timed}
+use Rattle.endpoint_rules.specs.EndpointRules.{transition}
 use Rattle.gas_world.specs.Events.{ForItsRecords, Steps, job_in}
 use Rattle.gas_world.specs.Settling.{WorldJob}
 use Rattle.gas_world.specs.Stands.{Stands}
@@ -24,7 +26,8 @@ use Rattle.world_run.specs.ScheduleRun.{StandsAfter}
 use Rattle.drill_run.specs.Counting.{AreAtMost, Tallies, count_in}
 use Rattle.drill_run.specs.Draws.{round_at}
 use Rattle.drill_run.specs.Drilling.{CountsEvent, CountsLines, IsDrilled, Stage, job_by}
-use Rattle.drill_run.specs.Rounds.{at_time, bare_job, drill_job, drill_schedule, drill_settings, round_lines, rounds_lines}
+use Rattle.drill_run.specs.Rounds.{at_time, bare_job, drill_job, drill_schedule, drill_settings, round_lines}
+use Rattle.drill_run.specs.Rounds.{rounds_lines}
 use Rattle.drill_run.specs.Summary.{answers_to, count_of, drill_answers}
 use Rattle.drill_run.specs.declared.counts.Counted.{Counted}
 use Rattle.drill_run.proofs.Tallied.{tallies_both, tallies_none}
@@ -121,7 +124,8 @@ pub two_lines : (text : JobState) (old mid new : Stage) (first second : TimedEve
     → CountsLines (job_by text old.world) (λ records. first ∷ second ∷ []) old new
 two_lines text old mid new first second settings table h k =
     lines_then (job_by text old.world) (λ records. first ∷ []) (λ records. second ∷ []) old mid new h
-    (same_job (λ job. CountsLines job (λ records. second ∷ []) mid new) (script_meaning text.handlers) old.world mid.world
+    (same_job (λ job. CountsLines job (λ records. second ∷ []) mid new) (script_meaning text.handlers) old.world
+    mid.world
     settings table k)
 
 -- ---- rounds

@@ -53,7 +53,8 @@ round_lines time round = deed_lines time round.deed round
 
 -- ---- all rounds
 
--- the lines of so many rounds, each at the time of its number from 0, and each by the records that the earlier ones leave
+-- the lines of so many rounds, each at the time of its number from 0, and each by the records that the earlier ones
+-- leave
 unfoldable pub rounds_lines : WorldJob → (seed count : ℕ) → Records → List TimedEvent
 rounds_lines job seed zero records = []
 rounds_lines job seed (suc count) records =

@@ -301,8 +301,8 @@ fn drill_in<K: Sink>(
     }
 }
 
-/// Runs the drill of a seed in a new world, and writes its lines: the seed, how many answers began with each of ten words, and
-/// the lines of each node.
+/// Runs the drill of a seed in a new world, and writes its lines: the seed, how many answers began with each of ten
+/// words, and the lines of each node.
 ///
 /// Want of memory may end it before it wrote. The laws hold of its run, however far it came.
 #[tactic(auto, using(crate::proofs::DrillLaws::drill_laws, crate::proofs::Calm::drill_calm))]

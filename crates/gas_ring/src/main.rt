@@ -1,11 +1,12 @@
 //! A token goes round a ring of four nodes, over a network that loses, repeats and reorders datagrams.
 //!
-//! It shows how a run-time embeds `Endpoint`: handlers of its own, written in Rattle with their meaning; calls, deliveries and
-//! ticks; and which slot's message goes out after which answer. Where a node is told that a message was accepted, sent again, or
-//! ran, the program hands the message of that slot to its network, and that is all it owes.
+//! It shows how a run-time embeds `Endpoint`: handlers of its own, written in Rattle with their meaning; calls,
+//! deliveries and ticks; and which slot's message goes out after which answer. Where a node is told that a message was
+//! accepted, sent again, or ran, the program hands the message of that slot to its network, and that is all it owes.
 //!
-//! Each node prints where it passed the token on. At the end each says how often the token came and how often it was told so:
-//! however the network behaves, each request's handler ran at most once, and exactly once where its reply came back.
+//! Each node prints where it passed the token on. At the end each says how often the token came and how often it was
+//! told so: however the network behaves, each request's handler ran at most once, and exactly once where its reply came
+//! back.
 #![tactic(auto)]
 
 mod handlers;
@@ -34,8 +35,8 @@ fn opened(alloc: Global) -> Result<Vec<RingNode>, AllocError> {
     Ok(nodes)
 }
 
-/// The node at this place has a turn at this time: it ticks, what comes next on the network is delivered to whom it is for, and
-/// the node passes the token on if it is here. Answers how often it was passed on, where it was.
+/// The node at this place has a turn at this time: it ticks, what comes next on the network is delivered to whom it is
+/// for, and the node passes the token on if it is here. Answers how often it was passed on, where it was.
 fn turn(
     alloc: Global,
     nodes: &mut [RingNode],

@@ -12,8 +12,8 @@ pub struct Datagram {
     pub bytes: Vec<u8>,
 }
 
-/// Datagrams on their way, in the order in which they will come. Of those that are handed to it each seventh is lost, each third
-/// comes twice, and each second overtakes the others.
+/// Datagrams on their way, in the order in which they will come. Of those that are handed to it each seventh is lost,
+/// each third comes twice, and each second overtakes the others.
 #[derive(Debug, Drop)]
 pub struct LossyQueue {
     waiting: VecDeque<Datagram>,

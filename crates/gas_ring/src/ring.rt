@@ -59,8 +59,8 @@ impl RingNode {
 
     /// Puts the message that an answer of the endpoint sends, where it sends one, into the queue.
     ///
-    /// The answer tells its slot: that of a request that was accepted or is sent again, or that of the reply of a request that
-    /// ran or came again. The message stands there until a later event of the endpoint.
+    /// The answer tells its slot: that of a request that was accepted or is sent again, or that of the reply of a
+    /// request that ran or came again. The message stands there until a later event of the endpoint.
     fn send(
         &self,
         alloc: Global,
@@ -100,8 +100,8 @@ impl RingNode {
         self.send(alloc, &answer, queue)
     }
 
-    /// Passes the token on, where it is here and wasn't passed on yet, and answers how often it was then. Where no credit is
-    /// free nothing happens; the node tries again later.
+    /// Passes the token on, where it is here and wasn't passed on yet, and answers how often it was then. Where no
+    /// credit is free nothing happens; the node tries again later.
     pub fn pass_on(
         &mut self,
         alloc: Global,

@@ -145,8 +145,8 @@ impl TestWorld {
         node < self.world.nodes() && self.world.endpoint(node).polls(0)
     }
 
-    /// How many requests of a pair of nodes were accepted, whether the one of a number is back, and the first that isn't; none
-    /// where there is no such pair.
+    /// How many requests of a pair of nodes were accepted, whether the one of a number is back, and the first that
+    /// isn't; none where there is no such pair.
     pub fn pair(&self, from: u16, to: u16, number: u64) -> Option<(u64, bool, u64)> {
         if from >= self.world.nodes() || to >= self.world.nodes() {
             return None;

@@ -1,9 +1,10 @@
 //! Runs GASNet active messages over lossy datagrams.
 //!
-//! The command `world` reads a job from standard input, runs its schedule over the endpoints of a world, and writes one line
-//! for each line of the schedule, then those of each node, then `status CODE NAME`. The code is the exit status. The command
-//! `drill SEED` does so with a schedule made from a number, and writes a summary of the answers. The command `node RANK PORT` runs one
-//! node of the job over a UDP socket of 127.0.0.1, and writes the trace of what it did. Nothing is written to standard error.
+//! The command `world` reads a job from standard input, runs its schedule over the endpoints of a world, and writes one
+//! line for each line of the schedule, then those of each node, then `status CODE NAME`. The code is the exit status.
+//! The command `drill SEED` does so with a schedule made from a number, and writes a summary of the answers. The
+//! command `node RANK PORT` runs one node of the job over a UDP socket of 127.0.0.1, and writes the trace of what it
+//! did. Nothing is written to standard error.
 //!
 //! What is proved of it stands on the call that it makes (`top_call`: `program`).
 #![tactic(auto)]

@@ -45,7 +45,8 @@ noted post machine before left violated opens (inl bound) over h =
     sym (h (record_after post left.journal)
     (bound.leaves.replay (opening_state post.job post.rank) opens).machine.node)
 noted post machine before left violated opens (inr unbound) over h =
-    let fault : left.end ≡ stations.LinkFault = ap (λ (e : Ended MachineKept LinkSeen ClockSeen). e.end) unbound.left_is in
+    let fault : left.end ≡ stations.LinkFault =
+    ap (λ (e : Ended MachineKept LinkSeen ClockSeen). e.end) unbound.left_is in
     absurd (cc)
 
 -- how it ended

@@ -73,7 +73,8 @@ pub struct NodeRan<L, C> {
 }
 
 impl NodeEnd {
-    /// The end of a run, by that of its station, by whether its trace was written, and by whether the node noted a violation.
+    /// The end of a run, by that of its station, by whether its trace was written, and by whether the node noted a
+    /// violation.
     fn of(end: End, written: Wrote, violated: bool) -> NodeEnd
         ensures { result ≡ end_for end written violated }
     {
@@ -176,10 +177,11 @@ fn ran<L: Link, C>(run: NodeRun<NodeMachine<'_>, Sieve<L>, C>) -> NodeRan<L, C>
 /// Runs a node of a job to its end, and writes the trace of what it did.
 ///
 /// The job's sieve is put before its link, and the link is bound. Then the node's threads take turns under one lock, as
-/// `run_threads` says: a turn of a thread that polls takes a datagram, if one waits, and ticks; each turn tries the next step of the
-/// thread's script. The trace of the turns is written into the sink, whatever the end was, but after want of memory: then nothing is
-/// written. The end is `LinkFault` only where the link's count of faults rose, or stands at its last value; where that came as it was
-/// to be bound, the trace has no turns. It is `WriteFault` only where the sink failed; a front of the trace went in then.
+/// `run_threads` says: a turn of a thread that polls takes a datagram, if one waits, and ticks; each turn tries the
+/// next step of the thread's script. The trace of the turns is written into the sink, whatever the end was, but after
+/// want of memory: then nothing is written. The end is `LinkFault` only where the link's count of faults rose, or
+/// stands at its last value; where that came as it was to be bound, the trace has no turns. It is `WriteFault` only
+/// where the sink failed; a front of the trace went in then.
 pub fn run_job_node<
     R: Threads + Wait + Sync,
     L: Link + Send,

@@ -14,7 +14,8 @@ use Rattle.endpoint_rules.specs.CoreCalls.{Cell}
 use Rattle.endpoint_rules.specs.EndpointRules.{OtherCall, OnCore}
 use Rattle.endpoint_rules.specs.declared.answer.Answer.{Answer}
 use Rattle.node_runs.specs.Scripts.{ThreadCall, Scripts, NodeJob}
-use Rattle.node_runs.specs.Actions.{Form, Once, Again, Until, Twice, Looks, call_of, ended_by, begins, Progress, OwnScripts}
+use Rattle.node_runs.specs.Actions.{Form, Once, Again, Until, Twice, Looks, call_of, ended_by, begins, Progress}
+use Rattle.node_runs.specs.Actions.{OwnScripts}
 use Rattle.node_runs.specs.Actions.{Reading, next_call, tried_step, scripts_of, FormMay, ActionsMay}
 use Rattle.node_runs.proofs.Turns.{AreWritten}
 
@@ -129,4 +130,5 @@ pub scripts_same : {Kept Action : Type 0} (form : Reading Kept Action) (thread :
     → ((scripts_of form).tried thread own before after answer).began ≡ false
     → ((scripts_of form).tried thread own before after answer).left ≡ own
 scripts_same form thread own before after answer e b =
-    ap (put own thread) (step_same form (own thread).began (own thread).left before after answer e b) ∙ put_own own thread
+    ap (put own thread) (step_same form (own thread).began (own thread).left before after answer e b)
+    ∙ put_own own thread

@@ -119,6 +119,7 @@ empty_turns {Kept} {Own} job C me thread now state changed =
     let a = or_parts (is_some_there it.packets || is_some tried.ended) tried.began changed in
     let b = or_parts (is_some_there it.packets) (is_some tried.ended) a.0 in
     let ended = none_of tried.ended b.1 in
-    machine_is state it.changed it.after.node it.after.own (map (datagram job.job.settings) it.packets) tried.ended changed
+    machine_is state it.changed it.after.node it.after.own (map (datagram job.job.settings) it.packets) tried.ended
+    changed
     (turn_calm job me thread now state (job.polls thread state.node.local) C ended a.1 (no_packets it.packets b.0))
     (C.left thread state.own (as_tried job me state thread now None) it.after.node _ ended a.1)

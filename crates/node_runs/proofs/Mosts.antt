@@ -1,6 +1,7 @@
 -- The most that a node held in a run of traces is the most that it held after an entry of its own.
 use Rattle.std.proofs.Common.{◌≡◌, ◌≢◌, ◌⊎◌, inl, inr, ℕ, ◌+◌, ◌≤◌, max, Bool, true, false, cond, List, []}
-use Rattle.std.proofs.Common.{◌∷◌, ◌++◌, length, Option, None, Some, refl, sym, ap, ap₂, ◌∙◌, subst, arith, ne_eqb, eq-eqb}
+use Rattle.std.proofs.Common.{◌∷◌, ◌++◌, length, Option, None, Some, refl, sym, ap, ap₂, ◌∙◌, subst, arith, ne_eqb}
+use Rattle.std.proofs.Common.{eq-eqb}
 use Rattle.std.proofs.lemmas.List.{length-append}
 use Rattle.std.specs.Option.{option_map, option_to_list}
 use Rattle.std.proofs.lemmas.Bool.{cases_eq}
@@ -21,7 +22,8 @@ use Rattle.node_record.specs.Behaviour.{Ask}
 use Rattle.node_record.specs.Step.{new_request, said}
 use Rattle.node_record.specs.Step.{Site, request_answer, after_request, TickChoice, Resends, Sends, Rests, tick_choice}
 use Rattle.node_record.specs.Step.{after_tick}
-use Rattle.node_record.specs.NodeStep.{Job, site_of, NodeEvent, Asks as NodeAsks, Does as NodeDoes, Comes, Ticks as NodeTicks}
+use Rattle.node_record.specs.NodeStep.{Job, site_of, NodeEvent, Asks as NodeAsks, Does as NodeDoes, Comes}
+use Rattle.node_record.specs.NodeStep.{Ticks as NodeTicks}
 use Rattle.node_record.specs.NodeStep.{node_after}
 use Rattle.node_record.proofs.Slots.{taken_push, unreturned-sent}
 use Rattle.plain_world.specs.World.{World, Timed, world_after, run}
@@ -42,7 +44,8 @@ asked_more : {Kept : Type 0} (settings : Parameters) (me to : ℕ) (requests : L
     → q.asked ≡ put r.asked to requests → q.ran ≡ r.ran → unreturned (r.asked to) ≤ unreturned requests
     → (peer : ℕ) → held_with settings me r peer ≤ held_with settings me q peer
 asked_more settings me to requests r q e f more peer =
-    let runs : slots_run (q.ran peer) (credits_of settings peer me) ≡ slots_run (r.ran peer) (credits_of settings peer me) =
+    let runs : slots_run (q.ran peer) (credits_of settings peer me) ≡ slots_run (r.ran peer)
+    (credits_of settings peer me) =
     ap (λ (g : ℕ → List Run). slots_run (g peer) (credits_of settings peer me)) f in
     elim (cases_eq peer to) [
       | inl same ↦ (let at : unreturned (q.asked peer) ≡ unreturned requests =

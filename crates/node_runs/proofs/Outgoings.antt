@@ -30,7 +30,8 @@ use Rattle.node_record.specs.Requests.{Due, next_claim, dues, all_dues, open_in,
 use Rattle.node_record.specs.Executed.{greatest, run_at, last_run}
 use Rattle.node_record.specs.Behaviour.{Ask, is_request}
 use Rattle.node_record.specs.Step.{Site, new_request, said, request_answer, after_request, address_fault}
-use Rattle.node_record.specs.Step.{first_why, refusal, slots_for, Verdict, Refused, Repeated, Passed, Runs, Missed, Returns}
+use Rattle.node_record.specs.Step.{first_why, refusal, slots_for, Verdict, Refused, Repeated, Passed, Runs, Missed}
+use Rattle.node_record.specs.Step.{Returns}
 use Rattle.node_record.specs.Step.{Waits, unless_refused, unless_waiting, verdict}
 use Rattle.node_record.specs.Step.{after_delivery, TickChoice, Resends, Sends, Rests, tick_choice, next_due, can_ask}
 use Rattle.node_record.specs.Step.{after_tick}
@@ -70,7 +71,8 @@ record IsAskedIn {Local : Type 0} (settings : Parameters) (me : ℕ) (at : Place
   out : request.back ≡ false
 
 -- the run of the packet is the last one of its slot
-record IsRepliedIn {Local : Type 0} (settings : Parameters) (me : ℕ) (at : Place) (content : Content) (node : Node Local)
+record IsRepliedIn {Local : Type 0} (settings : Parameters) (me : ℕ) (at : Place) (content : Content)
+    (node : Node Local)
     : Type 0 where
   sender_is : at.to ≡ me
   there : at.from < settings.nodes
@@ -226,7 +228,8 @@ asked_in site now node ask (asked.Accepted to slot number) e packet h =
     let after = after_request site node now ask (asked.Accepted to slot number) in
     let at : Place = record { from = site.me; to = ask.to; number = number; slot = slot } in
     one_stands site.settings site.me after packet (Asking at content) h
-    (accepted_in site.settings site.me now ask.to slot number content node after says.to_in says.other says.number_is refl)
+    (accepted_in site.settings site.me now ask.to slot number content node after says.to_in says.other says.number_is
+    refl)
 asked_in site now node ask asked.Ran e packet h = absurd (contains_none packet h)
 asked_in site now node ask (asked.Forbidden forbidden) e packet h = absurd (contains_none packet h)
 asked_in site now node ask (asked.BadArg part) e packet h = absurd (contains_none packet h)

@@ -17,7 +17,8 @@ use Rattle.endpoint_rules.specs.EndpointRules.{OtherCall}
 use Rattle.endpoint_rules.specs.declared.answer.Answer.{Answer}
 use Rattle.node_runs.specs.Scripts.{NodeJob}
 use Rattle.node_runs.specs.Turn.{MachineState, datagram, node_answers, node_sends, node_run}
-use Rattle.node_runs.specs.Order.{NodeEntry, Machines, at_first, turn_of, after_entry, given_by, after_all, given_by_all}
+use Rattle.node_runs.specs.Order.{NodeEntry, Machines, at_first, turn_of, after_entry, given_by, after_all}
+use Rattle.node_runs.specs.Order.{given_by_all}
 use Rattle.node_runs.specs.Order.{answers_by_all, GoInOrder}
 use Rattle.node_runs.specs.WorldRun.{AreTurns, joined}
 use Rattle.node_runs.proofs.Lasting.{Lasts, opening_lasts}
@@ -40,7 +41,8 @@ answers_of-append {Told = Told} job (timed ∷ rest) second world =
     (answers_of-append job rest second (world_after job world timed))
 
 sent-append : {Local Call Told : Type 0} (job : Job Local Call Told) (first second : List (Timed Call))
-    (world : World Local) → sent job (first ++ second) world ≡ sent job first world ++ sent job second (run job first world)
+    (world : World Local) → sent job (first ++ second) world ≡ sent job first world ++ sent job second
+    (run job first world)
 sent-append job [] second world = refl
 sent-append job (timed ∷ rest) second world =
     let after = world_after job world timed in

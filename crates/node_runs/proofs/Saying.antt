@@ -25,8 +25,10 @@ use Rattle.handler_rules.specs.declared.message.Which.{Which}
 use Rattle.handler_rules.specs.Registered.{entry_at, is_for_requests, is_for_replies}
 use Rattle.handler_rules.specs.Runs.{Frame, IsGood, IsLawful, is_reply_kind}
 use Rattle.node_record.specs.Behaviour.{Asking, Category, Short, Medium, Long, PayloadFrom, Lent, Own}
-use Rattle.am_core.specs.ClientRules.{said_in, content_by, payload_in, payload_len, asking_fault, asking_faults, first_bad}
-use Rattle.am_core.specs.Library.{Work, Put, Get, Memset, Note, WorkFits, work_content, get_handler, fetched, fetch_said}
+use Rattle.am_core.specs.ClientRules.{said_in, content_by, payload_in, payload_len, asking_fault, asking_faults}
+use Rattle.am_core.specs.ClientRules.{first_bad}
+use Rattle.am_core.specs.Library.{Work, Put, Get, Memset, Note, WorkFits, work_content, get_handler, fetched}
+use Rattle.am_core.specs.Library.{fetch_said}
 use Rattle.am_core.specs.Library.{memset_handler, note_handler, fetch_arguments, fill_arguments}
 use Rattle.am_core.specs.Library.{has_wrong_args, is_no_fetch, is_beyond, natural, library_reply}
 use Rattle.am_core.specs.HandlerRuns.{reply_or_ack}

@@ -154,7 +154,8 @@ reply_spelled : (settings : Parameters) (table : List (Option Entry)) (meaning :
 reply_spelled settings table meaning me node message Runs job here fits is from e =
     let site = site_of (job_of settings table meaning) me in
     let says = runs_says site node message e in
-    let to : message.to ≡ me = to_me settings me message (first_none (address_fault settings me message) _ says.unrefused)
+    let to : message.to ≡ me = to_me settings me message
+    (first_none (address_fault settings me message) _ says.unrefused)
     in
     let ran = request_fits settings table meaning (with_sender me message) (content_of message) node.local.core job
     (omega (arith, from, job.range.nodes)) (content_fits message is) says.well fits in

@@ -8,8 +8,10 @@ use Rattle.datagram_grammar.specs.Content.{Content}
 use Rattle.lists.proofs.Put.{put_same, put_other}
 use Rattle.node_record.specs.NodeStep.{Job, IsAllSound, NodeEvent, Comes, node_after}
 use Rattle.node_record.proofs.Runs.{run_of_there}
-use Rattle.plain_world.specs.World.{World, Event, Asks, Does, RequestComes, ReplyComes, Timed, Fall, WorldAnswer, OfNode}
-use Rattle.plain_world.specs.World.{falls, request_event, reply_event, answer_at, after_at, world_after, run, answers_of}
+use Rattle.plain_world.specs.World.{World, Event, Asks, Does, RequestComes, ReplyComes, Timed, Fall, WorldAnswer}
+use Rattle.plain_world.specs.World.{OfNode}
+use Rattle.plain_world.specs.World.{falls, request_event, reply_event, answer_at, after_at, world_after, run}
+use Rattle.plain_world.specs.World.{answers_of}
 use Rattle.plain_world.specs.World.{IsAmong}
 use Rattle.plain_world.specs.Sent.{Packet, Asking, Replying, sender, IsRecorded, sends_at, sent}
 use Rattle.endpoint_rules.specs.Called.{Requests, Performs, node_event}
@@ -78,7 +80,8 @@ stage_more {Call = Call} {Told = Told} job IsKept Fits world node now event firs
     record {
       among = (among, S.among);
       events_are = (refl, is, S.events_are);
-      answers = ap₂ (λ (a : WorldAnswer Told) (more : List (WorldAnswer Told)). a ∷ more) (ap (answer_at job world now) is)
+      answers = ap₂ (λ (a : WorldAnswer Told) (more : List (WorldAnswer Told)). a ∷ more)
+          (ap (answer_at job world now) is)
           (S.answers ∙ ap (λ x. map OfNode (node_answers job node now events x)) here);
       sent_is = ap₂ (λ (a b : List Packet). a ++ b) (ap (sends_at job world now) is)
           (S.sent_is ∙ ap (node_sends job node now events) here);
@@ -105,7 +108,8 @@ try_stage job IsKept Fits May world node now thread (Some (Requests to asking)) 
       timed ∷ [],
       stage_more job IsKept Fits world node now (node_event thread call) first [] [] here refl
           (stage_none job IsKept Fits _ node now
-          (lasts_on job IsKept Fits May world node (node_event thread call) timed sound spoken L here refl (may call refl))),
+          (lasts_on job IsKept Fits May world node (node_event thread call) timed sound spoken L here refl
+          (may call refl))),
     )
 try_stage job IsKept Fits May world node now thread (Some (Performs done)) sound spoken here L may =
     let call = Performs done in
@@ -114,7 +118,8 @@ try_stage job IsKept Fits May world node now thread (Some (Performs done)) sound
       timed ∷ [],
       stage_more job IsKept Fits world node now (node_event thread call) first [] [] here refl
           (stage_none job IsKept Fits _ node now
-          (lasts_on job IsKept Fits May world node (node_event thread call) timed sound spoken L here refl (may call refl))),
+          (lasts_on job IsKept Fits May world node (node_event thread call) timed sound spoken L here refl
+          (may call refl))),
     )
 
 -- ---- the delivery of what was sent

@@ -147,7 +147,8 @@ turn_from : {Kept Own : Type 0} (job : NodeJob Kept Own) (IsKept : (me : ℕ) �
     → Lasts job.job IsKept Fits world → Written taken.own
     → ((to : ℕ) (bytes : List ℕ) → Contains given (to, bytes)
     → (packet : Packet) × IsRecorded world packet × (datagram job.job.settings packet ≡ (to, bytes)))
-    → MayGet job node (record { node = world node; own = taken.own; outgoing = []; answer = None }) given taken.thread got
+    → MayGet job node (record { node = world node; own = taken.own; outgoing = []; answer = None }) given taken.thread
+    got
     → (happened : List (Timed OtherCall))
     × Stage job.job IsKept Fits world node taken.now
     (events_by job node taken (job.polls taken.thread (world node).local) (comes job.job.settings.version got)

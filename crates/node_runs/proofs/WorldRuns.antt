@@ -1,5 +1,6 @@
 -- Entries of endpoints' nodes that can go in an order are a run of the world, with all that holds of every run.
-use Rattle.std.proofs.Common.{sym, ◌≡◌, ℕ, ◌≤◌, List, [], Option, Some, refl, ap, ◌∙◌, subst, arith, length, map, subst₂}
+use Rattle.std.proofs.Common.{sym, ◌≡◌, ℕ, ◌≤◌, List, [], Option, Some, refl, ap, ◌∙◌, subst, arith, length, map}
+use Rattle.std.proofs.Common.{subst₂}
 use Rattle.std.specs.List.{slice_get}
 use Rattle.datagram_grammar.specs.Parameters.{Parameters}
 use Rattle.handler_rules.specs.declared.table.Entry.{Entry as TableEntry}

@@ -1,10 +1,10 @@
 //! Nodes that run scripts, and the order of the entries of their traces as a run of the world.
 //!
-//! A machine is the record of a node with what is left of its scripts. A turn of one of its threads is a list of
-//! events of the node: what was got is delivered, the node ticks, and the thread's next step is tried, which makes at
-//! most one call (`specs/Turn.antt`). What a try calls, and when it ends its step, is a parameter (`Scripts`); steps
-//! have five forms (`specs/Actions.antt`). `specs/Order.antt` says which orders of the entries of several traces can
-//! go, and `specs/WorldRun.antt` what it means that such an order is a run of the world. It has no code.
+//! A machine is the record of a node with what is left of its scripts. A turn of one of its threads is a list of events
+//! of the node: what was got is delivered, the node ticks, and the thread's next step is tried, which makes at most one
+//! call (`specs/Turn.antt`). What a try calls, and when it ends its step, is a parameter (`Scripts`); steps have five
+//! forms (`specs/Actions.antt`). `specs/Order.antt` says which orders of the entries of several traces can go, and
+//! `specs/WorldRun.antt` what it means that such an order is a run of the world. It has no code.
 //!
 //! What is proved is named by the clauses of these laws, for any reading of actions as forms:
 //!
@@ -19,8 +19,8 @@
 //!   (`Reaches`), and the entries of each node in it are the node's trace.
 //! - `states_law` [`run`]: the same at states with more in them, as those for which a machine stands.
 //! - `carrying_law`: what can go of machines that others become can go of them.
-//! - `empty_law`: an empty turn leaves the machine, where a try that waits leaves the record (`IsCalm`); `waiting_law`: a
-//!   try that neither ends nor begins its step leaves the scripts.
+//! - `empty_law`: an empty turn leaves the machine, where a try that waits leaves the record (`IsCalm`); `waiting_law`:
+//!   a try that neither ends nor begins its step leaves the scripts.
 //! - `outgoing_law` [`first`, `stands`]: each message that a turn sent stands in its slot at the end of the turn.
 #![tactic(auto)]
 

@@ -270,7 +270,8 @@ pub goes_without : (any : Bool) (texts : List HandlerText) (i : ℕ) (h : Handle
     AtRegistering texts (register_turn any (take i texts)) first so_far →
     AtRegistering texts (register_turn any (take (i + 1) texts)) first so_far
 goes_without any texts i h first so_far lt e test before r P =
-    subst (λ (s : Registry). ArePlaced texts s so_far.table so_far.places) (sym (turn_without any texts i h r lt e test))
+    subst (λ (s : Registry). ArePlaced texts s so_far.table so_far.places)
+    (sym (turn_without any texts i h r lt e test))
     (before r P)
 
 -- ---- bodies by their places

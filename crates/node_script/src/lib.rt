@@ -3,14 +3,14 @@
 //! What a job's text is, and reading it, is `job_text`'s. What is proved here:
 //!
 //! - `Script::new` keeps the job, with its handlers and their locks registered; indexes are given as `registered` says.
-//!   `Script::line` gives the event or the rounds of a schedule line (`IsLine`), with each `cN` read from its node's cells
-//!   in the world; None exactly where there is no such line.
+//!   `Script::line` gives the event or the rounds of a schedule line (`IsLine`), with each `cN` read from its node's
+//!   cells in the world; None exactly where there is no such line.
 //! - `ScriptHandlers` is a `Handlers` whose meaning is the body of the text (`script_meaning`): `run` leaves what its
-//!   actions leave, in order. It is lawful: what a body writes lies inside the segment, the locks of threads stay theirs,
-//!   and a reply is one that was let through.
-//! - `write_answer` writes a line: a number, and the words of an answer (`answer_words`) by the numbers
-//!   at the endpoint's slots and its segment, for every record for which the endpoint stands; at a fault of the sink a
-//!   front of it. `write_line` writes any line.
+//!   actions leave, in order. It is lawful: what a body writes lies inside the segment, the locks of threads stay
+//!   theirs, and a reply is one that was let through.
+//! - `write_answer` writes a line: a number, and the words of an answer (`answer_words`) by the numbers at the
+//!   endpoint's slots and its segment, for every record for which the endpoint stands; at a fault of the sink a front
+//!   of it. `write_line` writes any line.
 #![tactic(auto)]
 
 mod answer_texts;

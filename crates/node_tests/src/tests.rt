@@ -7,7 +7,8 @@ use std::test::Fail;
 use std::thread::Threads;
 use top_call::{Outside, gasnet};
 
-/// What a call of `gasnet` gave: the exit status, whether there is a node, what the sink took, and what the link was sent.
+/// What a call of `gasnet` gave: the exit status, whether there is a node, what the sink took, and what the link was
+/// sent.
 #[derive(Drop)]
 struct Said {
     code: u8,

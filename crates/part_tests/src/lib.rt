@@ -1,7 +1,7 @@
 //! Tests of the public calls of the crates below a node's active messages, a module a crate, named after it.
 //!
-//! A module has rows and refused inputs as tables, and the values that it expects come from the definitions or from outside.
-//! `slot_table` is tested by the two tables above it.
+//! A module has rows and refused inputs as tables, and the values that it expects come from the definitions or from
+//! outside. `slot_table` is tested by the two tables above it.
 #![tactic(auto)]
 
 #[cfg(test)]

@@ -1,5 +1,5 @@
-//! The operations of a node: a put of three chunks, a reply, each answer of a sync, and 256 records. The values are by hand:
-//! chunks of 8,192 bytes, numbers from 1 on; three nodes, with four slots each.
+//! The operations of a node: a put of three chunks, a reply, each answer of a sync, and 256 records. The values are by
+//! hand: chunks of 8,192 bytes, numbers from 1 on; three nodes, with four slots each.
 
 ghost use Rattle.std.specs.Prelude.{◌≡◌, []};
 ghost use Rattle.put_get.specs.Stands.{Stands, room_of};
@@ -57,7 +57,8 @@ fn issue(table: &mut Transfers, can: &[bool], slot: u16, request: u64) -> Option
     Some(next)
 }
 
-// A chunk of a get went as request 7, in slot 1: whether the replies to 7 before it, to 6, to 7 and to 7 again are its own.
+// A chunk of a get went as request 7, in slot 1: whether the replies to 7 before it, to 6, to 7 and to 7 again are its
+// own.
 fn replies(table: &mut Transfers) -> Option<[bool; 4]>
     requires stands { Stands table.old [] }
     requires room { room_of table.old ≡ record { nodes = 3; credits = 4 } }

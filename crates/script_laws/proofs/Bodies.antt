@@ -33,7 +33,8 @@ use Rattle.job_text.specs.declared.job.Payload.TheVariants as payload
 use Rattle.job_text.specs.declared.job.ReplyAction.{ReplyAction}
 use Rattle.job_text.specs.declared.job.ReplyAction.TheVariants as reply
 use Rattle.node_script.specs.Bodies.{operand_value, operand_at, with_cell, segment_at, placed_bytes}
-use Rattle.node_script.specs.Bodies.{range_bytes, payload_bytes, kept_write, writing_if, reply_content, replying_if, act}
+use Rattle.node_script.specs.Bodies.{range_bytes, payload_bytes, kept_write, writing_if, reply_content, replying_if}
+use Rattle.node_script.specs.Bodies.{act}
 use Rattle.node_script.specs.Bodies.{acts, script_meaning}
 use Rattle.node_script.specs.LawfulBodies.{lawful-script}
 use Rattle.node_script.specs.Registration.{Registry, no_handlers, with_index, register, in_turn, registered}
@@ -55,7 +56,8 @@ source_fits source low = search rules
 zero_fits : FitsSigned w32 (pos 0)
 zero_fits = search rules
 
-pub number_at : (numbers : List ℤ) (place : ℕ) → AreNumbers numbers → FitsSigned w32 (slice_index_or numbers place (pos 0))
+pub number_at : (numbers : List ℤ) (place : ℕ) → AreNumbers numbers
+    → FitsSigned w32 (slice_index_or numbers place (pos 0))
 number_at [] place all = zero_fits
 number_at (number ∷ numbers) zero all = all.0
 number_at (number ∷ numbers) (suc place) all = number_at numbers place all.1

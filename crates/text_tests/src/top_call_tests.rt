@@ -353,7 +353,8 @@ fn the_rows_end_and_say_as_they_should(rt: HostRuntime) -> Result<(), Fail> {
     Ok(())
 }
 
-/// A job whose text is refused: what stands in place of `count` of the lines of a good one from `first` on, and what is said.
+/// A job whose text is refused: what stands in place of `count` of the lines of a good one from `first` on, and what is
+/// said.
 #[derive(Clone, Copy)]
 struct Refused {
     first: usize,

@@ -1,5 +1,6 @@
 -- The command `node`.
-use Rattle.std.proofs.Common.{◌≡◌, ℕ, ◌<◌, ◌≤◌, List, [], ◌∷◌, ◌++◌, Bool, true, false, Option, Some, None, refl, sym, ap}
+use Rattle.std.proofs.Common.{◌≡◌, ℕ, ◌<◌, ◌≤◌, List, [], ◌∷◌, ◌++◌, Bool, true, false, Option, Some, None, refl, sym}
+use Rattle.std.proofs.Common.{ap}
 use Rattle.std.proofs.Common.{subst, inl, inr, lit<, ◌∙◌, arith, append-nil}
 use Rattle.std.specs.List.{Contains}
 use Rattle.gas_outside.specs.Buffered.{Outbox, GathersFront}
@@ -93,9 +94,11 @@ node_none rank port course ends.JournalFull after said h = absurd h
 module _ (rank port : ℕ) (course : Course) (job : JobState) (read : GivesJob course.reading job)
     (is_node : rank < job.settings.nodes) where
   -- its lines, and its run, as the command says them
-  abbrev ran : (station : StationEnd) (end : End) (after : After) (run : RunsTo (post_of job rank port) course.before course.after station)
+  abbrev ran : (station : StationEnd) (end : End) (after : After)
+      (run : RunsTo (post_of job rank port) course.before course.after station)
       → after.left run.left.machine.endpoint
-      → RunsNode rank port course station end after (said_last (node_lines (post_of job rank port) run.left.journal) end)
+      → RunsNode rank port course station end after
+      (said_last (node_lines (post_of job rank port) run.left.journal) end)
   ran station end after run left = record {
     job = job;
     read = read;

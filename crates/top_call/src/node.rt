@@ -130,8 +130,8 @@ fn run_read<R: Threads + Wait + Sync, L: Link + Send, C: Clock + Send, G: Gate +
 
 /// The command `node`: reads a job, runs one of its nodes over the outside's link, and says its trace.
 ///
-/// The status line is told by the first of these steps that gives one: reading the job; the rank, which has to be a node of it; the
-/// run, which begins by binding the link.
+/// The status line is told by the first of these steps that gives one: reading the job; the rank, which has to be a
+/// node of it; the run, which begins by binding the link.
 pub fn node_command<
     R: Threads + Wait + Sync,
     S: Source,

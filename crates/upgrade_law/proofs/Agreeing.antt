@@ -21,7 +21,8 @@ use Rattle.put_get.specs.declared.operation.Next.{Next}
 use Rattle.put_get.specs.declared.operation.Transfer.{Transfer}
 use Rattle.put_get.specs.declared.operation.Transfer.TheVariants as transfers
 use Rattle.put_get.specs.Operation.{target, next_chunk}
-use Rattle.node_record.specs.Behaviour.{Asking, Contact, Sending, Category, Short, Medium, Long, asks_well, replies_well}
+use Rattle.node_record.specs.Behaviour.{Asking, Contact, Sending, Category, Short, Medium, Long, asks_well}
+use Rattle.node_record.specs.Behaviour.{replies_well}
 use Rattle.node_record.specs.declared.answer.SlotRef.{SlotRef}
 use Rattle.hsl_locks.specs.declared.answer.Held.{Held}
 use Rattle.lists.proofs.Cases.{none_some, none_is}
@@ -36,7 +37,8 @@ use Rattle.am_core.specs.HandlerRuns.{run_request, run_reply}
 use Rattle.am_core.proofs.LibraryLaws.{note_again, nodes_few}
 use Rattle.am_core.proofs.Landings.{client_request}
 use Rattle.endpoint_rules.specs.EndpointLocal.{EndpointLocal, IsEndpointKept}
-use Rattle.endpoint_rules.specs.EndpointRules.{OtherCall, OnCore, OnTransfers, OnBarrier, all_rules, next_sending, next_note}
+use Rattle.endpoint_rules.specs.EndpointRules.{OtherCall, OnCore, OnTransfers, OnBarrier, all_rules, next_sending}
+use Rattle.endpoint_rules.specs.EndpointRules.{next_note}
 use Rattle.endpoint_rules.specs.EndpointRules.{note_first, sending_of, chunk_work, after_note, after_sent, sent_as}
 use Rattle.endpoint_rules.proofs.Handled.{asking_well, well_is, asks_no_ack}
 use Rattle.endpoint_rules.proofs.Works.{note_work_fits}
@@ -122,9 +124,11 @@ take_alike settings version table meaning ignores contact content local =
     (outcome_alike settings version table meaning ignores role.Reply contact content (start_of settings landed))
 
 -- the run of a note, whatever its arguments
-note_outcome : (handlers : NodeHandlers) (which : Role) (contact : Contact) (content : Content) (args : List ℤ) (start : Start)
+note_outcome : (handlers : NodeHandlers) (which : Role) (contact : Contact) (content : Content) (args : List ℤ)
+    (start : Start)
     → (content.handler == note_handler) ≡ true
-    → outcome handlers which contact (record content { args = args }) start ≡ outcome handlers which contact content start
+    → outcome handlers which contact (record content { args = args }) start ≡ outcome handlers which contact content
+    start
 note_outcome handlers which contact content args start note =
     rw (eqb-true content.handler note_handler note) refl
 
@@ -164,18 +168,21 @@ noted_alike : (settings : Parameters) (version : ℕ) (content : Content) (barri
     → is_version version ≡ true → settings.nodes ≤ most_nodes version → IsNoteIfAny settings content
     → after_note (in_version settings version) (respelled settings.version version content) barrier
     ≡ after_note settings content barrier
-noted_alike settings version content barrier range known few noted = elim (cases_Bool (content.handler == note_handler)) [
-  | inl note ↦
-      let read = read_note settings version content range known few (eqb-true content.handler note_handler note) noted in
-      ap (λ c. after_note (in_version settings version) c barrier) (spelled_note settings.version version content note)
-      ∙ ap (told_by content.handler barrier) (read.other ∙ sym read.one)
-  | inr other ↦
-      ap (λ c. after_note (in_version settings version) c barrier) (spelled_other settings.version version content other)
-      ∙ (ap (λ (is : Bool). if is && has_ranges (note_said version content.args)
-      then hear barrier (note_said version content.args) else barrier) other
-      ∙ sym (ap (λ (is : Bool). if is && has_ranges (note_said settings.version content.args)
-      then hear barrier (note_said settings.version content.args) else barrier) other))
-]
+noted_alike settings version content barrier range known few noted =
+    elim (cases_Bool (content.handler == note_handler)) [
+      | inl note ↦
+          let read = read_note settings version content range known few (eqb-true content.handler note_handler note)
+          noted in
+          ap (λ c. after_note (in_version settings version) c barrier) (spelled_note settings.version version content note)
+          ∙ ap (told_by content.handler barrier) (read.other ∙ sym read.one)
+      | inr other ↦
+          ap (λ c. after_note (in_version settings version) c barrier)
+          (spelled_other settings.version version content other)
+          ∙ (ap (λ (is : Bool). if is && has_ranges (note_said version content.args)
+          then hear barrier (note_said version content.args) else barrier) other
+          ∙ sym (ap (λ (is : Bool). if is && has_ranges (note_said settings.version content.args)
+          then hear barrier (note_said settings.version content.args) else barrier) other))
+    ]
 
 -- how a run is answered
 answered_alike : (settings : Parameters) (version : ℕ) (content : Content) (at : SlotRef) → AreInRange settings
@@ -183,7 +190,8 @@ answered_alike : (settings : Parameters) (version : ℕ) (content : Content) (at
     → run_answer version (respelled settings.version version content) at ≡ run_answer settings.version content at
 answered_alike settings version content at range known few noted = elim (cases_Bool (content.handler == note_handler)) [
   | inl note ↦
-      let read = read_note settings version content range known few (eqb-true content.handler note_handler note) noted in
+      let read = read_note settings version content range known few (eqb-true content.handler note_handler note)
+      noted in
       let same : note_said version (note_arguments version (note_said settings.version content.args))
       ≡ note_said settings.version content.args = read.other ∙ sym read.one in
       rw (spelled_note settings.version version content note) (rw same refl)
@@ -208,7 +216,8 @@ client_alike : (settings : Parameters) (version : ℕ) (table : List (Option Ent
     → content_refusal (in_version settings version) table content ≡ content_refusal settings table content
 client_alike settings version table content other = rw other refl
 
-asks_alike : (settings : Parameters) (version : ℕ) (table : List (Option Entry)) (content : Content) → AreInRange settings
+asks_alike : (settings : Parameters) (version : ℕ) (table : List (Option Entry)) (content : Content)
+    → AreInRange settings
     → is_version version ≡ true → settings.nodes ≤ most_nodes version → IsNoteIfAny settings content
     → asks_well (content_refusal settings table) content ≡ true
     → content_refusal (in_version settings version) table (respelled settings.version version content) ≡ None
@@ -222,13 +231,16 @@ asks_alike settings version table content range known few noted well =
           let short : content.kind ≡ kind.ShortRequest =
           short_is content.kind (ap (has_library content.kind) (sym handler) ∙ taken.known) in
           let read = read_note settings version content range known few handler noted in
-          let args : is_no_note version settings.nodes (note_arguments version (note_said settings.version content.args)) ≡ false =
+          let args : is_no_note version settings.nodes
+          (note_arguments version (note_said settings.version content.args)) ≡ false =
           ap (λ (n : BarrierNote). is_no_note version settings.nodes (note_arguments version n)) read.one
           ∙ not_refused version settings.nodes read.note known few read.is in
           rw (spelled_note settings.version version content note) (rw handler (rw short (rw args refl)))
       | inr other ↦
-          ap (content_refusal (in_version settings version) table) (spelled_other settings.version version content other)
-          ∙ (client_alike settings version table content other ∙ none_is (content_refusal settings table content) parts.1)
+          ap (content_refusal (in_version settings version) table)
+          (spelled_other settings.version version content other)
+          ∙ (client_alike settings version table content other
+          ∙ none_is (content_refusal settings table content) parts.1)
     ]
 
 -- a reply is never one of the library's notes
@@ -236,7 +248,8 @@ reply_alike : (settings : Parameters) (version : ℕ) (table : List (Option Entr
     → replies_well (content_refusal settings table) content ≡ true
     → content_refusal (in_version settings version) table content ≡ None
 reply_alike settings version table content well =
-    let parts = and_parts (if is_request content.kind then false else true) (is_none (content_refusal settings table content)) well in
+    let parts = and_parts (if is_request content.kind then false else true)
+    (is_none (content_refusal settings table content)) well in
     elim (cases_Bool (content.handler == note_handler)) [
       | inl note ↦ by_kind content.kind refl (eqb-true content.handler note_handler note) parts.0 parts.1
       | inr other ↦ client_alike settings version table content other
@@ -260,12 +273,14 @@ reply_alike settings version table content well =
 -- a chunk is spelled alike
 chunk_spelled : (settings : Parameters) (version : ℕ) (segment : List ℕ) (next : Next)
     → sending_of (in_version settings version) segment (target next.transfer) (chunk_work next)
-    ≡ respell_sending (respelled settings.version version) (sending_of settings segment (target next.transfer) (chunk_work next))
+    ≡ respell_sending (respelled settings.version version)
+    (sending_of settings segment (target next.transfer) (chunk_work next))
 chunk_spelled settings version segment next = by_kind next.transfer
   where
     by_kind : (transfer : Transfer) → let chunk : Next = record next { transfer = transfer } in
         sending_of (in_version settings version) segment (target transfer) (chunk_work chunk)
-        ≡ respell_sending (respelled settings.version version) (sending_of settings segment (target transfer) (chunk_work chunk))
+        ≡ respell_sending (respelled settings.version version)
+        (sending_of settings segment (target transfer) (chunk_work chunk))
     by_kind (transfers.Put to remote local len) = refl
     by_kind (transfers.Get to remote local len) = refl
     by_kind (transfers.Memset to remote len byte) = refl
@@ -287,8 +302,10 @@ next_alike settings version me can local range known few kept =
     by_parts None (Some next) is = ap Some (chunk_spelled settings version segment next)
     by_parts (Some sent) next is =
         let fits : IsNote settings.nodes sent.note = note_work_fits settings me can local sent range kept is in
-        let again = note_again settings.version settings.nodes sent.note range.version (nodes_few settings range) fits in
-        ap (λ (note : BarrierNote). Some (sending_of (in_version settings version) segment sent.to (Note note))) (sym again)
+        let again = note_again settings.version settings.nodes sent.note range.version (nodes_few settings range)
+        fits in
+        ap (λ (note : BarrierNote). Some (sending_of (in_version settings version) segment sent.to (Note note)))
+        (sym again)
 
 -- ---- requests of a thread
 
@@ -414,7 +431,8 @@ rules_agree version settings table meaning ignores range known few = record {
         out.1,
       ))
       (core_runs settings version table meaning ignores contact content local.core)
-      ∙ ap (λ (barrier : BarrierRecord). let out = run_request (handlers_of settings table meaning) contact content local.core in
+      ∙ ap (λ (barrier : BarrierRecord). let out =
+      run_request (handlers_of settings table meaning) contact content local.core in
       (record local { core = out.0; barrier = barrier }, out.1))
       (noted_alike settings version content local.barrier range known few noted);
   take = λ contact content local.

@@ -10,7 +10,8 @@ use Rattle.lists.specs.Put.{put}
 use Rattle.handler_rules.specs.declared.rules.CallKind.TheVariants as call
 use Rattle.node_record.specs.Record.{Request, Node}
 use Rattle.node_record.specs.Behaviour.{Ask}
-use Rattle.node_record.specs.Step.{request_answer, after_request, said, with_request, new_request, with_local, ran_here, with_itself}
+use Rattle.node_record.specs.Step.{request_answer, after_request, said, with_request, new_request, with_local, ran_here}
+use Rattle.node_record.specs.Step.{with_itself}
 use Rattle.node_record.specs.NodeStep.{site_of}
 use Rattle.node_record.specs.declared.answer.Asked.{Asked}
 use Rattle.node_record.specs.declared.answer.Asked.TheVariants as asked
@@ -48,7 +49,8 @@ put-map f lists place list = fun_ext (λ peer. elim (cases_Bool (eqb peer place)
 ])
 
 -- one request more
-pub with_request-respelled : (spell : Content → Content) (node : Node EndpointLocal) (now to slot : ℕ) (content : Content)
+pub with_request-respelled : (spell : Content → Content) (node : Node EndpointLocal) (now to slot : ℕ)
+    (content : Content)
     → with_request (respell_node spell node) now to slot (spell content)
     ≡ respell_node spell (with_request node now to slot content)
 with_request-respelled spell node now to slot content =

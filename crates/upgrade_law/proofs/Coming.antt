@@ -91,7 +91,8 @@ other_verdict v me node from number request noted well =
     (rw (greatest-respelled v.spell request.slot (node.ran from))
     (rw (why_request v me from number request) refl))
     in
-    asks_verdict fault (v.other.messages.refuses (v.spell request.content)) (is_request (v.spell request.content).kind) _ _
+    asks_verdict fault (v.other.messages.refuses (v.spell request.content)) (is_request (v.spell request.content).kind)
+    _ _
     (v.agree.refuses request.content noted well) (ap is_request (v.agree.kind request.content) ∙ parts.0)
     ∙ spelled
 
@@ -160,7 +161,8 @@ request_comes v me node from number request noted well =
       ap (answer_by v.other.messages (other_request v me from number request)) other
           ∙ (request_answers v me from number request noted why same less lock
           ∙ ap (answer_by v.one.messages (one_request v me from number request)) (sym one)),
-      ap (after_delivery (site_of (other_job v) me) (respell_node v.spell node) (other_request v me from number request)) other
+      ap (after_delivery (site_of (other_job v) me) (respell_node v.spell node)
+          (other_request v me from number request)) other
           ∙ (request_leaves v me node from number request noted well why same less lock
           ∙ ap (λ verdict. respell_node v.spell (after_delivery (site_of (one_job v) me) node
           (one_request v me from number request) verdict)) (sym one)),
@@ -244,7 +246,8 @@ reply_leaves : (v : Versions) (me : ℕ) (node : Node EndpointLocal) (to : ℕ) 
     → (why : Option Why) (open_ : Bool) (lock : Option ℕ)
     → after_delivery (site_of (other_job v) me) (respell_node v.spell node) (other_reply v me to run)
     (on_reply why open_ lock)
-    ≡ respell_node v.spell (after_delivery (site_of (one_job v) me) node (one_reply v me to run) (on_reply why open_ lock))
+    ≡ respell_node v.spell
+    (after_delivery (site_of (one_job v) me) node (one_reply v me to run) (on_reply why open_ lock))
 reply_leaves v me node to run (Some reason) open_ lock = refl
 reply_leaves v me node to run None false lock = refl
 reply_leaves v me node to run None true (Some k) = refl
@@ -282,6 +285,7 @@ reply_comes v me node to run well =
           ∙ ap (answer_by v.one.messages (one_reply v me to run)) (sym one)),
       ap (after_delivery (site_of (other_job v) me) (respell_node v.spell node) (other_reply v me to run)) other
           ∙ (reply_leaves v me node to run why open_ lock
-          ∙ ap (λ verdict. respell_node v.spell (after_delivery (site_of (one_job v) me) node (one_reply v me to run) verdict))
+          ∙ ap (λ verdict. respell_node v.spell
+          (after_delivery (site_of (one_job v) me) node (one_reply v me to run) verdict))
           (sym one)),
     )

@@ -15,7 +15,8 @@ use Rattle.endpoint_rules.specs.EndpointLocal.{EndpointLocal}
 use Rattle.node_script.specs.AnswerWords.{Sight, sight_of}
 use Rattle.am_core.specs.Kept.{segment_of}
 use Rattle.upgrade_law.specs.Respelled.{Versions, respell_node}
-use Rattle.upgrade_law.proofs.Lists.{unreturned-respelled, slots_run-respelled, open_number-respelled, last_number-respelled}
+use Rattle.upgrade_law.proofs.Lists.{unreturned-respelled, slots_run-respelled, open_number-respelled}
+use Rattle.upgrade_law.proofs.Lists.{last_number-respelled}
 use Rattle.upgrade_law.proofs.Asking.{same_credits}
 
 held_with_alike : (v : Versions) (me : ℕ) (node : Node EndpointLocal) (peer : ℕ)
@@ -56,7 +57,8 @@ number_alike v me node at =
 pub sight_alike : (v : Versions) (me : ℕ) (node : Node EndpointLocal)
     → sight_of (record v.settings { version = v.version }) me (respell_node v.spell node) ≡ sight_of v.settings me node
 sight_alike v me node =
-    ap (λ (numbers : SlotRef → ℕ). sight numbers) (fun_ext (λ at. ap (λ (n : Option ℕ). unwrap_or n 0) (number_alike v me node at)))
+    ap (λ (numbers : SlotRef → ℕ). sight numbers)
+    (fun_ext (λ at. ap (λ (n : Option ℕ). unwrap_or n 0) (number_alike v me node at)))
   where
     sight : (SlotRef → ℕ) → Sight
     sight numbers = record { numbers = numbers; segment = segment_of v.settings node.local.core }

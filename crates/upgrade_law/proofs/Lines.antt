@@ -63,7 +63,8 @@ words_alike : (v : Versions) (world : Records) (entry : TimedEvent) → Stood v 
 words_alike v world entry stood = by_event entry.event
   where
     by_event : (event : ScheduledEvent)
-        → words_by (other_job v) (respell_world v.spell world) entry.time (scheduled_event (respell_world v.spell world) event)
+        → words_by (other_job v) (respell_world v.spell world) entry.time
+        (scheduled_event (respell_world v.spell world) event)
         ≡ words_by (one_job v) world entry.time (scheduled_event world event)
     by_event (scheduled.Call node thread call) =
         event_words_alike v world (timed entry.time (call_event world node thread call)) stood
@@ -194,7 +195,8 @@ same_run job version is known few =
     let start = at_the_opening settings in
     let sound : AreSound v = rules_sound settings table meaning is.settings (lawful-script job.handlers) in
     let stood : Stood v start = record {
-      holds = opening_holds (one_job v) (IsEndpointKept settings) (λ node. nothing_begun settings) (opening_kept settings);
+      holds = opening_holds (one_job v) (IsEndpointKept settings) (λ node. nothing_begun settings)
+          (opening_kept settings);
       notes = λ node to number request is. absurd (numbered_nil number request is);
     } in
     let alike = lines_alike v sound entries start 1 stood (job_within job is) in

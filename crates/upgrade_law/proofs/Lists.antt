@@ -33,7 +33,8 @@ unreturned-respelled spell requests = ap length (taken-respelled spell requests)
 pub next_claim-respelled : (spell : Content → Content) (requests : List Request)
     → next_claim (map (respell_request spell) requests) ≡ next_claim requests
 next_claim-respelled spell requests =
-    ap (λ (slots : List ℕ). claim (least_outside slots (length slots) 0) (length (map (respell_request spell) requests)))
+    ap (λ (slots : List ℕ). claim (least_outside slots (length slots) 0)
+    (length (map (respell_request spell) requests)))
     (taken-respelled spell requests)
     ∙ ap (claim (free_slot requests)) (length-map requests (respell_request spell))
   where
@@ -165,5 +166,6 @@ pub slots_run-respelled : (spell : Content → Content) (runs : List Run) (slots
     → slots_run (map (respell_run spell) runs) slots ≡ slots_run runs slots
 slots_run-respelled spell runs zero = refl
 slots_run-respelled spell runs (suc slot) =
-    ap (λ count. count + (if has_run slot (map (respell_run spell) runs) then 1 else 0)) (slots_run-respelled spell runs slot)
+    ap (λ count. count + (if has_run slot (map (respell_run spell) runs) then 1 else 0))
+    (slots_run-respelled spell runs slot)
     ∙ ap (λ (b : Bool). slots_run runs slot + (if b then 1 else 0)) (has_run-respelled spell slot runs)

@@ -82,7 +82,8 @@ open_respelled spell number (r ∷ rs) = elim (cases_Bool r.back) [
 ]
 
 turn_alike : (v : Versions) (now from to : ℕ) → from < v.settings.nodes → to < v.settings.nodes
-    → EventsAlike v (λ w. turn_events now from to ((w from).asked to)) (λ w. turn_events now from to ((w from).asked to))
+    → EventsAlike v (λ w. turn_events now from to ((w from).asked to))
+    (λ w. turn_events now from to ((w from).asked to))
 turn_alike v now from to a b = record {
   same = λ w stood. ap (flat_map (exchange_events now from to)) (open_respelled v.spell 1 ((w from).asked to));
   among = λ w. numbers_among v.settings now from to (open_numbers 1 ((w from).asked to)) a b;
@@ -97,7 +98,8 @@ tick_alike v now node low = record { same = λ w stood. refl; among = λ w. (low
 row_alike : (v : Versions) (sound : AreSound v) (now from : ℕ) → from < v.settings.nodes
     → EventsAlike v (row_events (one_job v) now from) (row_events (other_job v) now from)
 row_alike v sound now from a =
-    turns_alike v sound (λ to w. turn_events now from to ((w from).asked to)) (λ to w. turn_events now from to ((w from).asked to))
+    turns_alike v sound (λ to w. turn_events now from to ((w from).asked to))
+    (λ to w. turn_events now from to ((w from).asked to))
     v.settings.nodes (λ to b. turn_alike v now from to a b)
 
 round_alike : (v : Versions) (sound : AreSound v) (now : ℕ)
@@ -105,7 +107,8 @@ round_alike : (v : Versions) (sound : AreSound v) (now : ℕ)
 round_alike v sound now =
     then_alike v sound (tick_events (one_job v) now) (tick_events (other_job v) now)
     (pair_events (one_job v) now) (pair_events (other_job v) now)
-    (turns_alike v sound (λ node w. timed now (Ticks node) ∷ []) (λ node w. timed now (Ticks node) ∷ []) v.settings.nodes
+    (turns_alike v sound (λ node w. timed now (Ticks node) ∷ []) (λ node w. timed now (Ticks node) ∷ [])
+    v.settings.nodes
     (λ node low. tick_alike v now node low))
     (turns_alike v sound (row_events (one_job v) now) (row_events (other_job v) now) v.settings.nodes
     (λ from a. row_alike v sound now from a))

@@ -92,7 +92,8 @@ sending_leaves v me node now sending =
     let contact = with_asked me node sending.to in
     rw (taken-respelled v.spell (node.asked sending.to))
     (rw (length-map (node.asked sending.to) (respell_request v.spell))
-    (ap (λ (n : Node EndpointLocal). with_local n (v.other.messages.issued contact (v.spell sending.content) node.local))
+    (ap (λ (n : Node EndpointLocal). with_local n
+    (v.other.messages.issued contact (v.spell sending.content) node.local))
     (with_request-respelled v.spell node now sending.to contact.slot sending.content)
     ∙ ap (with_local (respell_node v.spell (with_request node now sending.to contact.slot sending.content)))
     (v.agree.issued contact sending.content node.local)))
@@ -108,10 +109,12 @@ choice_leaves v me node now (Resends due) =
 choice_leaves v me node now Rests = refl
 choice_leaves v me node now (Sends sending) = sending_leaves v me node now sending
 
-pub tick_leaves : (v : Versions) (me : ℕ) (node : Node EndpointLocal) (now : ℕ) → IsEndpointKept v.settings me node.local
+pub tick_leaves : (v : Versions) (me : ℕ) (node : Node EndpointLocal) (now : ℕ)
+    → IsEndpointKept v.settings me node.local
     → after_tick (site_of (other_job v) me) (respell_node v.spell node) now
     (tick_choice (site_of (other_job v) me) (respell_node v.spell node) now)
-    ≡ respell_node v.spell (after_tick (site_of (one_job v) me) node now (tick_choice (site_of (one_job v) me) node now))
+    ≡ respell_node v.spell
+    (after_tick (site_of (one_job v) me) node now (tick_choice (site_of (one_job v) me) node now))
 tick_leaves v me node now kept =
     ap (after_tick (site_of (other_job v) me) (respell_node v.spell node) now) (choice_alike v me node now kept)
     ∙ choice_leaves v me node now (tick_choice (site_of (one_job v) me) node now)

@@ -25,7 +25,8 @@ use Rattle.lists.specs.Numbered.{change}
 use Rattle.lists.proofs.Numbered.{numbered_push, numbered-change}
 use Rattle.node_record.specs.Requests.{as_back, sent_at}
 use Rattle.node_record.specs.Step.{Verdict, Refused, Repeated, Passed, Runs, Missed, Returns, Waits, after_delivery}
-use Rattle.node_record.specs.Step.{TickChoice, Resends, Sends, Rests, tick_choice, after_tick, next_due, can_ask, with_asked}
+use Rattle.node_record.specs.Step.{TickChoice, Resends, Sends, Rests, tick_choice, after_tick, next_due, can_ask}
+use Rattle.node_record.specs.Step.{with_asked}
 use Rattle.node_record.specs.Step.{request_answer, after_request, with_request, new_request}
 use Rattle.node_record.specs.NodeStep.{site_of}
 use Rattle.node_record.specs.declared.answer.Asked.{Asked}
@@ -35,7 +36,8 @@ use Rattle.endpoint_rules.specs.EndpointLocal.{EndpointLocal, IsEndpointKept}
 use Rattle.endpoint_rules.specs.EndpointRules.{OtherCall}
 use Rattle.endpoint_rules.specs.declared.answer.Answer.{Answer}
 use Rattle.upgrade_law.specs.Respelled.{IsNoteIfAny, HasNotes, HaveNotes}
-use Rattle.upgrade_law.specs.Respelled.{Versions, one_job, other_job, respell_node, respell_world, respell_request, respell_run}
+use Rattle.upgrade_law.specs.Respelled.{Versions, one_job, other_job, respell_node, respell_world, respell_request}
+use Rattle.upgrade_law.specs.Respelled.{respell_run}
 use Rattle.upgrade_law.proofs.Lists.{numbered-respelled, run_of-respelled}
 use Rattle.upgrade_law.proofs.Asking.{asked_alike, after_alike}
 use Rattle.upgrade_law.proofs.Coming.{request_comes, reply_comes}
@@ -64,7 +66,8 @@ at_node v world place other one same =
 -- ---- deliveries
 
 request_falls : (v : Versions) (world : World EndpointLocal) (now from to number : ℕ) (o : Option Request)
-    → ((r : Request) → o ≡ Some r → IsNoteIfAny v.settings r.content × (asks_well v.one.messages.refuses r.content ≡ true))
+    → ((r : Request) → o ≡ Some r → IsNoteIfAny v.settings r.content
+    × (asks_well v.one.messages.refuses r.content ≡ true))
     → (answer_at (other_job v) (respell_world v.spell world) now
     (request_event (other_job v).settings from to number (option_map (respell_request v.spell) o))
     ≡ answer_at (one_job v) world now (request_event v.settings from to number o))
@@ -166,7 +169,8 @@ more_notes settings node now to slot content notes good =
 -- a request changed, and not in what it says
 changed_notes : (settings : Parameters) (node : Node EndpointLocal) (peer number : ℕ) (change_one : Request → Request)
     → ((r : Request) → (change_one r).content ≡ r.content) → HasNotes settings node
-    → (to at : ℕ) (r : Request) → numbered (put node.asked peer (change change_one (node.asked peer) number) to) at ≡ Some r
+    → (to at : ℕ) (r : Request) → numbered (put node.asked peer (change change_one (node.asked peer) number) to)
+    at ≡ Some r
     → IsNoteIfAny settings r.content
 changed_notes settings node peer number change_one keeps notes =
     put_notes settings node peer (change change_one (node.asked peer) number) notes (λ at r is.

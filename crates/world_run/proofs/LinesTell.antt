@@ -239,7 +239,8 @@ same_line : (j : JobState) (line other : ℕ) (e : ScheduledEvent) (words : Line
     → IsOneEvent e → Tells j line e words → Tells j other e words → event_place j line ≡ event_place j other
     → line ≡ other
 same_line j line other e words one h k same =
-    lines_apart (world_job j) (lines_of j.schedule) (at_the_opening j.settings) line other (record { time = h.time; event = e })
+    lines_apart (world_job j) (lines_of j.schedule) (at_the_opening j.settings) line other
+    (record { time = h.time; event = e })
     (record { time = k.time; event = e }) h.line one k.line one same
 
 -- ---- at most one
@@ -293,7 +294,8 @@ reply_returned j headline from to number place h =
     (λ w. reply_or_none j.settings from to (run_of number ((w to).ran from))) (λ e. absurd (cc)) h)
 
 -- of the lines that deliver one request at most one is told that it ran
-pub ran_told_once : (j : JobState) → Headline (world_job j) (λ i. nothing_begun j.settings) (run_events j) → RanToldOnce j
+pub ran_told_once : (j : JobState) → Headline (world_job j) (λ i. nothing_begun j.settings) (run_events j)
+    → RanToldOnce j
 ran_told_once j headline from to number place other h k =
     let a = request_ran j headline from to number place h in
     let b = request_ran j headline from to number other k in
@@ -301,7 +303,8 @@ ran_told_once j headline from to number place other h k =
     (headline.once (named from to number) (event_place j place) (event_place j other) a b)
 
 -- of the lines that deliver one reply at most one is told that it brought its request back
-pub returned_told_once : (j : JobState) → Headline (world_job j) (λ i. nothing_begun j.settings) (run_events j) → ReturnedToldOnce j
+pub returned_told_once : (j : JobState) → Headline (world_job j) (λ i. nothing_begun j.settings) (run_events j)
+    → ReturnedToldOnce j
 returned_told_once j headline from to number place other h k =
     let a = reply_returned j headline from to number place h in
     let b = reply_returned j headline from to number other k in

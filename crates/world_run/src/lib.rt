@@ -1,22 +1,27 @@
 //! The run of a job in a world of endpoints, and the text of it.
 //!
-//! `run_job` runs the lines of a schedule in order, each as one event or as rounds of them, and writes the answer of each; then
-//! the lines of each node. `run_lines` (`specs/RunText.antt`) is that text, line by line, as the run of the records has it.
+//! `run_job` runs the lines of a schedule in order, each as one event or as rounds of them, and writes the answer of
+//! each; then the lines of each node. `run_lines` (`specs/RunText.antt`) is that text, line by line, as the run of the
+//! records has it.
 //!
-//! - **How a run ends** [`run`: `RunEnds`]: all its lines went into the sink, and the world that it gives stands for the end of
-//!   the run; or the sink failed, and a front of their text went in; or memory ran out, and whole lines of them did.
-//! - **The laws of the run** [`laws`: `RunLaws`] of any job, however far its run came, also between the events of `settle`:
+//! - **How a run ends** [`run`: `RunEnds`]: all its lines went into the sink, and the world that it gives stands for
+//!   the end of the run; or the sink failed, and a front of their text went in; or memory ran out, and whole lines of
+//!   them did.
+//! - **The laws of the run** [`laws`: `RunLaws`] of any job, however far its run came, also between the events of
+//!   `settle`:
 //!   - the headline (`Headline`);
-//!   - the line of the output for a line of the schedule that is one event tells the answer that this event has in the run
-//!     (`LinesTell`). So of the lines that deliver one request at most one is told `ran`, and of those that deliver one reply at
-//!     most one `returned` (`RanToldOnce`, `ReturnedToldOnce`);
+//!   - the line of the output for a line of the schedule that is one event tells the answer that this event has in the
+//!     run (`LinesTell`). So of the lines that deliver one request at most one is told `ran`, and of those that deliver
+//!     one reply at most one `returned` (`RanToldOnce`, `ReturnedToldOnce`);
 //!   - the `most` of a node's line is the greatest number of message buffers that the node held in a state of the run
 //!     (`IsGreatest`);
 //!   - what a synchronisation of transfers that answers `ok` tells was done between the beginning and the answer
-//!     (`TransfersHold`), and a try of the barrier that ends a phase tells the outcome of the nodes' notifies (`BarrierHolds`).
+//!     (`TransfersHold`), and a try of the barrier that ends a phase tells the outcome of the nodes' notifies
+//!     (`BarrierHolds`).
 //!
-//! The crate uses the public clauses of the world alone, and knows nothing of buffers and slots. What a sink took is said of
-//! its outbox in one clause: the bytes in order, up to where, and that a fault comes only where its count of faults rose.
+//! The crate uses the public clauses of the world alone, and knows nothing of buffers and slots. What a sink took is
+//! said of its outbox in one clause: the bytes in order, up to where, and that a fault comes only where its count of
+//! faults rose.
 #![tactic(auto)]
 
 mod output;

@@ -177,7 +177,8 @@ pub enum RunEnd {
     NoMemory,
 }
 
-/// Runs a job in a new world, and writes its lines: the answer to each line of the schedule, then the lines of each node.
+/// Runs a job in a new world, and writes its lines: the answer to each line of the schedule, then the lines of each
+/// node.
 ///
 /// The laws hold of its run, however far it came.
 #[tactic(auto, using(crate::proofs::RunLaws::run_laws))]

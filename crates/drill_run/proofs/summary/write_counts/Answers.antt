@@ -10,7 +10,8 @@ loop-counted-init g c = record { said = nothing_yet _ _ }
 pub returns-in-Fault : goal.returns-in-Fault
 unfolding all_counted
 returns-in-Fault g c =
-    past_fault _ _ _ _ _ _ _ (next_line (count_in c.args.counts.now) c.loop-counted.counted-index _ c.loop-counted-test.true)
+    past_fault _ _ _ _ _ _ _
+    (next_line (count_in c.args.counts.now) c.loop-counted.counted-index _ c.loop-counted-test.true)
     c.loop-counted.invariant.said (rw c.of.ensures at c.in-Fault.ensures)
 
 pub loop-counted-preserved : goal.loop-counted-preserved

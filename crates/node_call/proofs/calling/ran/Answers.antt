@@ -10,7 +10,8 @@ returns g c = record {
   violated = not (c.count-violated.result == 0);
   violated_is = λ node stands. ap (λ n. not (n == 0))
       (c.count-violated.ensures ∙ ap (λ (log : Logged). log.count)
-      (c.log.ensures node (subst (λ (any : EndpointState). EndpointStands any node) (sym c.into_endpoint-endpoint.ensures.is)
+      (c.log.ensures node
+      (subst (λ (any : EndpointState). EndpointStands any node) (sym c.into_endpoint-endpoint.ensures.is)
       stands)));
   end_is = c.of-end.ensures;
   node_is = c.node.ensures ∙ ap (node_for c.of-end.result) c.into_endpoint-endpoint.ensures.is;

@@ -7,7 +7,8 @@ pub returns-then-polls-clause-happen : goal.returns-then-polls-clause-happen
 returns-then-polls-clause-happen g c =
     both_happen (g.H.Handlers.meaning c.args.handlers.now) c.args.endpoint.now c.deliver-reply.new.endpoint
     c.tick-tick.new.endpoint c.args.now c.args.endpoint.now.core.settings.version c.args.polls
-    (option_copied c.args.got) c.deliver-reply.result c.tick-tick.result c.if-polls.true c.deliver-reply.ensures.happen c.tick-tick.ensures
+    (option_copied c.args.got) c.deliver-reply.result c.tick-tick.result c.if-polls.true c.deliver-reply.ensures.happen
+    c.tick-tick.ensures
 
 pub returns-else-polls-clause-happen : goal.returns-else-polls-clause-happen
 returns-else-polls-clause-happen g c =

@@ -17,7 +17,8 @@ returns-in-Lock-clause-at c opening outcome at =
 pub returns-in-Unlock-clause-at : goal.returns-in-Unlock-clause-at
 returns-in-Unlock-clause-at c opening outcome at =
     rw c.in-Unlock.is
-    (desk_at opening outcome (gave_lock c.in-Unlock.lock outcome) _ _ c.args.desk.now c.unlock.new.self at refl refl refl
+    (desk_at opening outcome (gave_lock c.in-Unlock.lock outcome) _ _ c.args.desk.now c.unlock.new.self at refl refl
+    refl
     (gave_lock-leaving opening.desk c.args.desk.now c.unlock.new.self outcome c.in-Unlock.lock at.desk_is
     c.unlock.ensures.unlocked))
 

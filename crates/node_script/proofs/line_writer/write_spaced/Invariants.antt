@@ -6,6 +6,7 @@ use Rattle.node_script.proofs.line_writer.write_spaced.Given as goal
 
 abbrev pub invariant-loop-word : goal.invariant-loop-word
 invariant-loop-word g l = record {
-  taken : GathersUpTo (outbox g.K.Sink.taken g.K.Sink.faults l.initial.sink) (outbox g.K.Sink.taken g.K.Sink.faults l.sink)
+  taken : GathersUpTo (outbox g.K.Sink.taken g.K.Sink.faults l.initial.sink)
+      (outbox g.K.Sink.taken g.K.Sink.faults l.sink)
       (flat_map spaced (map (λ w. w.now) l.words)) (flat_map spaced (map (λ w. w.now) (drop l.word-index l.words)));
 }

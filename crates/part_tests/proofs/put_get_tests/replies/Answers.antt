@@ -8,7 +8,8 @@ use Rattle.part_tests.proofs.put_get_tests.replies.Goals as goal
 -- an operation without a chunk that went has each slot free
 nothing_out : (only : Operation) (to slot : ℕ) → only.sent ≡ [] → IsFreeSlot (only ∷ []) to slot
 nothing_out only to slot none zero index operation sent at there gone used =
-    absurd (never index sent (ap (λ xs. slice_get xs index) (sym none ∙ ap (λ o. o.sent) (same_Some only operation at)) ∙ gone))
+    absurd (never index sent
+    (ap (λ xs. slice_get xs index) (sym none ∙ ap (λ o. o.sent) (same_Some only operation at)) ∙ gone))
   where
     never : (index : ℕ) (sent : Sent) → slice_get [] index ≡ Some sent → ⊥
     never index sent is = cc
@@ -18,19 +19,22 @@ pub back-other-requires : goal.back-other-requires
 back-other-requires c =
     let first = c.back-before.ensures.stands [] c.requires.stands in
     let begun = c.begin.ensures.stands [] first in
-    let noted = c.note.ensures.stands (flag_at (true ∷ true ∷ true ∷ [])) _ [] begun (sym (c.in_ok-next.ensures.next _ begun)) (nothing_out _ _ _ refl) in
+    let noted = c.note.ensures.stands (flag_at (true ∷ true ∷ true ∷ [])) _ [] begun
+    (sym (c.in_ok-next.ensures.next _ begun)) (nothing_out _ _ _ refl) in
     (_, noted)
 
 pub back-own-requires : goal.back-own-requires
 back-own-requires c =
     let first = c.back-before.ensures.stands [] c.requires.stands in
     let begun = c.begin.ensures.stands [] first in
-    let noted = c.note.ensures.stands (flag_at (true ∷ true ∷ true ∷ [])) _ [] begun (sym (c.in_ok-next.ensures.next _ begun)) (nothing_out _ _ _ refl) in
+    let noted = c.note.ensures.stands (flag_at (true ∷ true ∷ true ∷ [])) _ [] begun
+    (sym (c.in_ok-next.ensures.next _ begun)) (nothing_out _ _ _ refl) in
     (_, c.back-other.ensures.stands _ noted)
 
 pub back-again-requires : goal.back-again-requires
 back-again-requires c =
     let first = c.back-before.ensures.stands [] c.requires.stands in
     let begun = c.begin.ensures.stands [] first in
-    let noted = c.note.ensures.stands (flag_at (true ∷ true ∷ true ∷ [])) _ [] begun (sym (c.in_ok-next.ensures.next _ begun)) (nothing_out _ _ _ refl) in
+    let noted = c.note.ensures.stands (flag_at (true ∷ true ∷ true ∷ [])) _ [] begun
+    (sym (c.in_ok-next.ensures.next _ begun)) (nothing_out _ _ _ refl) in
     (_, c.back-own.ensures.stands _ (c.back-other.ensures.stands _ noted))

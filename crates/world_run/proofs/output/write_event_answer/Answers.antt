@@ -13,7 +13,8 @@ pub returns-in-Node : goal.returns-in-Node
 returns-in-Node g c = λ w most h.
     let written = c.write_answer.ensures (w c.args.node) (c.endpoint.ensures.stands w most h) in
     let Written : Parameters → ℕ → Type 0 = λ settings me.
-    GathersAll (outbox g.K.Sink.taken g.K.Sink.faults c.args.sink.now) (outbox g.K.Sink.taken g.K.Sink.faults c.write_answer.new.sink)
+    GathersAll (outbox g.K.Sink.taken g.K.Sink.faults c.args.sink.now)
+    (outbox g.K.Sink.taken g.K.Sink.faults c.write_answer.new.sink)
     (line_text (decimal c.args.number ∷ answer_words (sight_of settings me (w c.args.node)) c.in-Node.answer))
     c.write_answer.result
     in

@@ -14,7 +14,8 @@ use Rattle.world_run.proofs.run.run_event.Goals as goal
 pub write_event_answer-requires-clause-told : goal.write_event_answer-requires-clause-told
 write_event_answer-requires-clause-told g c =
     rw c.node_of.ensures
-    (step_names (script_meaning c.handlers.result.now) c.args.world.now c.step.new.self c.args.at.now (event_of c.args.event.now) c.step.result
+    (step_names (script_meaning c.handlers.result.now) c.args.world.now c.step.new.self c.args.at.now
+    (event_of c.args.event.now) c.step.result
     c.requires.stood c.requires.among c.step.ensures.settings c.step.ensures.steps)
 
 pub returns-in-NoMemory-clause-runs : goal.returns-in-NoMemory-clause-runs

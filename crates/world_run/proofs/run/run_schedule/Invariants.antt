@@ -12,6 +12,8 @@ invariant-loop-place g l = record {
   table : l.world.table ≡ l.initial.world.table;
   stood : Stood l.world;
   runs : (from : Stood l.initial.world)
-      → HasRun (job_in (script_meaning l.script.handlers) l.initial.world) (progress (lines_of l.script.schedule) l.place)
-      (stage g.K.Sink.taken g.K.Sink.faults l.initial.world l.initial.sink) (stage g.K.Sink.taken g.K.Sink.faults l.world l.sink) from;
+      → HasRun (job_in (script_meaning l.script.handlers) l.initial.world)
+      (progress (lines_of l.script.schedule) l.place)
+      (stage g.K.Sink.taken g.K.Sink.faults l.initial.world l.initial.sink)
+      (stage g.K.Sink.taken g.K.Sink.faults l.world l.sink) from;
 }

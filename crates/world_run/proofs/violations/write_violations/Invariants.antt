@@ -8,7 +8,8 @@ use Rattle.world_run.proofs.violations.write_violations.Given as goal
 abbrev pub invariant-loop-turn : goal.invariant-loop-turn
 invariant-loop-turn g l = record {
   taken : length l.log.newest ≤ 64
-      → GathersUpTo (outbox g.K.Sink.taken g.K.Sink.faults l.initial.sink) (outbox g.K.Sink.taken g.K.Sink.faults l.sink)
+      → GathersUpTo (outbox g.K.Sink.taken g.K.Sink.faults l.initial.sink)
+      (outbox g.K.Sink.taken g.K.Sink.faults l.sink)
       (spell (map (violation_line l.node) l.log.newest))
       (spell (map (violation_line l.node) (left l.log.newest l.turn)));
 }

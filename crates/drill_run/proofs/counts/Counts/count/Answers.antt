@@ -8,7 +8,8 @@ use Rattle.drill_run.proofs.counts.Counts.count.Goals as goal
 pub returns-in-Some-clause-tallies : goal.returns-in-Some-clause-tallies
 returns-in-Some-clause-tallies c = λ sight.
     let words = world_words sight c.args.answer.now in
-    let told = subst (AreCountedAs words) (sym c.of_answer.ensures ∙ c.in-Some.is) (counted_words sight c.args.answer.now) in
+    let told = subst (AreCountedAs words) (sym c.of_answer.ensures ∙ c.in-Some.is)
+    (counted_words sight c.args.answer.now) in
     let there : place_of c.in-Some.counted < length c.self.inside.counts = omega (
       arith,
       c.place_of.ensures.place,
@@ -21,6 +22,7 @@ returns-in-Some-clause-tallies c = λ sight.
 pub returns-in_default-clause-tallies : goal.returns-in_default-clause-tallies
 returns-in_default-clause-tallies c = λ sight.
     let words = world_words sight c.args.answer.now in
-    let told = subst (AreCountedAs words) (sym c.of_answer.ensures ∙ c.in_default.is) (counted_words sight c.args.answer.now)
+    let told = subst (AreCountedAs words) (sym c.of_answer.ensures ∙ c.in_default.is)
+    (counted_words sight c.args.answer.now)
     in
     tallies_other c.args.self.now words told
