@@ -12,12 +12,6 @@ use Rattle.put_get.specs.Queue.{IsQueue, IsAt, IsNowhere, IsQueuedAs, IsIndexFor
 use Rattle.put_get.proofs.Counts.{none_same}
 use Rattle.put_get.proofs.Edits.{inserted_was, inserted_here, inserted_kept, removed_was, removed_kept}
 
-pub none_queued : IsQueue []
-none_queued = record {
-  order = λ index later first second less at there. absurd (cc);
-  inside = λ index entry at. absurd (cc);
-}
-
 -- ---- a place goes
 
 pub queue_removed : (queue : List Queued) (index : ℕ) → IsQueue queue → IsQueue (remove queue index)
@@ -140,10 +134,10 @@ unfolding IsDistinct places
 distinct_places [] apart = tt
 distinct_places (entry ∷ queue) apart = (
   none_same entry.place (places queue) (λ is.
-    (let later = place_at queue entry.place is in
-    apart 0 (suc later.0) entry later.1.entry (omega arith) refl later.1.here (sym later.1.same))),
+      (let later = place_at queue entry.place is in
+      apart 0 (suc later.0) entry later.1.entry (omega arith) refl later.1.here (sym later.1.same))),
   distinct_places queue (λ index later first second less at there.
-    apart (suc index) (suc later) first second (omega (arith, less)) at there),
+      apart (suc index) (suc later) first second (omega (arith, less)) at there),
 )
 
 -- where a place doesn't wait, less than 256 do
@@ -153,9 +147,9 @@ unfolding IsDistinct places
 room_for queue place Q absent inside =
     let all : length (place ∷ places queue) ≤ 256 = length-le_from_distinct_below (place ∷ places queue) 256 (
       none_same place (places queue) (λ is. (let at = place_at queue place is in
-        absent at.0 at.1.entry at.1.here at.1.same)),
+          absent at.0 at.1.entry at.1.here at.1.same)),
       distinct_places queue (λ index later first second less at there.
-        (Q.order index later first second less at there).1),
+          (Q.order index later first second less at there).1),
     ) below in
     omega (arith, all, length-map queue (λ (entry : Queued). entry.place))
   where
@@ -170,15 +164,6 @@ room_for queue place Q absent inside =
     ]
 
 -- ---- the queue of the places that wait
-
-pub none_waits : (waits : ℕ → Option ℕ) → ((place : ℕ) → waits place ≡ None) → Queues waits []
-none_waits waits none = record {
-  each = λ index entry at. absurd (cc);
-  all = λ place number is. absurd (never number (sym (none place) ∙ is));
-}
-  where
-    never : (number : ℕ) → ◌≡◌ {A = Option ℕ} None (Some number) → ⊥
-    never number is = cc
 
 pub queued_as : (waits : ℕ → Option ℕ) (queue : List Queued) (place : ℕ) (number : Option ℕ) → Queues waits queue
     → waits place ≡ number → IsQueuedAs queue place number

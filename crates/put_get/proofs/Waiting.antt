@@ -37,15 +37,6 @@ pub waits_there : (places : List (Option Standing)) (place : ℕ) (there : Stand
     → slice_get places place ≡ Some (Some there) → is_unissued there ≡ true → waits_at places place ≡ Some there.number
 waits_there places place there at unissued = ap (λ found. waits_by (flat found)) at ∙ rw unissued refl
 
--- no place waits where all are blank
-pub blank_waits : (count place : ℕ) → waits_at (replicate count None) place ≡ None
-blank_waits count place = by (slice_get (replicate count None) place) refl
-  where
-    by : (found : Option (Option Standing)) → slice_get (replicate count None) place ≡ found
-        → waits_by (flat found) ≡ None
-    by None at = refl
-    by (Some there) at = ap waits_by (replicate-is count place None there at)
-
 -- after a write
 pub waits_written : (places : List (Option Standing)) (place : ℕ) (there : Option Standing) → place < length places
     → waits_at (set places place there) place ≡ waits_by there
@@ -173,12 +164,12 @@ least_some can places queue end entry best Q order at here is none = ((entry.pla
 
     least : (place : ℕ) (there : Standing) → slice_get places place ≡ Some (Some there) → is_ready can there ≡ true
         → best.number ≤ there.number
-    least place there stands open =
-        let unissued = (and_parts (is_unissued there) (can (target there.transfer)) open).0 in
+    least place there stands ready_there =
+        let unissued = (and_parts (is_unissued there) (can (target there.transfer)) ready_there).0 in
         let other : Queued = record { number = there.number; place = place } in
         let found = Q.all place there.number (waits_there places place there stands unissued) in
         elim (cases_lt found.0 end) [
-          | inl before ↦ absurd (true≢false (sym open ∙ none found.0 other there before found.1 stands))
+          | inl before ↦ absurd (true≢false (sym ready_there ∙ none found.0 other there before found.1 stands))
           | inr from ↦ elim (cases_eq found.0 end) [
             | inl same ↦ (
                 let is_it : entry ≡ other = same_Some entry other

@@ -9,7 +9,7 @@ use std::collections::VecDeque;
 use std::marker::Model;
 
 /// A place that waits, and the number of its operation.
-#[derive(Clone, Copy, Drop)]
+#[derive(Clone, Copy)]
 pub(crate) struct Queued {
     pub number: u64,
     pub place: usize,
@@ -108,7 +108,7 @@ impl Queue {
         0
     }
 
-    /// A place that waits, if it does by some number, waits no more.
+    /// A place goes, if there is a number by which it waited.
     fn leave(&mut self, place: usize, was: Option<u64>)
         requires { IsQueuedAs self.old place was }
         ensures { Leaves place was self.old self.new }
@@ -122,7 +122,7 @@ impl Queue {
         self.entries.remove(index);
     }
 
-    /// A place that doesn't wait does, if there is a number by which it does.
+    /// A place comes, if there is a number by which it waits now.
     fn enter(&mut self, place: usize, now: Option<u64>)
         requires inside { place < 256 }
         requires absent { IsNowhere self.old place }
@@ -132,16 +132,13 @@ impl Queue {
             return;
         };
         let index = self.index_for(number);
-        if self
-            .entries
-            .insert(index, Queued { number, place })
-            .is_err()
-        {
+        let entry = Queued { number, place };
+        if self.entries.insert(index, entry).is_err() {
             unreachable!();
         }
     }
 
-    /// A place that waited by one number, if by any, waits by another, if by any.
+    /// A place that waited by one number waits by another; without a number it doesn't wait.
     pub fn change(&mut self, place: usize, was: Option<u64>, now: Option<u64>)
         requires inside { place < 256 }
         requires waited { IsQueuedAs self.old place was }

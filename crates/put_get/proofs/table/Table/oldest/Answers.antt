@@ -11,14 +11,14 @@ returns-in-Some c =
     let places = c.args.self.now in
     let queue = c.self.inside.queue in
     let Q = subst (λ ps. Queues (waits_at ps) queue) c.self.view_is c.self.invariant.2 in
-    let found = ready_some (flag_at c.args.can.now) c.at-2.result c.in-Some.standing (sym c.in-Some.ensures) in
-    least_some (flag_at c.args.can.now) places queue c.loop-index.index c.at.result c.in-Some.standing Q
-    c.len.ensures.queue c.at.ensures (c.at-2.ensures ∙ ap Some found.0) found.1 c.loop-index.invariant
+    let found = ready_some (flag_at c.args.can.now) c.at.result c.in-Some.standing (sym c.in-Some.ensures) in
+    least_some (flag_at c.args.can.now) places queue c.loop-index.index c.at-place.result c.in-Some.standing Q
+    c.len-index-end.ensures.queue c.at-place.ensures (c.at.ensures ∙ ap Some found.0) found.1 c.loop-index.invariant
 
 pub loop-index-preserved : goal.loop-index-preserved
 loop-index-preserved c =
-    ready_more (flag_at c.args.can.now) c.args.self.now c.self.inside.queue c.loop-index.index c.at.result c.at-2.result
-    c.at.ensures c.at-2.ensures (sym c.in_default.ensures) c.loop-index.invariant
+    ready_more (flag_at c.args.can.now) c.args.self.now c.self.inside.queue c.loop-index.index c.at-place.result c.at.result
+    c.at-place.ensures c.at.ensures (sym c.in_default.ensures) c.loop-index.invariant
 
 pub returns : goal.returns
 returns c =
