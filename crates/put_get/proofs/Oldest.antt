@@ -1,10 +1,10 @@
 -- The least number among the records that are ready is that of the oldest operation.
-use Rattle.std.proofs.Common.{◌≡◌, drop, ◌⊎◌, IfSome, IfNone, is_some, inl, inr, ℕ, zero, suc, ◌+◌, ◌<◌, Bool, true}
+use Rattle.std.proofs.Common.{◌≡◌, IfSome, IfNone, is_some, inl, inr, ℕ, zero, suc, ◌+◌, ◌<◌, Bool, true}
 use Rattle.std.proofs.Common.{false, true≢false, not, ◌&&◌, List, [], ◌∷◌, Option, None, Some, refl, sym, ap, ap₂, ◌∙◌}
-use Rattle.std.proofs.Common.{arith, lt-ltb, le-ltb}
+use Rattle.std.proofs.Common.{arith}
 use Rattle.std.specs.List.{slice_get, list_all, list_any}
-use Rattle.std.proofs.lemmas.Bool.{cases_Bool, cases_eq, cases_lt, and_parts, not-true}
-use Rattle.std.proofs.lemmas.Option.{same_Some, slice_get_within}
+use Rattle.std.proofs.lemmas.Bool.{cases_Bool, and_parts, not-true}
+use Rattle.std.proofs.lemmas.Option.{same_Some}
 use Rattle.put_get.specs.declared.operation.Next.{Next}
 use Rattle.put_get.specs.declared.transfers.Transfers.{Transfers}
 use Rattle.put_get.specs.declared.table.Standing.{Standing}

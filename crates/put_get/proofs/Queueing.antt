@@ -1,14 +1,14 @@
 -- The queue as places come and go.
-use Rattle.std.proofs.Common.{◌≡◌, ◌≢◌, ◌==◌, inl, inr, ℕ, zero, suc, ◌<◌, ◌≤◌, Bool, true, false, true≢false, List, []}
+use Rattle.std.proofs.Common.{◌≡◌, ◌≢◌, ◌==◌, inl, inr, ℕ, suc, ◌<◌, ◌≤◌, true, false, true≢false, List, []}
 use Rattle.std.proofs.Common.{◌∷◌, Option, Some, None, length, map, refl, sym, ap, ◌∙◌, subst, arith, eqb, ne_eqb}
 use Rattle.std.proofs.Common.{if◌then◌else◌, eq-eqb, Result, Ok, Err, is_some, is_err, OnSome, OnOk, OnErr}
 use Rattle.std.specs.List.{slice_get, list_any, insert, remove, IsDistinct}
-use Rattle.std.proofs.lemmas.Bool.{cases_Bool, cases_eq, eqb-true}
+use Rattle.std.proofs.lemmas.Bool.{cases_eq}
 use Rattle.std.proofs.lemmas.List.{length-map}
 use Rattle.std.proofs.lemmas.Map.Steps.{length-le_from_distinct_below}
-use Rattle.std.proofs.lemmas.Option.{same_Some, slice_get_within}
+use Rattle.std.proofs.lemmas.Option.{same_Some}
 use Rattle.put_get.specs.declared.queue.Queued.{Queued}
-use Rattle.put_get.specs.Queue.{IsQueue, IsAt, IsNowhere, IsQueuedAs, IsIndexFor, Goes, Leaves, Enters, Changes, Queues}
+use Rattle.put_get.specs.Queue.{IsQueue, IsAt, IsNowhere, IsQueuedAs, IsIndexFor, Leaves, Enters, Changes, Queues}
 use Rattle.put_get.proofs.Counts.{none_same}
 use Rattle.put_get.proofs.Edits.{inserted_was, inserted_here, inserted_kept, removed_was, removed_kept}
 

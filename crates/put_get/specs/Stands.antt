@@ -10,7 +10,7 @@ use Rattle.put_get.specs.declared.slots.Waiting.{Waiting}
 use Rattle.put_get.specs.declared.table.Pick.TheVariants as pick
 use Rattle.put_get.specs.declared.table.Check.TheVariants.{Unissued, UnissuedTo, Unfinished}
 use Rattle.put_get.specs.declared.transfers.Transfers.{Transfers}
-use Rattle.put_get.specs.Operation.{Operation, returned_of, target, size, chunk_start, chunk_size, is_complete}
+use Rattle.put_get.specs.Operation.{Operation, returned_of, size, chunk_start, chunk_size, is_complete}
 use Rattle.put_get.specs.Operation.{standing}
 use Rattle.put_get.specs.SlotsState.{entry_at}
 use Rattle.put_get.specs.Outs.{Out, outs}

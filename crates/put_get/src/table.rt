@@ -223,8 +223,8 @@ impl Table {
         self.queue.is_empty()
     }
 
-    /// The oldest record of which a chunk may be issued; `can` has a flag for each node. It looks at the records with an
-    /// unissued chunk alone, from the oldest one on, and at none behind the one that it finds.
+    /// The oldest record of which a chunk may be issued; `can` has a flag for each node. It looks only at the records
+    /// with an unissued chunk, from the oldest one on, and at none behind the one that it finds.
     pub fn oldest(&self, can: &[bool]) -> Option<Standing>
         ensures { IsLeast (flag_at can.now) self.now result }
     {
@@ -292,7 +292,8 @@ impl Table {
     /// The place of the operation with that number, if it has an unissued chunk. It looks at no record.
     pub fn place_of(&self, number: u64) -> Option<usize>
         ensures found { IfSome result (λ place. IsPlaceOf self.now number Check.Unissued place) }
-        ensures none { IfNone result ((place : ℕ) → IsPlaceOf self.now number Check.Unissued place → ⊥) }
+        ensures none { IfNone result
+            ((place : ℕ) → IsPlaceOf self.now number Check.Unissued place → ⊥) }
         ensures within { IfSome result (λ place. place < 256) }
     {
         self.queue.place_of(number)

@@ -1,5 +1,4 @@
-use Rattle.std.proofs.Common.{◌≡◌, Some, sym, ap, ◌∙◌, subst, arith}
-use Rattle.std.specs.List.{slice_get}
+use Rattle.std.proofs.Common.{Some, sym, ap, ◌∙◌, subst, arith}
 use Rattle.put_get.specs.Syncs.{flag_at}
 use Rattle.put_get.specs.Queue.{Queues}
 use Rattle.put_get.specs.Table.{waits_at}
@@ -17,12 +16,13 @@ returns-in-Some c =
 
 pub loop-index-preserved : goal.loop-index-preserved
 loop-index-preserved c =
-    ready_more (flag_at c.args.can.now) c.args.self.now c.self.inside.queue c.loop-index.index c.at-place.result c.at.result
-    c.at-place.ensures c.at.ensures (sym c.in_default.ensures) c.loop-index.invariant
+    ready_more (flag_at c.args.can.now) c.args.self.now c.self.inside.queue c.loop-index.index c.at-place.result
+    c.at.result c.at-place.ensures c.at.ensures (sym c.in_default.ensures) c.loop-index.invariant
 
 pub returns : goal.returns
 returns c =
     let queue = c.self.inside.queue in
     let Q = subst (λ ps. Queues (waits_at ps) queue) c.self.view_is c.self.invariant.2 in
     let past = c.loop-index-test.false in
-    least_none (flag_at c.args.can.now) c.args.self.now queue c.loop-index.index Q (omega (arith, past)) c.loop-index.invariant
+    least_none (flag_at c.args.can.now) c.args.self.now queue c.loop-index.index Q (omega (arith, past))
+    c.loop-index.invariant
