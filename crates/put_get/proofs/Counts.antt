@@ -84,7 +84,7 @@ numbers_from k (z ∷ operations) (suc a) o e n =
         → list_any (eqb q) (numbers (suc k) operations) ≡ true
     more q h = h
 
-none_same : (q : ℕ) (xs : List ℕ) → (list_any (eqb q) xs ≡ true → ⊥) → AllByRecursion (λ y. eqb q y ≡ false) xs
+pub none_same : (q : ℕ) (xs : List ℕ) → (list_any (eqb q) xs ≡ true → ⊥) → AllByRecursion (λ y. eqb q y ≡ false) xs
 none_same q [] n = tt
 none_same q (x ∷ xs) n = (
   ne_eqb q x (λ e. n (rw (eq-eqb q x e) refl)),

@@ -1,11 +1,12 @@
 pub mod Places
-pub mod Unissued
+pub mod Edits
 pub mod Entries
 pub mod Outs
 pub mod Said
 pub mod Tests
 pub mod Issued
 pub mod Counts
+pub mod Queueing
 pub mod Began
 pub mod Changed
 pub mod Backs
@@ -13,6 +14,7 @@ pub mod Members
 pub mod Marks
 pub mod Worn
 pub mod Lists
+pub mod Waiting
 pub mod Oldest
 pub mod Gone
 pub mod Whole

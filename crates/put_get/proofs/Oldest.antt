@@ -1,21 +1,20 @@
 -- The least number among the records that are ready is that of the oldest operation.
-use Rattle.std.proofs.Common.{◌≡◌, drop, ◌⊎◌, IfSome, IfNone, is_some, inl, inr, ℕ, zero, suc, ◌+◌, ◌<◌, Bool, true}
+use Rattle.std.proofs.Common.{◌≡◌, IfSome, IfNone, is_some, inl, inr, ℕ, zero, suc, ◌+◌, ◌<◌, Bool, true}
 use Rattle.std.proofs.Common.{false, true≢false, not, ◌&&◌, List, [], ◌∷◌, Option, None, Some, refl, sym, ap, ap₂, ◌∙◌}
-use Rattle.std.proofs.Common.{arith, lt-ltb, le-ltb}
+use Rattle.std.proofs.Common.{arith}
 use Rattle.std.specs.List.{slice_get, list_all, list_any}
-use Rattle.std.proofs.lemmas.Bool.{cases_Bool, cases_eq, cases_lt, and_parts, not-true}
-use Rattle.std.proofs.lemmas.Option.{same_Some, slice_get_within}
+use Rattle.std.proofs.lemmas.Bool.{cases_Bool, and_parts, not-true}
+use Rattle.std.proofs.lemmas.Option.{same_Some}
 use Rattle.put_get.specs.declared.operation.Next.{Next}
 use Rattle.put_get.specs.declared.transfers.Transfers.{Transfers}
 use Rattle.put_get.specs.declared.table.Standing.{Standing}
 use Rattle.lists.specs.Numbered.{numbered}
 use Rattle.put_get.specs.declared.table.Check.TheVariants.{Unissued}
 use Rattle.put_get.specs.Operation.{Operation, Sent, target, has_next, has_next_in, has_unissued, next_chunk, chunk_of}
-use Rattle.put_get.specs.Table.{is_unissued, unissued_count, on_place, IsPlaceOf}
-use Rattle.put_get.specs.Stands.{kept, Stands, is_ready, IsLeast, better, older, next_of, CanNote}
+use Rattle.put_get.specs.Table.{is_unissued, on_place, IsPlaceOf, is_ready, IsLeast}
+use Rattle.put_get.specs.Stands.{kept, Stands, next_of, CanNote}
 use Rattle.put_get.proofs.Counts.{number_at}
 use Rattle.put_get.proofs.Tests.{same_test, any_at, any_from}
-use Rattle.put_get.proofs.Unissued.{none_left}
 
 none_is : (can : ℕ → Bool) (number : ℕ) (operations : List Operation)
     → ((place : ℕ) (operation : Operation) → slice_get operations place ≡ Some operation
@@ -60,16 +59,13 @@ answer None = None
 answer (Some best) = Some (next_of best)
 
 pub oldest_is : (can : ℕ → Bool) (table : Transfers) (operations : List Operation) (best : Option Standing)
-    → Stands table operations → IsLeast can table.table 256 best → answer best ≡ next_chunk can 1 operations
+    → Stands table operations → IsLeast can table.table best → answer best ≡ next_chunk can 1 operations
 oldest_is can table operations None S least =
     sym (none_is can 1 operations
     (λ place operation at. elim (cases_Bool (has_next operation && can (target operation.transfer))) [
       | inl is ↦ (
           let found = stands_ready can table operations place operation S at is in
-          absurd (true≢false
-          (sym is ∙ least found.0 (kept (suc place) operation) (let within =
-          slice_get_within table.table found.0 (Some (kept (suc place) operation)) found.1 in let many = S.keeps.many in
-          omega (arith, within, many)) found.1)))
+          absurd (true≢false (sym is ∙ least found.0 (kept (suc place) operation) found.1)))
       | inr isnt ↦ isnt
     ]))
 oldest_is can table operations (Some best) S least =
@@ -80,123 +76,20 @@ oldest_is can table operations (Some best) S least =
     (λ before earlier less at. elim (cases_Bool (has_next earlier && can (target earlier.transfer))) [
       | inl is ↦ (
           let found = stands_ready can table operations before earlier S at is in
-          let within = slice_get_within table.table found.0 (Some (kept (suc before) earlier)) found.1 in
-          let many = S.keeps.many in
-          let smallest = least.1 found.0 (kept (suc before) earlier) (omega (arith, within, many)) found.1 is in
+          let smallest = least.1 found.0 (kept (suc before) earlier) found.1 is in
           let number = a.1 in
           absurd (omega (arith, smallest, number, less)))
       | inr isnt ↦ isnt
     ]) ∙ ap Some (ap (λ n. chunk_of n o.0) (sym a.1) ∙ ap next_of (sym o.3)))
 
-pub least_none : (can : ℕ → Bool) (places : List (Option Standing)) → IsLeast can places 0 None
-least_none can places place there less at = absurd (omega arith)
-
-before_blank : (places : List (Option Standing)) (end place : ℕ) (there : Standing) → slice_get places end ≡ Some None
-    → place < end + 1 → slice_get places place ≡ Some (Some there) → place < end
-before_blank places end place there blank less at =
-    elim (cases_eq place end) [
-      | inl same ↦ absurd (none there (sym blank ∙ (ap (slice_get places) (sym same) ∙ at)))
-      | inr apart ↦ omega (arith, apart, less)
-    ]
-  where
-    none : (other : Standing) → ◌≡◌ {A = Option (Option Standing)} (Some None) (Some (Some other)) → ⊥
-    none other is = cc
-
--- what stands at the end, or what stood before
-at_or_before : (places : List (Option Standing)) (end place : ℕ) (last there : Standing)
-    → slice_get places end ≡ Some (Some last) → place < end + 1 → slice_get places place ≡ Some (Some there)
-    → (last ≡ there) ⊎ (place < end)
-at_or_before places end place last there at_end less at = elim (cases_eq place end) [
-  | inl same ↦
-      inl (same_Some last there
-      (same_Some (Some last) (Some there) (sym at_end ∙ (ap (slice_get places) (sym same) ∙ at))))
-  | inr apart ↦ inr (omega (arith, apart, less))
-]
-
-ready_more : (can : ℕ → Bool) (places : List (Option Standing)) (end : ℕ) (last : Standing) (best : Option Standing)
-    → slice_get places end ≡ Some (Some last) → is_ready can last ≡ true
-    → IsLeast can places end best → IsLeast can places (end + 1) (Some (older last best))
-ready_more can places end last None at_end ready least = (
-  (end, at_end, ready),
-  λ place there less at is. elim (at_or_before places end place last there at_end less at) [
-    | inl same ↦ omega (arith, ap (λ (z : Standing). z.number) same)
-    | inr before ↦ absurd (true≢false (sym is ∙ least place there before at))
-  ],
-)
-ready_more can places end last (Some best) at_end ready least = elim (cases_lt last.number best.number) [
-  | inl smaller ↦ rw (lt-ltb last.number best.number smaller) (
-    (end, at_end, ready),
-    λ place there less at is. elim (at_or_before places end place last there at_end less at) [
-      | inl same ↦ omega (arith, ap (λ (z : Standing). z.number) same)
-      | inr before ↦ (let known = least.1 place there before at is in omega (arith, known, smaller))
-    ],
-  )
-  | inr greater ↦ rw (le-ltb last.number best.number greater) (
-    least.0,
-    λ place there less at is. elim (at_or_before places end place last there at_end less at) [
-      | inl same ↦ omega (arith, ap (λ (z : Standing). z.number) same, greater)
-      | inr before ↦ least.1 place there before at is
-    ],
-  )
-]
-
-idle_more : (can : ℕ → Bool) (places : List (Option Standing)) (end : ℕ) (last : Standing) (best : Option Standing)
-    → slice_get places end ≡ Some (Some last) → is_ready can last ≡ false
-    → IsLeast can places end best → IsLeast can places (end + 1) best
-idle_more can places end last None at_end idle least =
-    λ place there less at. elim (at_or_before places end place last there at_end less at) [
-      | inl same ↦ ap (is_ready can) (sym same) ∙ idle
-      | inr before ↦ least place there before at
-    ]
-idle_more can places end last (Some best) at_end idle least = (
-  least.0,
-  λ place there less at is. elim (at_or_before places end place last there at_end less at) [
-    | inl same ↦ absurd (true≢false (sym is ∙ (ap (is_ready can) (sym same) ∙ idle)))
-    | inr before ↦ least.1 place there before at is
-  ],
-)
-
--- one more place
-pub least_more : (can : ℕ → Bool) (places : List (Option Standing)) (end : ℕ) (there : Option Standing)
-    (best : Option Standing)
-    → slice_get places end ≡ Some there → IsLeast can places end best
-    → IsLeast can places (end + 1) (better can there best)
-least_more can places end None None at_end least =
-    λ place there less at. least place there (before_blank places end place there at_end less at) at
-least_more can places end None (Some best) at_end least =
-    (least.0, λ place there less at. least.1 place there (before_blank places end place there at_end less at) at)
-least_more can places end (Some last) best at_end least = elim (cases_Bool (is_ready can last)) [
-  | inl ready ↦ rw ready (ready_more can places end last best at_end ready least)
-  | inr idle ↦ rw idle (idle_more can places end last best at_end idle least)
-]
-
--- a place that has no unissued chunk isn't ready
-not_ready : (can : ℕ → Bool) (there : Standing) → is_unissued there ≡ false → is_ready can there ≡ false
-not_ready can there none = rw none refl
-
--- it is the least of all, where no place behind has an unissued chunk
-pub least_all : (can : ℕ → Bool) (places : List (Option Standing)) (end : ℕ) (best : Option Standing)
-    → IsLeast can places end best → unissued_count (drop end places) ≡ 0 → IsLeast can places 256 best
-least_all can places end None least none = λ place there less at. elim (cases_lt place end) [
-  | inl before ↦ least place there before at
-  | inr behind ↦ not_ready can there (none_left places end place there none behind at)
-]
-least_all can places end (Some best) least none = (
-  least.0,
-  λ place there less at is. elim (cases_lt place end) [
-    | inl before ↦ least.1 place there before at is
-    | inr behind ↦ absurd (true≢false (sym is ∙ not_ready can there (none_left places end place there none behind at)))
-  ],
-)
-
 -- what was found is unissued, and stands
-pub unissued_of : (can : ℕ → Bool) (places : List (Option Standing)) (end : ℕ) (best : Standing)
-    → IsLeast can places end (Some best) → is_unissued best ≡ true
-unissued_of can places end best least = (and_parts (is_unissued best) (can (target best.transfer)) least.0.2).0
+pub unissued_of : (can : ℕ → Bool) (places : List (Option Standing)) (best : Standing)
+    → IsLeast can places (Some best) → is_unissued best ≡ true
+unissued_of can places best least = (and_parts (is_unissued best) (can (target best.transfer)) least.0.2).0
 
-pub note_of : (can : ℕ → Bool) (table : Transfers) (end : ℕ) (best : Standing) → IsLeast can table.table end (Some best)
+pub note_of : (can : ℕ → Bool) (table : Transfers) (best : Standing) → IsLeast can table.table (Some best)
     → CanNote table best.number
-note_of can table end best least = (least.0.0, (best, least.0.1, refl, unissued_of can table.table end best least))
+note_of can table best least = (least.0.0, (best, least.0.1, refl, unissued_of can table.table best least))
 
 -- ---- nothing is unissued
 

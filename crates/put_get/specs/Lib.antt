@@ -1,5 +1,6 @@
 pub mod Operation
 pub mod Syncs
+pub mod Queue
 pub mod Table
 pub mod SlotsState
 pub mod Outs

@@ -1,5 +1,5 @@
 -- What is kept of a node's operations.
-use Rattle.std.specs.Prelude.{ℕ, ◌≡◌, ◌<◌, ◌≤◌, Bool, true, false, not, ◌&&◌, if◌then◌else◌, nat_lt, ◌==◌}
+use Rattle.std.specs.Prelude.{ℕ, ◌≡◌, ◌<◌, Bool, true, false, not, ◌&&◌, if◌then◌else◌, ◌==◌}
 use Rattle.std.specs.Prelude.{List, [], ◌∷◌, Option, None, Some, length, slice_get}
 use Rattle.std.specs.List.{list_any}
 use Rattle.lists.specs.Numbered.{numbered}
@@ -10,11 +10,11 @@ use Rattle.put_get.specs.declared.slots.Waiting.{Waiting}
 use Rattle.put_get.specs.declared.table.Pick.TheVariants as pick
 use Rattle.put_get.specs.declared.table.Check.TheVariants.{Unissued, UnissuedTo, Unfinished}
 use Rattle.put_get.specs.declared.transfers.Transfers.{Transfers}
-use Rattle.put_get.specs.Operation.{Operation, returned_of, target, size, chunk_start, chunk_size, is_complete}
+use Rattle.put_get.specs.Operation.{Operation, returned_of, size, chunk_start, chunk_size, is_complete}
 use Rattle.put_get.specs.Operation.{standing}
 use Rattle.put_get.specs.SlotsState.{entry_at}
 use Rattle.put_get.specs.Outs.{Out, outs}
-use Rattle.put_get.specs.Table.{taken, on_place, picked, is_unissued, has, IsPlaceOf}
+use Rattle.put_get.specs.Table.{taken, on_place, picked, has, IsPlaceOf}
 use Rattle.put_get.specs.Syncs.{Choice, is_name, is_implicit}
 
 -- what is kept of the operation of that number
@@ -116,11 +116,7 @@ IsFirstWorn worn test places (Some node) =
 
 -- ---- the next chunk
 
--- a chunk of it may be issued
-abbrev pub is_ready : (ℕ → Bool) → Standing → Bool
-is_ready can there = is_unissued there && can (target there.transfer)
-
--- its next chunk
+-- the next chunk of a record
 abbrev pub next_of : Standing → Next
 next_of there = record {
   number = there.number;
@@ -128,26 +124,6 @@ next_of there = record {
   start = chunk_start there.issued;
   len = chunk_size (size there.transfer) there.issued;
 }
-
--- what was found ready in the places below `end`, with the least number
-abbrev pub IsLeast : (ℕ → Bool) → List (Option Standing) → (end : ℕ) → Option Standing → Type 0
-IsLeast can places end None =
-    (place : ℕ) (there : Standing) → place < end → slice_get places place ≡ Some (Some there)
-    → is_ready can there ≡ false
-IsLeast can places end (Some best) =
-    ((place : ℕ) × (slice_get places place ≡ Some (Some best)) × (is_ready can best ≡ true))
-    × ((place : ℕ) (there : Standing) → place < end → slice_get places place ≡ Some (Some there)
-    → is_ready can there ≡ true → best.number ≤ there.number)
-
--- of two the one that began first
-abbrev pub older : Standing → Option Standing → Standing
-older there None = there
-older there (Some best) = if nat_lt there.number best.number then there else best
-
--- the best so far, after one more place
-abbrev pub better : (ℕ → Bool) → Option Standing → Option Standing → Option Standing
-better can None best = best
-better can (Some there) best = if is_ready can there then Some (older there best) else best
 
 -- ---- one record
 

@@ -3,11 +3,12 @@
 ghost use Rattle.std.specs.Prelude.{◌≡◌, ◌<◌, ◌≤◌, ℕ, List, Option, None, Some, length, replicate, slice_get};
 ghost use Rattle.std.specs.Prelude.{slice_set, IfOk, IfSome, IfNone, Bool, not, ◌||◌};
 ghost use Rattle.put_get.specs.Syncs.{is_kind, flag_at};
-ghost use Rattle.put_get.specs.Table.{taken, is_unissued, unissued_in, unissued_count, passes, picked, on_place, picks};
-ghost use Rattle.put_get.specs.Table.{unless_marked, also, has, AreMarks, has_number, IsPlaceOf, AreDropped};
+ghost use Rattle.put_get.specs.Table.{taken, is_unissued, waits_by, passes, picked, on_place, picks, ready, IsLeast};
+ghost use Rattle.put_get.specs.Table.{unless_marked, also, has, AreMarks, IsPlaceOf, AreDropped};
 ghost use Rattle.std.specs.List.{list_any};
 
 use crate::operation::{Some3, Transfer};
+use crate::queue::Queue;
 use slab::Slab;
 use std::alloc::{AllocError, Global};
 use std::marker::Model;
@@ -134,37 +135,40 @@ pub(crate) fn either(mark: bool, other: bool) -> bool
     mark || other
 }
 
-/// Whether the operation with that number stands there, and passes.
-fn has_number(place: Option<Standing>, number: u64, check: Check) -> bool
-    ensures { result ≡ has_number number check place }
+/// The number by which a place waits in the queue: its operation's, if a record with an unissued chunk stands there.
+fn waits_by(place: Option<Standing>) -> Option<u64>
+    ensures { result ≡ waits_by place }
 {
     match place {
-        Some(standing) => standing.number == number && standing.passes(check),
-        None => false,
+        Some(standing) if standing.is_unissued() => Some(standing.number),
+        _ => None,
     }
 }
 
-/// 1 where a record stands there and has an unissued chunk, else 0.
-pub(crate) fn unissued_in(place: Option<Standing>) -> usize
-    ensures { result ≡ unissued_in place }
+/// The record there, if a chunk of it may be issued; `can` has a flag for each node.
+fn ready(place: Option<Standing>, can: &[bool]) -> Option<Standing>
+    ensures { result ≡ ready (flag_at can.now) place }
 {
-    match place {
-        Some(standing) => usize::from(standing.is_unissued()),
-        None => 0,
+    if let Some(standing) = place {
+        if standing.is_unissued() && flag_at(can, standing.transfer.target() as usize) {
+            return Some(standing);
+        }
     }
+    None
 }
 
-/// 256 places, whose records a slab keeps, and how many of them have an unissued chunk.
+/// 256 places, whose records a slab keeps. Those of the records with an unissued chunk wait in the queue.
 #[derive(Drop)]
 pub(crate) struct Table {
     keys: Vec<usize>,
     records: Slab<Option<Standing>>,
-    unissued: usize,
+    queue: Queue,
 }
 
 impl Model for Table {
     ghost use Rattle.std.specs.Prelude.{List, Option, ◌≡◌, length};
-    ghost use Rattle.put_get.specs.Table.{unissued_count, places_of, IsKeyed};
+    ghost use Rattle.put_get.specs.Table.{places_of, IsKeyed, waits_at};
+    ghost use Rattle.put_get.specs.Queue.{Queues};
     ghost use Rattle.put_get.specs.declared.table.Standing.{Standing};
 
     ghost Value = { List (Option Standing) };
@@ -173,7 +177,7 @@ impl Model for Table {
 
     ghost invariant = { λ t.
         (length t.keys.items ≡ 256) × IsKeyed t.keys.items t.records
-        × (t.unissued ≡ unissued_count (places_of t.keys.items t.records)) };
+        × Queues (waits_at (places_of t.keys.items t.records)) t.queue };
 }
 
 impl Table {
@@ -189,7 +193,7 @@ impl Table {
         Ok(Table {
             keys,
             records,
-            unissued: 0,
+            queue: Queue::new(alloc)?,
         })
     }
 
@@ -207,23 +211,30 @@ impl Table {
         ensures { self.new ≡ slice_set self.old place standing }
     {
         let key = self.keys[place];
-        self.unissued -= unissued_in(self.records[key]);
-        self.unissued += unissued_in(standing);
+        self.queue
+            .change(place, waits_by(self.records[key]), waits_by(standing));
         self.records[key] = standing;
-    }
-
-    /// How many records have an unissued chunk.
-    pub fn unissued(&self) -> usize
-        ensures { result ≡ unissued_count self.now }
-    {
-        self.unissued
     }
 
     /// Whether no record has an unissued chunk.
     pub fn is_idle(&self) -> bool
         ensures { result ≡ not (list_any (on_place is_unissued) self.now) }
     {
-        self.unissued == 0
+        self.queue.is_empty()
+    }
+
+    /// The oldest record of which a chunk may be issued; `can` has a flag for each node. It looks only at the records
+    /// with an unissued chunk, from the oldest one on, and at none behind the one that it finds.
+    pub fn oldest(&self, can: &[bool]) -> Option<Standing>
+        ensures { IsLeast (flag_at can.now) self.now result }
+    {
+        for index in 0..self.queue.len() {
+            let place = self.queue.at(index).place;
+            if let Some(standing) = ready(self.at(place), can) {
+                return Some(standing);
+            }
+        }
+        None
     }
 
     /// The first place that is blank.
@@ -278,19 +289,14 @@ impl Table {
         false
     }
 
-    /// The place of the operation with that number, if it passes.
-    pub fn place_of(&self, number: u64, check: Check) -> Option<usize>
-        ensures found { IfSome result (λ place. IsPlaceOf self.now number check place) }
-        ensures none { IfNone result ((place : ℕ) → IsPlaceOf self.now number check place → ⊥) }
+    /// The place of the operation with that number, if it has an unissued chunk. It looks at no record.
+    pub fn place_of(&self, number: u64) -> Option<usize>
+        ensures found { IfSome result (λ place. IsPlaceOf self.now number Check.Unissued place) }
+        ensures none { IfNone result
+            ((place : ℕ) → IsPlaceOf self.now number Check.Unissued place → ⊥) }
         ensures within { IfSome result (λ place. place < 256) }
     {
-        let _ = &self.keys;
-        for place in 0usize..256 {
-            if has_number(self.at(place), number, check) {
-                return Some(place);
-            }
-        }
-        None
+        self.queue.place_of(number)
     }
 
     /// The records that are marked go.

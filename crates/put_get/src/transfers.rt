@@ -13,12 +13,11 @@ ghost use Rattle.put_get.specs.Syncs.{after_handle, implicit_of, implicit_answer
 ghost use Rattle.put_get.specs.Syncs.{fault_of, members_of, all_answer, whole_of, some_here, some_answer, is_whole};
 ghost use Rattle.put_get.specs.Table.{AreMarks, also, is_unissued};
 ghost use Rattle.put_get.specs.Stands.{HasOperations, room_of, Stands, Agrees, member_in, member_of, member_of_any};
-ghost use Rattle.put_get.specs.Stands.{is_whole_in, whole_here, whole_in, IsFirstWorn, is_ready, better, IsLeast};
-ghost use Rattle.put_get.specs.Stands.{CanNote, next_of, older};
+ghost use Rattle.put_get.specs.Stands.{is_whole_in, whole_here, whole_in, IsFirstWorn, CanNote, next_of};
 
 use crate::operation::{Handle, Mode, Next, Some3, Synced, TooMany, Transfer};
 use crate::slots::{Slots, Waiting};
-use crate::table::{Check, Pick, Standing, Table, either, flag_at, unissued_in};
+use crate::table::{Check, Pick, Standing, Table, either, flag_at};
 use std::alloc::{AllocError, Global};
 
 /// The operations of a node: a record for each one that isn't yet synchronised, at most 256.
@@ -27,28 +26,6 @@ pub struct Transfers {
     given: u64,
     table: Table,
     slots: Slots,
-}
-
-/// Of two the one that began first.
-fn older(standing: Standing, best: Option<Standing>) -> Standing
-    ensures { result ≡ older standing best }
-{
-    match best {
-        Some(other) if !(standing.number < other.number) => other,
-        _ => standing,
-    }
-}
-
-/// The best so far, after one more place.
-fn better(place: Option<Standing>, can: &[bool], best: Option<Standing>) -> Option<Standing>
-    ensures { result ≡ better (flag_at can.now) place best }
-{
-    if let Some(standing) = place {
-        if standing.is_unissued() && flag_at(can, standing.transfer.target() as usize) {
-            return Some(older(standing, best));
-        }
-    }
-    best
 }
 
 /// The next chunk of an operation that has one.
@@ -134,34 +111,17 @@ impl Transfers {
     }
 
     /// The next chunk of the oldest operation that has an unissued chunk to a node that can be asked; `can` has a flag
-    /// for each node. Chunks of one operation come in the order of their ranges.
+    /// for each node. Chunks of one operation come in the order of their ranges. It looks at no operation whose chunks
+    /// were all issued, and at none that began later than the one that it finds.
     pub fn next(&self, can: &[bool]) -> Option<Next>
         ensures next { (operations : List Operation) → Stands self.now operations
             → result ≡ next_chunk (flag_at can.now) 1 operations }
         ensures can_note { IfSome result (λ next. CanNote self.now next.number) }
     {
-        match self.oldest(can) {
+        match self.table.oldest(can) {
             Some(standing) => Some(next_of(standing)),
             None => None,
         }
-    }
-
-    /// The oldest operation that has an unissued chunk to a node that can be asked. No place behind the last record
-    /// with an unissued chunk is looked at.
-    fn oldest(&self, can: &[bool]) -> Option<Standing>
-        ensures { IsLeast (flag_at can.now) self.now.table 256 result }
-    {
-        let mut best = None;
-        let mut left = self.table.unissued();
-        for place in 0usize..256 {
-            if left == 0 {
-                return best;
-            }
-            let there = self.table.at(place);
-            left -= unissued_in(there);
-            best = better(there, can, best);
-        }
-        best
     }
 
     /// Whether no operation has an unissued chunk. It looks at no record.
@@ -186,7 +146,7 @@ impl Transfers {
             → Stands self.new (issue (target next.now.transfer) slot request bytes operations) }
         ensures room { room_of self.new ≡ room_of self.old }
     {
-        let Some(place) = self.table.place_of(next.number, Check::Unissued) else {
+        let Some(place) = self.table.place_of(next.number) else {
             unreachable!();
         };
         let Some(mut standing) = self.table.at(place) else {
@@ -262,9 +222,7 @@ impl Transfers {
         ensures { (operations : List Operation) → Stands self.now operations
             → result ≡ has_unissued handle.serial operations }
     {
-        self.table
-            .place_of(handle.serial, Check::Unissued)
-            .is_some()
+        self.table.place_of(handle.serial).is_some()
     }
 
     /// The smallest node that is worn out and has an unissued chunk of what is marked.

@@ -1,9 +1,0 @@
-use Rattle.std.proofs.Common.{◌≡◌, ◌<◌, ℕ, false, Option, Some}
-use Rattle.std.specs.List.{slice_get}
-use Rattle.put_get.specs.declared.table.Standing.{Standing}
-use Rattle.put_get.specs.Table.{has_number}
-use Rattle.put_get.proofs.table.Table.place_of.Given as goal
-
-abbrev pub invariant-loop-place : goal.invariant-loop-place
-invariant-loop-place l = (place : ℕ) (there : Option Standing) → place < l.place → slice_get l.self place ≡ Some there
-    → has_number l.number l.check there ≡ false
