@@ -160,10 +160,6 @@ issue_has to slot request bytes (first ∷ later) place was at =
 
 -- ---- a chunk comes back
 
-pub length-come_back : (from slot request : ℕ) (operations : List Operation)
-    → length (come_back from slot request operations) ≡ length operations
-length-come_back from slot request operations = length-map operations (with_back from slot request)
-
 -- nothing but the chunks of an operation changes
 pub with_back_keeps : (from slot request : ℕ) (operation : Operation)
     → with_back from slot request operation ≡ record operation { sent = (with_back from slot request operation).sent }
@@ -178,10 +174,3 @@ pub come_back_was : (from slot request : ℕ) (operations : List Operation) (num
     → (was : Operation) × (numbered operations number ≡ Some was) × (with_back from slot request was ≡ now)
 come_back_was from slot request operations number now at =
     numbered_mapped (with_back from slot request) operations number now at
-
--- and what had a number has it
-pub come_back_has : (from slot request : ℕ) (operations : List Operation) (number : ℕ) (was : Operation)
-    → numbered operations number ≡ Some was
-    → numbered (come_back from slot request operations) number ≡ Some (with_back from slot request was)
-come_back_has from slot request operations number was at =
-    numbered_map (with_back from slot request) operations number was at

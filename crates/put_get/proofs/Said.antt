@@ -63,18 +63,6 @@ says_dropped old new test (Some waiting) out D stays says = (
   says.2,
 )
 
--- an entry is that of a slot of a node
-pub entry_within : (slots : SlotsState) (to slot : ℕ) (waiting : Waiting) → entry_at slots to slot ≡ Some waiting
-    → (to < slots.nodes) × (slot < slots.credits)
-entry_within slots to slot waiting at = elim (cases_Bool (nat_lt to slots.nodes && nat_lt slot slots.credits)) [
-  | inl inside ↦ (let both = and_parts (nat_lt to slots.nodes) (nat_lt slot slots.credits) inside in
-      (ltb-true to slots.nodes both.0, ltb-true slot slots.credits both.1))
-  | inr outside ↦ absurd (none (rw outside at at))
-]
-  where
-    none : ◌≡◌ {A = Option Waiting} None (Some waiting) → ⊥
-    none is = cc
-
 -- what an entry says, where there is one, and where there is none
 pub said : (table : Transfers) (operations : List Operation) (to slot : ℕ) (waiting : Waiting) → Stands table operations
     → entry_at table.slots to slot ≡ Some waiting → Says table.table (Some waiting) (outs to slot 1 operations)

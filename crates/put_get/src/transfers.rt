@@ -64,8 +64,9 @@ fn is_implicit(mode: Mode) -> bool
 }
 
 impl Transfers {
-    /// No operation began. It takes the memory of 256 records and of an entry for each of `credits` slots of each node;
-    /// `credits` is the greatest number of requests to one node that can be out. No later call takes any.
+    /// No operation began. It takes the memory of 256 records, of a queue of as many, and of an entry for each of
+    /// `credits` slots of each node; `credits` is the greatest number of requests to one node that can be out. No later
+    /// call takes any.
     pub fn new(alloc: Global, nodes: u16, credits: u16) -> Result<Transfers, AllocError>
         ensures stands { IfOk result (λ table. Stands table []) }
         ensures room { IfOk result (λ table.
