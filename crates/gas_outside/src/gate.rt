@@ -4,8 +4,8 @@
 pub trait Gate {
     /// Called before each turn of the thread with this number.
     ///
-    /// `quiet` says whether the thread's last turn was quiet: it got nothing and did nothing. It is false before its
-    /// first.
+    /// `quiet` says whether the thread's last turn was quiet: nothing was got, and no step ended in it. It is false
+    /// before its first.
     fn before_turn(&self, thread: u16, quiet: bool);
 }
 

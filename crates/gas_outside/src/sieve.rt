@@ -1,8 +1,10 @@
 //! A link before another link that loses, repeats and swaps datagrams, by their numbers.
 
 ghost use Rattle.std.specs.Prelude.{◌≡◌, ◌≢◌, ◌≤◌, ◌∷◌, [], length, None, Some, MatchResult};
-ghost use Rattle.std.specs.Prelude.{option_to_list};
-ghost use Rattle.gas_outside.specs.Sieve.{Sieving, Plan, Follows, KeepsInner, next_plan, numbered};
+ghost use Rattle.std.specs.Prelude.{option_to_list, if◌then◌else◌};
+ghost use Rattle.gas_outside.specs.Faults.{Rose};
+ghost use Rattle.gas_outside.specs.Link.{SentTold, IsFailed};
+ghost use Rattle.gas_outside.specs.Sieve.{Sieving, Plan, Follows, KeepsInner, next_plan, numbered, is_plain};
 ghost use Rattle.gas_outside.specs.Sieve.{rule_for, divides as divides_exactly};
 
 use crate::link::{Link, LinkAnswer, Received};
@@ -202,7 +204,19 @@ impl<L: Link> Link for Sieve<L> {
     }
 
     /// Sends a datagram by the rule for its number, as `hand` does.
-    fn send(&mut self, to: u16, bytes: &[u8]) -> LinkAnswer {
+    fn send(&mut self, to: u16, bytes: &[u8]) -> LinkAnswer
+        ensures sent { SentTold result (to, bytes.now)
+            (if is_plain self.old then L.sent self.old.inner else None)
+            (if is_plain self.new then L.sent self.new.inner else None) }
+        ensures bound { L.bound self.new.inner ≡ L.bound self.old.inner }
+        ensures received { L.received self.new.inner ≡ L.received self.old.inner }
+        ensures waiting { L.waiting self.new.inner ≡ L.waiting self.old.inner }
+        ensures later { L.faults self.old.inner ≤ L.faults self.new.inner }
+        ensures cause { IsFailed result
+            → Rose (L.faults self.old.inner) (L.faults self.new.inner) }
+        ensures follows { Follows L.Link (next_plan self.old (to, bytes.now))
+            (numbered self.old) result self.new }
+    {
         self.hand(to, bytes)
     }
 

@@ -354,7 +354,7 @@ const WORN: [Case; 4] = [
 ];
 
 /// Numbers that are worn out, and locks.
-const OTHERS: [Case; 8] = [
+const OTHERS: [Case; 9] = [
     Case {
         name: "a put of a node whose numbers are worn out",
         last: 1,
@@ -373,11 +373,17 @@ const OTHERS: [Case; 8] = [
         scripts: "script 0 0\nshort 1 128 5\nmemset 1 8 2 7\nend\n",
         turns: &[(0, 0, ACCEPTED), (0, 0, None), (0, 0, WORN_OUT)],
     },
-    // It goes on waiting.
+    // Such a step goes on waiting.
     Case {
         name: "a put that is never issued",
         last: 1,
         scripts: "script 0 0\nshort 1 128 5\nput-nb 3 1 8 4 2\nend\n",
+        turns: &[(0, 0, ACCEPTED), (0, 0, None), (0, 0, None), (0, 0, None)],
+    },
+    Case {
+        name: "an implicit put that is never issued",
+        last: 1,
+        scripts: "script 0 0\nshort 1 128 5\nput-nbi 1 8 4 2\nend\n",
         turns: &[(0, 0, ACCEPTED), (0, 0, None), (0, 0, None), (0, 0, None)],
     },
     Case {

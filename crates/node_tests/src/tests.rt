@@ -171,7 +171,7 @@ struct Row {
 }
 
 /// The rows.
-const ROWS: [Row; 13] = [
+const ROWS: [Row; 14] = [
     Row {
         words: "node 0 20000",
         waiting: &[],
@@ -260,6 +260,15 @@ const ROWS: [Row; 13] = [
         sent: &[],
     },
     Row {
+        words: "node 256 20000",
+        waiting: &[],
+        link_fails: 0,
+        write_fails: 0,
+        code: 2,
+        written: "status 2 usage\n",
+        sent: &[],
+    },
+    Row {
         words: "node 0 1023",
         waiting: &[],
         link_fails: 0,
@@ -332,5 +341,88 @@ fn the_rows_end_and_say_as_they_should(rt: HostRuntime) -> Result<(), Fail> {
     for row in &ROWS {
         check(&rt, row)?;
     }
+    Ok(())
+}
+
+/// A job of two nodes whose sieve sends each datagram twice: node 0 asks node 1.
+const REPEATING: &str = "\
+gasnet 1
+job 7
+nodes 2
+credits 1
+threads 1
+segment 4096
+last 100
+resend 10
+patience 3
+sieve 0 1 0
+handler 128 request
+add 0 a0
+end
+script 0 0
+short 1 128 5
+end
+done
+";
+
+#[test]
+fn a_node_sends_by_its_sieve(rt: HostRuntime) -> Result<(), Fail> {
+    let node = NodeCall {
+        words: "node 0 20000",
+        job: REPEATING,
+        link: link_with(rt.alloc(), &[], 0)?,
+        write_fails: 0,
+    };
+    let (said, _) = call(&rt, node, OpenGate)?;
+    assert_eq!(rt; said.code, 0);
+    assert_eq!(rt; said.sent.len(), 2);
+    for one in said.sent.iter() {
+        assert_eq!(rt; one.0, 1);
+        assert_eq!(rt; one.1.as_slice(), REQUEST.as_slice());
+    }
+    Ok(())
+}
+
+/// A job of 100 nodes without a script.
+const MANY_NODES: &str = "\
+gasnet 2
+job 7
+nodes 100
+credits 1
+threads 1
+segment 4096
+last 100
+resend 10
+patience 3
+sieve 0 0 0
+done
+";
+
+/// What a node of the many says, where rank 0 has this port: the exit status, and what is written.
+fn say_of_many<R: Threads + Wait + Sync + AllocGlobal>(
+    rt: &R,
+    words: &str,
+) -> Result<(u8, Vec<u8>), Fail> {
+    let node = NodeCall {
+        words,
+        job: MANY_NODES,
+        link: link_with(rt.alloc(), &[], 0)?,
+        write_fails: 0,
+    };
+    let (said, _) = call(rt, node, OpenGate)?;
+    Ok((said.code, said.written))
+}
+
+#[test]
+fn each_node_has_its_port(rt: HostRuntime) -> Result<(), Fail> {
+    let (code, written) = say_of_many(&rt, "node 99 65436")?;
+    assert_eq!(rt; code, 0);
+    assert_eq!(rt;
+        written.as_slice(),
+        b"trace 2\njob 7\nrank 99\nend\nstatus 0 ok\n".as_slice()
+    );
+    let (code, written) = say_of_many(&rt, "node 99 65437")?;
+    assert_eq!(rt; code, 2);
+    assert_eq!(rt; written.as_slice(), b"status 2 usage\n".as_slice());
     Ok(())
 }

@@ -553,6 +553,38 @@ fn an_upgraded_job_is_the_same_in_version_2(rt: HostRuntime) -> Result<(), Fail>
     Ok(())
 }
 
+/// A job of one request, as it is written with the second layout.
+const UPGRADED: &str = "\
+gasnet 2
+job 7
+nodes 2
+credits 1
+threads 1
+segment 4096
+last 100
+resend 10
+patience 100
+sieve 0 0 0
+handler 128 request
+end
+schedule
+0 call 0 0 short 1 128 5
+0 request 0 1 1
+0 reply 0 1 1
+end
+done
+";
+
+#[test]
+fn a_job_of_one_request_upgraded(rt: HostRuntime) -> Result<(), Fail> {
+    let mut job = Vec::from_slice(rt.alloc(), UPGRADED.as_bytes())?;
+    job[7] = b'1';
+    let said = call(&rt, &["upgrade"], job)?;
+    assert_eq!(rt; said.code, 0);
+    assert_eq!(rt; said.bytes.as_slice(), UPGRADED.as_bytes());
+    Ok(())
+}
+
 #[test]
 fn an_upgraded_job_runs_as_before(rt: HostRuntime) -> Result<(), Fail> {
     let before = call(&rt, &["world"], long_job(rt.alloc())?)?;

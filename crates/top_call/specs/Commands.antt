@@ -22,7 +22,7 @@ command_words (commands.Drill seed) = codes "drill" ∷ decimal seed ∷ []
 abbrev pub IsCommand : Command → Type 0
 IsCommand commands.World = Unit {0}
 IsCommand commands.Upgrade = Unit {0}
-IsCommand (commands.Node rank port) = (rank ≤ 63) × (1024 ≤ port) × (port ≤ 65472)
+IsCommand (commands.Node rank port) = (rank ≤ 255) × (1024 ≤ port) × (port ≤ 65472)
 IsCommand (commands.Drill seed) = seed < 2 ^ 64
 
 -- the words are those of the command
