@@ -10,7 +10,7 @@
 //! world and the counts; then it writes the summary and the lines of each node.
 //!
 //! - **How a drill ends** [`run`: `DrillEnds`]: all its lines (`drill_lines`, `specs/Summary.antt`) went into the sink,
-//!   and the world that it gives stands for the end of the run; or the sink failed, and a front of their text went in;
+//!   and the world that it gives stands for the end of the run; or the sink failed, and a prefix of their text went in;
 //!   or memory ran out, and whole lines of them did.
 //! - **The laws of the run** [`laws`: `RunLaws` of `world_run`]: as of any job's.
 //! - **No violation** [`calm`]: no call of it is forbidden, and nothing is refused to its handlers, so no node notes

@@ -13,18 +13,21 @@
 //!
 //! - `Station::turn` is exact [`again`, `spent`, `full`, `goes`]: the first of its steps that ends it gives the answer,
 //!   and `Goes` says what is left then, field by field: a turn that keeps its entry (`Keeps`), an empty one (`Rests`),
-//!   a link that failed as it was asked (`Fails`). So a datagram that waits is got, `LinkFault` comes only where the
-//!   link's count of faults rose in the turn, and `NoMemory` leaves all but the kept end.
+//!   a link that failed as it was asked (`Fails`). So a datagram that waits is got by a thread that polls, where the
+//!   link tells what waits; `LinkFault` comes only where the link's count of faults rose in the turn, or stands at its
+//!   last value; and `NoMemory` leaves all but the kept end.
 //! - Each turn keeps the facts of a station [`facts`: `Facts`]: for each state for which the machine stood at the
 //!   opening, machine and journal are its replay (`Replays`); the datagrams received are the journal's, and those sent
-//!   are what the replayed turns gave, where the link tells them; the bounds of the journal; how often the clock was
-//!   asked; why an end is kept.
+//!   are what the replayed turns gave, where the link tells them (at `LinkFault` without the one that failed and those
+//!   behind it in the last turn); the bounds of the journal; how often the clock was asked; why an end is kept.
 //! - `Held::turn` is the station's turn [`turn`], and raises the share that it is handed by one exactly where the
 //!   journal grew [`booked`]; `Held::close` gives a station of which the facts hold [`facts`], whose journal is as long
 //!   as all shares together say [`booked`].
 //! - `run_threads` [`Leaves`]: machine and journal are the replay of the machine handed in; the datagrams; the times;
-//!   for each end its causes. `Over` and `Stuck` come only after `patience` quiet turns, the last of which is the
-//!   journal's last entry or a turn that would be empty now, and then nothing waits where every thread polls.
+//!   for each end its causes. `Over` and `Stuck` come only where the quiet entries at the journal's end, and the times
+//!   that the clock was asked without an entry, are at least `patience` together, or the clock's counter stands at its
+//!   last value (`PatienceIsSpent`; that the turns were quiet in a row is `spent` of `Station::turn`); the last entry
+//!   is quiet, or a turn would be empty now; and where every thread polls and the link tells what waits, nothing does.
 //!
 //! Not claimed: that a thread runs, that the threads take turns fairly, which of them took how many, that the gate is
 //! called. That memory ran out where `NoMemory` is told isn't proved.

@@ -247,8 +247,8 @@ impl<M: Machine, L: Link, C: Clock> Station<M, L, C> {
     /// for one datagram; and the machine takes its turn. Where something was got or changed, an entry is kept, and then
     /// the datagrams of the turn are sent: `Went`. Else the turn is `Idle`, and sends nothing.
     ///
-    /// `LinkFault` comes only where the link's count of faults rose in this turn: as it was asked, and then machine and
-    /// journal stay; or as a datagram was sent, and then the entry stays, and neither this datagram nor those after it
+    /// `LinkFault` comes only where the link's count of faults rose in this turn, or stands at its last value: as it was
+    /// asked, and then machine and journal stay; or as a datagram was sent, and then the entry stays, and neither this datagram nor those after it
     /// are sent. Each end is kept.
     pub fn turn(&mut self, thread: u16) -> TurnEnd
         requires { thread < M.thread_count self.old.machine }

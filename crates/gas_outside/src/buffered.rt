@@ -59,7 +59,7 @@ impl<K: Sink> BufferedSink<K> {
     /// Gives on what is held back.
     ///
     /// After `Done` nothing is held back. `Fault` comes only where the count of faults of the sink behind rose (or
-    /// stands at its last value); a front of what was held back was given on then, and the rest is still held back.
+    /// stands at its last value); a prefix of what was held back was given on then, and the rest is still held back.
     pub fn flush(&mut self) -> Wrote
         ensures flushes { Flushes (outbox K.taken K.faults self.old)
             (outbox K.taken K.faults self.new) result }
@@ -80,7 +80,7 @@ impl<K: Sink> BufferedSink<K> {
     /// Writes all of the bytes, in order, as `write_all` does; in the words of what was given on and what is held back.
     ///
     /// `Done` means that all of them went in. `Fault` comes only where the count of faults of the sink behind rose (or
-    /// stands at its last value); a front of them went in then.
+    /// stands at its last value); a prefix of them went in then.
     pub fn write_all(&mut self, bytes: &[u8]) -> Wrote
         ensures { GathersAll (outbox K.taken K.faults self.old)
             (outbox K.taken K.faults self.new) bytes.now result }
@@ -110,7 +110,7 @@ impl<K: Sink> BufferedSink<K> {
 
     /// Makes room for so many bytes: where there isn't so much, what is held back is given on.
     ///
-    /// `Fault` comes only where the count of faults of the sink behind rose (or stands at its last value); a front of
+    /// `Fault` comes only where the count of faults of the sink behind rose (or stands at its last value); a prefix of
     /// what was held back was given on then.
     #[inline(always)]
     pub fn make_room(&mut self, count: usize) -> Wrote

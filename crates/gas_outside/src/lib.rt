@@ -11,7 +11,7 @@
 //! - `read_all` and `write_all` [`bytes`, `later`, `fault`]: all bytes, or a fault only where the count of faults rose.
 //! - `BufferedSink`: each call has one clause, over the outbox (`Outbox`): what was given on, what waits, and the count
 //!   of faults of the sink behind. What went in is what was given on, then what waits, in order; a fault comes only
-//!   where that count rose, and then a front of the bytes went in (`GathersAll`). `flush` gives on what waits
+//!   where that count rose, and then a prefix of the bytes went in (`GathersAll`). `flush` gives on what waits
 //!   (`Flushes`). After `make_room` there is room for so many bytes, and what is `put` there goes in without a fault
 //!   (`Gathers`).
 //! - `Link` [`bound`, `sent`, `received`, `waiting`, `later`, `cause`]: what each call changes of what a link tells,
@@ -25,7 +25,7 @@
 //! - `MemorySource`, `MemorySink`, `MemoryLink` and `MemorySpawner` [`exact`] number their calls, and fail at the
 //!   listed ones.
 //! - `Sieve` loses, repeats and swaps datagrams by their numbers: `hand` [`follows`, `keeps`] sends the link behind
-//!   what the first rule that applies says (`next_plan`), or a front of it where that link failed. It tells what that
+//!   what the first rule that applies says (`next_plan`), or a prefix of it where that link failed. It tells what that
 //!   link tells, but what was sent only where its numbers are 0.
 //!
 //! That memory ran out where `NoMemory` is told isn't proved.

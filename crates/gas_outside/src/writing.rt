@@ -12,7 +12,7 @@ use crate::sink::{Put, Sink};
 pub enum Wrote {
     /// All of it was taken.
     Done,
-    /// The sink failed, and took a front of it.
+    /// The sink failed, and took a prefix of it.
     Fault,
 }
 
@@ -37,7 +37,7 @@ pub(crate) fn write_front<K: Sink>(sink: &mut K, bytes: &[u8]) -> usize
 /// Writes all of the bytes, in order.
 ///
 /// `Done` means that all of them were taken. `Fault` comes only where the sink's count of faults rose (or stands at its
-/// last value); a front of the bytes was taken then.
+/// last value); a prefix of the bytes was taken then.
 pub fn write_all<K: Sink>(sink: &mut K, bytes: &[u8]) -> Wrote
     ensures bytes { WritesAll (K.taken sink.old) (K.taken sink.new) bytes.now result }
     ensures later { K.faults sink.old ≤ K.faults sink.new }

@@ -2,22 +2,28 @@
 //!
 //! What is proved, by the names of clauses (in `src/`) and definitions (in `specs/`, and in `machine`'s `Fronts`):
 //!
-//! - `print_trace` writes the one text of a trace (`trace_text`) into a sink that gathers, or at a fault of the sink a front of it.
-//! - `read_trace` [`found`, `only`, `exact`] reads a trace exactly where the bytes begin with its text (`BeginsWith`), as that trace;
-//!   else the fault names the first bad line and the first reason that applies to it, as the reading function on lines says
-//!   (`trace_at`); or memory ran out. So what was printed is read again. What a merge asks of traces is told too [`threads`, `few`].
-//!   What a refusal means apart from that function [`meant`: `Means`]: some trace's text begins with the lines before the bad
-//!   one, and none begins with these and the bad one, whose form or value no trace has there (`IsAtFault`); or the bytes end
-//!   too early, or the line is none of words.
-//! - `merge` [`front`, `run`, `no_run`] answers an order of all entries in which each can go in its turn exactly where some order
-//!   is a run, and else the smallest node with an entry left at the one stuck front (`Answers`). Afterwards each machine stands
-//!   for the replay of its entries that have gone (`AreReplays`). All is said of whatever states the machines stood for.
-//! - `front_law` [`later`, `one`, `run_or_stuck`, `not_both`]: of any nodes, traces are a run or have a stuck front, never both, and
-//!   at most one. So the answer is compared with whether an order exists, and not with the search for one.
+//! - `print_trace` writes the one text of a trace (`trace_text`) into a sink that gathers, or at a fault of the sink a
+//!   prefix of it.
+//! - `read_trace` [`found`, `only`, `exact`] reads a trace exactly where the bytes begin with its text (`BeginsWith`),
+//!   as that trace; else the fault names the first bad line and the first reason that applies to it, as the reading
+//!   function on lines says (`trace_at`); or memory ran out. So what was printed is read again. What a merge asks of
+//!   traces is told too [`threads`, `few`]. What a refusal means apart from that function [`meant`: `Means`]: some
+//!   trace's text begins with the lines before the bad one, and none begins with these and the bad one, whose form or
+//!   value no trace has there (`IsAtFault`); or the bytes end too early, or the line is none of words.
+//! - `read_output` [`found`, `only`, `exact`, `near`] reads what a node writes, its trace with a status line, in the
+//!   same way.
+//! - `merge` [`front`, `run`, `no_run`] answers an order of all entries in which each can go in its turn only where
+//!   some order is a run, and the smallest node with an entry left at the one stuck front only where none is
+//!   (`Answers`); or memory ran out. Afterwards each machine stands for the replay of its entries that have gone
+//!   (`AreReplays`). All is said of whatever states the machines stood for.
+//! - `front_law` [`later`, `one`, `run_or_stuck`, `not_both`]: of any nodes, traces are a run or have a stuck front,
+//!   never both, and at most one. So the answer is compared with whether an order exists, and not with the search for
+//!   one.
 //!
-//! The search goes in rounds over the nodes; in each, a node's entries go while they may. Whether a datagram was sent is one
-//! look-up: for each node a map from each datagram that its trace got to a place, and a mark at each place. So memory is linear in
-//! the entries, and no bytes are copied. There are as many rounds as entries at worst: where each round lets one go.
+//! The search goes in rounds over the nodes; in each, a node's entries go while they may. Whether a datagram was sent
+//! is one look-up: for each node a map from each datagram that its trace got to a place, and a mark at each place. So
+//! memory is linear in the entries, and no bytes are copied. There are as many rounds as entries at worst: where each
+//! round lets one go.
 #![tactic(auto)]
 
 mod fault;

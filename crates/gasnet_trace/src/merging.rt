@@ -184,8 +184,8 @@ fn first_left(traces: &[Trace], front: &[usize]) -> Option<usize>
 ///
 /// # Errors
 ///
-/// `NotARun` exactly where no such order exists, with the smallest node whose next entry can't ever go. `NoMemory`
-/// where memory ran out.
+/// `NotARun` only where no such order exists, with the smallest node whose next entry can't ever go. `NoMemory` where
+/// memory ran out, whether there is such an order or not.
 pub fn merge<M: Machine>(
     alloc: Global,
     machines: &mut [M],

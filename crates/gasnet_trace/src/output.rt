@@ -147,8 +147,8 @@ fn output_at(alloc: Global, bytes: &[u8], wanted: Wanted) -> Result<(Output, &[u
 ///
 /// # Errors
 ///
-/// `Bad` exactly where the bytes begin with no such output, with the first bad line and the first reason that applies to it:
-/// another job or rank is `Value` at its line, another last line `Form`. `NoMemory` where memory ran out.
+/// `Bad` exactly where the bytes begin with no such output, with the first bad line and the first reason that applies
+/// to it: another job or rank is `Value` at its line, another last line `Form`. `NoMemory` where memory ran out.
 pub fn read_output(
     alloc: Global,
     bytes: &[u8],

@@ -126,9 +126,9 @@ fn write_entries<K: Sink>(sink: &mut BufferedSink<K>, entries: &[Entry]) -> Wrot
 
 /// Writes the text of a trace, in this version of the text, into a sink that gathers.
 ///
-/// `Fault` comes only where the sink behind failed; a front of the text went in then. It takes no memory. Reading what was written
-/// gives the trace, where each entry's thread is one of the job's and each datagram got has at most 8,297 bytes (`read_trace`'s clause
-/// `only`).
+/// `Fault` comes only where the sink behind failed; a prefix of the text went in then. It takes no memory. Reading what
+/// was written gives the trace, where each entry's thread is one of the job's and each datagram got has at most 8,297
+/// bytes (`read_trace`'s clause `only`).
 pub fn print_trace<K: Sink>(trace: &Trace, version: u8, sink: &mut BufferedSink<K>) -> Wrote
     ensures { GathersAll (outbox K.taken K.faults sink.old) (outbox K.taken K.faults sink.new)
         (trace_text version trace.now) result }

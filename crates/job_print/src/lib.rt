@@ -1,7 +1,7 @@
 //! Printing a job: the one text that is read as it.
 //!
 //! `print_job` writes the text of a job (`job_text` of the crate of that name) into a sink, or at a fault of the sink a
-//! front of it. It takes no memory. So what it writes of a job that was read is the text that was read, and reading it
+//! prefix of it. It takes no memory. So what it writes of a job that was read is the text that was read, and reading it
 //! gives the job.
 //!
 //! A form of line is a name, the words behind it (`Word`) and, of some, a list at its end (`Last`); `write_form` writes

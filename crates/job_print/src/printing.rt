@@ -13,7 +13,7 @@ use job_text::Job;
 /// Writes the text of a job: the one text that is read as it, where its words are in range. Pairs, handlers and scripts
 /// come in the order in which they stood in the text that was read, and a schedule's section exactly where one was.
 ///
-/// `Fault` comes only where the sink failed; a front of the text went in then. It takes no memory.
+/// `Fault` comes only where the sink failed; a prefix of the text went in then. It takes no memory.
 pub fn print_job<K: Sink>(job: &Job, sink: &mut BufferedSink<K>) -> Wrote
     ensures { GathersAll (outbox K.taken K.faults sink.old) (outbox K.taken K.faults sink.new)
         (job_text job.now) result }

@@ -181,7 +181,7 @@ fn ran<L: Link, C>(run: NodeRun<NodeMachine<'_>, Sieve<L>, C>) -> NodeRan<L, C>
 /// next step of the thread's script. The trace of the turns is written into the sink, whatever the end was, but after
 /// want of memory: then nothing is written. The end is `LinkFault` only where the link's count of faults rose, or
 /// stands at its last value; where that came as it was to be bound, the trace has no turns. It is `WriteFault` only
-/// where the sink failed; a front of the trace went in then.
+/// where the sink failed; a prefix of the trace went in then.
 pub fn run_job_node<
     R: Threads + Wait + Sync,
     L: Link + Send,

@@ -109,7 +109,7 @@ fn write_words<K: Sink>(answer: &Answer, endpoint: &Endpoint, sink: &mut Buffere
 /// Writes the line of an answer of an endpoint as it stands after it: this number, and then the words of the answer.
 /// Where the answer names a request that was sent, its slot has it; a range that it shows is inside the segment.
 ///
-/// `Fault` comes only where the sink failed; a front of the line went in then, or none of it. It takes no memory.
+/// `Fault` comes only where the sink failed; a prefix of the line went in then, or none of it. It takes no memory.
 pub fn write_answer<K: Sink>(
     number: u64,
     answer: &Answer,

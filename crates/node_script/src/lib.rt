@@ -9,7 +9,7 @@
 //!   actions leave, in order. It is lawful: what a body writes lies inside the segment, the locks of threads stay
 //!   theirs, and a reply is one that was let through.
 //! - `write_answer` writes a line: a number, and the words of an answer (`answer_words`) by the numbers at the
-//!   endpoint's slots and its segment, for every record for which the endpoint stands; at a fault of the sink a front
+//!   endpoint's slots and its segment, for every record for which the endpoint stands; at a fault of the sink a prefix
 //!   of it. `write_line` writes any line.
 #![tactic(auto)]
 

@@ -25,7 +25,7 @@ fn write_spaced<K: Sink>(sink: &mut BufferedSink<K>, words: &[&[u8]]) -> Wrote
 
 /// Writes a line of these words: the first one, and the others.
 ///
-/// `Fault` comes only where the sink failed; a front of the line went in then. It takes no memory.
+/// `Fault` comes only where the sink failed; a prefix of the line went in then. It takes no memory.
 pub fn write_line<K: Sink>(sink: &mut BufferedSink<K>, first: &[u8], others: &[&[u8]]) -> Wrote
     ensures { GathersAll (outbox K.taken K.faults sink.old) (outbox K.taken K.faults sink.new)
         (line_text (first.now ∷ map (λ w. w.now) others.now)) result }

@@ -9,7 +9,7 @@
 //!   `endpoint_lock` says: machine and journal are the replay of the machine handed in, and each end has its cause. Or
 //!   the link failed as it was to be bound; then nothing was done, and the end is `LinkFault`.
 //! - What is written [`written`: `node_text`], into a sink that gathers: the one text of the trace of that journal,
-//!   whatever the end was; nothing where memory ran out. Where the sink failed a front of it went in.
+//!   whatever the end was; nothing where memory ran out. Where the sink failed a prefix of it went in.
 #![tactic(auto)]
 
 mod node;

@@ -171,8 +171,8 @@ fn write_left<K: Sink, M, L, C>(
 /// Runs a node to its end, and writes the trace of what it did.
 ///
 /// Its link is bound first; where that fails the end is `LinkFault`, and the trace has no turns. Then its threads take
-/// turns under one lock, as `run_threads` says. `wrote` is `Fault` only where the sink failed; a front of the text went
-/// in then. Where memory ran out the end is `NoMemory`, and nothing is written.
+/// turns under one lock, as `run_threads` says. `wrote` is `Fault` only where the sink failed; a prefix of the text
+/// went in then. Where memory ran out the end is `NoMemory`, and nothing is written.
 pub fn run_node<
     R: Threads + Wait + Sync,
     M: Machine + Send,

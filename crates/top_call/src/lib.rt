@@ -18,13 +18,19 @@
 //!   - `drill SEED` (`DrillMeans`): with 0 the bytes written are the drill's lines (`drill_lines` of `drill_run`) and
 //!     the status line, and the world stands for the end of its run. It is never 1: no node notes a violation in the
 //!     drill.
-//!   - Of each: 5 comes only where the sink's count of faults rose, and then a front of the text of one of the
-//!     command's ends was written; with 8 whole lines of the run were written, or none (of `upgrade` none), and then
-//!     `status 8 no-memory`; with 2, 3 and 4 the status line alone.
+//!   - `node RANK PORT` (`NodeMeans`): with 0, 1, 6, 9 and 10 the bytes written are the text of the trace of the node's
+//!     journal and the status line, the endpoint that the call returns stands for the journal's replay, and the node's
+//!     threads and devices left what `RunsTo` of `node_call` says. It is 1 exactly where the node noted a violation, 6
+//!     only where the link's count of faults rose, or stands at its last value, 9 and 10 by the cause of that end. 2
+//!     comes also where a job was read that has no node of this rank, or no port for each node; 3 and 4 as above.
+//!   - Of each: 5 comes only where the sink's count of faults rose, and then a prefix of the text of one of the
+//!     command's ends was written; with 8 whole lines of the run were written, or none (of `upgrade` and `node` none),
+//!     and then `status 8 no-memory`; with 2, 3 and 4 the status line alone.
 //! - **The laws of the run** (`RunLaws` of `world_run`) of the job or the drill, with status 0 or 1, and with 8 where
 //!   lines of the run were written.
 //! - **Completeness** [`complete`: `IsComplete`]. Where the bytes are a job's text and no count of faults rose, `world`
-//!   has status 0, 1 or 8; the drill has 0 or 8 where none rose; `upgrade` has 0 or 8 where `world` has 0, 1 or 8.
+//!   has status 0, 1 or 8; the drill has 0 or 8 where none rose; `upgrade` has 0 or 8 where `world` has 0, 1 or 8;
+//!   `node` has 0, 1, 8, 9 or 10 where the job has a place for it, and the link's count of faults didn't rise either.
 //!
 //! `run_streams` says the same of the program as it is shipped, over a reader and a writer of std: `ReaderSource` tells
 //! as left what its reader tells as remaining, `WriterSink` as taken what its writer tells as its contents, and both

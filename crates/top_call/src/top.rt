@@ -56,7 +56,7 @@ fn flushed<K: Sink>(sink: &mut BufferedSink<K>, ended: Ended) -> Ended
 /// - 3 `bad-job LINE WHY`: the bytes read are no job's text; the first bad line, and the first reason that applies to
 ///   it. Of more than 4,194,304 bytes they are `0 size`;
 /// - 4 `read-fault`, only where the source's count of faults rose, or stands at its last value;
-/// - 5, only where the sink's count of faults rose, or stands at its last value: a front of the text was written;
+/// - 5, only where the sink's count of faults rose, or stands at its last value: a prefix of the text was written;
 /// - 6 `link-fault`, of `node`, only where the link's count of faults rose, or stands at its last value; the trace was
 ///   written before, without turns where the link couldn't be bound;
 /// - 8 `no-memory`: memory ran out; whole lines of the run were written before, or none; of `upgrade` and `node` none;
