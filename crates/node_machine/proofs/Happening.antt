@@ -1,6 +1,6 @@
 -- What the calls of an endpoint do, as parts of a turn.
 use Rattle.std.proofs.Common.{◌≡◌, ℕ, List, [], ◌∷◌, ◌++◌, map, Option, Some, None, refl, sym, ap, ap₂, ◌∙◌, subst}
-use Rattle.std.proofs.Common.{append_assoc, Bool, true, false, true≢false, Bor, option_copied, append-nil}
+use Rattle.std.proofs.Common.{append_assoc, Bool, true, false, true≢false, Bor, option_copied}
 use Rattle.std.specs.Prelude.{IsSome}
 use Rattle.std.specs.Option.{option_to_list}
 use Rattle.std.proofs.lemmas.List.{map-append}
@@ -32,7 +32,6 @@ use Rattle.node_runs.specs.Outgoing.{slot_of, StaysWell}
 use Rattle.node_runs.specs.Turn.{node_run, node_sends, coming, comes, before_try}
 use Rattle.script_steps.specs.Tries.{EndpointJob, Happening, HasHappened, Happen}
 use Rattle.node_machine.specs.Parts.{at_once}
-use Rattle.script_steps.proofs.Trying.{well_of, slots_told}
 use Rattle.gas_endpoint.proofs.Stepping.{same_node}
 use Rattle.gas_endpoint.proofs.Delivering.{version_at}
 
@@ -112,6 +111,24 @@ happen_then meaning old mid new first second one A B = record {
 
 -- ---- one event, or none
 
+-- the invariant of the record for which an endpoint stands
+well_of : (endpoint : EndpointState) (node : Node EndpointLocal) → EndpointStands endpoint node
+    → NodeInvariant endpoint.core.settings (IsEndpointKept endpoint.core.settings) endpoint.core.me node
+well_of endpoint node stands = record {
+  orderly = stands.core.invariant_.orderly;
+  own = stands.core.invariant_.own;
+  asked = stands.core.invariant_.asked;
+  replied = stands.core.invariant_.replied;
+  kept = stands.kept;
+}
+
+-- the slots of the messages that an event sent
+slots_there : (at : Option SlotRef) (packets : List Packet) → AreThatOf at packets
+    → option_to_list at ≡ map slot_of (packets ++ [])
+slots_there None packets are = ap (λ (l : List Packet). map slot_of (l ++ [])) (sym are)
+slots_there (Some at) packets are =
+    ap (λ (s : SlotRef). s ∷ []) (sym are.2) ∙ ap (λ (l : List Packet). map slot_of (l ++ [])) (sym are.1)
+
 pub one_happens : (meaning : Meaning) (old new : EndpointState) (now : ℕ) (event : RecordEvent) (answer : Answer)
     → NodeSteps meaning old (transition now event answer) new → NodeSends meaning old (transition now event answer)
     → Happen meaning old (at_once now (event ∷ []) (option_to_list (sends answer))) new
@@ -122,7 +139,7 @@ one_happens meaning old new now event answer N S = record {
       let it = N.steps node stands in
       record {
         stands = it.1;
-        slots_are = slots_told (sends answer) (sent_by job old.core.me node now event) (S node stands);
+        slots_are = slots_there (sends answer) (sent_by job old.core.me node now event) (S node stands);
         well = (
           well_of old node stands,
           at_same old.core new.core (λ settings table me. NodeInvariant settings (IsEndpointKept settings) me
