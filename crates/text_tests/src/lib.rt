@@ -1,20 +1,15 @@
-//! Tests of the public calls of the crates that run a job's text and write what came of it, a module a crate, named
-//! after it.
+//! Tests of the public calls of the crates that read and print the text of a job, a module for each kind of text.
 //!
 //! A module has rows and refused inputs as tables, and the values that it expects come from the definitions or from
-//! outside. `calls` has the call of the program that they share. `world_run` is tested by the top call, `drill_run` by
-//! it in `drill_tests`; `extended_tests` has the rows of transfers and barriers, and `version_2_tests` jobs of version 2.
+//! outside: `job_text_tests` jobs, `script_text_tests` the scripts of a job's text, `job_front_tests` jobs with bytes behind
+//! them, `print_tests` the text that is printed of a job.
 #![tactic(auto)]
 
 #[cfg(test)]
-mod calls;
+mod job_front_tests;
 #[cfg(test)]
-mod drill_tests;
+mod job_text_tests;
 #[cfg(test)]
-mod extended_tests;
+mod print_tests;
 #[cfg(test)]
-mod node_script_tests;
-#[cfg(test)]
-mod top_call_tests;
-#[cfg(test)]
-mod version_2_tests;
+mod script_text_tests;
