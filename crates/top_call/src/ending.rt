@@ -37,6 +37,20 @@ pub enum End {
     Stuck,
     /// A node's journal is full.
     JournalFull,
+    /// The traces are no run.
+    NotARun {
+        /// The smallest node whose next entry can't ever go.
+        node: u16,
+        /// That entry, counted from 1.
+        entry: u32,
+    },
+    /// A node ended with a status other than 0 and 1.
+    Child {
+        /// The smallest rank of such a node.
+        rank: u16,
+        /// Its status.
+        code: u8,
+    },
 }
 
 impl End {
@@ -62,6 +76,8 @@ impl End {
             End::NoMemory => 8,
             End::Stuck => 9,
             End::JournalFull => 10,
+            End::NotARun { .. } => 11,
+            End::Child { .. } => 12,
         }
     }
 }
@@ -73,6 +89,8 @@ pub struct Given {
     pub world: Option<World>,
     /// The node after a run as a process; there is one after `Done`, `Violations`, `LinkFault`, `Stuck` and `JournalFull` alone.
     pub node: Option<Endpoint>,
+    /// The nodes after a run of traces, in rising order of ranks; there are such after `Done` and `Violations` alone.
+    pub nodes: Option<Vec<Endpoint>>,
 }
 
 impl Given {
@@ -83,6 +101,7 @@ impl Given {
         Given {
             world: None,
             node: None,
+            nodes: None,
         }
     }
 
@@ -93,6 +112,7 @@ impl Given {
         Given {
             world: Some(world),
             node: None,
+            nodes: None,
         }
     }
 
@@ -100,7 +120,20 @@ impl Given {
     pub fn node(node: Option<Endpoint>) -> Given
         ensures { result ≡ node_given node }
     {
-        Given { world: None, node }
+        Given {
+            world: None,
+            node,
+            nodes: None,
+        }
+    }
+
+    /// These nodes.
+    pub fn nodes(nodes: Vec<Endpoint>) -> Given {
+        Given {
+            world: None,
+            node: None,
+            nodes: Some(nodes),
+        }
     }
 }
 

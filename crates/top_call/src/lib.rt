@@ -32,6 +32,7 @@
 //! status 8. That nothing is written after a fault of the sink is tested, and shown by the code alone: `flushed` leaves the sink then.
 #![tactic(auto)]
 
+mod check;
 mod command;
 mod drill;
 mod ending;

@@ -1,0 +1,5 @@
+pub mod CheckInputs
+pub mod Statuses
+pub mod TracesRun
+pub mod StepLines
+pub mod TracesEnds

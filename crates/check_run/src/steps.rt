@@ -1,0 +1,55 @@
+//! The turns of the entries of a trace, and the lines of the steps that end in them.
+
+use endpoint_rules::Answer;
+use gas_endpoint::Endpoint;
+use gas_outside::{BufferedSink, Sink, Wrote};
+use machine::{Entry, Machine};
+use node_machine::NodeMachine;
+use node_script::write_answer;
+
+/// Room for a number and a space.
+const NUMBER: usize = 32;
+
+/// Which step's answer it is.
+#[derive(Clone, Copy, Debug)]
+pub struct StepAt {
+    /// The rank of its node.
+    pub rank: u16,
+    /// Its thread.
+    pub thread: u16,
+}
+
+/// Writes the line of the answer of a step, by its node's endpoint as it stands after it.
+fn write_step<K: Sink>(
+    at: StepAt,
+    answer: &Answer,
+    endpoint: &Endpoint,
+    sink: &mut BufferedSink<K>,
+) -> Wrote {
+    if let Wrote::Fault = sink.make_room(NUMBER) {
+        return Wrote::Fault;
+    }
+    sink.put_number(u64::from(at.rank));
+    sink.put(b" ");
+    write_answer(u64::from(at.thread), answer, endpoint, sink)
+}
+
+/// Takes the turn of an entry of the node's trace, and writes the line of the step that ended in it, if one did.
+pub fn take_entry<K: Sink>(
+    machine: &mut NodeMachine<'_>,
+    rank: u16,
+    entry: &Entry,
+    sink: &mut BufferedSink<K>,
+) -> Wrote {
+    let got = match &entry.got {
+        None => None,
+        Some(bytes) => Some(bytes.as_slice()),
+    };
+    let turned = machine.turn(entry.thread, entry.now, got);
+    if !turned.stepped {
+        return Wrote::Done;
+    }
+    let answer = machine.answer().unwrap();
+    let thread = entry.thread;
+    write_step(StepAt { rank, thread }, &answer, machine.endpoint(), sink)
+}
