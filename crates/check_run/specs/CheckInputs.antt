@@ -1,21 +1,25 @@
 -- The input of a check: the text of a job, and behind it what each of its nodes wrote.
 -- Origin: this project's profile.
 use Rattle.std.specs.Prelude.{◌≡◌, ◌⊎◌, ◌≤◌, ◌<◌, ◌^◌, ℕ, zero, suc, ◌+◌, ◌-◌, ◌==◌, nat_lt, if◌then◌else◌}
-use Rattle.std.specs.Prelude.{List, [], ◌∷◌, ◌++◌, length, take, drop, count_by, All}
-use Rattle.std.specs.Prelude.{Option, Result, Ok, Err}
+use Rattle.std.specs.Prelude.{List, [], ◌∷◌, ◌++◌, length, take, drop, map, count_by, All}
+use Rattle.std.specs.Prelude.{Option, Result, Ok, Err, Vec}
+use Rattle.std.specs.Global.{Global}
 use Rattle.std.specs.List.{flat_map}
 use Rattle.std.specs.Io.KnownBytes.{Consumes, IsAtEnd}
 use Rattle.gas_outside.specs.Faults.{Rose}
 use Rattle.gasnet_trace.specs.TraceReading.{BadLine as BadTraceLine}
 use Rattle.gasnet_trace.specs.OutputText.{IsOutput, output_text}
 use Rattle.gasnet_trace.specs.OutputReading.{output_at}
+use Rattle.gasnet_trace.specs.declared.fault.TraceFault.{TraceFault}
+use Rattle.gasnet_trace.specs.declared.fault.TraceFault.TheVariants as tracefaults
 use Rattle.gasnet_trace.specs.declared.fault.TraceWhy.{TraceWhy}
 use Rattle.gasnet_trace.specs.declared.fault.TraceWhy.TheVariants as whys
 use Rattle.gasnet_trace.specs.declared.output.Output.{Output}
 use Rattle.gasnet_trace.specs.declared.output.Wanted.{Wanted}
 use Rattle.gasnet_trace.specs.declared.trace.Trace.{Trace}
 use Rattle.job_text.specs.JobReading.{BadLine, front_of, limit}
-use Rattle.job_text.specs.JobText.{IsJob, job_text}
+use Rattle.job_text.specs.JobText.{BeginsWith, IsJob, job_text}
+use Rattle.job_text.specs.Refusals.{FrontMeans}
 use Rattle.job_text.specs.declared.fault.JobWhy.{JobWhy}
 use Rattle.job_text.specs.declared.fault.JobWhy.TheVariants as why
 use Rattle.job_text.specs.declared.job.Job.{Job as JobState}
@@ -59,6 +63,10 @@ pub record InputText (job : JobState) (outputs : List Output) (bytes : List ℕ)
 abbrev pub IsNoInput : List ℕ → Type 0
 IsNoInput bytes = (job : JobState) (outputs : List Output) → InputText job outputs bytes → ⊥
 
+-- the traces of outputs
+abbrev pub traces_in : List Output → List Trace
+traces_in outputs = map (λ output. output.trace) outputs
+
 -- ---- reading it: the first bad line, and the first reason that applies to it
 
 -- a reason why a line of an output is bad, as a reason why one of an input is
@@ -100,19 +108,20 @@ all_of job bytes (Ok read) =
     else Ok (job, read.0)
 all_of job bytes (Err bad) = Err bad
 
--- the job at the front, with what is read behind it
-abbrev pub behind_front : (bytes : List ℕ) → Result (JobState × ℕ) BadLine → Result (JobState × List Output) BadLine
-behind_front bytes (Ok front) =
-    all_of front.0 bytes (outputs_at front.0 bytes front.1 0 front.0.settings.nodes)
-behind_front bytes (Err bad) = Err bad
+-- the job's text at the front is bad at this line
+pub record IsBadFront (bytes : List ℕ) (line : ℕ) (reason : JobWhy) : Type 0 where
+  pub read : front_of bytes ≡ Err (record { line = line; why = reason })
+  pub means : FrontMeans bytes line reason
 
--- what an input is read as
-unfoldable pub input_of : List ℕ → Result (JobState × List Output) BadLine
-input_of bytes =
-    if nat_lt input_limit (length bytes) then Err (record { line = 0; why = why.Size })
-    else behind_front bytes (front_of bytes)
+-- the bytes begin with a job's text, and an output behind it is bad at this line, or it is a line behind all outputs
+pub record IsBadBehind (bytes : List ℕ) (line : ℕ) (reason : JobWhy) : Type 0 where
+  pub job : JobState
+  pub size : ℕ
+  pub front : BeginsWith job size bytes
+  pub read : all_of job bytes (outputs_at job bytes size 0 job.settings.nodes)
+      ≡ Err (record { line = line; why = reason })
 
--- ---- what is told
+-- ---- what the readers return
 
 -- each trace's entries are of threads of the job, and they are fewer than 2^32
 pub record IsTraceOf (job : JobState) (trace : Trace) : Type 0 where
@@ -123,6 +132,45 @@ pub record IsTraceOf (job : JobState) (trace : Trace) : Type 0 where
 abbrev pub HaveTraces : JobState → List Output → Type 0
 HaveTraces job outputs = All (λ output. IsTraceOf job output.trace) outputs
 
+
+-- the fault of an output behind these bytes
+abbrev pub fault_behind : List ℕ → TraceFault → InputFault
+fault_behind before (tracefaults.Bad line reason) = faults.Bad (lines_in before + line) (why_of reason)
+fault_behind before tracefaults.NoMemory = faults.NoMemory
+
+-- where outputs are read: of the nodes of a job, from this place of the bytes on
+pub record OutputsOf : Type 0 where
+  pub job : JobState
+  pub bytes : List ℕ
+  pub from : ℕ
+
+-- they are outputs of all its nodes, which stand there, before the rest
+pub record StandThere (place : OutputsOf) (outputs : List Output) (rest : List ℕ) : Type 0 where
+  pub nodes : length outputs ≡ place.job.settings.nodes
+  pub are : AreOutputs place.job 0 outputs
+  pub text : drop place.from place.bytes ≡ outputs_text place.job.settings.version outputs ++ rest
+
+-- these were read, and they are the only ones that stand there
+pub record AreRead (place : OutputsOf) (outputs : List Output) (end : ℕ) : Type 0 where
+  pub read : outputs_at place.job place.bytes place.from 0 place.job.settings.nodes ≡ Ok (outputs, end)
+  pub there : StandThere place outputs (drop end place.bytes)
+  pub only : (others : List Output) (rest : List ℕ) → StandThere place others rest → others ≡ outputs
+  pub traces : HaveTraces place.job outputs
+  pub within : end ≤ length place.bytes
+
+-- none were read, by this line, for this reason, and none stand there
+pub record AreUnread (place : OutputsOf) (line : ℕ) (reason : JobWhy) : Type 0 where
+  pub read : outputs_at place.job place.bytes place.from 0 place.job.settings.nodes
+      ≡ Err (record { line = line; why = reason })
+  pub none : (others : List Output) (rest : List ℕ) → StandThere place others rest → ⊥
+
+-- outputs were read, or why not
+abbrev pub ReadsOutputs : OutputsOf → Result (Vec Output Global × ℕ) InputFault → Type 0
+ReadsOutputs place (Ok read) = AreRead place read.0.items read.1
+ReadsOutputs place (Err (faults.Bad line reason)) = AreUnread place line reason
+ReadsOutputs place (Err faults.ReadFault) = ⊥
+ReadsOutputs place (Err faults.NoMemory) = Unit {0}
+
 -- the bytes are an input, this one and no other
 pub record IsInput (bytes : List ℕ) (job : JobState) (outputs : List Output) : Type 0 where
   pub text : InputText job outputs bytes
@@ -132,7 +180,7 @@ pub record IsInput (bytes : List ℕ) (job : JobState) (outputs : List Output) :
 
 -- the bytes are none, by this line, for this reason
 pub record IsBadInput (bytes : List ℕ) (line : ℕ) (reason : JobWhy) : Type 0 where
-  pub read : input_of bytes ≡ Err (record { line = line; why = reason })
+  pub line_is : IsBadFront bytes line reason ⊎ IsBadBehind bytes line reason
   pub none : IsNoInput bytes
 
 -- why bytes weren't read as an input; reading them, the source doesn't fail

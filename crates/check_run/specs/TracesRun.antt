@@ -73,3 +73,8 @@ pub record AreNodesAfter (job : JobState) (traces : List Trace) (endpoints : Lis
   pub count : length endpoints ≡ length traces
   pub each : (rank : ℕ) → ForSome (slice_get endpoints rank) (λ endpoint.
       IsSomeAnd (slice_get traces rank) (λ trace. IsNodeAfter job rank trace endpoint))
+
+-- each is the node of its place
+abbrev pub AreRanked : List EndpointState → Type 0
+AreRanked endpoints =
+    (rank : ℕ) → ForSome (slice_get endpoints rank) (λ endpoint. endpoint.core.me ≡ rank)

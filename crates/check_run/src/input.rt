@@ -1,9 +1,9 @@
 //! Reading the input of a check.
 
-ghost use Rattle.std.specs.Prelude.{◌≡◌, ◌≤◌, ℕ, Ok, MatchResult, length, take};
-ghost use Rattle.gas_outside.specs.Whole.{ReadsAll};
-ghost use Rattle.gasnet_trace.specs.declared.fault.TraceFault.{TraceFault as TraceFaultState};
+ghost use Rattle.std.specs.Prelude.{◌≡◌, ◌≤◌, MatchResult, length};
+ghost use Rattle.gasnet_trace.specs.OutputReading.{IsNear};
 ghost use Rattle.check_run.specs.CheckInputs.{IsInput, IsRefused, IsUnread, TakesInput};
+ghost use Rattle.check_run.specs.CheckInputs.{ReadsOutputs, OutputsOf, fault_behind};
 ghost use Rattle.check_run.specs.CheckInputs.{lines_in, why_of};
 
 use gas_outside::{ReadAll, Source, read_all};
@@ -60,7 +60,11 @@ fn lines_in(bytes: &[u8]) -> usize
 }
 
 /// The fault of an output behind these bytes.
-fn fault_behind(before: &[u8], fault: TraceFault) -> InputFault {
+fn fault_behind(before: &[u8], fault: TraceFault) -> InputFault
+    requires few { length before.now ≤ 67108864 }
+    requires near { IsNear 67108864 fault }
+    ensures { result ≡ fault_behind before.now fault }
+{
     match fault {
         TraceFault::Bad { line, why } => InputFault::Bad {
             line: lines_in(before) as u32 + line,
@@ -76,7 +80,11 @@ fn outputs_from(
     job: &Job,
     bytes: &[u8],
     from: usize,
-) -> Result<(Vec<Output>, usize), InputFault> {
+) -> Result<(Vec<Output>, usize), InputFault>
+    requires few { length bytes.now ≤ 67108864 }
+    requires from { from ≤ length bytes.now }
+    ensures { ReadsOutputs (record { job = job.now; bytes = bytes.now; from = from }) result }
+{
     let mut outputs = Vec::new(alloc);
     let mut at = from;
     for rank in 0..job.settings.nodes() {
@@ -100,7 +108,11 @@ fn outputs_from(
 }
 
 /// The input that the bytes are.
-fn input_of(alloc: Global, bytes: &[u8]) -> Result<CheckInput, InputFault> {
+fn input_of(alloc: Global, bytes: &[u8]) -> Result<CheckInput, InputFault>
+    requires { length bytes.now ≤ 67108864 }
+    ensures { MatchResult result (λ input. IsInput bytes.now input.job input.outputs.items)
+        (IsRefused bytes.now) }
+{
     let (job, from) = match read_job_front(alloc, bytes) {
         Ok(front) => front,
         Err(JobFault::Bad { line, why }) => return Err(InputFault::Bad { line, why }),
@@ -125,7 +137,12 @@ fn input_of(alloc: Global, bytes: &[u8]) -> Result<CheckInput, InputFault> {
 ///
 /// `Bad` exactly where the bytes are no such input or more than 67,108,864, with the first bad line and the first reason that applies
 /// to it; `ReadFault` only where the source's count of faults rose, or stands at its last value; `NoMemory` where memory ran out.
-pub fn read_input<S: Source>(alloc: Global, source: &mut S) -> Result<CheckInput, InputFault> {
+pub fn read_input<S: Source>(alloc: Global, source: &mut S) -> Result<CheckInput, InputFault>
+    ensures { MatchResult result
+        (λ input. TakesInput (S.left source.old) (S.left source.new) input.job input.outputs.items)
+        (IsUnread (S.left source.old) (S.left source.new) (S.faults source.old)
+        (S.faults source.new)) }
+{
     match read_all(alloc, source, LIMIT) {
         ReadAll::Bytes(bytes) => input_of(alloc, &bytes),
         ReadAll::TooLong => Err(InputFault::Bad {

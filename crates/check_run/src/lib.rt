@@ -4,7 +4,7 @@
 //!
 //! - `read_input` [`TakesInput`, `IsUnread`]: the bytes of the source are read as a job with an output of each of its nodes exactly
 //!   where they are the text of such (`InputText`), as that; else the fault names the first bad line, counted over all of them, and
-//!   the first reason that applies to it (`input_of`), and they are the text of none; or the source failed, or memory ran out.
+//!   the first reason that applies to it (`IsBadInput`), and they are the text of none; or the source failed, or memory ran out.
 //! - `first_failed` [`IsFirstFailed`, `AreOver`] is the smallest rank of a node that ended with a status other than 0 and 1.
 //! - `run_traces` [`EndsTraces`]: it ends as `NotARun` only where the traces are no run (`AreNoRun`), with the smallest node with an
 //!   entry left at the one stuck front. Else it ends as `Done`, and what is written is the text of the run (`run_lines`: the answer of

@@ -1,5 +1,12 @@
 //! The check of the traces of a job's nodes.
 
+ghost use Rattle.std.specs.Prelude.{◌≡◌, All, length};
+ghost use Rattle.gas_outside.specs.Buffered.{outbox};
+ghost use Rattle.job_text.specs.JobText.{IsJob};
+ghost use Rattle.check_run.specs.CheckInputs.{IsTraceOf};
+ghost use Rattle.check_run.specs.TracesEnds.{EndsTraces};
+ghost use Rattle.check_run.specs.TracesRun.{AreNodesAfter, RunOfTraces};
+
 use crate::ending::{any_violation, write_ends};
 use crate::machines::merge_traces;
 use crate::replaying::{Replayed, replay_all};
@@ -39,7 +46,15 @@ fn tell_run<K: Sink>(
     traces: &[Trace],
     nodes: Vec<Endpoint>,
     sink: &mut BufferedSink<K>,
-) -> TracesEnd {
+) -> TracesEnd
+    requires job { IsJob job.now }
+    requires count { length traces.now ≡ job.now.settings.nodes }
+    requires traces { All (IsTraceOf job.now) traces.now }
+    requires run { RunOfTraces job.now traces.now }
+    requires nodes { AreNodesAfter job.now traces.now nodes.items }
+    ensures { EndsTraces job.now traces.now
+        (outbox K.taken K.faults sink.old) (outbox K.taken K.faults sink.new) result }
+{
     let most = match replay_all(alloc, job, traces, sink) {
         Replayed::Done(most) => most,
         Replayed::Fault => return TracesEnd::Fault,
@@ -62,7 +77,13 @@ pub fn run_traces<K: Sink>(
     job: &Script,
     traces: &[Trace],
     sink: &mut BufferedSink<K>,
-) -> TracesEnd {
+) -> TracesEnd
+    requires job { IsJob job.now }
+    requires count { length traces.now ≡ job.now.settings.nodes }
+    requires traces { All (IsTraceOf job.now) traces.now }
+    ensures { EndsTraces job.now traces.now
+        (outbox K.taken K.faults sink.old) (outbox K.taken K.faults sink.new) result }
+{
     match merge_traces(alloc, job, traces) {
         Ok(nodes) => tell_run(alloc, job, traces, nodes, sink),
         Err(MergeFault::NotARun { node, entry }) => TracesEnd::NotARun { node, entry },

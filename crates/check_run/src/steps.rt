@@ -1,5 +1,13 @@
 //! The turns of the entries of a trace, and the lines of the steps that end in them.
 
+ghost use Rattle.std.specs.Prelude.{◌∷◌, [], decimal};
+ghost use Rattle.gas_endpoint.specs.EndpointState.{ForItsRecord};
+ghost use Rattle.gas_outside.specs.Buffered.{GathersAll, outbox};
+ghost use Rattle.node_script.specs.AnswersTold.{NamesWhatIs, sight_at};
+ghost use Rattle.node_script.specs.AnswerWords.{answer_words};
+ghost use Rattle.node_script.specs.Lines.{line_text};
+ghost use Rattle.check_run.specs.Replaying.{CanTake, TakesEntry};
+
 use endpoint_rules::Answer;
 use gas_endpoint::Endpoint;
 use gas_outside::{BufferedSink, Sink, Wrote};
@@ -25,7 +33,13 @@ fn write_step<K: Sink>(
     answer: &Answer,
     endpoint: &Endpoint,
     sink: &mut BufferedSink<K>,
-) -> Wrote {
+) -> Wrote
+    requires { NamesWhatIs endpoint.now answer.now }
+    ensures { ForItsRecord endpoint.now (λ node.
+        GathersAll (outbox K.taken K.faults sink.old) (outbox K.taken K.faults sink.new)
+        (line_text (decimal at.rank ∷ decimal at.thread
+        ∷ answer_words (sight_at endpoint.now node) answer.now)) result) }
+{
     if let Wrote::Fault = sink.make_room(NUMBER) {
         return Wrote::Fault;
     }
@@ -40,7 +54,11 @@ pub fn take_entry<K: Sink>(
     rank: u16,
     entry: &Entry,
     sink: &mut BufferedSink<K>,
-) -> Wrote {
+) -> Wrote
+    requires { CanTake rank machine.old (entry.now ∷ []) }
+    ensures { TakesEntry rank entry.entry.now machine.old machine.new
+        (outbox K.taken K.faults sink.old) (outbox K.taken K.faults sink.new) result }
+{
     let got = match &entry.got {
         None => None,
         Some(bytes) => Some(bytes.as_slice()),

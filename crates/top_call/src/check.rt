@@ -1,5 +1,13 @@
 //! The command `check`.
 
+ghost use Rattle.std.specs.Prelude.{◌≡◌, All, length};
+ghost use Rattle.gas_outside.specs.Buffered.{outbox};
+ghost use Rattle.job_text.specs.JobText.{IsJob};
+ghost use Rattle.check_run.specs.CheckInputs.{HaveTraces, IsTraceOf};
+ghost use Rattle.top_call.specs.CheckCommand.{CheckEnds, GivesInput};
+ghost use Rattle.top_call.specs.Outsides.{Reading, input, reading_of};
+ghost use Rattle.top_call.specs.TopParts.{AreGiven, EndsBy, SaysTraces};
+
 use crate::ending::{End, Ended, Given};
 use crate::status::say;
 use check_run::{
@@ -12,7 +20,10 @@ use node_script::Script;
 use std::alloc::{AllocError, Global};
 
 /// Says the status line behind the lines of traces, and answers how the command ended.
-fn say_traces<K: Sink>(sink: &mut BufferedSink<K>, end: TracesEnd) -> Ended {
+fn say_traces<K: Sink>(sink: &mut BufferedSink<K>, end: TracesEnd) -> Ended
+    ensures { SaysTraces end (outbox K.taken K.faults sink.old)
+        (outbox K.taken K.faults sink.new) result }
+{
     match end {
         TracesEnd::Done { violated, nodes } => say(sink, End::of_run(violated), Given::nodes(nodes)),
         TracesEnd::NotARun { node, entry } => {
@@ -29,7 +40,13 @@ fn check_traces<K: Sink>(
     job: Job,
     traces: &[Trace],
     sink: &mut BufferedSink<K>,
-) -> Ended {
+) -> Ended
+    requires job { IsJob job }
+    requires count { length traces.now ≡ job.settings.nodes }
+    requires traces { All (IsTraceOf job) traces.now }
+    ensures { (reading : Reading) → AreGiven reading job traces.now → EndsBy (CheckEnds reading)
+        (outbox K.taken K.faults sink.old) (outbox K.taken K.faults sink.new) result }
+{
     match Script::new(alloc, job) {
         Ok(script) => {
             let end = run_traces(alloc, &script, traces, sink);
@@ -40,7 +57,14 @@ fn check_traces<K: Sink>(
 }
 
 /// Checks an input that was read.
-fn check_input<K: Sink>(alloc: Global, input: CheckInput, sink: &mut BufferedSink<K>) -> Ended {
+fn check_input<K: Sink>(alloc: Global, input: CheckInput, sink: &mut BufferedSink<K>) -> Ended
+    requires job { IsJob input.job }
+    requires count { length input.outputs.items ≡ input.job.settings.nodes }
+    requires traces { HaveTraces input.job input.outputs.items }
+    ensures { (reading : Reading) → GivesInput reading input.job input.outputs.items
+        → EndsBy (CheckEnds reading)
+        (outbox K.taken K.faults sink.old) (outbox K.taken K.faults sink.new) result }
+{
     let CheckInput { job, outputs } = input;
     if let Some(Failed { rank, code }) = first_failed(&outputs) {
         return say(sink, End::Child { rank, code }, Given::nothing());
@@ -57,7 +81,11 @@ pub fn check_command<S: Source, K: Sink>(
     alloc: Global,
     source: &mut S,
     sink: &mut BufferedSink<K>,
-) -> Ended {
+) -> Ended
+    ensures { EndsBy
+        (CheckEnds (reading_of (input S.left S.faults source.old) (input S.left S.faults source.new)))
+        (outbox K.taken K.faults sink.old) (outbox K.taken K.faults sink.new) result }
+{
     match read_input(alloc, source) {
         Ok(input) => check_input(alloc, input, sink),
         Err(InputFault::Bad { line, why }) => {

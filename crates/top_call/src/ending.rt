@@ -2,7 +2,7 @@
 
 ghost use Rattle.std.specs.Prelude.{◌≡◌};
 ghost use Rattle.top_call.specs.Commands.{code_of, end_of, why_word};
-ghost use Rattle.top_call.specs.HowEnds.{node_given, nothing, world_given};
+ghost use Rattle.top_call.specs.HowEnds.{node_given, nodes_given, nothing, world_given};
 ghost use Rattle.top_call.specs.TopParts.{cut};
 
 use gas_endpoint::Endpoint;
@@ -128,7 +128,9 @@ impl Given {
     }
 
     /// These nodes.
-    pub fn nodes(nodes: Vec<Endpoint>) -> Given {
+    pub fn nodes(nodes: Vec<Endpoint>) -> Given
+        ensures { result ≡ nodes_given nodes }
+    {
         Given {
             world: None,
             node: None,

@@ -1,0 +1,5 @@
+pub mod Names
+pub mod Polling
+pub mod Going
+pub mod Merged
+pub mod Inputs
