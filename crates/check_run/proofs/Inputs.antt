@@ -19,7 +19,7 @@ use Rattle.job_text.specs.declared.fault.JobWhy.{JobWhy}
 use Rattle.job_text.specs.declared.fault.JobWhy.TheVariants as why
 use Rattle.job_text.specs.declared.job.Job.{Job as JobState}
 use Rattle.check_run.specs.CheckInputs.{AreOutputs, AreRead, AreUnread, HaveTraces, InputText, IsBadInput, IsInput}
-use Rattle.check_run.specs.CheckInputs.{IsTraceOf, OutputsOf, OutputsRead, StandThere, all_of, bad_behind}
+use Rattle.check_run.specs.CheckInputs.{IsTraceOf, OutputsOf, OutputsRead, StandThere, after_output, all_of, bad_behind}
 use Rattle.check_run.specs.CheckInputs.{input_limit, lines_in, outputs_at, outputs_text, wanted_of, why_of, with_outputs}
 
 -- ---- outputs
@@ -87,13 +87,15 @@ outputs_next : (job : JobState) (bytes : List ℕ) (at rank count : ℕ) (output
     → outputs_at job bytes at rank (suc count)
     ≡ with_outputs (output ∷ []) (outputs_at job bytes (length bytes - length rest) (rank + 1) count)
 unfolding outputs_at
-outputs_next job bytes at rank count output rest read = rw read refl
+outputs_next job bytes at rank count output rest read =
+    ap (after_output bytes at (λ next. outputs_at job bytes next (rank + 1) count)) read
 
 outputs_bad : (job : JobState) (bytes : List ℕ) (at rank count : ℕ) (bad : BadTraceLine)
     → output_at (wanted_of job rank) (drop at bytes) ≡ Err bad
     → outputs_at job bytes at rank (suc count) ≡ Err (bad_behind (take at bytes) bad)
 unfolding outputs_at
-outputs_bad job bytes at rank count bad read = rw read refl
+outputs_bad job bytes at rank count bad read =
+    ap (after_output bytes at (λ next. outputs_at job bytes next (rank + 1) count)) read
 
 -- before the first one
 pub read_start : (place : OutputsOf) → place.from ≤ length place.bytes → ReadSoFar place [] 0 place.from

@@ -3,3 +3,5 @@ pub mod Polling
 pub mod Going
 pub mod Merged
 pub mod Inputs
+pub mod Turning
+pub mod Ends

@@ -340,6 +340,13 @@ form_handles (Looks begin ready) after None sound begun none = tt
 form_handles (Looks begin ready) after (Some answer) sound begun none =
     sound answer after (not_true (ready answer after) (waited (not (ready answer after)) answer none))
 
+-- what is left where a try ended nothing
+abbrev left_then : (action : ScriptStep) → (rest : List ScriptStep) → (begins_it : Bool) → (first answer : Option Answer)
+    → Progress ScriptStep
+left_then action rest begins_it first answer =
+    if begins_it && is_none first then record { left = action ∷ rest; began = answer }
+    else record { left = action ∷ rest; began = first }
+
 -- the script after a try
 progress_handles : (form : Form EndpointLocal) (action : ScriptStep) (rest : List ScriptStep) (began : Option Answer)
     (after : Node EndpointLocal) (answer : Option Answer) → BeginsByHandle form
@@ -350,8 +357,7 @@ progress_handles form action rest began after answer sound handle = by_end (ende
   where
     by_begin : (begins_it : Bool) → begins form ≡ begins_it → (first : Option Answer) → began ≡ first
         → ended_by form began after answer ≡ None
-        → IfSome (if begins_it && is_none first then (record { left = action ∷ rest; began = answer })
-        else (record { left = action ∷ rest; began = first })).began
+        → IfSome (left_then action rest begins_it first answer).began
         (λ first. is_some (begun_handle first) ≡ true)
     by_begin true is None none ended =
         form_handles form after answer sound is

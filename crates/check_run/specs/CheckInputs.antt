@@ -93,13 +93,18 @@ abbrev pub with_outputs : List Output → OutputsRead → OutputsRead
 with_outputs outputs (Ok read) = Ok (outputs ++ read.0, read.1)
 with_outputs outputs (Err bad) = Err bad
 
+-- an output was read at this place of the bytes, and more are from where it ends on; or not
+abbrev pub after_output : (bytes : List ℕ) → (at : ℕ) → (more : ℕ → OutputsRead)
+    → Result (Output × List ℕ) BadTraceLine → OutputsRead
+after_output bytes at more (Ok read) = with_outputs (read.0 ∷ []) (more (length bytes - length read.1))
+after_output bytes at more (Err bad) = Err (bad_behind (take at bytes) bad)
+
 -- the outputs of so many nodes from this rank on, which begin at this place of the bytes, and where they end
 unfoldable pub outputs_at : JobState → (bytes : List ℕ) → (at rank count : ℕ) → OutputsRead
 outputs_at job bytes at rank zero = Ok ([], at)
-outputs_at job bytes at rank (suc count) = elim (output_at (wanted_of job rank) (drop at bytes)) [
-  | Ok read ↦ with_outputs (read.0 ∷ []) (outputs_at job bytes (length bytes - length read.1) (rank + 1) count)
-  | Err bad ↦ Err (bad_behind (take at bytes) bad)
-]
+outputs_at job bytes at rank (suc count) =
+    after_output bytes at (λ next. outputs_at job bytes next (rank + 1) count)
+    (output_at (wanted_of job rank) (drop at bytes))
 
 -- the job and the outputs, where no byte stands behind them
 abbrev pub all_of : JobState → (bytes : List ℕ) → OutputsRead → Result (JobState × List Output) BadLine

@@ -1,6 +1,6 @@
 //! The turns of the entries of a trace, and the lines of the steps that end in them.
 
-ghost use Rattle.std.specs.Prelude.{◌∷◌, [], decimal};
+ghost use Rattle.std.specs.Prelude.{◌≡◌, ◌∷◌, [], decimal, option_copied};
 ghost use Rattle.gas_endpoint.specs.EndpointState.{ForItsRecord};
 ghost use Rattle.gas_outside.specs.Buffered.{GathersAll, outbox};
 ghost use Rattle.node_script.specs.AnswersTold.{NamesWhatIs, sight_at};
@@ -11,12 +11,10 @@ ghost use Rattle.check_run.specs.Replaying.{CanTake, TakesEntry};
 use endpoint_rules::Answer;
 use gas_endpoint::Endpoint;
 use gas_outside::{BufferedSink, Sink, Wrote};
+use itoa::Buffer;
 use machine::{Entry, Machine};
 use node_machine::NodeMachine;
 use node_script::write_answer;
-
-/// Room for a number and a space.
-const NUMBER: usize = 32;
 
 /// Which step's answer it is.
 #[derive(Clone, Copy, Debug)]
@@ -40,12 +38,24 @@ fn write_step<K: Sink>(
         (line_text (decimal at.rank ∷ decimal at.thread
         ∷ answer_words (sight_at endpoint.now node) answer.now)) result) }
 {
-    if let Wrote::Fault = sink.make_room(NUMBER) {
+    let mut rank_text = Buffer::new();
+    if let Wrote::Fault = sink.write_all(rank_text.format(at.rank).as_bytes()) {
         return Wrote::Fault;
     }
-    sink.put_number(u64::from(at.rank));
-    sink.put(b" ");
+    if let Wrote::Fault = sink.write_all(b" ") {
+        return Wrote::Fault;
+    }
     write_answer(u64::from(at.thread), answer, endpoint, sink)
+}
+
+/// The datagram that an entry got, if it got one.
+fn got_of(entry: &Entry) -> Option<&[u8]>
+    ensures { option_copied result ≡ entry.entry.now.got }
+{
+    match &entry.got {
+        None => None,
+        Some(bytes) => Some(bytes.as_slice()),
+    }
 }
 
 /// Takes the turn of an entry of the node's trace, and writes the line of the step that ended in it, if one did.
@@ -59,11 +69,7 @@ pub fn take_entry<K: Sink>(
     ensures { TakesEntry rank entry.entry.now machine.old machine.new
         (outbox K.taken K.faults sink.old) (outbox K.taken K.faults sink.new) result }
 {
-    let got = match &entry.got {
-        None => None,
-        Some(bytes) => Some(bytes.as_slice()),
-    };
-    let turned = machine.turn(entry.thread, entry.now, got);
+    let turned = machine.turn(entry.thread, entry.now, got_of(entry));
     if !turned.stepped {
         return Wrote::Done;
     }
