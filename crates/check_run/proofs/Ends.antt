@@ -9,8 +9,10 @@ use Rattle.std.proofs.lemmas.Option.{get_or_from_slice_get, same_Some, slice_get
 use Rattle.std.proofs.Common.{inl, inr}
 use Rattle.datagram_grammar.specs.Parameters.{Parameters}
 use Rattle.gas_endpoint.specs.EndpointState.{EndpointState, EndpointStands, ForItsRecord}
-use Rattle.gas_outside.specs.Buffered.{Outbox, GathersAll}
+use Rattle.gas_outside.specs.Buffered.{Outbox, GathersAll, GathersFront, GathersUpTo}
 use Rattle.gas_outside.specs.declared.writing.Wrote.{Wrote}
+use Rattle.gas_outside.specs.declared.writing.Wrote.TheVariants as wrote
+use Rattle.gas_outside.proofs.Outboxes.{past_done, past_fault}
 use Rattle.gasnet_trace.specs.declared.output.Output.{Output}
 use Rattle.gasnet_trace.specs.declared.trace.Trace.{Trace}
 use Rattle.job_text.specs.declared.job.Job.{Job as JobState}
@@ -60,14 +62,14 @@ node_of job traces endpoints rank endpoint nodes there =
 
 -- its lines, which its endpoint gives
 pub end_written : (job : JobState) (traces : List Trace) (all : List ℕ) (rank : ℕ) (trace : Trace)
-    (endpoint : EndpointState) (before after : Outbox) (wrote : Wrote)
+    (endpoint : EndpointState) (before after : Outbox) (said : Wrote)
     → AreMost job 0 traces all → slice_get traces rank ≡ Some trace → IsNodeAfter job rank trace endpoint
     → ForItsRecord endpoint (λ node. GathersAll before after
-    (spell (lines_of_node endpoint.core.settings rank (get_or all rank 0) node)) wrote)
-    → GathersAll before after (spell (end_lines job rank trace)) wrote
-end_written job traces all rank trace endpoint before after wrote most there node written =
+    (spell (lines_of_node endpoint.core.settings rank (get_or all rank 0) node)) said)
+    → GathersAll before after (spell (end_lines job rank trace)) said
+end_written job traces all rank trace endpoint before after said most there node written =
     let Lines : Parameters → ℕ → Type 0 = λ settings held.
-    GathersAll before after (spell (lines_of_node settings rank held (last_record job rank trace.entries))) wrote in
+    GathersAll before after (spell (lines_of_node settings rank held (last_record job rank trace.entries))) said in
     let same : 0 + rank ≡ rank = omega arith in
     let is = most_at job 0 traces rank trace all most there ∙ ap (λ n. most_held job n trace.entries) same in
     subst (Lines job.settings) is
@@ -86,6 +88,35 @@ next_ends job traces rank trace there =
 pub no_ends : (job : JobState) (traces : List Trace) (rank : ℕ) → length traces ≤ rank
     → spell (ends_from job rank (drop rank traces)) ≡ []
 no_ends job traces rank all = ap (λ (left : List Trace). spell (ends_from job rank left)) (drop_all rank traces all)
+
+-- a front of the lines of a node went in behind those of the nodes before it
+pub ends_fault : (job : JobState) (traces : List Trace) (all : List ℕ) (rank : ℕ) (trace : Trace)
+    (endpoint : EndpointState) (start before after : Outbox)
+    → AreMost job 0 traces all → slice_get traces rank ≡ Some trace → IsNodeAfter job rank trace endpoint
+    → GathersUpTo start before (spell (ends_from job 0 traces)) (spell (ends_from job rank (drop rank traces)))
+    → ForItsRecord endpoint (λ node. GathersAll before after
+    (spell (lines_of_node endpoint.core.settings rank (get_or all rank 0) node)) wrote.Fault)
+    → GathersFront start after (spell (ends_from job 0 traces))
+ends_fault job traces all rank trace endpoint start before after most there node said written =
+    past_fault start before after (spell (ends_from job 0 traces)) (spell (end_lines job rank trace))
+    (spell (ends_from job (rank + 1) (drop (rank + 1) traces))) (spell (ends_from job rank (drop rank traces)))
+    (next_ends job traces rank trace there) said
+    (end_written job traces all rank trace endpoint before after wrote.Fault most there node written)
+
+-- all of them did
+pub ends_done : (job : JobState) (traces : List Trace) (all : List ℕ) (rank : ℕ) (trace : Trace)
+    (endpoint : EndpointState) (start before after : Outbox)
+    → AreMost job 0 traces all → slice_get traces rank ≡ Some trace → IsNodeAfter job rank trace endpoint
+    → GathersUpTo start before (spell (ends_from job 0 traces)) (spell (ends_from job rank (drop rank traces)))
+    → ForItsRecord endpoint (λ node. GathersAll before after
+    (spell (lines_of_node endpoint.core.settings rank (get_or all rank 0) node)) wrote.Done)
+    → GathersUpTo start after (spell (ends_from job 0 traces))
+    (spell (ends_from job (rank + 1) (drop (rank + 1) traces)))
+ends_done job traces all rank trace endpoint start before after most there node said written =
+    past_done start before after (spell (ends_from job 0 traces)) (spell (end_lines job rank trace))
+    (spell (ends_from job (rank + 1) (drop (rank + 1) traces))) (spell (ends_from job rank (drop rank traces)))
+    (next_ends job traces rank trace there) said
+    (end_written job traces all rank trace endpoint before after wrote.Done most there node written)
 
 -- ---- violations
 

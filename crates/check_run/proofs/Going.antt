@@ -17,8 +17,9 @@ use Rattle.node_script.specs.Lines.{Line, spell}
 use Rattle.world_run.specs.LinesWritten.{LinesUpTo}
 use Rattle.world_run.specs.declared.said.Said.TheVariants as said
 use Rattle.world_run.proofs.LinesWritten.{no_lines_yet, lines_done, lines_all, lines_said}
-use Rattle.check_run.specs.Replaying.{AreMost, CanTake, IsNodeAt, MayTakeAll, ScriptedNode, TakesEntry, entry_lines}
+use Rattle.check_run.specs.Replaying.{AreMost, CanTake, IsNodeAt, MayReplay, MayTakeAll, ScriptedNode, TakesEntry, entry_lines}
 use Rattle.check_run.specs.StepLines.{after_entry, most_held, step_lines, steps_from}
+use Rattle.check_run.specs.TracesRun.{first_machine}
 
 -- ---- the entries of a node
 
@@ -161,3 +162,50 @@ most_at job rank (first ∷ traces) zero trace (most ∷ all) are there =
 most_at job rank (first ∷ traces) (suc place) trace (most ∷ all) are there =
     let same : (rank + 1) + place ≡ rank + suc place = omega arith in
     most_at job (rank + 1) traces place trace all are.1 there ∙ ap (λ n. most_held job n trace.entries) same
+
+-- a front of the text of a node's lines went in behind those of the nodes before it
+pub steps_fault : (job : JobState) (traces : List Trace) (rank : ℕ) (trace : Trace) (start before after : Outbox)
+    → slice_get traces rank ≡ Some trace
+    → LinesUpTo start before (steps_from job 0 traces) (steps_from job rank (drop rank traces))
+    → GathersFront before after (spell (step_lines job rank (first_machine job rank) trace.entries))
+    → GathersFront start after (spell (steps_from job 0 traces))
+steps_fault job traces rank trace start before after there lines front =
+    lines_said start before after (steps_from job 0 traces) (steps_from job rank (drop rank traces))
+    (step_lines job rank (first_machine job rank) trace.entries) (steps_from job (rank + 1) (drop (rank + 1) traces))
+    said.Fault (λ same. absurd (cc)) (ap (steps_from job rank) (next_trace traces rank trace there)) lines front
+
+-- whole lines did
+pub steps_halfway : (job : JobState) (traces : List Trace) (rank : ℕ) (trace : Trace) (start before after : Outbox)
+    → slice_get traces rank ≡ Some trace
+    → LinesUpTo start before (steps_from job 0 traces) (steps_from job rank (drop rank traces))
+    → (rest : List Line) × LinesUpTo before after (step_lines job rank (first_machine job rank) trace.entries) rest
+    → (rest : List Line) × LinesUpTo start after (steps_from job 0 traces) rest
+steps_halfway job traces rank trace start before after there lines some =
+    lines_said start before after (steps_from job 0 traces) (steps_from job rank (drop rank traces))
+    (step_lines job rank (first_machine job rank) trace.entries) (steps_from job (rank + 1) (drop (rank + 1) traces))
+    said.NoMemory (λ same. absurd (cc)) (ap (steps_from job rank) (next_trace traces rank trace there)) lines some
+
+-- all its lines did
+pub steps_done : (job : JobState) (traces : List Trace) (rank : ℕ) (trace : Trace) (start before after : Outbox)
+    → slice_get traces rank ≡ Some trace
+    → LinesUpTo start before (steps_from job 0 traces) (steps_from job rank (drop rank traces))
+    → Gathers before after (spell (step_lines job rank (first_machine job rank) trace.entries))
+    → LinesUpTo start after (steps_from job 0 traces) (steps_from job (rank + 1) (drop (rank + 1) traces))
+steps_done job traces rank trace start before after there lines all =
+    lines_done start before after (steps_from job 0 traces) (steps_from job rank (drop rank traces))
+    (step_lines job rank (first_machine job rank) trace.entries) (steps_from job (rank + 1) (drop (rank + 1) traces))
+    (ap (steps_from job rank) (next_trace traces rank trace there)) lines all
+
+-- those of all nodes did
+pub steps_all : (job : JobState) (traces : List Trace) (rank : ℕ) (start after : Outbox) → length traces ≤ rank
+    → LinesUpTo start after (steps_from job 0 traces) (steps_from job rank (drop rank traces))
+    → Gathers start after (spell (steps_from job 0 traces))
+steps_all job traces rank start after all lines =
+    lines_all start after (steps_from job 0 traces) (steps_from job rank (drop rank traces))
+    (ap (steps_from job rank) (drop_all rank traces all)) lines
+
+-- the entries of the next node may be taken
+pub may_next : (job : JobState) (traces : List Trace) (rank : ℕ) (trace : Trace) → slice_get traces rank ≡ Some trace
+    → MayReplay job rank (drop rank traces)
+    → MayTakeAll job rank (first_machine job rank) trace.entries × MayReplay job (rank + 1) (drop (rank + 1) traces)
+may_next job traces rank trace there may = subst (MayReplay job rank) (next_trace traces rank trace there) may

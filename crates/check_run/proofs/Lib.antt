@@ -1,5 +1,8 @@
 pub mod Names
 pub mod Polling
+pub mod Pushed
+pub mod Greater
+pub mod StepText
 pub mod Going
 pub mod Merged
 pub mod Inputs

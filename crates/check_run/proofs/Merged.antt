@@ -1,21 +1,25 @@
 -- What a merge of the machines of a job's nodes says of their traces.
 use Rattle.std.proofs.Common.{◌≡◌, ℕ, zero, suc, ◌+◌, ◌<◌, ◌≤◌, List, [], ◌∷◌, length, map, take, Option, Some, None}
 use Rattle.std.proofs.Common.{refl, sym, ap, ap₂, subst, ◌∙◌, arith, slice_get, slice_index, IsSomeAnd, take_all}
-use Rattle.std.specs.Prelude.{All}
+use Rattle.std.specs.Prelude.{All, Result, Ok, Err, Vec}
+use Rattle.std.specs.Global.{Global}
+use Rattle.std.specs.Result.{IsErrOf}
 use Rattle.std.specs.Option.{ForSome, option_map}
 use Rattle.std.proofs.lemmas.List.{length-map}
 use Rattle.std.proofs.lemmas.Option.{same_Some, slice_get-map, slice_get_within}
 use Rattle.handler_rules.specs.declared.table.Entry.{Entry as TableEntry}
 use Rattle.datagram_grammar.specs.Parameters.{Parameters}
 use Rattle.gas_endpoint.specs.EndpointState.{EndpointState, EndpointStands, IsNodeOf}
-use Rattle.gasnet_trace.specs.Merged.{AreReplays, HaveThreads, IsOrder, StandFor, nodes_of}
+use Rattle.gasnet_trace.specs.Merged.{AreReplays, HaveThreads, IsOrder, Merges, StandFor, nodes_of}
+use Rattle.gasnet_trace.specs.declared.merging.MergeFault.{MergeFault}
+use Rattle.gasnet_trace.specs.declared.merging.MergeFault.TheVariants as faults
 use Rattle.gasnet_trace.specs.declared.trace.Placed.{Placed}
 use Rattle.gasnet_trace.specs.declared.trace.Trace.{Trace}
 use Rattle.job_text.specs.JobText.{IsJob}
 use Rattle.job_text.specs.declared.job.Job.{Job as JobState}
 use Rattle.machine.specs.declared.entry.Entry.{Entry}
 use Rattle.machine.specs.declared.turns.Machine.{Ghosts}
-use Rattle.machine.specs.Fronts.{Node, Reaches, full, replay}
+use Rattle.machine.specs.Fronts.{Node, IsRun, Reaches, full, replay}
 use Rattle.machine.specs.Replay.{replayed}
 use Rattle.node_machine.specs.Kept.{MachineKept, are_done, polls_at}
 use Rattle.node_machine.specs.Laws.{AreTracesARun, NodesOpen, opening_node}
@@ -28,12 +32,12 @@ use Rattle.node_runs.specs.WorldRun.{opening_machines}
 use Rattle.node_script.specs.Registration.{registered}
 use Rattle.endpoint_rules.specs.EndpointLocal.{EndpointLocal}
 use Rattle.check_run.specs.CheckInputs.{IsTraceOf}
-use Rattle.check_run.specs.Merging.{AreEndpointsOf, AreFirstMachines, IsOfItsJob}
+use Rattle.check_run.specs.Merging.{AreEndpointsOf, AreFirstMachines, IsMerged, IsOfItsJob, MergesTraces}
 use Rattle.check_run.specs.Replaying.{ScriptedNode, node_state}
 use Rattle.check_run.specs.StepLines.{after_entry}
-use Rattle.check_run.specs.TracesRun.{AreNodesAfter, IsNodeAfter, RunOfTraces, entries_of, first_machine, first_nodes}
+use Rattle.check_run.specs.TracesRun.{AreNoRun, AreNodesAfter, IsNodeAfter, RunOfTraces, entries_of, first_machine, first_nodes}
 use Rattle.check_run.specs.TracesRun.{last_record}
-use Rattle.check_run.proofs.Polling.{All-at, full_at, some_from}
+use Rattle.check_run.proofs.Polling.{All-at, full_at, run_may, some_from}
 
 -- the machines of nodes: their states are those of `node_machine`
 abbrev pub node_machines : Ghosts MachineKept
@@ -98,6 +102,23 @@ pub first_same : (job : JobState) (machines : List MachineKept) (traces : List T
     → nodes_of (states_from job 0 (length machines)) traces ≡ first_nodes job traces
 first_same job machines traces same =
     ap (λ count. nodes_of (states_from job 0 count) traces) (sym same) ∙ nodes_same job 0 traces
+
+-- what a merge that came to a front answers, where the code's machines stand for these nodes
+abbrev pub Fronts : (machines : List MachineKept) (traces : List Trace) → (then_ : List MachineKept)
+    → Result (Vec Placed Global) MergeFault → Type 0
+Fronts machines traces then_ answer =
+    (front : List ℕ) × ((states : List NodeState) → StandFor node_machines machines states
+    → Merges node_machines (nodes_of states traces) front answer then_)
+
+-- so it is of the nodes of the job
+merged_first : (job : JobState) (traces : List Trace) (machines then_ : List MachineKept)
+    (answer : Result (Vec Placed Global) MergeFault) → AreFirstMachines job machines → length traces ≡ length machines
+    → (front : Fronts machines traces then_ answer)
+    → Merges node_machines (first_nodes job traces) front.0 answer then_
+merged_first job traces machines then_ answer first same front =
+    subst (λ (nodes : List (Node NodeState)). Merges node_machines nodes front.0 answer then_)
+    (first_same job machines traces same)
+    (front.1 (states_from job 0 (length machines)) (first_stand job machines first))
 
 -- ---- after it
 
@@ -178,3 +199,54 @@ nodes_after opens job traces machines endpoints count replays are = record {
         subst (λ (one : EndpointState). IsSomeAnd (slice_get traces rank) (λ trace. IsNodeAfter job rank trace one))
         (same_Some machine.endpoint endpoint same)
         (node_after opens job traces machines rank machine replays (are.nodes rank machine at) at)
+
+-- ---- what is answered
+
+-- they are a run
+pub merged_run : AreTracesARun → NodesOpen → (job : JobState) (traces : List Trace) (machines then_ : List MachineKept)
+    (placed : Vec Placed Global) (endpoints : List EndpointState) → IsJob job → length traces ≡ job.settings.nodes
+    → All (IsTraceOf job) traces → AreFirstMachines job machines → Fronts machines traces then_ (Ok placed)
+    → length then_ ≡ length machines → AreEndpointsOf then_ endpoints → IsMerged job traces endpoints
+merged_run law opens job traces machines then_ placed endpoints is count are first front kept ends =
+    let same : length traces ≡ length machines = omega (arith, count, first.count) in
+    let merges = merged_first job traces machines then_ (Ok placed) first same front in
+    let run = order_run law job traces front.0 placed.items is (omega (arith, count)) merges.answers in
+    let replays = subst (λ (at : List ℕ). AreReplays node_machines (first_nodes job traces) at then_) merges.answers.all
+    merges.replays in
+    let as_many : length then_ ≡ length traces = omega (arith, kept, same) in
+    record {
+      run = run;
+      nodes_after = nodes_after opens job traces then_ endpoints as_many replays ends;
+      may = run_may opens job traces are run;
+    }
+
+-- they are none
+pub merged_none : (job : JobState) (traces : List Trace) (machines then_ : List MachineKept) (node entry : ℕ)
+    → length traces ≡ job.settings.nodes → AreFirstMachines job machines
+    → Fronts machines traces then_ (Err (faults.NotARun node entry))
+    → ((states : List NodeState) → StandFor node_machines machines states
+    → IsRun state_steps (nodes_of states traces) → ⊥)
+    → AreNoRun job traces node entry
+merged_none job traces machines then_ node entry count first front none =
+    let same : length traces ≡ length machines = omega (arith, count, first.count) in
+    let answers = (merged_first job traces machines then_ (Err (faults.NotARun node entry)) first same front).answers in
+    record {
+      front = front.0;
+      stuck = answers.0;
+      first = answers.1;
+      entry_is = answers.2;
+      none = λ run. none (states_from job 0 (length machines)) (first_stand job machines first)
+          (subst (IsRun state_steps) (sym (first_same job machines traces same)) run);
+    }
+
+-- so of either
+pub merged_err : (job : JobState) (traces : List Trace) (machines then_ : List MachineKept) (fault : MergeFault)
+    → length traces ≡ job.settings.nodes → AreFirstMachines job machines → Fronts machines traces then_ (Err fault)
+    → ((states : List NodeState) → StandFor node_machines machines states → (node entry : ℕ)
+    → IsErrOf (Err {T = Vec Placed Global} fault) (faults.NotARun node entry)
+    → IsRun state_steps (nodes_of states traces) → ⊥)
+    → MergesTraces job traces (Err fault)
+merged_err job traces machines then_ (faults.NotARun node entry) count first front none =
+    merged_none job traces machines then_ node entry count first front
+    (λ states stand run. none states stand node entry refl run)
+merged_err job traces machines then_ faults.NoMemory count first front none = tt

@@ -1,7 +1,8 @@
 -- What the code's machine is after the turn of an entry, and what is told of the step that ended in it.
 use Rattle.std.proofs.Common.{◌≡◌, ℕ, Bool, true, false, ◌||◌, not, List, [], ◌∷◌, Option, Some, None, refl, sym, ap, subst}
 use Rattle.std.proofs.Common.{◌∙◌, decimal, append-nil}
-use Rattle.std.specs.Prelude.{is_some, if◌then◌else◌, IfSome}
+use Rattle.std.specs.Prelude.{is_some, if◌then◌else◌, IfSome, option_copied}
+use Rattle.std.specs.Borrow.{Bor}
 use Rattle.std.proofs.lemmas.Bool.{false≢true, true≢false}
 use Rattle.datagram_grammar.specs.Parameters.{Parameters}
 use Rattle.gas_outside.specs.Buffered.{Outbox, Gathers, GathersAll}
@@ -17,6 +18,7 @@ use Rattle.machine.specs.declared.entry.Entry.{Entry}
 use Rattle.machine.specs.declared.turns.Turned.{Turned}
 use Rattle.node_machine.specs.Kept.{MachineKept, polls_at}
 use Rattle.node_machine.specs.NodeState.{NodeState, NodeStands, after_turn, turned, script_job}
+use Rattle.node_record.specs.Held.{held}
 use Rattle.node_runs.specs.Turn.{is_some_there, try_of, turn}
 use Rattle.node_script.specs.AnswersTold.{NamesWhatIs, sight_at}
 use Rattle.node_script.specs.AnswerWords.{answer_words, sight_of}
@@ -42,6 +44,11 @@ pub threads_so : (job : JobState) (rank : ℕ) (machine : ScriptedNode) (kept : 
     → IsNodeAt job rank machine kept → job.settings.threads ≡ kept.job.settings.threads
 threads_so job rank machine kept is = ap (λ (one : JobState). one.settings.threads) is.stands.job_is
 
+-- what is read of a reference is there where it is
+pub some_copied : {A : Type 0} (found : Option (Bor A)) → is_some (option_copied found) ≡ is_some found
+some_copied None = refl
+some_copied (Some it) = refl
+
 -- ---- after it
 
 -- a turn of the code's machine is that of whatever state it stood for
@@ -49,6 +56,24 @@ abbrev pub Turns : Entry → (old new : MachineKept) → Turned → Type 0
 Turns entry old new told =
     ((state : NodeState) → NodeStands old state → NodeStands new (after_turn state entry.thread entry.now entry.got))
     × ((state : NodeState) → NodeStands old state → told ≡ turned state entry.thread entry.now entry.got)
+
+-- so it is where what the turn got is what the entry got
+pub turns_of : (entry : Entry) (old new : MachineKept) (told : Turned) (got : Option (List ℕ)) → got ≡ entry.got
+    → ((state : NodeState) → NodeStands old state → NodeStands new (after_turn state entry.thread entry.now got))
+    → ((state : NodeState) → NodeStands old state → told ≡ turned state entry.thread entry.now got)
+    → Turns entry old new told
+turns_of entry old new told got is after tells =
+    subst (λ (it : Option (List ℕ)).
+    ((state : NodeState) → NodeStands old state → NodeStands new (after_turn state entry.thread entry.now it))
+    × ((state : NodeState) → NodeStands old state → told ≡ turned state entry.thread entry.now it)) is (after, tells)
+
+pub is_false : (b : Bool) → not b ≡ true → b ≡ false
+is_false true is = absurd (false≢true is)
+is_false false is = refl
+
+pub is_true : (b : Bool) → not b ≡ false → b ≡ true
+is_true true is = refl
+is_true false is = absurd (true≢false is)
 
 -- it is the node after the entry
 node_then : (job : JobState) (rank : ℕ) (machine : ScriptedNode) (entry : Entry) (old new : MachineKept) (told : Turned)
@@ -167,3 +192,17 @@ one_ended rank entry old new told endpoint answer before after wrote turns some 
       (record { rank = rank; thread = entry.thread }) record_ found)) wrote) (sym ended)
       (subst (λ (bytes : List ℕ). GathersAll before after bytes wrote) (sym whole) line),
     )
+
+-- ---- what a node holds
+
+pub held_so : (job : JobState) (rank : ℕ) (machine : ScriptedNode) (kept : MachineKept) (endpoint : EndpointState)
+    (value : ℕ) → IsNodeAt job rank machine kept → endpoint ≡ kept.endpoint
+    → IsNodeOf kept.job.settings (registered kept.job.handlers).table endpoint.core.me endpoint
+    → ForItsRecord endpoint (λ node. value ≡ held endpoint.core.settings endpoint.core.me node)
+    → value ≡ held job.settings rank machine.node
+held_so job rank machine kept endpoint value is same node holds =
+    let stands = subst (λ (one : EndpointState). EndpointStands one machine.node) (sym same) is.stands.node in
+    let settings = settings_so job rank machine kept endpoint is same node in
+    let me : endpoint.core.me ≡ rank = ap (λ (one : EndpointState). one.core.me) same ∙ sym is.stands.me_is in
+    holds machine.node stands ∙ ap (λ (s : Parameters). held s endpoint.core.me machine.node) settings
+    ∙ ap (λ n. held job.settings n machine.node) me

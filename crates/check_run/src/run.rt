@@ -4,8 +4,8 @@ ghost use Rattle.std.specs.Prelude.{◌≡◌, All, length};
 ghost use Rattle.gas_outside.specs.Buffered.{outbox};
 ghost use Rattle.job_text.specs.JobText.{IsJob};
 ghost use Rattle.check_run.specs.CheckInputs.{IsTraceOf};
+ghost use Rattle.check_run.specs.Merging.{IsMerged};
 ghost use Rattle.check_run.specs.TracesEnds.{EndsTraces};
-ghost use Rattle.check_run.specs.TracesRun.{AreNodesAfter, RunOfTraces};
 
 use crate::ending::{any_violation, write_ends};
 use crate::machines::merge_traces;
@@ -50,8 +50,7 @@ fn tell_run<K: Sink>(
     requires job { IsJob job.now }
     requires count { length traces.now ≡ job.now.settings.nodes }
     requires traces { All (IsTraceOf job.now) traces.now }
-    requires run { RunOfTraces job.now traces.now }
-    requires nodes { AreNodesAfter job.now traces.now nodes.items }
+    requires merged { IsMerged job.now traces.now nodes.items }
     ensures { EndsTraces job.now traces.now
         (outbox K.taken K.faults sink.old) (outbox K.taken K.faults sink.new) result }
 {

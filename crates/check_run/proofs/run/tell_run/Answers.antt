@@ -1,7 +1,7 @@
 use Rattle.check_run.proofs.run.tell_run.Goals as goal
 
 pub replay_all-requires : goal.replay_all-requires
-replay_all-requires g c = ?
+replay_all-requires g c = record { job = c.requires.job; count = c.requires.count; may = c.requires.merged.may }
 
 pub write_ends-requires : goal.write_ends-requires
 write_ends-requires g c = ?
@@ -12,8 +12,8 @@ returns-in-Fault g c = ?
 pub returns-in-NoMemory : goal.returns-in-NoMemory
 returns-in-NoMemory g c = ?
 
-pub returns-in-Done : goal.returns-in-Done
-returns-in-Done g c = ?
+pub returns-in-Done-write_ends : goal.returns-in-Done-write_ends
+returns-in-Done-write_ends g c = ?
 
-pub returns-in-Fault-2 : goal.returns-in-Fault-2
-returns-in-Fault-2 g c = ?
+pub returns-in-Fault-write_ends : goal.returns-in-Fault-write_ends
+returns-in-Fault-write_ends g c = ?

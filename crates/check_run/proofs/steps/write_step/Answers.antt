@@ -1,24 +1,41 @@
 -- The rank, a space, and the line of the thread and the answer.
-use Rattle.std.proofs.Common.{◌≡◌, List, [], ◌∷◌, ◌++◌, decimal, refl, ◌∙◌, append_assoc, sym}
-use Rattle.std.specs.List.{flat_map}
-use Rattle.gas_outside.specs.Buffered.{GathersAll, outbox}
-use Rattle.gas_outside.proofs.Outboxes.{nothing_yet, past_done, past_fault, past_last}
-use Rattle.node_script.specs.Lines.{Line, Word, line_text, spaced}
+use Rattle.std.proofs.Common.{◌≡◌, ℕ, List, ◌∷◌, decimal, subst, ◌∙◌}
+use Rattle.gas_outside.specs.Buffered.{Gathers, GathersAll, GathersFront, outbox}
+use Rattle.node_script.specs.AnswersTold.{sight_at}
+use Rattle.node_script.specs.AnswerWords.{answer_words}
+use Rattle.node_script.specs.Lines.{line_text}
+use Rattle.check_run.proofs.StepText.{rank_cut, space_cut, step_said}
 use Rattle.check_run.proofs.steps.write_step.Goals as goal
-
--- the line of a word and others
-first_word : (first second : Word) (words : Line)
-    → line_text (first ∷ second ∷ words) ≡ first ++ ((32 ∷ []) ++ line_text (second ∷ words))
-first_word first second words = append_assoc first (32 ∷ (second ++ flat_map spaced words)) (10 ∷ [])
 
 pub returns-in-Fault : goal.returns-in-Fault
 returns-in-Fault g c = λ node stands.
-    past_fault _ _ _ _ _ _ _
-    (first_word _ _ _ ∙ ?)
-    (nothing_yet _ _) c.in-Fault.ensures
+    rank_cut (decimal c.args.at.rank) (decimal c.args.at.thread)
+    (answer_words (sight_at c.args.endpoint.now node) c.args.answer.now)
+    (outbox g.K.Sink.taken g.K.Sink.faults c.args.sink.now) (outbox g.K.Sink.taken g.K.Sink.faults c.write_all.new.self)
+    (subst (λ (bytes : List ℕ). GathersFront (outbox g.K.Sink.taken g.K.Sink.faults c.args.sink.now)
+    (outbox g.K.Sink.taken g.K.Sink.faults c.write_all.new.self) bytes)
+    (c.as_bytes.ensures.value ∙ c.format.ensures.text) c.in-Fault.ensures)
 
-pub returns-in-Fault-2 : goal.returns-in-Fault-2
-returns-in-Fault-2 g c = ?
+pub returns-in-Fault-write_all : goal.returns-in-Fault-write_all
+returns-in-Fault-write_all g c = λ node stands.
+    space_cut (decimal c.args.at.rank) (decimal c.args.at.thread)
+    (answer_words (sight_at c.args.endpoint.now node) c.args.answer.now)
+    (outbox g.K.Sink.taken g.K.Sink.faults c.args.sink.now) (outbox g.K.Sink.taken g.K.Sink.faults c.write_all.new.self)
+    (outbox g.K.Sink.taken g.K.Sink.faults c.write_all-2.new.self)
+    (subst (λ (bytes : List ℕ). Gathers (outbox g.K.Sink.taken g.K.Sink.faults c.args.sink.now)
+    (outbox g.K.Sink.taken g.K.Sink.faults c.write_all.new.self) bytes)
+    (c.as_bytes.ensures.value ∙ c.format.ensures.text) c.in_default.ensures) c.in-Fault-write_all.ensures
 
 pub returns : goal.returns
-returns g c = ?
+returns g c = λ node stands.
+    let words = answer_words (sight_at c.args.endpoint.now node) c.args.answer.now in
+    step_said (decimal c.args.at.rank) (decimal c.args.at.thread) words
+    (outbox g.K.Sink.taken g.K.Sink.faults c.args.sink.now) (outbox g.K.Sink.taken g.K.Sink.faults c.write_all.new.self)
+    (outbox g.K.Sink.taken g.K.Sink.faults c.write_all-2.new.self)
+    (outbox g.K.Sink.taken g.K.Sink.faults c.write_answer.new.sink) c.write_answer.result
+    (subst (λ (bytes : List ℕ). Gathers (outbox g.K.Sink.taken g.K.Sink.faults c.args.sink.now)
+    (outbox g.K.Sink.taken g.K.Sink.faults c.write_all.new.self) bytes)
+    (c.as_bytes.ensures.value ∙ c.format.ensures.text) c.in_default.ensures) c.in_default-write_all.ensures
+    (subst (λ (thread : ℕ). GathersAll (outbox g.K.Sink.taken g.K.Sink.faults c.write_all-2.new.self)
+    (outbox g.K.Sink.taken g.K.Sink.faults c.write_answer.new.sink) (line_text (decimal thread ∷ words))
+    c.write_answer.result) c.from.ensures (c.write_answer.ensures node stands))
