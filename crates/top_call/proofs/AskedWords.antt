@@ -13,15 +13,20 @@ asks_world word is = record { in_range = tt; words_are = ap (λ (w : Word). w �
 pub asks_upgrade : (word : Word) → word ≡ codes "upgrade" → Asks (word ∷ []) commands.Upgrade
 asks_upgrade word is = record { in_range = tt; words_are = ap (λ (w : Word). w ∷ []) is }
 
-one_other_by : (word : Word) (command : Command) → (word ≡ codes "world" → ⊥) → (word ≡ codes "upgrade" → ⊥)
-    → Asks (word ∷ []) command → ⊥
-one_other_by word commands.World world upgrade asks = let same = asks.words_are in world (cc)
-one_other_by word commands.Upgrade world upgrade asks = let same = asks.words_are in upgrade (cc)
-one_other_by word (commands.Node rank port) world upgrade asks = let same = asks.words_are in absurd (cc)
-one_other_by word (commands.Drill seed) world upgrade asks = let same = asks.words_are in absurd (cc)
+pub asks_check : (word : Word) → word ≡ codes "check" → Asks (word ∷ []) commands.Check
+asks_check word is = record { in_range = tt; words_are = ap (λ (w : Word). w ∷ []) is }
 
-pub one_other : (word : Word) → (word ≡ codes "world" → ⊥) → (word ≡ codes "upgrade" → ⊥) → AsksNothing (word ∷ [])
-one_other word world upgrade command = one_other_by word command world upgrade
+one_other_by : (word : Word) (command : Command) → (word ≡ codes "world" → ⊥) → (word ≡ codes "upgrade" → ⊥)
+    → (word ≡ codes "check" → ⊥) → Asks (word ∷ []) command → ⊥
+one_other_by word commands.World world upgrade check asks = let same = asks.words_are in world (cc)
+one_other_by word commands.Upgrade world upgrade check asks = let same = asks.words_are in upgrade (cc)
+one_other_by word commands.Check world upgrade check asks = let same = asks.words_are in check (cc)
+one_other_by word (commands.Node rank port) world upgrade check asks = let same = asks.words_are in absurd (cc)
+one_other_by word (commands.Drill seed) world upgrade check asks = let same = asks.words_are in absurd (cc)
+
+pub one_other : (word : Word) → (word ≡ codes "world" → ⊥) → (word ≡ codes "upgrade" → ⊥)
+    → (word ≡ codes "check" → ⊥) → AsksNothing (word ∷ [])
+one_other word world upgrade check command = one_other_by word command world upgrade check
 
 -- two words
 pub asks_drill : (name word : Word) (seed : ℕ) → seed < 2 ^ 64 → name ≡ codes "drill" → word ≡ decimal seed
@@ -34,6 +39,7 @@ asks_drill name word seed fits is number = record {
 two_other_by : (name word : Word) (command : Command) → (name ≡ codes "drill" → ⊥) → Asks (name ∷ word ∷ []) command → ⊥
 two_other_by name word commands.World other asks = let same = asks.words_are in absurd (cc)
 two_other_by name word commands.Upgrade other asks = let same = asks.words_are in absurd (cc)
+two_other_by name word commands.Check other asks = let same = asks.words_are in absurd (cc)
 two_other_by name word (commands.Node rank port) other asks = let same = asks.words_are in absurd (cc)
 two_other_by name word (commands.Drill seed) other asks = let same = asks.words_are in other (cc)
 
@@ -44,6 +50,7 @@ no_seed_by : (name word : Word) (command : Command) → ((seed : ℕ) → seed <
     → Asks (name ∷ word ∷ []) command → ⊥
 no_seed_by name word commands.World none asks = let same = asks.words_are in absurd (cc)
 no_seed_by name word commands.Upgrade none asks = let same = asks.words_are in absurd (cc)
+no_seed_by name word commands.Check none asks = let same = asks.words_are in absurd (cc)
 no_seed_by name word (commands.Node rank port) none asks = let same = asks.words_are in absurd (cc)
 no_seed_by name word (commands.Drill seed) none asks =
     let same = asks.words_are in none seed asks.in_range (cc)
@@ -69,6 +76,7 @@ no_numbers_by : (name rank_word port_word : Word) (command : Command)
     → Asks (name ∷ rank_word ∷ port_word ∷ []) command → ⊥
 no_numbers_by name rank_word port_word commands.World none asks = let same = asks.words_are in absurd (cc)
 no_numbers_by name rank_word port_word commands.Upgrade none asks = let same = asks.words_are in absurd (cc)
+no_numbers_by name rank_word port_word commands.Check none asks = let same = asks.words_are in absurd (cc)
 no_numbers_by name rank_word port_word (commands.Drill seed) none asks = let same = asks.words_are in absurd (cc)
 no_numbers_by name rank_word port_word (commands.Node rank port) none asks =
     let same = asks.words_are in none rank port asks.in_range.0 asks.in_range.1 asks.in_range.2 (cc) (cc)
@@ -83,6 +91,7 @@ three_other_by : (name rank_word port_word : Word) (command : Command) → (name
     → Asks (name ∷ rank_word ∷ port_word ∷ []) command → ⊥
 three_other_by name rank_word port_word commands.World other asks = let same = asks.words_are in absurd (cc)
 three_other_by name rank_word port_word commands.Upgrade other asks = let same = asks.words_are in absurd (cc)
+three_other_by name rank_word port_word commands.Check other asks = let same = asks.words_are in absurd (cc)
 three_other_by name rank_word port_word (commands.Drill seed) other asks = let same = asks.words_are in absurd (cc)
 three_other_by name rank_word port_word (commands.Node rank port) other asks =
     let same = asks.words_are in other (cc)
@@ -96,6 +105,7 @@ other_count_by : (words : List Word) (command : Command) → (length words ≡ 1
     → (length words ≡ 3 → ⊥) → Asks words command → ⊥
 other_count_by words commands.World one two three asks = one (ap length asks.words_are)
 other_count_by words commands.Upgrade one two three asks = one (ap length asks.words_are)
+other_count_by words commands.Check one two three asks = one (ap length asks.words_are)
 other_count_by words (commands.Node rank port) one two three asks = three (ap length asks.words_are)
 other_count_by words (commands.Drill seed) one two three asks = two (ap length asks.words_are)
 

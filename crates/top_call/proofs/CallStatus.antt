@@ -16,6 +16,7 @@ use Rattle.top_call.specs.declared.words.Command.TheVariants as commands
 use Rattle.top_call.proofs.LastLine.{Weakens}
 use Rattle.top_call.proofs.WorldCommand.{weak_world, world_completes, world_means}
 use Rattle.top_call.proofs.UpgradeCommand.{upgrade_completes, upgrade_means, weak_upgrade}
+use Rattle.top_call.proofs.CheckCommand.{check_completes, check_means, weak_check}
 use Rattle.top_call.proofs.NodeCommand.{node_completes, node_means, weak_node}
 use Rattle.top_call.proofs.DrillCommand.{drill_completes, drill_means, weak_drill}
 use Rattle.top_call.proofs.NoCommand.{usage_means, weak_usage}
@@ -25,6 +26,7 @@ pub weak_ends : (asked : Option Command) (course : Course) → Weakens (Ends ask
 weak_ends None course = weak_usage
 weak_ends (Some commands.World) course = weak_world course.reading
 weak_ends (Some commands.Upgrade) course = weak_upgrade course.reading
+weak_ends (Some commands.Check) course = weak_check course.reading
 weak_ends (Some (commands.Node rank port)) course = weak_node rank port course
 weak_ends (Some (commands.Drill seed)) course = weak_drill seed
 
@@ -36,6 +38,7 @@ named words =
     let name = get_or words 0 [] in
     if bytes_eq name (codes "world") then commands.World else
     if bytes_eq name (codes "upgrade") then commands.Upgrade else
+    if bytes_eq name (codes "check") then commands.Check else
     if bytes_eq name (codes "node")
     then commands.Node (digits_value 10 (get_or words 1 [])) (digits_value 10 (get_or words 2 []))
     else
@@ -45,6 +48,7 @@ names : (command : Command) → IsCommand command → named (command_words comma
 unfolding named
 names commands.World h = refl
 names commands.Upgrade h = refl
+names commands.Check h = refl
 names (commands.Node rank port) h =
     let few : rank < 2 ^ 64 = (let low = h.0 in omega arith) in
     let short : port < 2 ^ 64 = (let high = h.2 in omega arith) in
@@ -82,6 +86,7 @@ pub status_means : (call : Call) (asked : Option Command) (end : End) → IsAske
 status_means call asked end is h = record {
   world = λ asks. world_means call end (ended_as call asked end commands.World is h asks);
   upgrade = λ asks. upgrade_means call end (ended_as call asked end commands.Upgrade is h asks);
+  check = λ asks. check_means call end (ended_as call asked end commands.Check is h asks);
   node = λ rank port asks.
       node_means call rank port end (ended_as call asked end (commands.Node rank port) is h asks);
   drill = λ seed asks. drill_means call seed end (ended_as call asked end (commands.Drill seed) is h asks);
@@ -93,6 +98,7 @@ pub completes : (call : Call) (asked : Option Command) (end : End) → IsAsked c
 completes call asked end is h = record {
   world = λ asks. world_completes call end (ended_as call asked end commands.World is h asks);
   upgrade = λ asks. upgrade_completes call end (ended_as call asked end commands.Upgrade is h asks);
+  check = λ asks. check_completes call end (ended_as call asked end commands.Check is h asks);
   node = λ rank port asks.
       node_completes call rank port end (ended_as call asked end (commands.Node rank port) is h asks);
   drill = λ seed asks. drill_completes call seed end (ended_as call asked end (commands.Drill seed) is h asks);

@@ -96,6 +96,8 @@ weak_none reading ends.WriteFault given said h = h
 weak_none reading ends.LinkFault given said h = h
 weak_none reading ends.Stuck given said h = h
 weak_none reading ends.JournalFull given said h = h
+weak_none reading (ends.NotARun node entry) given said h = h
+weak_none reading (ends.Child rank code) given said h = h
 
 -- it is one of the ends of a command that reads a job
 abbrev pub MayReadNone : EndsHow → Reading → Type 1
@@ -113,6 +115,8 @@ unread_said reading ends.WriteFault h = h
 unread_said reading ends.LinkFault h = tt
 unread_said reading ends.Stuck h = tt
 unread_said reading ends.JournalFull h = tt
+unread_said reading (ends.NotARun node entry) h = tt
+unread_said reading (ends.Child rank code) h = tt
 
 reads_none : (reading : Reading) (end : End) → IsUnread reading end
     → ReadsNone reading end (gives nothing) (said_last [] end)
@@ -126,6 +130,8 @@ reads_none reading ends.WriteFault h = h
 reads_none reading ends.LinkFault h = h
 reads_none reading ends.Stuck h = h
 reads_none reading ends.JournalFull h = h
+reads_none reading (ends.NotARun node entry) h = h
+reads_none reading (ends.Child rank code) h = h
 
 -- it says so
 pub unread_told : (Ends : EndsHow) (reading : Reading) (old new : Outbox) (end : End) (ended : Ended)

@@ -5,6 +5,7 @@ pub mod Statuses
 pub mod WorldCommand
 pub mod UpgradeText
 pub mod UpgradeCommand
+pub mod CheckCommand
 pub mod NodeCommand
 pub mod DrillCommand
 pub mod NoCommand

@@ -73,6 +73,8 @@ weak_node rank port course ends.Stuck given said h =
     weak_runs rank port course stations.Stuck ends.Stuck given said h
 weak_node rank port course ends.JournalFull given said h =
     weak_runs rank port course stations.JournalFull ends.JournalFull given said h
+weak_node rank port course (ends.NotARun node entry) given said h = h
+weak_node rank port course (ends.Child child code) given said h = h
 
 -- ---- a job was read, or none
 
@@ -87,6 +89,8 @@ node_none rank port course ends.WriteFault after said h = h
 node_none rank port course ends.LinkFault after said h = absurd h
 node_none rank port course ends.Stuck after said h = absurd h
 node_none rank port course ends.JournalFull after said h = absurd h
+node_none rank port course (ends.NotARun node entry) after said h = absurd h
+node_none rank port course (ends.Child child code) after said h = absurd h
 
 -- ---- a node ran
 
@@ -235,6 +239,8 @@ node_codes rank port call ends.LinkFault h = (6, lit< tt, refl)
 node_codes rank port call ends.NoMemory h = (7, lit< tt, refl)
 node_codes rank port call ends.Stuck h = (8, lit< tt, refl)
 node_codes rank port call ends.JournalFull h = (9, lit< tt, refl)
+node_codes rank port call (ends.NotARun node entry) h = absurd h.ends
+node_codes rank port call (ends.Child child code) h = absurd h.ends
 
 pub node_means : (call : Call) (rank port : ℕ) (end : End)
     → Means (NodeEnds rank port (course_in call)) (took_in call) call.given end
@@ -266,6 +272,8 @@ node_completes call rank port ends.Violations h holds faultless linked = (1, lit
 node_completes call rank port ends.NoMemory h holds faultless linked = (2, lit< tt, refl)
 node_completes call rank port ends.Stuck h holds faultless linked = (3, lit< tt, refl)
 node_completes call rank port ends.JournalFull h holds faultless linked = (4, lit< tt, refl)
+node_completes call rank port (ends.NotARun node entry) h holds faultless linked = absurd h.ends
+node_completes call rank port (ends.Child child code) h holds faultless linked = absurd h.ends
 node_completes call rank port ends.LinkFault h holds faultless linked = absurd (linked h.ends.rose)
 node_completes call rank port ends.ReadFault h holds faultless linked = absurd (faultless.source h.ends.rose)
 node_completes call rank port ends.WriteFault h holds faultless linked = absurd (faultless.sink h.cut.0)

@@ -33,6 +33,8 @@ weak_upgrade reading ends.WriteFault given said h = h
 weak_upgrade reading ends.LinkFault given said h = h
 weak_upgrade reading ends.Stuck given said h = h
 weak_upgrade reading ends.JournalFull given said h = h
+weak_upgrade reading (ends.NotARun node entry) given said h = h
+weak_upgrade reading (ends.Child rank code) given said h = h
 
 -- ---- a job was read, or none
 
@@ -47,6 +49,8 @@ upgrade_none reading ends.WriteFault after said h = h
 upgrade_none reading ends.LinkFault after said h = h
 upgrade_none reading ends.Stuck after said h = h
 upgrade_none reading ends.JournalFull after said h = h
+upgrade_none reading (ends.NotARun node entry) after said h = h
+upgrade_none reading (ends.Child rank code) after said h = h
 
 upgrades : (reading : Reading) (job : JobState) (after : After) → GivesJob reading job → after.none
     → UpgradesJob reading after (job_text (in_version job 2))
@@ -93,6 +97,8 @@ upgrade_codes call ends.Usage h = absurd h.ends
 upgrade_codes call ends.LinkFault h = absurd h.ends
 upgrade_codes call ends.Stuck h = absurd h.ends
 upgrade_codes call ends.JournalFull h = absurd h.ends
+upgrade_codes call (ends.NotARun node entry) h = absurd h.ends
+upgrade_codes call (ends.Child rank code) h = absurd h.ends
 
 pub upgrade_means : (call : Call) (end : End) → Means (UpgradeEnds (read_in call)) (took_in call) call.given end
     → UpgradeMeans call (code_of end)
@@ -107,6 +113,8 @@ upgrade_completes call ends.Usage h holds faultless = absurd h.ends
 upgrade_completes call ends.LinkFault h holds faultless = absurd h.ends
 upgrade_completes call ends.Stuck h holds faultless = absurd h.ends
 upgrade_completes call ends.JournalFull h holds faultless = absurd h.ends
+upgrade_completes call (ends.NotARun node entry) h holds faultless = absurd h.ends
+upgrade_completes call (ends.Child rank code) h holds faultless = absurd h.ends
 upgrade_completes call ends.ReadFault h holds faultless = absurd (faultless.source h.ends.rose)
 upgrade_completes call ends.WriteFault h holds faultless = absurd (faultless.sink h.cut.0)
 upgrade_completes call (ends.BadJob line reason) h holds faultless =

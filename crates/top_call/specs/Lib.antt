@@ -6,6 +6,7 @@ pub mod JobReads
 pub mod RunReports
 pub mod WorldCommand
 pub mod UpgradeCommand
+pub mod CheckCommand
 pub mod NodeCommand
 pub mod DrillCommand
 pub mod NoCommand

@@ -60,6 +60,8 @@ NodeEnds rank port course ends.NoMemory after said = SaysAlone ends.NoMemory aft
 NodeEnds rank port course ends.Stuck after said = RunsNode rank port course stations.Stuck ends.Stuck after said
 NodeEnds rank port course ends.JournalFull after said =
     RunsNode rank port course stations.JournalFull ends.JournalFull after said
+NodeEnds rank port course (ends.NotARun node entry) after said = ⊥
+NodeEnds rank port course (ends.Child child code) after said = ⊥
 
 -- what each of its exit statuses says
 abbrev pub NodeMeans : Call → (rank port code : ℕ) → Type 0

@@ -59,7 +59,7 @@ call_of words before after given = record { words = words; before = before; afte
 
 -- what a call gives besides its exit status
 abbrev pub given_by : Status → Given
-given_by status = record { world = status.world; node = status.node }
+given_by status = record { world = status.world; node = status.node; nodes = status.nodes }
 
 -- a source before and after it was read
 pub record Reading : Type 0 where

@@ -10,12 +10,19 @@ use Rattle.world_run.specs.declared.run.RunEnd.TheVariants as runs
 use Rattle.node_call.specs.declared.calling.NodeEnd.{NodeEnd}
 use Rattle.node_call.specs.declared.calling.NodeEnd.TheVariants as nodes
 use Rattle.gas_endpoint.specs.EndpointState.{EndpointState}
+use Rattle.gasnet_trace.specs.declared.output.Output.{Output}
+use Rattle.gasnet_trace.specs.declared.trace.Trace.{Trace}
+use Rattle.check_run.specs.CheckInputs.{traces_in}
+use Rattle.check_run.specs.Statuses.{AreOver}
+use Rattle.check_run.specs.declared.run.TracesEnd.{TracesEnd}
+use Rattle.check_run.specs.declared.run.TracesEnd.TheVariants as traces
 use Rattle.top_call.specs.Outsides.{Course, Reading}
 use Rattle.top_call.specs.Commands.{IsAsked, end_of, status_line}
-use Rattle.top_call.specs.HowEnds.{EndsHow, Means, node_given, nothing, world_given}
+use Rattle.top_call.specs.HowEnds.{EndsHow, Means, node_given, nodes_given, nothing, world_given}
 use Rattle.top_call.specs.JobReads.{GivesJob, ReadsNoJob}
 use Rattle.top_call.specs.WorldCommand.{WorldEnds}
 use Rattle.top_call.specs.UpgradeCommand.{UpgradeEnds}
+use Rattle.top_call.specs.CheckCommand.{CheckEnds, GivesInput}
 use Rattle.top_call.specs.NodeCommand.{NodeEnds}
 use Rattle.top_call.specs.DrillCommand.{DrillEnds}
 use Rattle.top_call.specs.NoCommand.{UsageEnds}
@@ -33,6 +40,7 @@ abbrev pub Ends : Option Command → Course → EndsHow
 Ends None course = UsageEnds
 Ends (Some commands.World) course = WorldEnds course.reading
 Ends (Some commands.Upgrade) course = UpgradeEnds course.reading
+Ends (Some commands.Check) course = CheckEnds course.reading
 Ends (Some (commands.Node rank port)) course = NodeEnds rank port course
 Ends (Some (commands.Drill seed)) course = DrillEnds seed
 
@@ -60,6 +68,8 @@ IsUnread reading ends.WriteFault = ⊥
 IsUnread reading ends.LinkFault = ⊥
 IsUnread reading ends.Stuck = ⊥
 IsUnread reading ends.JournalFull = ⊥
+IsUnread reading (ends.NotARun node entry) = ⊥
+IsUnread reading (ends.Child rank code) = ⊥
 
 -- what reading a job gave
 abbrev pub ReadsOrNot : Reading → Result JobState End → Type 0
@@ -95,6 +105,21 @@ SaysNode nodes.LinkFault left old new ended = Says ends.LinkFault (node_given le
 SaysNode nodes.JournalFull left old new ended = Says ends.JournalFull (node_given left) old new ended
 SaysNode nodes.NoMemory left old new ended = Says ends.NoMemory (node_given left) old new ended
 SaysNode nodes.WriteFault left old new ended = (ended ≡ cut) × (new ≡ old)
+
+-- what is said behind the lines of traces whose check ended so: the status line, with the nodes after them; nothing
+-- where the sink failed
+abbrev pub SaysTraces : TracesEnd → (old new : Outbox) → Ended → Type 0
+SaysTraces (traces.Done violated nodes) old new ended = Says (end_of violated) (nodes_given nodes) old new ended
+SaysTraces (traces.NotARun node entry) old new ended = Says (ends.NotARun node entry) nothing old new ended
+SaysTraces traces.Fault old new ended = (ended ≡ cut) × (new ≡ old)
+SaysTraces traces.NoMemory old new ended = Says ends.NoMemory nothing old new ended
+
+-- these are the traces of outputs that were read so, of nodes that ended with status 0 or 1
+pub record AreGiven (reading : Reading) (job : JobState) (traces : List Trace) : Type 0 where
+  pub outputs : List Output
+  pub read : GivesInput reading job outputs
+  pub over : AreOver outputs
+  pub are : traces ≡ traces_in outputs
 
 -- what waited was given on, and the end stays; or the sink failed at that. After a fault nothing more is given on
 abbrev pub GivesOn : (old new : Outbox) → (before after : Ended) → Type 0

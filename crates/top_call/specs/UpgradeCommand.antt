@@ -37,6 +37,8 @@ UpgradeEnds reading ends.WriteFault after said = ⊥
 UpgradeEnds reading ends.LinkFault after said = ⊥
 UpgradeEnds reading ends.Stuck after said = ⊥
 UpgradeEnds reading ends.JournalFull after said = ⊥
+UpgradeEnds reading (ends.NotARun node entry) after said = ⊥
+UpgradeEnds reading (ends.Child rank code) after said = ⊥
 
 -- what each of its exit statuses says
 abbrev pub UpgradeMeans : Call → (code : ℕ) → Type 0

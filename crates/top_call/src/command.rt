@@ -6,6 +6,7 @@ ghost use Rattle.node_call.specs.Seen.{devices_seen};
 ghost use Rattle.top_call.specs.Outsides.{course_of, input};
 ghost use Rattle.top_call.specs.TopParts.{EndsAsked};
 
+use crate::check::check_command;
 use crate::drill::drill_command;
 use crate::ending::{End, Ended, Given};
 use crate::node::{AskedNode, node_command};
@@ -47,6 +48,10 @@ pub fn command<
         ),
         Some(Command::Upgrade) => (
             upgrade_command(alloc, &mut outside.source, &mut outside.sink),
+            outside,
+        ),
+        Some(Command::Check) => (
+            check_command(alloc, &mut outside.source, &mut outside.sink),
             outside,
         ),
         Some(Command::Node { rank, port }) => {

@@ -43,6 +43,7 @@
 //! code alone: `flushed` leaves the sink then.
 #![tactic(auto)]
 
+mod check;
 mod command;
 mod drill;
 mod ending;

@@ -19,12 +19,14 @@ use std::thread::Threads;
 /// How a call ended.
 #[derive(Drop)]
 pub struct Status {
-    /// The exit status: 0, 1, 2, 3, 4, 5, 6, 8, 9 or 10.
+    /// The exit status: 0, 1, 2, 3, 4, 5, 6, 8, 9, 10, 11 or 12.
     pub code: u8,
     /// The world after the run of `world` or `drill`; there is one exactly where the code is 0 or 1.
     pub world: Option<World>,
     /// The node after the run of `node`; there is one exactly where the code is 0, 1, 6, 9 or 10.
     pub node: Option<Endpoint>,
+    /// The nodes after the run of `check`, in rising order of ranks; there are such exactly where the code is 0 or 1.
+    pub nodes: Option<Vec<Endpoint>>,
 }
 
 /// Gives on what the sink still holds back; a fault of that is how the call ends. After a fault of the sink it is left.
@@ -113,6 +115,7 @@ pub fn gasnet<
             code: end.code(),
             world: given.world,
             node: given.node,
+            nodes: given.nodes,
         },
         Outside {
             source,

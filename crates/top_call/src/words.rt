@@ -12,6 +12,8 @@ pub enum Command {
     World,
     /// A job is read, and written with datagrams of version 2.
     Upgrade,
+    /// A job and what its nodes wrote are read, and their traces are checked.
+    Check,
     /// A job is read, and one of its nodes is run.
     Node {
         /// The number of the node, 0 to 255.
@@ -81,6 +83,8 @@ fn of_one(word: &str) -> Option<Command>
         Some(Command::World)
     } else if word == "upgrade" {
         Some(Command::Upgrade)
+    } else if word == "check" {
+        Some(Command::Check)
     } else {
         None
     }

@@ -20,6 +20,13 @@ returns-in-Some-Upgrade g c = record {
   ends = c.upgrade_command.ensures;
 }
 
+pub returns-in-Some-Check : goal.returns-in-Some-Check
+returns-in-Some-Check g c = record {
+  asked = Some commands.Check;
+  asked_is = subst (Asks (map string_bytes c.args.words.now)) c.in-Some-Check.field-0-is c.in-Some-Check.ensures;
+  ends = c.check_command.ensures;
+}
+
 pub returns-in-Some-Drill : goal.returns-in-Some-Drill
 returns-in-Some-Drill g c = record {
   asked = Some (commands.Drill c.in-Some-Drill.seed);

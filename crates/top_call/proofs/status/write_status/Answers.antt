@@ -29,3 +29,9 @@ returns-in-Stuck g c = rw c.in-Stuck.is c.write_named-in-Stuck.ensures
 
 pub returns-in-JournalFull : goal.returns-in-JournalFull
 returns-in-JournalFull g c = rw c.in-JournalFull.is c.write_named-in-JournalFull.ensures
+
+pub returns-in-NotARun : goal.returns-in-NotARun
+returns-in-NotARun g c = rw c.in-NotARun.is c.write_not_a_run.ensures
+
+pub returns-in-Child : goal.returns-in-Child
+returns-in-Child g c = rw c.in-Child.is c.write_child.ensures
