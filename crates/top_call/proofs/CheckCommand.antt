@@ -1,81 +1,50 @@
 -- The command `check`.
-use Rattle.std.proofs.Common.{◌≡◌, ℕ, ◌+◌, ◌≤◌, ◌<◌, List, [], ◌∷◌, ◌++◌, length, Bool, true, false, Option, Some, None}
-use Rattle.std.proofs.Common.{refl, sym, ap, subst, ◌∙◌, inl, inr, lit<, append-nil, length-append, arith}
+use Rattle.std.proofs.Common.{◌≡◌, ℕ, ◌+◌, ◌≤◌, ◌<◌, List, [], ◌∷◌, ◌++◌, length, Option, Some, None}
+use Rattle.std.proofs.Common.{refl, ap, subst, ◌∙◌, inl, inr, lit<, append-nil, length-append, arith}
 use Rattle.std.specs.List.{Contains}
-use Rattle.std.specs.Prelude.{if◌then◌else◌}
 use Rattle.gas_outside.specs.Buffered.{Outbox, GathersAll}
-use Rattle.gas_outside.specs.declared.writing.Wrote.TheVariants as wrote
-use Rattle.gas_outside.proofs.Outboxes.{gathers_first}
 use Rattle.gasnet_trace.specs.declared.output.Output.{Output}
-use Rattle.gasnet_trace.specs.declared.trace.Trace.{Trace}
 use Rattle.job_text.specs.declared.fault.JobWhy.{JobWhy}
 use Rattle.job_text.specs.declared.job.Job.{Job as JobState}
-use Rattle.node_script.specs.Lines.{Line, spell, line_text}
-use Rattle.world_run.proofs.LinesWritten.{one_more}
-use Rattle.check_run.specs.CheckInputs.{InputText, TakesNone, traces_in}
-use Rattle.check_run.specs.StepLines.{is_violated, run_lines}
-use Rattle.check_run.specs.TracesEnds.{EndsTraces}
-use Rattle.check_run.specs.TracesRun.{AreNoRun, RunOfTraces}
-use Rattle.check_run.specs.declared.run.TracesEnd.{TracesEnd}
-use Rattle.check_run.specs.declared.run.TracesEnd.TheVariants as traces
+use Rattle.check_run.specs.CheckInputs.{InputText, IsUnread, TakesNone, traces_in}
+use Rattle.check_run.specs.Statuses.{AreOver, IsFirstFailed}
+use Rattle.check_run.specs.declared.input.InputFault.{InputFault}
+use Rattle.check_run.specs.declared.input.InputFault.TheVariants as inputs
 use Rattle.top_call.specs.Outsides.{Call, Input, Reading, read_in, took_in}
-use Rattle.top_call.specs.CheckCommand.{CheckCompletes, CheckEnds, CheckMeans, HoldsInput}
-use Rattle.top_call.specs.Commands.{code_of, end_of, status_line}
-use Rattle.top_call.specs.HowEnds.{After, Means, gives, nodes_given, nothing, said_last, unasked}
-use Rattle.top_call.specs.TopParts.{AreGiven, EndsBy, Says, SaysTraces}
+use Rattle.top_call.specs.CheckCommand.{CheckCompletes, CheckEnds, CheckMeans, ChecksInput, GivesInput, HoldsInput}
+use Rattle.top_call.specs.Commands.{code_of}
+use Rattle.top_call.specs.HowEnds.{After, Means, gives, nothing, unasked}
+use Rattle.top_call.specs.TopParts.{EndsBy, Says, end_unread}
+use Rattle.top_call.specs.TracesReports.{TracesEnds}
 use Rattle.top_call.specs.declared.ending.End.{End}
 use Rattle.top_call.specs.declared.ending.End.TheVariants as ends
 use Rattle.top_call.specs.declared.ending.Ended.{Ended}
-use Rattle.top_call.proofs.LastLine.{Weakens, alone, says_alone, says_last, weak_alone}
-use Rattle.top_call.proofs.RunTold.{end_said}
+use Rattle.top_call.specs.declared.ending.Given.{Given}
+use Rattle.top_call.proofs.LastLine.{Weakens, Widens, alone, says_alone, weak_alone, widened}
 use Rattle.top_call.proofs.Statuses.{code_means}
+use Rattle.top_call.proofs.TracesTold.{weak_traces}
+
+weak_checked : (reading : Reading) (end : End) (given : Given) (said : List ℕ)
+    → ChecksInput reading end (gives given) said → ChecksInput reading end unasked said
+weak_checked reading end given said h = record {
+  job = h.job;
+  outputs = h.outputs;
+  read = h.read;
+  over = h.over;
+  checked = weak_traces h.job (traces_in h.outputs) end given said h.checked;
+}
 
 pub weak_check : (reading : Reading) → Weakens (CheckEnds reading)
-weak_check reading ends.Done given said h = record {
-  job = h.job;
-  outputs = h.outputs;
-  read = h.read;
-  over = h.over;
-  run = h.run;
-  violated_is = h.violated_is;
-  said_is = h.said_is;
-  nodes_after = tt;
-}
-weak_check reading ends.Violations given said h = record {
-  job = h.job;
-  outputs = h.outputs;
-  read = h.read;
-  over = h.over;
-  run = h.run;
-  violated_is = h.violated_is;
-  said_is = h.said_is;
-  nodes_after = tt;
-}
+weak_check reading ends.Done given said h = weak_checked reading ends.Done given said h
+weak_check reading ends.Violations given said h = weak_checked reading ends.Violations given said h
 weak_check reading (ends.BadJob line reason) given said h =
     record { read = h.read; alone = weak_alone (ends.BadJob line reason) given said h.alone }
 weak_check reading ends.ReadFault given said h =
     record { rose = h.rose; alone = weak_alone ends.ReadFault given said h.alone }
 weak_check reading ends.NoMemory given said (inl alone) = inl (weak_alone ends.NoMemory given said alone)
-weak_check reading ends.NoMemory given said (inr left) = inr (record {
-  job = left.job;
-  outputs = left.outputs;
-  read = left.read;
-  over = left.over;
-  run = left.run;
-  front = left.front;
-  rest = left.rest;
-  whole = left.whole;
-  said_is = left.said_is;
-  nothing_given = tt;
-})
-weak_check reading (ends.NotARun node entry) given said h = record {
-  job = h.job;
-  outputs = h.outputs;
-  read = h.read;
-  over = h.over;
-  none = h.none;
-  alone = weak_alone (ends.NotARun node entry) given said h.alone;
-}
+weak_check reading ends.NoMemory given said (inr left) = inr (weak_checked reading ends.NoMemory given said left)
+weak_check reading (ends.NotARun node entry) given said h =
+    weak_checked reading (ends.NotARun node entry) given said h
 weak_check reading (ends.Child rank code) given said h = record {
   job = h.job;
   outputs = h.outputs;
@@ -91,97 +60,61 @@ weak_check reading ends.JournalFull given said h = h
 
 -- ---- the traces were checked
 
--- they are a run, and a node noted a violation or none
-check_whole : (reading : Reading) (job : JobState) (these : List Trace) (after : After) (violated : Bool)
-    (said : List ℕ) → (given : AreGiven reading job these) → RunOfTraces job these → is_violated job these ≡ violated
-    → said ≡ said_last (run_lines job these) (end_of violated) → after.checked job these
-    → CheckEnds reading (end_of violated) after said
-check_whole reading job these after violated said given run is same checked =
-    by_end violated is same
+checks : (reading : Reading) (job : JobState) (outputs : List Output) → GivesInput reading job outputs
+    → AreOver outputs → Widens (TracesEnds job (traces_in outputs)) (CheckEnds reading)
+checks reading job outputs read over = by_end
   where
-    its_run : RunOfTraces job (traces_in given.outputs)
-    its_run = subst (RunOfTraces job) given.are run
+    checked : (end : End) (after : After) (said : List ℕ) → TracesEnds job (traces_in outputs) end after said
+        → ChecksInput reading end after said
+    checked end after said h = record { job = job; outputs = outputs; read = read; over = over; checked = h }
 
-    its_nodes : after.checked job (traces_in given.outputs)
-    its_nodes = subst (after.checked job) given.are checked
+    by_end : Widens (TracesEnds job (traces_in outputs)) (CheckEnds reading)
+    by_end ends.Done after said h = checked ends.Done after said h
+    by_end ends.Violations after said h = checked ends.Violations after said h
+    by_end ends.NoMemory after said h = inr (checked ends.NoMemory after said h)
+    by_end (ends.NotARun node entry) after said h = checked (ends.NotARun node entry) after said h
+    by_end ends.Usage after said h = h
+    by_end (ends.BadJob line reason) after said h = absurd h
+    by_end ends.ReadFault after said h = absurd h
+    by_end ends.WriteFault after said h = h
+    by_end ends.LinkFault after said h = h
+    by_end ends.Stuck after said h = h
+    by_end ends.JournalFull after said h = h
+    by_end (ends.Child rank code) after said h = absurd h
 
-    by_end : (violated : Bool) → is_violated job these ≡ violated
-        → said ≡ said_last (run_lines job these) (end_of violated) → CheckEnds reading (end_of violated) after said
-    by_end true is same = record {
-      job = job;
-      outputs = given.outputs;
-      read = given.read;
-      over = given.over;
-      run = its_run;
-      violated_is = ap (is_violated job) (sym given.are) ∙ is;
-      said_is = same ∙ ap (λ (all : List Trace). said_last (run_lines job all) (end_of true)) given.are;
-      nodes_after = its_nodes;
-    }
-    by_end false is same = record {
-      job = job;
-      outputs = given.outputs;
-      read = given.read;
-      over = given.over;
-      run = its_run;
-      violated_is = ap (is_violated job) (sym given.are) ∙ is;
-      said_is = same ∙ ap (λ (all : List Trace). said_last (run_lines job all) (end_of false)) given.are;
-      nodes_after = its_nodes;
-    }
+-- the check of the traces in outputs that were read so ended so
+pub check_told : (reading : Reading) (job : JobState) (outputs : List Output) (old new : Outbox) (ended : Ended)
+    → GivesInput reading job outputs → AreOver outputs
+    → EndsBy (TracesEnds job (traces_in outputs)) old new ended → EndsBy (CheckEnds reading) old new ended
+check_told reading job outputs old new ended read over told =
+    widened (TracesEnds job (traces_in outputs)) (CheckEnds reading) (GathersAll old new) ended.given ended.end
+    (checks reading job outputs read over) told
 
--- the check ended so, and then its status line was said
-pub check_told : (reading : Reading) (job : JobState) (these : List Trace) (old middle new : Outbox) (end : TracesEnd)
-    (ended : Ended) → AreGiven reading job these → EndsTraces job these old middle end
-    → SaysTraces end middle new ended → EndsBy (CheckEnds reading) old new ended
-check_told reading job these old middle new (traces.Done violated nodes) ended given told says =
-    says_last (CheckEnds reading) old middle new (run_lines job these) (end_of violated) (nodes_given nodes) ended
-    (weak_check reading) (end_said violated)
-    (check_whole reading job these (gives (nodes_given nodes)) violated
-    (said_last (run_lines job these) (end_of violated)) given told.run (sym told.violated_is) refl
-    (record { nodes = nodes; given_is = refl; nodes_after = told.nodes_after }))
-    told.lines says
-check_told reading job these old middle new (traces.NotARun node entry) ended given told says =
-    let same = told.same in
-    says_alone (CheckEnds reading) old new (ends.NotARun node entry) ended (weak_check reading) tt
-    (record {
+-- a node of them failed, and so its status line was said
+pub child_told : (reading : Reading) (job : JobState) (outputs : List Output) (rank code : ℕ) (old new : Outbox)
+    (ended : Ended) → GivesInput reading job outputs → IsFirstFailed outputs rank code
+    → Says (ends.Child rank code) nothing old new ended → EndsBy (CheckEnds reading) old new ended
+child_told reading job outputs rank code old new ended read failed says =
+    says_alone (CheckEnds reading) old new (ends.Child rank code) ended (weak_check reading) tt (record {
       job = job;
-      outputs = given.outputs;
-      read = given.read;
-      over = given.over;
-      none = subst (λ (all : List Trace). AreNoRun job all node entry) given.are told.none;
-      alone = alone (ends.NotARun node entry);
-    })
-    (subst (λ (out : Outbox). Says (ends.NotARun node entry) nothing out new ended) same says)
-check_told reading job these old middle new traces.Fault ended given told says =
-    let end = end_of (is_violated job these) in
-    let lines = run_lines job these in
-    let went : GathersAll old new (spell lines) wrote.Fault =
-    subst (λ (out : Outbox). GathersAll old out (spell lines) wrote.Fault) (sym says.1) told.lines in
-    subst (λ (e : Ended). EndsBy (CheckEnds reading) old new e) (sym says.0) (record {
-      end = end;
-      said = said_last lines end;
-      ends = check_whole reading job these unasked (is_violated job these) (said_last lines end) given told.run refl
-          refl tt;
-      cut = rw (one_more lines (status_line end))
-          (gathers_first old new (spell lines) (line_text (status_line end)) went);
-      nothing_given = refl;
-    })
-check_told reading job these old middle new traces.NoMemory ended given (inl same) says =
-    says_alone (CheckEnds reading) old new ends.NoMemory ended (weak_check reading) tt (inl (alone ends.NoMemory))
-    (subst (λ (out : Outbox). Says ends.NoMemory nothing out new ended) same says)
-check_told reading job these old middle new traces.NoMemory ended given (inr told) says =
-    says_last (CheckEnds reading) old middle new told.lines.front ends.NoMemory nothing ended (weak_check reading) tt
-    (inr (record {
-      job = job;
-      outputs = given.outputs;
-      read = given.read;
-      over = given.over;
-      run = subst (RunOfTraces job) given.are told.run;
-      front = told.lines.front;
-      rest = told.rest;
-      whole = ap (run_lines job) (sym given.are) ∙ told.lines.whole;
-      said_is = refl;
-      nothing_given = refl;
-    })) told.lines.gathered says
+      outputs = outputs;
+      read = read;
+      failed = failed;
+      alone = alone (ends.Child rank code);
+    }) says
+
+-- no input was read, and so the status line was said
+pub unread_told : (reading : Reading) (fault : InputFault) (old new : Outbox) (ended : Ended)
+    → IsUnread reading.before.left reading.after.left reading.before.faults reading.after.faults fault
+    → Says (end_unread fault) nothing old new ended → EndsBy (CheckEnds reading) old new ended
+unread_told reading (inputs.Bad line reason) old new ended none says =
+    says_alone (CheckEnds reading) old new (ends.BadJob line reason) ended (weak_check reading) tt
+    (record { read = none; alone = alone (ends.BadJob line reason) }) says
+unread_told reading inputs.ReadFault old new ended rose says =
+    says_alone (CheckEnds reading) old new ends.ReadFault ended (weak_check reading) tt
+    (record { rose = rose; alone = alone ends.ReadFault }) says
+unread_told reading inputs.NoMemory old new ended short says =
+    says_alone (CheckEnds reading) old new ends.NoMemory ended (weak_check reading) tt (inl (alone ends.NoMemory)) says
 
 -- ---- exit statuses
 

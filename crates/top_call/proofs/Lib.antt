@@ -1,5 +1,6 @@
 pub mod LastLine
 pub mod RunTold
+pub mod TracesTold
 pub mod JobRead
 pub mod Statuses
 pub mod WorldCommand

@@ -4,6 +4,7 @@ pub mod HowEnds
 pub mod Statuses
 pub mod JobReads
 pub mod RunReports
+pub mod TracesReports
 pub mod WorldCommand
 pub mod UpgradeCommand
 pub mod CheckCommand

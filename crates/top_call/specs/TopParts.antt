@@ -10,10 +10,8 @@ use Rattle.world_run.specs.declared.run.RunEnd.TheVariants as runs
 use Rattle.node_call.specs.declared.calling.NodeEnd.{NodeEnd}
 use Rattle.node_call.specs.declared.calling.NodeEnd.TheVariants as nodes
 use Rattle.gas_endpoint.specs.EndpointState.{EndpointState}
-use Rattle.gasnet_trace.specs.declared.output.Output.{Output}
-use Rattle.gasnet_trace.specs.declared.trace.Trace.{Trace}
-use Rattle.check_run.specs.CheckInputs.{traces_in}
-use Rattle.check_run.specs.Statuses.{AreOver}
+use Rattle.check_run.specs.declared.input.InputFault.{InputFault}
+use Rattle.check_run.specs.declared.input.InputFault.TheVariants as inputs
 use Rattle.check_run.specs.declared.run.TracesEnd.{TracesEnd}
 use Rattle.check_run.specs.declared.run.TracesEnd.TheVariants as traces
 use Rattle.top_call.specs.Outsides.{Course, Reading}
@@ -22,7 +20,7 @@ use Rattle.top_call.specs.HowEnds.{EndsHow, Means, node_given, nodes_given, noth
 use Rattle.top_call.specs.JobReads.{GivesJob, ReadsNoJob}
 use Rattle.top_call.specs.WorldCommand.{WorldEnds}
 use Rattle.top_call.specs.UpgradeCommand.{UpgradeEnds}
-use Rattle.top_call.specs.CheckCommand.{CheckEnds, GivesInput}
+use Rattle.top_call.specs.CheckCommand.{CheckEnds}
 use Rattle.top_call.specs.NodeCommand.{NodeEnds}
 use Rattle.top_call.specs.DrillCommand.{DrillEnds}
 use Rattle.top_call.specs.NoCommand.{UsageEnds}
@@ -76,6 +74,12 @@ abbrev pub ReadsOrNot : Reading → Result JobState End → Type 0
 ReadsOrNot reading (Ok job) = GivesJob reading job
 ReadsOrNot reading (Err end) = IsUnread reading end
 
+-- how `check` ends where no input was read
+abbrev pub end_unread : InputFault → End
+end_unread (inputs.Bad line reason) = ends.BadJob line reason
+end_unread inputs.ReadFault = ends.ReadFault
+end_unread inputs.NoMemory = ends.NoMemory
+
 -- ---- saying
 
 -- how a command ends whose sink failed
@@ -113,13 +117,6 @@ SaysTraces (traces.Done violated nodes) old new ended = Says (end_of violated) (
 SaysTraces (traces.NotARun node entry) old new ended = Says (ends.NotARun node entry) nothing old new ended
 SaysTraces traces.Fault old new ended = (ended ≡ cut) × (new ≡ old)
 SaysTraces traces.NoMemory old new ended = Says ends.NoMemory nothing old new ended
-
--- these are the traces of outputs that were read so, of nodes that ended with status 0 or 1
-pub record AreGiven (reading : Reading) (job : JobState) (traces : List Trace) : Type 0 where
-  pub outputs : List Output
-  pub read : GivesInput reading job outputs
-  pub over : AreOver outputs
-  pub are : traces ≡ traces_in outputs
 
 -- what waited was given on, and the end stays; or the sink failed at that. After a fault nothing more is given on
 abbrev pub GivesOn : (old new : Outbox) → (before after : Ended) → Type 0
