@@ -3,8 +3,8 @@
 //! A module has rows and refused inputs as tables, and the values that it expects come from the definitions or from
 //! outside. `calls` has the call of the program that they share. `world_run` is tested by the top call, `drill_run` by
 //! it in `drill_tests`; `extended_tests` has the rows of transfers and barriers, `script_text_tests` the scripts of a
-//! job's text, `job_front_tests` jobs with bytes behind them, `check_tests` the traces of nodes, `print_tests` the
-//! text that is printed of a job, and `version_2_tests` jobs of version 2.
+//! job's text, `job_front_tests` jobs with bytes behind them, `check_tests` the traces of nodes, `launch_tests`
+//! children that give them, `print_tests` the text that is printed of a job, and `version_2_tests` jobs of version 2.
 #![tactic(auto)]
 
 #[cfg(test)]
@@ -19,6 +19,8 @@ mod extended_tests;
 mod job_front_tests;
 #[cfg(test)]
 mod job_text_tests;
+#[cfg(test)]
+mod launch_tests;
 #[cfg(test)]
 mod node_script_tests;
 #[cfg(test)]

@@ -491,6 +491,8 @@ fn other_words_are_refused(rt: HostRuntime) -> Result<(), Fail> {
     check_usage(&rt, &["upgrade", "2"])?;
     check_usage(&rt, &["upgrades"])?;
     check_usage(&rt, &["check", "1"])?;
+    check_usage(&rt, &["launch"])?;
+    check_usage(&rt, &["launch", "021000"])?;
     check_usage(&rt, &[])
 }
 

@@ -19,6 +19,7 @@ end_at code =
     if code == 4 then Some ends.ReadFault else
     if code == 5 then Some ends.WriteFault else
     if code == 6 then Some ends.LinkFault else
+    if code == 7 then Some ends.SpawnFault else
     if code == 8 then Some ends.NoMemory else
     if code == 9 then Some ends.Stuck else
     if code == 10 then Some ends.JournalFull else None
@@ -31,6 +32,7 @@ known (ends.BadJob line reason) = inr refl
 known ends.ReadFault = inl refl
 known ends.WriteFault = inl refl
 known ends.LinkFault = inl refl
+known ends.SpawnFault = inl refl
 known ends.NoMemory = inl refl
 known ends.Stuck = inl refl
 known ends.JournalFull = inl refl
@@ -54,6 +56,7 @@ a_bad_job ends.Usage e = absurd (omega (arith, e))
 a_bad_job ends.ReadFault e = absurd (omega (arith, e))
 a_bad_job ends.WriteFault e = absurd (omega (arith, e))
 a_bad_job ends.LinkFault e = absurd (omega (arith, e))
+a_bad_job ends.SpawnFault e = absurd (omega (arith, e))
 a_bad_job ends.NoMemory e = absurd (omega (arith, e))
 a_bad_job ends.Stuck e = absurd (omega (arith, e))
 a_bad_job ends.JournalFull e = absurd (omega (arith, e))
@@ -71,6 +74,7 @@ not_a_run ends.Usage e = absurd (omega (arith, e))
 not_a_run ends.ReadFault e = absurd (omega (arith, e))
 not_a_run ends.WriteFault e = absurd (omega (arith, e))
 not_a_run ends.LinkFault e = absurd (omega (arith, e))
+not_a_run ends.SpawnFault e = absurd (omega (arith, e))
 not_a_run ends.NoMemory e = absurd (omega (arith, e))
 not_a_run ends.Stuck e = absurd (omega (arith, e))
 not_a_run ends.JournalFull e = absurd (omega (arith, e))
@@ -86,6 +90,7 @@ a_child ends.Usage e = absurd (omega (arith, e))
 a_child ends.ReadFault e = absurd (omega (arith, e))
 a_child ends.WriteFault e = absurd (omega (arith, e))
 a_child ends.LinkFault e = absurd (omega (arith, e))
+a_child ends.SpawnFault e = absurd (omega (arith, e))
 a_child ends.NoMemory e = absurd (omega (arith, e))
 a_child ends.Stuck e = absurd (omega (arith, e))
 a_child ends.JournalFull e = absurd (omega (arith, e))
@@ -105,6 +110,7 @@ code_means call Ends codes end is_status h = record {
   read_fault = λ e. subst (EndedBy call Ends) (one_end end ends.ReadFault refl e) h;
   write_fault = λ e. subst (EndedBy call Ends) (one_end end ends.WriteFault refl e) h;
   link_fault = λ e. subst (EndedBy call Ends) (one_end end ends.LinkFault refl e) h;
+  spawn_fault = λ e. subst (EndedBy call Ends) (one_end end ends.SpawnFault refl e) h;
   no_memory = λ e. subst (EndedBy call Ends) (one_end end ends.NoMemory refl e) h;
   stuck = λ e. subst (EndedBy call Ends) (one_end end ends.Stuck refl e) h;
   journal_full = λ e. subst (EndedBy call Ends) (one_end end ends.JournalFull refl e) h;

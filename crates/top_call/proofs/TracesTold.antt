@@ -41,6 +41,7 @@ weak_traces job these (ends.BadJob line reason) given said h = h
 weak_traces job these ends.ReadFault given said h = h
 weak_traces job these ends.WriteFault given said h = h
 weak_traces job these ends.LinkFault given said h = h
+weak_traces job these ends.SpawnFault given said h = h
 weak_traces job these ends.Stuck given said h = h
 weak_traces job these ends.JournalFull given said h = h
 weak_traces job these (ends.Child rank code) given said h = h

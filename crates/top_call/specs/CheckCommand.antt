@@ -52,6 +52,7 @@ CheckEnds reading (ends.Child rank code) after said = NamesChild reading rank co
 CheckEnds reading ends.Usage after said = ⊥
 CheckEnds reading ends.WriteFault after said = ⊥
 CheckEnds reading ends.LinkFault after said = ⊥
+CheckEnds reading ends.SpawnFault after said = ⊥
 CheckEnds reading ends.Stuck after said = ⊥
 CheckEnds reading ends.JournalFull after said = ⊥
 

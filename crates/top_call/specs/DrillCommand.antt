@@ -19,6 +19,7 @@ DrillEnds seed (ends.BadJob line reason) after said = ⊥
 DrillEnds seed ends.ReadFault after said = ⊥
 DrillEnds seed ends.WriteFault after said = ⊥
 DrillEnds seed ends.LinkFault after said = ⊥
+DrillEnds seed ends.SpawnFault after said = ⊥
 DrillEnds seed ends.Stuck after said = ⊥
 DrillEnds seed ends.JournalFull after said = ⊥
 DrillEnds seed (ends.NotARun node entry) after said = ⊥

@@ -62,6 +62,7 @@ ReadsNone reading ends.Violations after said = ⊥
 ReadsNone reading ends.Usage after said = ⊥
 ReadsNone reading ends.WriteFault after said = ⊥
 ReadsNone reading ends.LinkFault after said = ⊥
+ReadsNone reading ends.SpawnFault after said = ⊥
 ReadsNone reading ends.Stuck after said = ⊥
 ReadsNone reading ends.JournalFull after said = ⊥
 ReadsNone reading (ends.NotARun node entry) after said = ⊥

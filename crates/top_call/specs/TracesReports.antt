@@ -45,6 +45,7 @@ TracesEnds job traces (ends.BadJob line reason) after said = ⊥
 TracesEnds job traces ends.ReadFault after said = ⊥
 TracesEnds job traces ends.WriteFault after said = ⊥
 TracesEnds job traces ends.LinkFault after said = ⊥
+TracesEnds job traces ends.SpawnFault after said = ⊥
 TracesEnds job traces ends.Stuck after said = ⊥
 TracesEnds job traces ends.JournalFull after said = ⊥
 TracesEnds job traces (ends.Child rank code) after said = ⊥

@@ -35,6 +35,7 @@ UpgradeEnds reading ends.Violations after said = ⊥
 UpgradeEnds reading ends.Usage after said = ⊥
 UpgradeEnds reading ends.WriteFault after said = ⊥
 UpgradeEnds reading ends.LinkFault after said = ⊥
+UpgradeEnds reading ends.SpawnFault after said = ⊥
 UpgradeEnds reading ends.Stuck after said = ⊥
 UpgradeEnds reading ends.JournalFull after said = ⊥
 UpgradeEnds reading (ends.NotARun node entry) after said = ⊥

@@ -56,7 +56,8 @@ pub fn check_command<S: Source, K: Sink>(
     sink: &mut BufferedSink<K>,
 ) -> Ended
     ensures { EndsBy
-        (CheckEnds (reading_of (input S.left S.faults source.old) (input S.left S.faults source.new)))
+        (CheckEnds (reading_of (input S.left S.faults source.old)
+        (input S.left S.faults source.new)))
         (outbox K.taken K.faults sink.old) (outbox K.taken K.faults sink.new) result }
 {
     match read_input(alloc, source) {

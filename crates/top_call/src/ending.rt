@@ -31,6 +31,8 @@ pub enum End {
     WriteFault,
     /// The link failed.
     LinkFault,
+    /// The spawner failed.
+    SpawnFault,
     /// Memory ran out.
     NoMemory,
     /// A node was quiet for so many turns in a row as the job's patience says, and some script isn't over.
@@ -73,6 +75,7 @@ impl End {
             End::ReadFault => 4,
             End::WriteFault => 5,
             End::LinkFault => 6,
+            End::SpawnFault => 7,
             End::NoMemory => 8,
             End::Stuck => 9,
             End::JournalFull => 10,

@@ -93,6 +93,7 @@ pub fn write_status<K: Sink>(sink: &mut BufferedSink<K>, end: End) -> Wrote
         End::ReadFault => write_named(sink, b"4", b"read-fault"),
         End::WriteFault => write_named(sink, b"5", b"write-fault"),
         End::LinkFault => write_named(sink, b"6", b"link-fault"),
+        End::SpawnFault => write_named(sink, b"7", b"spawn-fault"),
         End::NoMemory => write_named(sink, b"8", b"no-memory"),
         End::Stuck => write_named(sink, b"9", b"stuck"),
         End::JournalFull => write_named(sink, b"10", b"journal-full"),

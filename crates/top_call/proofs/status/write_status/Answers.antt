@@ -24,6 +24,9 @@ returns-in-NoMemory g c = rw c.in-NoMemory.is c.write_named-in-NoMemory.ensures
 pub returns-in-LinkFault : goal.returns-in-LinkFault
 returns-in-LinkFault g c = rw c.in-LinkFault.is c.write_named-in-LinkFault.ensures
 
+pub returns-in-SpawnFault : goal.returns-in-SpawnFault
+returns-in-SpawnFault g c = rw c.in-SpawnFault.is c.write_named-in-SpawnFault.ensures
+
 pub returns-in-Stuck : goal.returns-in-Stuck
 returns-in-Stuck g c = rw c.in-Stuck.is c.write_named-in-Stuck.ensures
 
