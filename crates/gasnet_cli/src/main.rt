@@ -4,12 +4,14 @@
 //! line for each line of the schedule, then those of each node, then `status CODE NAME`. The code is the exit status.
 //! The command `drill SEED` does so with a schedule made from a number, and writes a summary of the answers. The
 //! command `node RANK PORT` runs one node of the job over a UDP socket of 127.0.0.1, and writes the trace of what it
-//! did. Nothing is written to standard error.
+//! did; `launch PORT` runs all nodes of the job so, each as a child of its own, and then goes on as `check` does, which
+//! reads a job with what its nodes wrote, checks whether their traces are one run, and writes that run's lines. Nothing
+//! is written to standard error.
 //!
 //! What is proved of it stands on the call that it makes (`top_call`: `program`).
 #![tactic(auto)]
 
-use real_outside::{LinkSocket, SocketGate, SystemClock, UdpLink};
+use real_outside::{LinkSocket, ProcessSpawner, SocketGate, SystemClock, UdpLink};
 use std::process::ExitCode;
 use top_call::program;
 
@@ -18,6 +20,7 @@ fn main(rt: HostRuntime) -> ExitCode {
     program(
         &rt,
         UdpLink::new(rt, &socket),
+        ProcessSpawner::of_own_program(rt),
         SystemClock::new(rt),
         SocketGate::new(rt, rt.alloc(), &socket),
     )

@@ -1,4 +1,6 @@
-use gas_outside::{FixedClock, Gate, MemoryLink, MemorySink, MemorySource, OpenGate};
+use gas_outside::{
+    FixedClock, Gate, MemoryLink, MemorySink, MemorySource, MemorySpawner, OpenGate,
+};
 use station_tests::InStep;
 use std::alloc::Global;
 use std::process::Abort;
@@ -44,6 +46,7 @@ fn call<R: Threads + Wait + Sync + AllocGlobal, G: Gate + Sync + Drop>(
         )?,
         sink: MemorySink::new(alloc, vec![in alloc; call.write_fails]?)?,
         link: call.link,
+        spawner: MemorySpawner::new(alloc, Vec::new(alloc), Vec::new(alloc))?,
         clock: FixedClock::new(0),
         gate,
     };

@@ -6,9 +6,10 @@ ghost use Rattle.gas_outside.specs.Spawner.{AppendsOutput};
 
 use gas_outside::{Finished, Got, MAX_OUTPUT, ReadAll, Source, Spawner, Started, read_all};
 use std::alloc::Global;
-use std::io;
 use std::io::{ErrorKind, Read, Write};
 use std::process::{Child, Command, OpenProcess, Processes, Stdio};
+use std::rt::Files;
+use std::{env, io};
 
 /// A spawner that starts a program once for each rank, with the words `node RANK PORT` and the bytes on its standard
 /// input.
@@ -23,6 +24,23 @@ pub struct ProcessSpawner<R: Processes> {
     program: String,
     children: Vec<(u16, Child<R::Started>)>,
     faults: u64,
+}
+
+/// The path of the program that runs, or an empty text where it can't be had.
+fn own_path<R: Files + AllocGlobal>(rt: &R) -> String {
+    match env::current_exe(rt) {
+        Ok(path) => path.into_string(),
+        Err(_) => String::new(rt.alloc()),
+    }
+}
+
+impl<R: Processes + Files + AllocGlobal> ProcessSpawner<R> {
+    /// A spawner of the program that runs. Where the system can't tell its path each start is a fault.
+    pub fn of_own_program(rt: R) -> ProcessSpawner<R> {
+        let alloc = rt.alloc();
+        let program = own_path(&rt);
+        ProcessSpawner::new(rt, alloc, program)
+    }
 }
 
 impl<R: Processes> ProcessSpawner<R> {

@@ -1,6 +1,6 @@
 //! Calls of the program, with words and what it reads as they are given.
 
-use gas_outside::{FixedClock, MemoryLink, MemorySink, MemorySource, OpenGate};
+use gas_outside::{FixedClock, MemoryLink, MemorySink, MemorySource, MemorySpawner, OpenGate};
 use std::alloc::Global;
 use std::sync::Wait;
 use std::test::Fail;
@@ -14,17 +14,18 @@ pub struct Said {
     pub bytes: Vec<u8>,
 }
 
-/// An outside that reads and writes here; with a link in memory, a clock that stands, and an open gate, for commands
-/// that run no node.
+/// An outside that reads and writes here; with a link in memory, a spawner without children, a clock that stands, and
+/// an open gate, for commands that run no node and start none.
 pub fn outside_of<S: Drop, K: Drop>(
     alloc: Global,
     source: S,
     sink: K,
-) -> Result<Outside<S, K, MemoryLink, FixedClock, OpenGate>, Fail> {
+) -> Result<Outside<S, K, MemoryLink, MemorySpawner, FixedClock, OpenGate>, Fail> {
     Ok(Outside {
         source,
         sink,
         link: MemoryLink::new(alloc, Vec::new(alloc), Vec::new(alloc))?,
+        spawner: MemorySpawner::new(alloc, Vec::new(alloc), Vec::new(alloc))?,
         clock: FixedClock::new(0),
         gate: OpenGate,
     })

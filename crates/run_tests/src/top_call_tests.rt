@@ -490,6 +490,9 @@ fn other_words_are_refused(rt: HostRuntime) -> Result<(), Fail> {
     check_usage(&rt, &["World"])?;
     check_usage(&rt, &["upgrade", "2"])?;
     check_usage(&rt, &["upgrades"])?;
+    check_usage(&rt, &["check", "1"])?;
+    check_usage(&rt, &["launch"])?;
+    check_usage(&rt, &["launch", "021000"])?;
     check_usage(&rt, &[])
 }
 

@@ -5,7 +5,7 @@ use Rattle.std.specs.Prelude.{if◌then◌else◌, bytes_eq, decimal}
 use Rattle.std.specs.Str.Parse.{digits_value}
 use Rattle.std.proofs.lemmas.Fmt.{decimal_is_IsNumeral}
 use Rattle.node_script.specs.Lines.{Word}
-use Rattle.top_call.specs.Outsides.{Call, Course, course_in, took_in}
+use Rattle.top_call.specs.Outsides.{Call, Course, Spawning, course_in, spawning_in, took_in}
 use Rattle.top_call.specs.Commands.{Asks, AsksNothing, IsAsked, IsCommand, code_of, command_words}
 use Rattle.top_call.specs.HowEnds.{Means}
 use Rattle.top_call.specs.TopCall.{IsComplete, StatusMeans}
@@ -16,17 +16,21 @@ use Rattle.top_call.specs.declared.words.Command.TheVariants as commands
 use Rattle.top_call.proofs.LastLine.{Weakens}
 use Rattle.top_call.proofs.WorldCommand.{weak_world, world_completes, world_means}
 use Rattle.top_call.proofs.UpgradeCommand.{upgrade_completes, upgrade_means, weak_upgrade}
+use Rattle.top_call.proofs.CheckCommand.{check_completes, check_means, weak_check}
+use Rattle.top_call.proofs.LaunchCommand.{launch_completes, launch_means, weak_launch}
 use Rattle.top_call.proofs.NodeCommand.{node_completes, node_means, weak_node}
 use Rattle.top_call.proofs.DrillCommand.{drill_completes, drill_means, weak_drill}
 use Rattle.top_call.proofs.NoCommand.{usage_means, weak_usage}
 
 -- what each command says where something is claimed of what it gives it says where nothing is
-pub weak_ends : (asked : Option Command) (course : Course) → Weakens (Ends asked course)
-weak_ends None course = weak_usage
-weak_ends (Some commands.World) course = weak_world course.reading
-weak_ends (Some commands.Upgrade) course = weak_upgrade course.reading
-weak_ends (Some (commands.Node rank port)) course = weak_node rank port course
-weak_ends (Some (commands.Drill seed)) course = weak_drill seed
+pub weak_ends : (asked : Option Command) (course : Course) (spawning : Spawning) → Weakens (Ends asked course spawning)
+weak_ends None course spawning = weak_usage
+weak_ends (Some commands.World) course spawning = weak_world course.reading
+weak_ends (Some commands.Upgrade) course spawning = weak_upgrade course.reading
+weak_ends (Some commands.Check) course spawning = weak_check course.reading
+weak_ends (Some (commands.Launch port)) course spawning = weak_launch port course.reading spawning
+weak_ends (Some (commands.Node rank port)) course spawning = weak_node rank port course
+weak_ends (Some (commands.Drill seed)) course spawning = weak_drill seed
 
 -- ---- the words of a command are those of no other one
 
@@ -36,6 +40,8 @@ named words =
     let name = get_or words 0 [] in
     if bytes_eq name (codes "world") then commands.World else
     if bytes_eq name (codes "upgrade") then commands.Upgrade else
+    if bytes_eq name (codes "check") then commands.Check else
+    if bytes_eq name (codes "launch") then commands.Launch (digits_value 10 (get_or words 1 [])) else
     if bytes_eq name (codes "node")
     then commands.Node (digits_value 10 (get_or words 1 [])) (digits_value 10 (get_or words 2 []))
     else
@@ -45,6 +51,10 @@ names : (command : Command) → IsCommand command → named (command_words comma
 unfolding named
 names commands.World h = refl
 names commands.Upgrade h = refl
+names commands.Check h = refl
+names (commands.Launch port) h =
+    let short : port < 2 ^ 64 = (let high = h.1 in omega arith) in
+    ap (λ (n : ℕ). commands.Launch n) (decimal_is_IsNumeral port short).1
 names (commands.Node rank port) h =
     let few : rank < 2 ^ 64 = (let low = h.0 in omega arith) in
     let short : port < 2 ^ 64 = (let high = h.2 in omega arith) in
@@ -69,7 +79,7 @@ none_asked words (Some command) is nothing = absurd (nothing command is)
 
 -- how what was asked for ended
 abbrev EndedAs : Call → End → Option Command → Type 0
-EndedAs call end asked = Means (Ends asked (course_in call)) (took_in call) call.given end
+EndedAs call end asked = Means (Ends asked (course_in call) (spawning_in call)) (took_in call) call.given end
 
 -- a call with the words of this command ended as the command does
 ended_as : (call : Call) (asked : Option Command) (end : End) (command : Command) → IsAsked call.words asked
@@ -82,6 +92,8 @@ pub status_means : (call : Call) (asked : Option Command) (end : End) → IsAske
 status_means call asked end is h = record {
   world = λ asks. world_means call end (ended_as call asked end commands.World is h asks);
   upgrade = λ asks. upgrade_means call end (ended_as call asked end commands.Upgrade is h asks);
+  check = λ asks. check_means call end (ended_as call asked end commands.Check is h asks);
+  launch = λ port asks. launch_means call port end (ended_as call asked end (commands.Launch port) is h asks);
   node = λ rank port asks.
       node_means call rank port end (ended_as call asked end (commands.Node rank port) is h asks);
   drill = λ seed asks. drill_means call seed end (ended_as call asked end (commands.Drill seed) is h asks);
@@ -93,6 +105,8 @@ pub completes : (call : Call) (asked : Option Command) (end : End) → IsAsked c
 completes call asked end is h = record {
   world = λ asks. world_completes call end (ended_as call asked end commands.World is h asks);
   upgrade = λ asks. upgrade_completes call end (ended_as call asked end commands.Upgrade is h asks);
+  check = λ asks. check_completes call end (ended_as call asked end commands.Check is h asks);
+  launch = λ port asks. launch_completes call port end (ended_as call asked end (commands.Launch port) is h asks);
   node = λ rank port asks.
       node_completes call rank port end (ended_as call asked end (commands.Node rank port) is h asks);
   drill = λ seed asks. drill_completes call seed end (ended_as call asked end (commands.Drill seed) is h asks);

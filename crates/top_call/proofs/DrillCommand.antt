@@ -25,8 +25,11 @@ weak_drill seed (ends.BadJob line reason) given said h = h
 weak_drill seed ends.ReadFault given said h = h
 weak_drill seed ends.WriteFault given said h = h
 weak_drill seed ends.LinkFault given said h = h
+weak_drill seed ends.SpawnFault given said h = h
 weak_drill seed ends.Stuck given said h = h
 weak_drill seed ends.JournalFull given said h = h
+weak_drill seed (ends.NotARun node entry) given said h = h
+weak_drill seed (ends.Child rank code) given said h = h
 
 drill_whole : (seed : ℕ) (after : After) (violated : Bool) (said : List ℕ) → is_violated (drill_job seed) ≡ false
     → EndsRun (drill_job seed) (drill_lines seed) violated after said → DrillEnds seed (end_of violated) after said
@@ -53,8 +56,11 @@ drill_codes call seed ends.NoMemory h = (2, lit< tt, refl)
 drill_codes call seed ends.Violations h = absurd h.ends
 drill_codes call seed ends.Usage h = absurd h.ends
 drill_codes call seed ends.LinkFault h = absurd h.ends
+drill_codes call seed ends.SpawnFault h = absurd h.ends
 drill_codes call seed ends.Stuck h = absurd h.ends
 drill_codes call seed ends.JournalFull h = absurd h.ends
+drill_codes call seed (ends.NotARun node entry) h = absurd h.ends
+drill_codes call seed (ends.Child rank code) h = absurd h.ends
 drill_codes call seed (ends.BadJob line reason) h = absurd h.ends
 drill_codes call seed ends.ReadFault h = absurd h.ends
 
@@ -70,7 +76,10 @@ drill_completes call seed ends.WriteFault h faultless = absurd (faultless.sink h
 drill_completes call seed ends.Violations h faultless = absurd h.ends
 drill_completes call seed ends.Usage h faultless = absurd h.ends
 drill_completes call seed ends.LinkFault h faultless = absurd h.ends
+drill_completes call seed ends.SpawnFault h faultless = absurd h.ends
 drill_completes call seed ends.Stuck h faultless = absurd h.ends
 drill_completes call seed ends.JournalFull h faultless = absurd h.ends
+drill_completes call seed (ends.NotARun node entry) h faultless = absurd h.ends
+drill_completes call seed (ends.Child rank code) h faultless = absurd h.ends
 drill_completes call seed (ends.BadJob line reason) h faultless = absurd h.ends
 drill_completes call seed ends.ReadFault h faultless = absurd h.ends

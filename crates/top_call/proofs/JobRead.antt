@@ -24,16 +24,20 @@ use Rattle.top_call.proofs.LastLine.{IsSaid, Weakens, alone, says_alone, weak_al
 -- ---- the bytes read
 
 -- all bytes were read, and they are the text of one job
-pub reads_job : (left left' : Option (List ℕ)) (bytes seen : List ℕ) (j : JobState) → seen ≡ bytes
+pub reads_text : (left left' : Option (List ℕ)) (bytes seen : List ℕ) (j : JobState) → seen ≡ bytes
     → (length bytes ≤ limit) × Consumes left left' bytes × IsAtEnd left' → JobText j seen
-    → ((other : JobState) → JobText other seen → other ≡ j) → ReadsJob left left' j
-reads_job left left' bytes seen j same h text one = record {
-  bytes = bytes;
-  read = h.1;
-  ended = h.2;
-  text = subst (JobText j) same text;
-  one = λ other its. one other (subst (JobText other) (sym same) its);
-}
+    → ((other : JobState) → JobText other seen → other ≡ j)
+    → (read : ReadsJob left left' j) × (read.bytes ≡ bytes)
+reads_text left left' bytes seen j same h text one = (
+  record {
+    bytes = bytes;
+    read = h.1;
+    ended = h.2;
+    text = subst (JobText j) same text;
+    one = λ other its. one other (subst (JobText other) (sym same) its);
+  },
+  refl,
+)
 
 -- all bytes were read, and they are no job's text
 pub reads_bad : (left left' : Option (List ℕ)) (bytes seen : List ℕ) (fault : JobFault) (line : ℕ) (reason : JobWhy)
@@ -81,6 +85,14 @@ was_no_job source left line reason holds none =
     not_no_job holds.bytes left holds.job line reason holds.text
     (subst (λ (before : Option (List ℕ)). ReadsNoJob before left line reason) holds.told none)
 
+-- a source that told a job's text gives that job
+pub one_job : (bytes : List ℕ) (left : Option (List ℕ)) (job other : JobState) → JobText job bytes
+    → ReadsJob (Some bytes) left other → job ≡ other
+one_job bytes None job other text r = absurd r.read
+one_job bytes (Some rest) job other text r =
+    let same : bytes ≡ r.bytes = r.read ∙ ap (λ z. r.bytes ++ z) r.ended ∙ append-nil r.bytes in
+    r.one job (subst (JobText job) same text)
+
 -- ---- a command that was given no job
 
 pub weak_none : (reading : Reading) → Weakens (ReadsNone reading)
@@ -94,8 +106,11 @@ weak_none reading ends.Violations given said h = h
 weak_none reading ends.Usage given said h = h
 weak_none reading ends.WriteFault given said h = h
 weak_none reading ends.LinkFault given said h = h
+weak_none reading ends.SpawnFault given said h = h
 weak_none reading ends.Stuck given said h = h
 weak_none reading ends.JournalFull given said h = h
+weak_none reading (ends.NotARun node entry) given said h = h
+weak_none reading (ends.Child rank code) given said h = h
 
 -- it is one of the ends of a command that reads a job
 abbrev pub MayReadNone : EndsHow → Reading → Type 1
@@ -111,8 +126,11 @@ unread_said reading ends.Violations h = tt
 unread_said reading ends.Usage h = tt
 unread_said reading ends.WriteFault h = h
 unread_said reading ends.LinkFault h = tt
+unread_said reading ends.SpawnFault h = tt
 unread_said reading ends.Stuck h = tt
 unread_said reading ends.JournalFull h = tt
+unread_said reading (ends.NotARun node entry) h = tt
+unread_said reading (ends.Child rank code) h = tt
 
 reads_none : (reading : Reading) (end : End) → IsUnread reading end
     → ReadsNone reading end (gives nothing) (said_last [] end)
@@ -124,8 +142,11 @@ reads_none reading ends.Violations h = h
 reads_none reading ends.Usage h = h
 reads_none reading ends.WriteFault h = h
 reads_none reading ends.LinkFault h = h
+reads_none reading ends.SpawnFault h = h
 reads_none reading ends.Stuck h = h
 reads_none reading ends.JournalFull h = h
+reads_none reading (ends.NotARun node entry) h = h
+reads_none reading (ends.Child rank code) h = h
 
 -- it says so
 pub unread_told : (Ends : EndsHow) (reading : Reading) (old new : Outbox) (end : End) (ended : Ended)

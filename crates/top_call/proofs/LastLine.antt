@@ -9,7 +9,7 @@ use Rattle.node_script.specs.Lines.{Line, spell, line_text}
 use Rattle.world_run.proofs.LinesWritten.{one_more}
 use Rattle.top_call.specs.Outsides.{Output, Takes}
 use Rattle.top_call.specs.Commands.{status_line}
-use Rattle.top_call.specs.HowEnds.{Cut, EndsHow, Means, SaysAlone, Told, gives, nothing, said_last, unasked}
+use Rattle.top_call.specs.HowEnds.{After, Cut, EndsHow, Means, SaysAlone, Told, gives, nothing, said_last, unasked}
 use Rattle.top_call.specs.TopParts.{EndsBy, GivesOn, Says}
 use Rattle.top_call.specs.declared.ending.End.{End}
 use Rattle.top_call.specs.declared.ending.End.TheVariants as ends
@@ -61,6 +61,24 @@ says_last Ends old middle new front end given ended weak is_said ends_so h says 
     nothing_given = refl;
   })
 ]
+
+-- ---- a part of how a command may end
+
+-- what the one says the other says
+abbrev pub Widens : (part whole : EndsHow) → Type 1
+Widens part whole = (end : End) (after : After) (said : List ℕ) → part end after said → whole end after said
+
+pub widened : (part whole : EndsHow) (took : List ℕ → Wrote → Type 0) (given : Given) (end : End) → Widens part whole
+    → Means part took given end → Means whole took given end
+widened part whole took given ends.WriteFault wide h = record {
+  end = h.end;
+  said = h.said;
+  ends = wide h.end unasked h.said h.ends;
+  cut = h.cut;
+  nothing_given = h.nothing_given;
+}
+widened part whole took given end wide h =
+    record { said = h.said; ends = wide end (gives given) h.said h.ends; written = h.written }
 
 -- ---- a status line alone
 

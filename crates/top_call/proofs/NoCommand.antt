@@ -23,8 +23,11 @@ usage_codes call (ends.BadJob line reason) h = absurd (let other = h.ends.0 in c
 usage_codes call ends.ReadFault h = absurd (let other = h.ends.0 in cc)
 usage_codes call ends.NoMemory h = absurd (let other = h.ends.0 in cc)
 usage_codes call ends.LinkFault h = absurd (let other = h.ends.0 in cc)
+usage_codes call ends.SpawnFault h = absurd (let other = h.ends.0 in cc)
 usage_codes call ends.Stuck h = absurd (let other = h.ends.0 in cc)
 usage_codes call ends.JournalFull h = absurd (let other = h.ends.0 in cc)
+usage_codes call (ends.NotARun node entry) h = absurd (let other = h.ends.0 in cc)
+usage_codes call (ends.Child rank code) h = absurd (let other = h.ends.0 in cc)
 
 pub usage_means : (call : Call) (end : End) → Means UsageEnds (took_in call) call.given end
     → UsageMeans call (code_of end)

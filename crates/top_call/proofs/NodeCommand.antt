@@ -29,7 +29,7 @@ use Rattle.top_call.specs.declared.ending.End.TheVariants as ends
 use Rattle.top_call.specs.declared.ending.Ended.{Ended}
 use Rattle.top_call.specs.declared.ending.Given.{Given}
 use Rattle.top_call.proofs.LastLine.{IsSaid, Weakens, alone, says_alone, says_last, weak_alone}
-use Rattle.top_call.proofs.JobRead.{MayReadNone, was_no_job}
+use Rattle.top_call.proofs.JobRead.{MayReadNone, one_job, was_no_job}
 use Rattle.top_call.proofs.RunTold.{end_said}
 use Rattle.top_call.proofs.Statuses.{code_means}
 
@@ -68,11 +68,14 @@ weak_node rank port course ends.LinkFault given said h = record {
   runs = weak_runs rank port course stations.LinkFault ends.LinkFault given said h.runs;
   rose = h.rose;
 }
+weak_node rank port course ends.SpawnFault given said h = h
 weak_node rank port course ends.NoMemory given said h = weak_alone ends.NoMemory given said h
 weak_node rank port course ends.Stuck given said h =
     weak_runs rank port course stations.Stuck ends.Stuck given said h
 weak_node rank port course ends.JournalFull given said h =
     weak_runs rank port course stations.JournalFull ends.JournalFull given said h
+weak_node rank port course (ends.NotARun node entry) given said h = h
+weak_node rank port course (ends.Child child code) given said h = h
 
 -- ---- a job was read, or none
 
@@ -85,8 +88,11 @@ node_none rank port course ends.Violations after said h = absurd h
 node_none rank port course ends.Usage after said h = absurd h
 node_none rank port course ends.WriteFault after said h = h
 node_none rank port course ends.LinkFault after said h = absurd h
+node_none rank port course ends.SpawnFault after said h = h
 node_none rank port course ends.Stuck after said h = absurd h
 node_none rank port course ends.JournalFull after said h = absurd h
+node_none rank port course (ends.NotARun node entry) after said h = absurd h
+node_none rank port course (ends.Child child code) after said h = absurd h
 
 -- ---- a node ran
 
@@ -232,23 +238,18 @@ node_codes rank port call (ends.BadJob line reason) h = (3, lit< tt, refl)
 node_codes rank port call ends.ReadFault h = (4, lit< tt, refl)
 node_codes rank port call ends.WriteFault h = (5, lit< tt, refl)
 node_codes rank port call ends.LinkFault h = (6, lit< tt, refl)
+node_codes rank port call ends.SpawnFault h = absurd h.ends
 node_codes rank port call ends.NoMemory h = (7, lit< tt, refl)
 node_codes rank port call ends.Stuck h = (8, lit< tt, refl)
 node_codes rank port call ends.JournalFull h = (9, lit< tt, refl)
+node_codes rank port call (ends.NotARun node entry) h = absurd h.ends
+node_codes rank port call (ends.Child child code) h = absurd h.ends
 
 pub node_means : (call : Call) (rank port : ℕ) (end : End)
     → Means (NodeEnds rank port (course_in call)) (took_in call) call.given end
     → NodeMeans call rank port (code_of end)
 node_means call rank port end h =
     code_means call (NodeEnds rank port (course_in call)) _ end (node_codes rank port call end h) h
-
--- a source that told a job's text gives that job
-one_job : (bytes : List ℕ) (left : Option (List ℕ)) (job other : JobState) → JobText job bytes
-    → ReadsJob (Some bytes) left other → job ≡ other
-one_job bytes None job other text r = absurd r.read
-one_job bytes (Some rest) job other text r =
-    let same : bytes ≡ r.bytes = r.read ∙ ap (λ z. r.bytes ++ z) r.ended ∙ append-nil r.bytes in
-    r.one job (subst (JobText job) same text)
 
 is_no_node : (source : Input) (left : Option (List ℕ)) (rank port : ℕ) (job : JobState)
     → HoldsNode rank port source
@@ -266,6 +267,9 @@ node_completes call rank port ends.Violations h holds faultless linked = (1, lit
 node_completes call rank port ends.NoMemory h holds faultless linked = (2, lit< tt, refl)
 node_completes call rank port ends.Stuck h holds faultless linked = (3, lit< tt, refl)
 node_completes call rank port ends.JournalFull h holds faultless linked = (4, lit< tt, refl)
+node_completes call rank port (ends.NotARun node entry) h holds faultless linked = absurd h.ends
+node_completes call rank port (ends.Child child code) h holds faultless linked = absurd h.ends
+node_completes call rank port ends.SpawnFault h holds faultless linked = absurd h.ends
 node_completes call rank port ends.LinkFault h holds faultless linked = absurd (linked h.ends.rose)
 node_completes call rank port ends.ReadFault h holds faultless linked = absurd (faultless.source h.ends.rose)
 node_completes call rank port ends.WriteFault h holds faultless linked = absurd (faultless.sink h.cut.0)

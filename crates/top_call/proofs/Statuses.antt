@@ -19,6 +19,7 @@ end_at code =
     if code == 4 then Some ends.ReadFault else
     if code == 5 then Some ends.WriteFault else
     if code == 6 then Some ends.LinkFault else
+    if code == 7 then Some ends.SpawnFault else
     if code == 8 then Some ends.NoMemory else
     if code == 9 then Some ends.Stuck else
     if code == 10 then Some ends.JournalFull else None
@@ -31,9 +32,12 @@ known (ends.BadJob line reason) = inr refl
 known ends.ReadFault = inl refl
 known ends.WriteFault = inl refl
 known ends.LinkFault = inl refl
+known ends.SpawnFault = inl refl
 known ends.NoMemory = inl refl
 known ends.Stuck = inl refl
 known ends.JournalFull = inl refl
+known (ends.NotARun node entry) = inr refl
+known (ends.Child rank code) = inr refl
 
 one_end : (end other : End) → end_at (code_of other) ≡ Some other → code_of end ≡ code_of other → end ≡ other
 one_end end other is same =
@@ -52,9 +56,44 @@ a_bad_job ends.Usage e = absurd (omega (arith, e))
 a_bad_job ends.ReadFault e = absurd (omega (arith, e))
 a_bad_job ends.WriteFault e = absurd (omega (arith, e))
 a_bad_job ends.LinkFault e = absurd (omega (arith, e))
+a_bad_job ends.SpawnFault e = absurd (omega (arith, e))
 a_bad_job ends.NoMemory e = absurd (omega (arith, e))
 a_bad_job ends.Stuck e = absurd (omega (arith, e))
 a_bad_job ends.JournalFull e = absurd (omega (arith, e))
+a_bad_job (ends.NotARun node entry) e = absurd (omega (arith, e))
+a_bad_job (ends.Child rank code) e = absurd (omega (arith, e))
+
+-- that of traces that are no run
+not_a_run : (end : End) → code_of end ≡ 11 → (node entry : ℕ) × (end ≡ ends.NotARun node entry)
+not_a_run (ends.NotARun node entry) e = (node, entry, refl)
+not_a_run (ends.BadJob line reason) e = absurd (omega (arith, e))
+not_a_run (ends.Child rank code) e = absurd (omega (arith, e))
+not_a_run ends.Done e = absurd (omega (arith, e))
+not_a_run ends.Violations e = absurd (omega (arith, e))
+not_a_run ends.Usage e = absurd (omega (arith, e))
+not_a_run ends.ReadFault e = absurd (omega (arith, e))
+not_a_run ends.WriteFault e = absurd (omega (arith, e))
+not_a_run ends.LinkFault e = absurd (omega (arith, e))
+not_a_run ends.SpawnFault e = absurd (omega (arith, e))
+not_a_run ends.NoMemory e = absurd (omega (arith, e))
+not_a_run ends.Stuck e = absurd (omega (arith, e))
+not_a_run ends.JournalFull e = absurd (omega (arith, e))
+
+-- that of a node that ended badly
+a_child : (end : End) → code_of end ≡ 12 → (rank status : ℕ) × (end ≡ ends.Child rank status)
+a_child (ends.Child rank status) e = (rank, status, refl)
+a_child (ends.BadJob line reason) e = absurd (omega (arith, e))
+a_child (ends.NotARun node entry) e = absurd (omega (arith, e))
+a_child ends.Done e = absurd (omega (arith, e))
+a_child ends.Violations e = absurd (omega (arith, e))
+a_child ends.Usage e = absurd (omega (arith, e))
+a_child ends.ReadFault e = absurd (omega (arith, e))
+a_child ends.WriteFault e = absurd (omega (arith, e))
+a_child ends.LinkFault e = absurd (omega (arith, e))
+a_child ends.SpawnFault e = absurd (omega (arith, e))
+a_child ends.NoMemory e = absurd (omega (arith, e))
+a_child ends.Stuck e = absurd (omega (arith, e))
+a_child ends.JournalFull e = absurd (omega (arith, e))
 
 -- how a call ended, by its end
 abbrev EndedBy : Call → EndsHow → End → Type 0
@@ -71,7 +110,10 @@ code_means call Ends codes end is_status h = record {
   read_fault = λ e. subst (EndedBy call Ends) (one_end end ends.ReadFault refl e) h;
   write_fault = λ e. subst (EndedBy call Ends) (one_end end ends.WriteFault refl e) h;
   link_fault = λ e. subst (EndedBy call Ends) (one_end end ends.LinkFault refl e) h;
+  spawn_fault = λ e. subst (EndedBy call Ends) (one_end end ends.SpawnFault refl e) h;
   no_memory = λ e. subst (EndedBy call Ends) (one_end end ends.NoMemory refl e) h;
   stuck = λ e. subst (EndedBy call Ends) (one_end end ends.Stuck refl e) h;
   journal_full = λ e. subst (EndedBy call Ends) (one_end end ends.JournalFull refl e) h;
+  not_a_run = λ e. let none = not_a_run end e in (none.0, none.1, subst (EndedBy call Ends) none.2 h);
+  child = λ e. let child = a_child end e in (child.0, child.1, subst (EndedBy call Ends) child.2 h);
 }

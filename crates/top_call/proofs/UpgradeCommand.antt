@@ -31,8 +31,11 @@ weak_upgrade reading ends.Violations given said h = h
 weak_upgrade reading ends.Usage given said h = h
 weak_upgrade reading ends.WriteFault given said h = h
 weak_upgrade reading ends.LinkFault given said h = h
+weak_upgrade reading ends.SpawnFault given said h = h
 weak_upgrade reading ends.Stuck given said h = h
 weak_upgrade reading ends.JournalFull given said h = h
+weak_upgrade reading (ends.NotARun node entry) given said h = h
+weak_upgrade reading (ends.Child rank code) given said h = h
 
 -- ---- a job was read, or none
 
@@ -45,8 +48,11 @@ upgrade_none reading ends.Violations after said h = h
 upgrade_none reading ends.Usage after said h = h
 upgrade_none reading ends.WriteFault after said h = h
 upgrade_none reading ends.LinkFault after said h = h
+upgrade_none reading ends.SpawnFault after said h = h
 upgrade_none reading ends.Stuck after said h = h
 upgrade_none reading ends.JournalFull after said h = h
+upgrade_none reading (ends.NotARun node entry) after said h = h
+upgrade_none reading (ends.Child rank code) after said h = h
 
 upgrades : (reading : Reading) (job : JobState) (after : After) → GivesJob reading job → after.none
     → UpgradesJob reading after (job_text (in_version job 2))
@@ -91,8 +97,11 @@ upgrade_codes call ends.NoMemory h = (4, lit< tt, refl)
 upgrade_codes call ends.Violations h = absurd h.ends
 upgrade_codes call ends.Usage h = absurd h.ends
 upgrade_codes call ends.LinkFault h = absurd h.ends
+upgrade_codes call ends.SpawnFault h = absurd h.ends
 upgrade_codes call ends.Stuck h = absurd h.ends
 upgrade_codes call ends.JournalFull h = absurd h.ends
+upgrade_codes call (ends.NotARun node entry) h = absurd h.ends
+upgrade_codes call (ends.Child rank code) h = absurd h.ends
 
 pub upgrade_means : (call : Call) (end : End) → Means (UpgradeEnds (read_in call)) (took_in call) call.given end
     → UpgradeMeans call (code_of end)
@@ -105,8 +114,11 @@ upgrade_completes call ends.NoMemory h holds faultless = (1, lit< tt, refl)
 upgrade_completes call ends.Violations h holds faultless = absurd h.ends
 upgrade_completes call ends.Usage h holds faultless = absurd h.ends
 upgrade_completes call ends.LinkFault h holds faultless = absurd h.ends
+upgrade_completes call ends.SpawnFault h holds faultless = absurd h.ends
 upgrade_completes call ends.Stuck h holds faultless = absurd h.ends
 upgrade_completes call ends.JournalFull h holds faultless = absurd h.ends
+upgrade_completes call (ends.NotARun node entry) h holds faultless = absurd h.ends
+upgrade_completes call (ends.Child rank code) h holds faultless = absurd h.ends
 upgrade_completes call ends.ReadFault h holds faultless = absurd (faultless.source h.ends.rose)
 upgrade_completes call ends.WriteFault h holds faultless = absurd (faultless.sink h.cut.0)
 upgrade_completes call (ends.BadJob line reason) h holds faultless =

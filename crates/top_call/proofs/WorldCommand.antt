@@ -32,8 +32,11 @@ weak_world reading ends.NoMemory given said (inr left) =
 weak_world reading ends.Usage given said h = h
 weak_world reading ends.WriteFault given said h = h
 weak_world reading ends.LinkFault given said h = h
+weak_world reading ends.SpawnFault given said h = h
 weak_world reading ends.Stuck given said h = h
 weak_world reading ends.JournalFull given said h = h
+weak_world reading (ends.NotARun node entry) given said h = h
+weak_world reading (ends.Child rank code) given said h = h
 
 -- ---- a job was read, or none
 
@@ -46,8 +49,11 @@ world_none reading ends.Violations after said h = absurd h
 world_none reading ends.Usage after said h = h
 world_none reading ends.WriteFault after said h = h
 world_none reading ends.LinkFault after said h = h
+world_none reading ends.SpawnFault after said h = h
 world_none reading ends.Stuck after said h = h
 world_none reading ends.JournalFull after said h = h
+world_none reading (ends.NotARun node entry) after said h = h
+world_none reading (ends.Child rank code) after said h = h
 
 world_whole : (reading : Reading) (job : JobState) (after : After) (violated : Bool) (said : List ℕ)
     → GivesJob reading job → EndsRun job (run_lines job) violated after said
@@ -77,8 +83,11 @@ world_codes call ends.WriteFault h = (4, lit< tt, refl)
 world_codes call ends.NoMemory h = (5, lit< tt, refl)
 world_codes call ends.Usage h = absurd h.ends
 world_codes call ends.LinkFault h = absurd h.ends
+world_codes call ends.SpawnFault h = absurd h.ends
 world_codes call ends.Stuck h = absurd h.ends
 world_codes call ends.JournalFull h = absurd h.ends
+world_codes call (ends.NotARun node entry) h = absurd h.ends
+world_codes call (ends.Child rank code) h = absurd h.ends
 
 pub world_means : (call : Call) (end : End) → Means (WorldEnds (read_in call)) (took_in call) call.given end
     → WorldMeans call (code_of end)
@@ -91,8 +100,11 @@ world_completes call ends.Violations h holds faultless = (1, lit< tt, refl)
 world_completes call ends.NoMemory h holds faultless = (2, lit< tt, refl)
 world_completes call ends.Usage h holds faultless = absurd h.ends
 world_completes call ends.LinkFault h holds faultless = absurd h.ends
+world_completes call ends.SpawnFault h holds faultless = absurd h.ends
 world_completes call ends.Stuck h holds faultless = absurd h.ends
 world_completes call ends.JournalFull h holds faultless = absurd h.ends
+world_completes call (ends.NotARun node entry) h holds faultless = absurd h.ends
+world_completes call (ends.Child rank code) h holds faultless = absurd h.ends
 world_completes call ends.ReadFault h holds faultless = absurd (faultless.source h.ends.rose)
 world_completes call ends.WriteFault h holds faultless = absurd (faultless.sink h.cut.0)
 world_completes call (ends.BadJob line reason) h holds faultless =

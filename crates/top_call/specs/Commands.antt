@@ -15,6 +15,8 @@ use Rattle.top_call.specs.declared.words.Command.TheVariants as commands
 abbrev pub command_words : Command → List Word
 command_words commands.World = codes "world" ∷ []
 command_words commands.Upgrade = codes "upgrade" ∷ []
+command_words commands.Check = codes "check" ∷ []
+command_words (commands.Launch port) = codes "launch" ∷ decimal port ∷ []
 command_words (commands.Node rank port) = codes "node" ∷ decimal rank ∷ decimal port ∷ []
 command_words (commands.Drill seed) = codes "drill" ∷ decimal seed ∷ []
 
@@ -22,6 +24,8 @@ command_words (commands.Drill seed) = codes "drill" ∷ decimal seed ∷ []
 abbrev pub IsCommand : Command → Type 0
 IsCommand commands.World = Unit {0}
 IsCommand commands.Upgrade = Unit {0}
+IsCommand commands.Check = Unit {0}
+IsCommand (commands.Launch port) = (1024 ≤ port) × (port ≤ 65472)
 IsCommand (commands.Node rank port) = (rank ≤ 255) × (1024 ≤ port) × (port ≤ 65472)
 IsCommand (commands.Drill seed) = seed < 2 ^ 64
 
@@ -50,9 +54,12 @@ code_of (ends.BadJob line reason) = 3
 code_of ends.ReadFault = 4
 code_of ends.WriteFault = 5
 code_of ends.LinkFault = 6
+code_of ends.SpawnFault = 7
 code_of ends.NoMemory = 8
 code_of ends.Stuck = 9
 code_of ends.JournalFull = 10
+code_of (ends.NotARun node entry) = 11
+code_of (ends.Child rank code) = 12
 
 -- the word of a reason why bytes are no job's text
 abbrev pub why_word : JobWhy → Word
@@ -75,9 +82,14 @@ status_line (ends.BadJob line reason) =
 status_line ends.ReadFault = codes "status" ∷ codes "4" ∷ codes "read-fault" ∷ []
 status_line ends.WriteFault = codes "status" ∷ codes "5" ∷ codes "write-fault" ∷ []
 status_line ends.LinkFault = codes "status" ∷ codes "6" ∷ codes "link-fault" ∷ []
+status_line ends.SpawnFault = codes "status" ∷ codes "7" ∷ codes "spawn-fault" ∷ []
 status_line ends.NoMemory = codes "status" ∷ codes "8" ∷ codes "no-memory" ∷ []
 status_line ends.Stuck = codes "status" ∷ codes "9" ∷ codes "stuck" ∷ []
 status_line ends.JournalFull = codes "status" ∷ codes "10" ∷ codes "journal-full" ∷ []
+status_line (ends.NotARun node entry) =
+    codes "status" ∷ codes "11" ∷ codes "not-a-run" ∷ decimal node ∷ decimal entry ∷ []
+status_line (ends.Child rank code) =
+    codes "status" ∷ codes "12" ∷ codes "child" ∷ decimal rank ∷ decimal code ∷ []
 
 -- the end of a run that came to its end
 abbrev pub end_of : (violated : Bool) → End

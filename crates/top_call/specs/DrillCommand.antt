@@ -19,8 +19,11 @@ DrillEnds seed (ends.BadJob line reason) after said = ⊥
 DrillEnds seed ends.ReadFault after said = ⊥
 DrillEnds seed ends.WriteFault after said = ⊥
 DrillEnds seed ends.LinkFault after said = ⊥
+DrillEnds seed ends.SpawnFault after said = ⊥
 DrillEnds seed ends.Stuck after said = ⊥
 DrillEnds seed ends.JournalFull after said = ⊥
+DrillEnds seed (ends.NotARun node entry) after said = ⊥
+DrillEnds seed (ends.Child rank code) after said = ⊥
 
 -- what each of its exit statuses says
 abbrev pub DrillMeans : Call → (seed code : ℕ) → Type 0

@@ -1,12 +1,15 @@
 -- How a command may end, what it says where its sink takes all, and what its caller is given.
-use Rattle.std.specs.Prelude.{◌≡◌, List, [], ◌∷◌, ◌++◌, Option, Some, None, ℕ}
+use Rattle.std.specs.Prelude.{◌≡◌, List, [], ◌∷◌, ◌++◌, Option, Some, None, ℕ, Vec}
+use Rattle.std.specs.Global.{Global}
 use Rattle.gas_outside.specs.declared.writing.Wrote.{Wrote}
 use Rattle.gas_outside.specs.declared.writing.Wrote.TheVariants as wrote
 use Rattle.gas_endpoint.specs.EndpointState.{EndpointState}
 use Rattle.gas_world.specs.WorldState.{WorldState}
+use Rattle.gasnet_trace.specs.declared.trace.Trace.{Trace}
 use Rattle.node_script.specs.Lines.{Line, spell}
 use Rattle.job_text.specs.declared.job.Job.{Job as JobState}
 use Rattle.world_run.specs.ScheduleRun.{StandsForRun}
+use Rattle.check_run.specs.TracesRun.{AreNodesAfter}
 use Rattle.top_call.specs.Outsides.{Call, took_in}
 use Rattle.top_call.specs.Commands.{status_line}
 use Rattle.top_call.specs.declared.ending.End.{End}
@@ -17,15 +20,19 @@ use Rattle.top_call.specs.declared.ending.Given.{Given}
 
 -- nothing
 abbrev pub nothing : Given
-nothing = record { world = None; node = None }
+nothing = record { world = None; node = None; nodes = None }
 
 -- this world
 abbrev pub world_given : WorldState → Given
-world_given world = record { world = Some world; node = None }
+world_given world = record { world = Some world; node = None; nodes = None }
 
 -- this node, where there is one
 abbrev pub node_given : Option EndpointState → Given
-node_given node = record { world = None; node = node }
+node_given node = record { world = None; node = node; nodes = None }
+
+-- these nodes
+abbrev pub nodes_given : Vec EndpointState Global → Given
+nodes_given nodes = record { world = None; node = None; nodes = Some nodes }
 
 -- there is a world, and it stands for the end of the job's run
 pub record IsAfter (given : Given) (job : JobState) : Type 0 where
@@ -33,10 +40,18 @@ pub record IsAfter (given : Given) (job : JobState) : Type 0 where
   pub given_is : given ≡ world_given state
   pub stands : StandsForRun job state
 
--- what is claimed of it: where a command ran a job in a world, where it ran a node as a process, and where neither
+-- there are nodes, and they are those of the job after these traces
+pub record AreAfter (given : Given) (job : JobState) (traces : List Trace) : Type 0 where
+  pub nodes : Vec EndpointState Global
+  pub given_is : given ≡ nodes_given nodes
+  pub nodes_after : AreNodesAfter job traces nodes.items
+
+-- what is claimed of it: where a command ran a job in a world, where it ran a node as a process, where it checked the
+-- traces of a job, and where none of these
 pub record After : Type 1 where
   pub ran : JobState → Type 0
   pub left : EndpointState → Type 0
+  pub checked : JobState → List Trace → Type 0
   pub none : Type 0
 
 -- it is this
@@ -44,12 +59,18 @@ abbrev pub gives : Given → After
 gives given = record {
   ran = IsAfter given;
   left = λ node. given ≡ node_given (Some node);
+  checked = AreAfter given;
   none = given ≡ nothing;
 }
 
 -- nothing is claimed
 abbrev pub unasked : After
-unasked = record { ran = λ job. Unit {0}; left = λ node. Unit {0}; none = Unit {0} }
+unasked = record {
+  ran = λ job. Unit {0};
+  left = λ node. Unit {0};
+  checked = λ job traces. Unit {0};
+  none = Unit {0};
+}
 
 -- ---- what is said
 

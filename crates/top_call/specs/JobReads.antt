@@ -62,8 +62,11 @@ ReadsNone reading ends.Violations after said = ⊥
 ReadsNone reading ends.Usage after said = ⊥
 ReadsNone reading ends.WriteFault after said = ⊥
 ReadsNone reading ends.LinkFault after said = ⊥
+ReadsNone reading ends.SpawnFault after said = ⊥
 ReadsNone reading ends.Stuck after said = ⊥
 ReadsNone reading ends.JournalFull after said = ⊥
+ReadsNone reading (ends.NotARun node entry) after said = ⊥
+ReadsNone reading (ends.Child rank code) after said = ⊥
 
 -- the bytes that are left are told, and they are the text of some job
 pub record HoldsJob (source : Input) : Type 0 where

@@ -3,9 +3,13 @@ pub mod Commands
 pub mod HowEnds
 pub mod Statuses
 pub mod JobReads
+pub mod Ports
 pub mod RunReports
+pub mod TracesReports
 pub mod WorldCommand
 pub mod UpgradeCommand
+pub mod CheckCommand
+pub mod LaunchCommand
 pub mod NodeCommand
 pub mod DrillCommand
 pub mod NoCommand

@@ -1,5 +1,5 @@
 -- The command `node`: a job is read, one of its nodes is run, and its trace is written.
-use Rattle.std.specs.Prelude.{◌≡◌, ℕ, ◌+◌, nat_le, nat_lt, List, [], ◌∷◌, Bool, ◌&&◌, true, false}
+use Rattle.std.specs.Prelude.{◌≡◌, ℕ, nat_lt, List, [], ◌∷◌, Bool, ◌&&◌, true, false}
 use Rattle.std.specs.List.{Contains}
 use Rattle.gas_outside.specs.Faults.{Rose}
 use Rattle.job_text.specs.declared.job.Job.{Job as JobState}
@@ -11,13 +11,14 @@ use Rattle.top_call.specs.Outsides.{Call, Course, Input, IsFaultless, course_in}
 use Rattle.top_call.specs.Commands.{end_of}
 use Rattle.top_call.specs.HowEnds.{After, EndsHow, SaysAlone, said_last}
 use Rattle.top_call.specs.JobReads.{FailsToRead, GivesJob, HoldsJob, RefusesJob}
+use Rattle.top_call.specs.Ports.{has_ports}
 use Rattle.top_call.specs.Statuses.{CodeMeans}
 use Rattle.top_call.specs.declared.ending.End.{End}
 use Rattle.top_call.specs.declared.ending.End.TheVariants as ends
 
 -- among so many nodes there is one of this rank, and each has its port where rank 0 has this one
 abbrev pub has_place : (rank port nodes : ℕ) → Bool
-has_place rank port nodes = nat_lt rank nodes && nat_le (port + nodes) 65536
+has_place rank port nodes = nat_lt rank nodes && has_ports port nodes
 
 -- a job was read, and it has no place for this node: the status line alone
 pub record HasNoPlace (rank port : ℕ) (course : Course) (after : After) (said : List ℕ) : Type 0 where
@@ -56,10 +57,13 @@ NodeEnds rank port course (ends.BadJob line reason) after said = RefusesJob cour
 NodeEnds rank port course ends.ReadFault after said = FailsToRead course.reading after said
 NodeEnds rank port course ends.WriteFault after said = ⊥
 NodeEnds rank port course ends.LinkFault after said = LosesLink rank port course after said
+NodeEnds rank port course ends.SpawnFault after said = ⊥
 NodeEnds rank port course ends.NoMemory after said = SaysAlone ends.NoMemory after said
 NodeEnds rank port course ends.Stuck after said = RunsNode rank port course stations.Stuck ends.Stuck after said
 NodeEnds rank port course ends.JournalFull after said =
     RunsNode rank port course stations.JournalFull ends.JournalFull after said
+NodeEnds rank port course (ends.NotARun node entry) after said = ⊥
+NodeEnds rank port course (ends.Child child code) after said = ⊥
 
 -- what each of its exit statuses says
 abbrev pub NodeMeans : Call → (rank port code : ℕ) → Type 0

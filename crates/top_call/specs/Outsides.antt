@@ -5,12 +5,14 @@ use Rattle.gas_outside.specs.Faults.{Rose}
 use Rattle.gas_outside.specs.declared.source.Source.{Ghosts as SourceGhosts}
 use Rattle.gas_outside.specs.declared.sink.Sink.{Ghosts as SinkGhosts}
 use Rattle.gas_outside.specs.declared.link.Link.{Ghosts as LinkGhosts}
+use Rattle.gas_outside.specs.declared.spawner.Spawner.{Ghosts as SpawnerGhosts}
 use Rattle.gas_outside.specs.declared.clock.Clock.{Ghosts as ClockGhosts}
 use Rattle.gas_outside.specs.Whole.{TakesUpTo}
 use Rattle.gas_outside.specs.declared.writing.Wrote.{Wrote}
 use Rattle.gas_outside.specs.declared.writing.Wrote.TheVariants as wrote
 use Rattle.node_script.specs.Lines.{Word}
 use Rattle.node_call.specs.Seen.{DevicesSeen, devices_seen}
+use Rattle.launch_run.specs.Children.{SpawnerSeen, spawner_seen}
 use Rattle.top_call.specs.declared.ending.Given.{Given}
 use Rattle.top_call.specs.declared.outside.Outside.{Outside}
 use Rattle.top_call.specs.declared.top.Status.{Status}
@@ -31,18 +33,20 @@ pub record Output : Type 0 where
 abbrev pub output : {K : Type 0} → (taken : K → Option (List ℕ)) → (faults : K → ℕ) → K → Output
 output taken faults sink = record { taken = taken sink; faults = faults sink }
 
--- an outside: what is seen of its source, of its sink, and of what a node runs over
+-- an outside: what is seen of its source, of its sink, of what a node runs over, and of its spawner
 pub record Seen : Type 0 where
   pub source : Input
   pub sink : Output
   pub devices : DevicesSeen
+  pub spawner : SpawnerSeen
 
-abbrev pub seen : {S K L C G : Type 0} → SourceGhosts S → SinkGhosts K → LinkGhosts L → ClockGhosts C
-    → Outside S K L C G → Seen
-seen sources sinks links clocks outside = record {
+abbrev pub seen : {S K L P C G : Type 0} → SourceGhosts S → SinkGhosts K → LinkGhosts L → SpawnerGhosts P
+    → ClockGhosts C → Outside S K L P C G → Seen
+seen sources sinks links spawners clocks outside = record {
   source = input sources.left sources.faults outside.source;
   sink = output sinks.taken sinks.faults outside.sink;
   devices = devices_seen links clocks outside.link outside.clock;
+  spawner = spawner_seen spawners outside.spawner;
 }
 
 -- ---- a call
@@ -59,7 +63,7 @@ call_of words before after given = record { words = words; before = before; afte
 
 -- what a call gives besides its exit status
 abbrev pub given_by : Status → Given
-given_by status = record { world = status.world; node = status.node }
+given_by status = record { world = status.world; node = status.node; nodes = status.nodes }
 
 -- a source before and after it was read
 pub record Reading : Type 0 where
@@ -88,6 +92,18 @@ course_of old new before after = course_with (reading_of old new) before after
 -- that of a call
 abbrev pub course_in : Call → Course
 course_in call = course_with (read_in call) call.before.devices call.after.devices
+
+-- a spawner before and after it was used
+pub record Spawning : Type 0 where
+  pub before : SpawnerSeen
+  pub after : SpawnerSeen
+
+abbrev pub spawning_of : (before after : SpawnerSeen) → Spawning
+spawning_of before after = record { before = before; after = after }
+
+-- that of a call
+abbrev pub spawning_in : Call → Spawning
+spawning_in call = spawning_of call.before.spawner call.after.spawner
 
 -- what a sink took of some bytes: all of them; or it failed, and a front of them
 abbrev pub Takes : (old new : Output) → List ℕ → Wrote → Type 0

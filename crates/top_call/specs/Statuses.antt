@@ -16,6 +16,9 @@ pub record CodeMeans (call : Call) (Ends : EndsHow) (codes : List ℕ) (code : �
   pub read_fault : code ≡ 4 → Tells call Ends ends.ReadFault
   pub write_fault : code ≡ 5 → IsCut call Ends
   pub link_fault : code ≡ 6 → Tells call Ends ends.LinkFault
+  pub spawn_fault : code ≡ 7 → Tells call Ends ends.SpawnFault
   pub no_memory : code ≡ 8 → Tells call Ends ends.NoMemory
   pub stuck : code ≡ 9 → Tells call Ends ends.Stuck
   pub journal_full : code ≡ 10 → Tells call Ends ends.JournalFull
+  pub not_a_run : code ≡ 11 → (node entry : ℕ) × Tells call Ends (ends.NotARun node entry)
+  pub child : code ≡ 12 → (rank status : ℕ) × Tells call Ends (ends.Child rank status)

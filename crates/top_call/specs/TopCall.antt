@@ -4,6 +4,8 @@ use Rattle.top_call.specs.Outsides.{Call}
 use Rattle.top_call.specs.Commands.{Asks, AsksNothing}
 use Rattle.top_call.specs.WorldCommand.{WorldCompletes, WorldMeans}
 use Rattle.top_call.specs.UpgradeCommand.{UpgradeCompletes, UpgradeMeans}
+use Rattle.top_call.specs.CheckCommand.{CheckCompletes, CheckMeans}
+use Rattle.top_call.specs.LaunchCommand.{LaunchCompletes, LaunchMeans}
 use Rattle.top_call.specs.NodeCommand.{NodeCompletes, NodeMeans}
 use Rattle.top_call.specs.DrillCommand.{DrillCompletes, DrillMeans}
 use Rattle.top_call.specs.NoCommand.{UsageMeans}
@@ -13,6 +15,8 @@ use Rattle.top_call.specs.declared.words.Command.TheVariants as commands
 pub record StatusMeans (call : Call) (code : ℕ) : Type 0 where
   pub world : Asks call.words commands.World → WorldMeans call code
   pub upgrade : Asks call.words commands.Upgrade → UpgradeMeans call code
+  pub check : Asks call.words commands.Check → CheckMeans call code
+  pub launch : (port : ℕ) → Asks call.words (commands.Launch port) → LaunchMeans call port code
   pub node : (rank port : ℕ) → Asks call.words (commands.Node rank port) → NodeMeans call rank port code
   pub drill : (seed : ℕ) → Asks call.words (commands.Drill seed) → DrillMeans call seed code
   pub usage : AsksNothing call.words → UsageMeans call code
@@ -21,5 +25,7 @@ pub record StatusMeans (call : Call) (code : ℕ) : Type 0 where
 pub record IsComplete (call : Call) (code : ℕ) : Type 0 where
   pub world : Asks call.words commands.World → WorldCompletes call code
   pub upgrade : Asks call.words commands.Upgrade → UpgradeCompletes call code
+  pub check : Asks call.words commands.Check → CheckCompletes call code
+  pub launch : (port : ℕ) → Asks call.words (commands.Launch port) → LaunchCompletes call port code
   pub node : (rank port : ℕ) → Asks call.words (commands.Node rank port) → NodeCompletes call rank port code
   pub drill : (seed : ℕ) → Asks call.words (commands.Drill seed) → DrillCompletes call code

@@ -1,5 +1,5 @@
 -- The parts of the top call.
-use Rattle.std.specs.Prelude.{◌≡◌, ◌⊎◌, List, Option, Some, None, Result, Ok, Err, ⊤}
+use Rattle.std.specs.Prelude.{◌≡◌, ◌⊎◌, ℕ, List, Option, Some, None, Result, Ok, Err, ⊤}
 use Rattle.gas_outside.specs.Buffered.{Outbox, Gathers, GathersAll, GathersFront, Flushes}
 use Rattle.gas_outside.specs.declared.writing.Wrote.TheVariants as wrote
 use Rattle.gas_outside.specs.Faults.{Rose}
@@ -10,12 +10,20 @@ use Rattle.world_run.specs.declared.run.RunEnd.TheVariants as runs
 use Rattle.node_call.specs.declared.calling.NodeEnd.{NodeEnd}
 use Rattle.node_call.specs.declared.calling.NodeEnd.TheVariants as nodes
 use Rattle.gas_endpoint.specs.EndpointState.{EndpointState}
-use Rattle.top_call.specs.Outsides.{Course, Reading}
+use Rattle.check_run.specs.declared.input.InputFault.{InputFault}
+use Rattle.check_run.specs.declared.input.InputFault.TheVariants as inputs
+use Rattle.check_run.specs.declared.run.TracesEnd.{TracesEnd}
+use Rattle.check_run.specs.declared.run.TracesEnd.TheVariants as traces
+use Rattle.launch_run.specs.declared.fault.LaunchFault.{LaunchFault}
+use Rattle.launch_run.specs.declared.fault.LaunchFault.TheVariants as launches
+use Rattle.top_call.specs.Outsides.{Course, Reading, Spawning}
 use Rattle.top_call.specs.Commands.{IsAsked, end_of, status_line}
-use Rattle.top_call.specs.HowEnds.{EndsHow, Means, node_given, nothing, world_given}
+use Rattle.top_call.specs.HowEnds.{EndsHow, Means, node_given, nodes_given, nothing, world_given}
 use Rattle.top_call.specs.JobReads.{GivesJob, ReadsNoJob}
 use Rattle.top_call.specs.WorldCommand.{WorldEnds}
 use Rattle.top_call.specs.UpgradeCommand.{UpgradeEnds}
+use Rattle.top_call.specs.CheckCommand.{CheckEnds}
+use Rattle.top_call.specs.LaunchCommand.{LaunchEnds}
 use Rattle.top_call.specs.NodeCommand.{NodeEnds}
 use Rattle.top_call.specs.DrillCommand.{DrillEnds}
 use Rattle.top_call.specs.NoCommand.{UsageEnds}
@@ -23,28 +31,33 @@ use Rattle.top_call.specs.declared.ending.End.{End}
 use Rattle.top_call.specs.declared.ending.End.TheVariants as ends
 use Rattle.top_call.specs.declared.ending.Ended.{Ended}
 use Rattle.top_call.specs.declared.ending.Given.{Given}
+use Rattle.top_call.specs.declared.reading.JobRead.{JobRead}
 use Rattle.top_call.specs.declared.words.Command.{Command}
 use Rattle.top_call.specs.declared.words.Command.TheVariants as commands
 
 -- ---- commands
 
--- how what was asked for may end, by how the source was read, and by what a node ran over before and after
-abbrev pub Ends : Option Command → Course → EndsHow
-Ends None course = UsageEnds
-Ends (Some commands.World) course = WorldEnds course.reading
-Ends (Some commands.Upgrade) course = UpgradeEnds course.reading
-Ends (Some (commands.Node rank port)) course = NodeEnds rank port course
-Ends (Some (commands.Drill seed)) course = DrillEnds seed
+-- how what was asked for may end, by how the source was read, by what a node ran over before and after, and by what is
+-- seen of the spawner before and after
+abbrev pub Ends : Option Command → Course → Spawning → EndsHow
+Ends None course spawning = UsageEnds
+Ends (Some commands.World) course spawning = WorldEnds course.reading
+Ends (Some commands.Upgrade) course spawning = UpgradeEnds course.reading
+Ends (Some commands.Check) course spawning = CheckEnds course.reading
+Ends (Some (commands.Launch port)) course spawning = LaunchEnds port course.reading spawning
+Ends (Some (commands.Node rank port)) course spawning = NodeEnds rank port course
+Ends (Some (commands.Drill seed)) course spawning = DrillEnds seed
 
 -- how a command ended, by what went into a sink that gathers
 abbrev pub EndsBy : EndsHow → (old new : Outbox) → Ended → Type 0
 EndsBy Ends old new ended = Means Ends (GathersAll old new) ended.given ended.end
 
 -- how the words' command ended
-pub record EndsAsked (words : List Word) (course : Course) (old new : Outbox) (ended : Ended) : Type 0 where
+pub record EndsAsked (words : List Word) (course : Course) (spawning : Spawning) (old new : Outbox) (ended : Ended)
+    : Type 0 where
   pub asked : Option Command
   pub asked_is : IsAsked words asked
-  pub ends : EndsBy (Ends asked course) old new ended
+  pub ends : EndsBy (Ends asked course spawning) old new ended
 
 -- ---- reading
 
@@ -58,13 +71,38 @@ IsUnread reading ends.Violations = ⊥
 IsUnread reading ends.Usage = ⊥
 IsUnread reading ends.WriteFault = ⊥
 IsUnread reading ends.LinkFault = ⊥
+IsUnread reading ends.SpawnFault = ⊥
 IsUnread reading ends.Stuck = ⊥
 IsUnread reading ends.JournalFull = ⊥
+IsUnread reading (ends.NotARun node entry) = ⊥
+IsUnread reading (ends.Child rank code) = ⊥
+
+-- what reading a job and its bytes gave
+abbrev pub GivesText : Reading → JobState → List ℕ → Type 0
+GivesText reading job bytes = (read : GivesJob reading job) × (read.bytes ≡ bytes)
+
+abbrev pub ReadsTextOrNot : Reading → Result JobRead End → Type 0
+ReadsTextOrNot reading (Ok read) = GivesText reading read.job read.bytes.items
+ReadsTextOrNot reading (Err end) = IsUnread reading end
 
 -- what reading a job gave
 abbrev pub ReadsOrNot : Reading → Result JobState End → Type 0
 ReadsOrNot reading (Ok job) = GivesJob reading job
 ReadsOrNot reading (Err end) = IsUnread reading end
+
+-- how `check` ends where no input was read
+abbrev pub end_unread : InputFault → End
+end_unread (inputs.Bad line reason) = ends.BadJob line reason
+end_unread inputs.ReadFault = ends.ReadFault
+end_unread inputs.NoMemory = ends.NoMemory
+
+-- ---- launching
+
+-- how a command ends whose launch gave no outputs
+abbrev pub end_of_fault : LaunchFault → End
+end_of_fault (launches.Child rank code) = ends.Child rank code
+end_of_fault launches.SpawnFault = ends.SpawnFault
+end_of_fault launches.NoMemory = ends.NoMemory
 
 -- ---- saying
 
@@ -95,6 +133,14 @@ SaysNode nodes.LinkFault left old new ended = Says ends.LinkFault (node_given le
 SaysNode nodes.JournalFull left old new ended = Says ends.JournalFull (node_given left) old new ended
 SaysNode nodes.NoMemory left old new ended = Says ends.NoMemory (node_given left) old new ended
 SaysNode nodes.WriteFault left old new ended = (ended ≡ cut) × (new ≡ old)
+
+-- what is said behind the lines of traces whose check ended so: the status line, with the nodes after them; nothing
+-- where the sink failed
+abbrev pub SaysTraces : TracesEnd → (old new : Outbox) → Ended → Type 0
+SaysTraces (traces.Done violated nodes) old new ended = Says (end_of violated) (nodes_given nodes) old new ended
+SaysTraces (traces.NotARun node entry) old new ended = Says (ends.NotARun node entry) nothing old new ended
+SaysTraces traces.Fault old new ended = (ended ≡ cut) × (new ≡ old)
+SaysTraces traces.NoMemory old new ended = Says ends.NoMemory nothing old new ended
 
 -- what waited was given on, and the end stays; or the sink failed at that. After a fault nothing more is given on
 abbrev pub GivesOn : (old new : Outbox) → (before after : Ended) → Type 0

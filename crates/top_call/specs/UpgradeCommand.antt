@@ -35,8 +35,11 @@ UpgradeEnds reading ends.Violations after said = ⊥
 UpgradeEnds reading ends.Usage after said = ⊥
 UpgradeEnds reading ends.WriteFault after said = ⊥
 UpgradeEnds reading ends.LinkFault after said = ⊥
+UpgradeEnds reading ends.SpawnFault after said = ⊥
 UpgradeEnds reading ends.Stuck after said = ⊥
 UpgradeEnds reading ends.JournalFull after said = ⊥
+UpgradeEnds reading (ends.NotARun node entry) after said = ⊥
+UpgradeEnds reading (ends.Child rank code) after said = ⊥
 
 -- what each of its exit statuses says
 abbrev pub UpgradeMeans : Call → (code : ℕ) → Type 0

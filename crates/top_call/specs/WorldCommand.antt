@@ -32,8 +32,11 @@ WorldEnds reading ends.NoMemory after said = SaysAlone ends.NoMemory after said 
 WorldEnds reading ends.Usage after said = ⊥
 WorldEnds reading ends.WriteFault after said = ⊥
 WorldEnds reading ends.LinkFault after said = ⊥
+WorldEnds reading ends.SpawnFault after said = ⊥
 WorldEnds reading ends.Stuck after said = ⊥
 WorldEnds reading ends.JournalFull after said = ⊥
+WorldEnds reading (ends.NotARun node entry) after said = ⊥
+WorldEnds reading (ends.Child rank code) after said = ⊥
 
 -- what each of its exit statuses says
 abbrev pub WorldMeans : Call → (code : ℕ) → Type 0

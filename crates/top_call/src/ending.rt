@@ -2,7 +2,7 @@
 
 ghost use Rattle.std.specs.Prelude.{◌≡◌};
 ghost use Rattle.top_call.specs.Commands.{code_of, end_of, why_word};
-ghost use Rattle.top_call.specs.HowEnds.{node_given, nothing, world_given};
+ghost use Rattle.top_call.specs.HowEnds.{node_given, nodes_given, nothing, world_given};
 ghost use Rattle.top_call.specs.TopParts.{cut};
 
 use gas_endpoint::Endpoint;
@@ -31,12 +31,28 @@ pub enum End {
     WriteFault,
     /// The link failed.
     LinkFault,
+    /// The spawner failed.
+    SpawnFault,
     /// Memory ran out.
     NoMemory,
     /// A node was quiet for so many turns in a row as the job's patience says, and some script isn't over.
     Stuck,
     /// A node's journal is full.
     JournalFull,
+    /// The traces are no run.
+    NotARun {
+        /// The smallest node whose next entry can't ever go.
+        node: u16,
+        /// That entry, counted from 1.
+        entry: u32,
+    },
+    /// A node ended with a status other than 0 and 1.
+    Child {
+        /// The smallest rank of such a node.
+        rank: u16,
+        /// Its status.
+        code: u8,
+    },
 }
 
 impl End {
@@ -59,9 +75,12 @@ impl End {
             End::ReadFault => 4,
             End::WriteFault => 5,
             End::LinkFault => 6,
+            End::SpawnFault => 7,
             End::NoMemory => 8,
             End::Stuck => 9,
             End::JournalFull => 10,
+            End::NotARun { .. } => 11,
+            End::Child { .. } => 12,
         }
     }
 }
@@ -74,6 +93,8 @@ pub struct Given {
     /// The node after a run as a process; there is one after `Done`, `Violations`, `LinkFault`, `Stuck` and
     /// `JournalFull` alone.
     pub node: Option<Endpoint>,
+    /// The nodes after a run of traces, in rising order of ranks; there are such after `Done` and `Violations` alone.
+    pub nodes: Option<Vec<Endpoint>>,
 }
 
 impl Given {
@@ -84,6 +105,7 @@ impl Given {
         Given {
             world: None,
             node: None,
+            nodes: None,
         }
     }
 
@@ -94,6 +116,7 @@ impl Given {
         Given {
             world: Some(world),
             node: None,
+            nodes: None,
         }
     }
 
@@ -101,7 +124,22 @@ impl Given {
     pub fn node(node: Option<Endpoint>) -> Given
         ensures { result ≡ node_given node }
     {
-        Given { world: None, node }
+        Given {
+            world: None,
+            node,
+            nodes: None,
+        }
+    }
+
+    /// These nodes.
+    pub fn nodes(nodes: Vec<Endpoint>) -> Given
+        ensures { result ≡ nodes_given nodes }
+    {
+        Given {
+            world: None,
+            node: None,
+            nodes: Some(nodes),
+        }
     }
 }
 

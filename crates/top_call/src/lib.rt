@@ -23,14 +23,28 @@
 //!     threads and devices left what `RunsTo` of `node_call` says. It is 1 exactly where the node noted a violation, 6
 //!     only where the link's count of faults rose, or stands at its last value, 9 and 10 by the cause of that end. 2
 //!     comes also where a job was read that has no node of this rank, or no port for each node; 3 and 4 as above.
+//!   - `check` (`CheckMeans`): with 0 and 1 the bytes read are the text of a job with an output of each of its nodes
+//!     behind it (`InputText`), and of no others, each node ended with 0 or 1, their traces are a run of the world
+//!     (`RunOfTraces`: the headline, the laws of transfers and of the barrier hold of it), the bytes written are its
+//!     text (`run_lines` of `check_run`) and the status line, and the nodes that the call returns stand for its end.
+//!     It is 1 exactly where one of them noted a violation; with 11 they are no run (`AreNoRun`); 12 names the
+//!     smallest rank of a node that ended otherwise; 3 and 4 as above, over the whole input (`TakesNone`).
+//!   - `launch PORT` (`LaunchMeans`): the same of what children gave. Where the spawner tells its calls, one was
+//!     started for each node of the job whose text was read, in order, with the port and the bytes read, unless a
+//!     start failed, and then each that was started was finished, in order (`Spawns` of `launch_run`); with 2, 3 and 4
+//!     the spawner wasn't used. 7 comes only where the spawner's count of faults rose, or stands at its last value; 12
+//!     only where no start and no finish failed, and names the smallest rank of a child that didn't give an output of
+//!     its node and end with the status in it, 0 or 1 (`GivesOutput`). 2 comes also where not each node has a port.
 //!   - Of each: 5 comes only where the sink's count of faults rose, and then a prefix of the text of one of the
 //!     command's ends was written; with 8 whole lines of the run were written, or none (of `upgrade` and `node` none),
-//!     and then `status 8 no-memory`; with 2, 3 and 4 the status line alone.
+//!     and then `status 8 no-memory`; with 2, 3, 4, 7, 11 and 12 the status line alone.
 //! - **The laws of the run** (`RunLaws` of `world_run`) of the job or the drill, with status 0 or 1, and with 8 where
 //!   lines of the run were written.
-//! - **Completeness** [`complete`: `IsComplete`]. Where the bytes are a job's text and no count of faults rose, `world`
-//!   has status 0, 1 or 8; the drill has 0 or 8 where none rose; `upgrade` has 0 or 8 where `world` has 0, 1 or 8;
-//!   `node` has 0, 1, 8, 9 or 10 where the job has a place for it, and the link's count of faults didn't rise either.
+//! - **Completeness** [`complete`: `IsComplete`]. Where the bytes are a job's text and no count of faults rose,
+//!   `world` has status 0, 1 or 8; the drill has 0 or 8 where none rose; `upgrade` has 0 or 8 where `world` has 0, 1
+//!   or 8; `node` has 0, 1, 8, 9 or 10 where the job has a place for it, and the link's count of faults didn't rise
+//!   either; `check` has 0, 1, 8, 11 or 12 where the bytes are the text of a job with outputs, and so has `launch`
+//!   where the job has ports and the spawner's count of faults didn't rise either.
 //!
 //! `run_streams` says the same of the program as it is shipped, over a reader and a writer of std: `ReaderSource` tells
 //! as left what its reader tells as remaining, `WriterSink` as taken what its writer tells as its contents, and both
@@ -43,16 +57,20 @@
 //! code alone: `flushed` leaves the sink then.
 #![tactic(auto)]
 
+mod check;
 mod command;
 mod drill;
 mod ending;
+mod launch;
 mod node;
 mod outside;
+mod ports;
 mod reading;
 mod standard;
 mod status;
 mod streams;
 mod top;
+mod traces;
 mod upgrade;
 mod words;
 mod world;

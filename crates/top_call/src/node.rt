@@ -12,6 +12,7 @@ ghost use Rattle.top_call.specs.TopParts.{EndsBy, Says, SaysNode};
 
 use crate::ending::{End, Ended, Given};
 use crate::outside::Outside;
+use crate::ports::has_ports;
 use crate::reading::job_from;
 use crate::status::say;
 use gas_endpoint::Endpoint;
@@ -37,7 +38,7 @@ impl AskedNode {
     fn has_place(&self, nodes: u16) -> bool
         ensures { result ≡ has_place self.now.rank self.now.port nodes }
     {
-        self.rank < nodes && u32::from(self.port) + u32::from(nodes) <= 65_536
+        self.rank < nodes && has_ports(self.port, nodes)
     }
 }
 
@@ -147,14 +148,15 @@ pub fn node_command<
     S: Source,
     K: Sink,
     L: Link + Send,
+    P,
     C: Clock + Send,
     G: Gate + Sync,
 >(
     rt: &R,
     alloc: Global,
     asked: AskedNode,
-    outside: Outside<S, BufferedSink<K>, L, C, G>,
-) -> (Ended, Outside<S, BufferedSink<K>, L, C, G>)
+    outside: Outside<S, BufferedSink<K>, L, P, C, G>,
+) -> (Ended, Outside<S, BufferedSink<K>, L, P, C, G>)
     ensures { EndsBy (NodeEnds asked.rank asked.port
         (course_of (input S.left S.faults outside.source) (input S.left S.faults result.1.source)
         (devices_seen L.Link C.Clock outside.link outside.clock)
@@ -165,6 +167,7 @@ pub fn node_command<
         source,
         sink,
         link,
+        spawner,
         clock,
         gate,
     } = outside;
@@ -190,6 +193,7 @@ pub fn node_command<
                     source,
                     sink,
                     link,
+                    spawner,
                     clock,
                     gate,
                 },
@@ -201,6 +205,7 @@ pub fn node_command<
                 source,
                 sink,
                 link,
+                spawner,
                 clock,
                 gate,
             },

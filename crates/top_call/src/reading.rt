@@ -1,7 +1,7 @@
 //! Reading a job, of the commands that read one.
 
 ghost use Rattle.top_call.specs.Outsides.{input, reading_of};
-ghost use Rattle.top_call.specs.TopParts.{ReadsOrNot};
+ghost use Rattle.top_call.specs.TopParts.{ReadsOrNot, ReadsTextOrNot};
 
 use crate::ending::End;
 use gas_outside::{ReadAll, Source, read_all};
@@ -11,15 +11,24 @@ use std::alloc::Global;
 /// The most bytes of a job's text.
 const LIMIT: usize = 4_194_304;
 
+/// A job, and the bytes that are its text.
+#[derive(Drop)]
+pub struct JobRead {
+    /// The job.
+    pub job: Job,
+    /// The bytes.
+    pub bytes: Vec<u8>,
+}
+
 /// Reads all, and the job whose text it is. Else how the command ends: the bytes are no job's text or too many, the
 /// source failed, or memory ran out.
-pub fn job_from<S: Source>(alloc: Global, source: &mut S) -> Result<Job, End>
-    ensures { ReadsOrNot (reading_of (input S.left S.faults source.old)
+pub fn text_from<S: Source>(alloc: Global, source: &mut S) -> Result<JobRead, End>
+    ensures { ReadsTextOrNot (reading_of (input S.left S.faults source.old)
         (input S.left S.faults source.new)) result }
 {
     match read_all(alloc, source, LIMIT) {
         ReadAll::Bytes(bytes) => match read_job(alloc, &bytes) {
-            Ok(job) => Ok(job),
+            Ok(job) => Ok(JobRead { job, bytes }),
             Err(JobFault::Bad { line, why }) => Err(End::BadJob { line, why }),
             Err(JobFault::NoMemory) => Err(End::NoMemory),
         },
@@ -29,5 +38,16 @@ pub fn job_from<S: Source>(alloc: Global, source: &mut S) -> Result<Job, End>
         }),
         ReadAll::Fault => Err(End::ReadFault),
         ReadAll::NoMemory => Err(End::NoMemory),
+    }
+}
+
+/// The same without the bytes.
+pub fn job_from<S: Source>(alloc: Global, source: &mut S) -> Result<Job, End>
+    ensures { ReadsOrNot (reading_of (input S.left S.faults source.old)
+        (input S.left S.faults source.new)) result }
+{
+    match text_from(alloc, source) {
+        Ok(read) => Ok(read.job),
+        Err(end) => Err(end),
     }
 }

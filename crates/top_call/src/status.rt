@@ -40,6 +40,46 @@ fn write_bad_job<K: Sink>(sink: &mut BufferedSink<K>, line: u32, why: JobWhy) ->
     )
 }
 
+/// Writes the status line of traces that are no run: the node, and the number of its entry.
+fn write_not_a_run<K: Sink>(sink: &mut BufferedSink<K>, node: u16, entry: u32) -> Wrote
+    ensures { GathersAll (outbox K.taken K.faults sink.old) (outbox K.taken K.faults sink.new)
+        (line_text (codes "status" ∷ codes "11" ∷ codes "not-a-run" ∷ decimal node
+        ∷ decimal entry ∷ [])) result }
+{
+    let mut node_text = Buffer::new();
+    let mut entry_text = Buffer::new();
+    write_line(
+        sink,
+        b"status",
+        &[
+            b"11".as_slice(),
+            b"not-a-run".as_slice(),
+            node_text.format(node).as_bytes(),
+            entry_text.format(entry).as_bytes(),
+        ],
+    )
+}
+
+/// Writes the status line of a node that ended badly: its rank, and its status.
+fn write_child<K: Sink>(sink: &mut BufferedSink<K>, rank: u16, code: u8) -> Wrote
+    ensures { GathersAll (outbox K.taken K.faults sink.old) (outbox K.taken K.faults sink.new)
+        (line_text (codes "status" ∷ codes "12" ∷ codes "child" ∷ decimal rank
+        ∷ decimal code ∷ [])) result }
+{
+    let mut rank_text = Buffer::new();
+    let mut code_text = Buffer::new();
+    write_line(
+        sink,
+        b"status",
+        &[
+            b"12".as_slice(),
+            b"child".as_slice(),
+            rank_text.format(rank).as_bytes(),
+            code_text.format(code).as_bytes(),
+        ],
+    )
+}
+
 /// Writes the status line of an end. There is none for `WriteFault`, of which no line is written.
 pub fn write_status<K: Sink>(sink: &mut BufferedSink<K>, end: End) -> Wrote
     ensures { GathersAll (outbox K.taken K.faults sink.old) (outbox K.taken K.faults sink.new)
@@ -53,9 +93,12 @@ pub fn write_status<K: Sink>(sink: &mut BufferedSink<K>, end: End) -> Wrote
         End::ReadFault => write_named(sink, b"4", b"read-fault"),
         End::WriteFault => write_named(sink, b"5", b"write-fault"),
         End::LinkFault => write_named(sink, b"6", b"link-fault"),
+        End::SpawnFault => write_named(sink, b"7", b"spawn-fault"),
         End::NoMemory => write_named(sink, b"8", b"no-memory"),
         End::Stuck => write_named(sink, b"9", b"stuck"),
         End::JournalFull => write_named(sink, b"10", b"journal-full"),
+        End::NotARun { node, entry } => write_not_a_run(sink, node, entry),
+        End::Child { rank, code } => write_child(sink, rank, code),
     }
 }
 

@@ -10,7 +10,7 @@ ghost use Rattle.top_call.specs.TopCall.{IsComplete, StatusMeans};
 use crate::outside::Outside;
 use crate::standard::{ReaderSource, WriterSink};
 use crate::top::gasnet;
-use gas_outside::{Clock, Gate, Link};
+use gas_outside::{Clock, Gate, Link, Spawner};
 use std::alloc::Global;
 use std::env;
 use std::io::{self, Input, Print, Read, Write};
@@ -24,31 +24,36 @@ use std::thread::Threads;
 /// Where the reader tells what remains and the writer what it holds, as those in memory do, `means` says which bytes
 /// were read and written; standard input and output tell nothing.
 pub fn run_streams<
-    P: Threads + Wait + Sync,
+    H: Threads + Wait + Sync,
     R: Read,
     W: Write,
     L: Link + Send,
+    P: Spawner,
     C: Clock + Send,
     G: Gate + Sync,
 >(
-    rt: &P,
+    rt: &H,
     alloc: Global,
     words: &[String],
-    streams: Outside<R, W, L, C, G>,
-) -> (ExitCode, Outside<ReaderSource<R>, WriterSink<W>, L, C, G>)
+    streams: Outside<R, W, L, P, C, G>,
+) -> (
+    ExitCode,
+    Outside<ReaderSource<R>, WriterSink<W>, L, P, C, G>,
+)
     ensures means { (given : Given) × StatusMeans (call_of (map string_bytes words.now)
-        (streams_seen R.remaining W.contents L.Link C.Clock (uncounted streams))
-        (streams_seen R.remaining W.contents L.Link C.Clock result.1) given)
+        (streams_seen R.remaining W.contents L.Link P.Spawner C.Clock (uncounted streams))
+        (streams_seen R.remaining W.contents L.Link P.Spawner C.Clock result.1) given)
         (exit_status result.0) }
     ensures complete { (given : Given) × IsComplete (call_of (map string_bytes words.now)
-        (streams_seen R.remaining W.contents L.Link C.Clock (uncounted streams))
-        (streams_seen R.remaining W.contents L.Link C.Clock result.1) given)
+        (streams_seen R.remaining W.contents L.Link P.Spawner C.Clock (uncounted streams))
+        (streams_seen R.remaining W.contents L.Link P.Spawner C.Clock result.1) given)
         (exit_status result.0) }
 {
     let Outside {
         source,
         sink,
         link,
+        spawner,
         clock,
         gate,
     } = streams;
@@ -56,6 +61,7 @@ pub fn run_streams<
         source: ReaderSource::new(source),
         sink: WriterSink::new(sink),
         link,
+        spawner,
         clock,
         gate,
     };
@@ -75,19 +81,21 @@ fn words<R: Env + AllocGlobal>(rt: &R) -> Vec<String> {
     }
 }
 
-/// The whole program but for what a node runs over: the words of the command line, standard input and standard output,
-/// and its exit status. Nothing is written to standard error.
+/// The whole program but for what a node runs over and is started by: the words of the command line, standard input and
+/// standard output, and its exit status. Nothing is written to standard error.
 pub fn program<
-    P: Env + AllocGlobal + Input + Print + Threads + Wait + Sync,
+    H: Env + AllocGlobal + Input + Print + Threads + Wait + Sync,
     L: Link + Send + Drop,
+    P: Spawner + Drop,
     C: Clock + Send + Drop,
     G: Gate + Sync + Drop,
->(rt: &P, link: L, clock: C, gate: G) -> ExitCode {
+>(rt: &H, link: L, spawner: P, clock: C, gate: G) -> ExitCode {
     let words = words(rt);
     let streams = Outside {
         source: rt.reader(),
         sink: io::writer(rt),
         link,
+        spawner,
         clock,
         gate,
     };

@@ -10,7 +10,7 @@ use crate::command::command;
 use crate::ending::{End, Ended};
 use crate::outside::Outside;
 use gas_endpoint::Endpoint;
-use gas_outside::{BufferedSink, Clock, Gate, Link, Sink, Source, Wrote};
+use gas_outside::{BufferedSink, Clock, Gate, Link, Sink, Source, Spawner, Wrote};
 use gas_world::World;
 use std::alloc::Global;
 use std::sync::Wait;
@@ -19,12 +19,15 @@ use std::thread::Threads;
 /// How a call ended.
 #[derive(Drop)]
 pub struct Status {
-    /// The exit status: 0, 1, 2, 3, 4, 5, 6, 8, 9 or 10.
+    /// The exit status, 0 to 12.
     pub code: u8,
     /// The world after the run of `world` or `drill`; there is one exactly where the code is 0 or 1.
     pub world: Option<World>,
     /// The node after the run of `node`; there is one exactly where the code is 0, 1, 6, 9 or 10.
     pub node: Option<Endpoint>,
+    /// The nodes after the run of `check` or `launch`, in rising order of ranks; there are such exactly where the code
+    /// is 0 or 1.
+    pub nodes: Option<Vec<Endpoint>>,
 }
 
 /// Gives on what the sink still holds back; a fault of that is how the call ends. After a fault of the sink it is left.
@@ -46,48 +49,62 @@ fn flushed<K: Sink>(sink: &mut BufferedSink<K>, ended: Ended) -> Ended
 /// The word `world` alone reads a job and runs it; `upgrade` alone reads a job and writes the same job with datagrams
 /// of version 2; `drill SEED` runs the drill of that number, and reads nothing; `node RANK PORT` reads a job, runs the
 /// scripts of its node RANK in threads over the outside's link, bound to that place, and writes the trace of what they
-/// did. The last line written is `status CODE NAME`, but with code 5, and with 0 of `upgrade`:
+/// did; `check` alone reads a job and behind it what each of its nodes wrote, and writes the lines of the run that
+/// their traces are; `launch PORT` reads a job, starts a child for each of its nodes by the outside's spawner, with
+/// the bytes that it read, finishes them, and goes on with what they gave as `check` does. The last line written is
+/// `status CODE NAME`, but with code 5, and with 0 of `upgrade`:
 ///
-/// - 0 `ok`: the job or the drill was run, the lines of its run were written before, and no node noted a violation; or
-///   the text of the job was written; or the node's scripts came to their ends, and it was quiet for as many turns as
-///   the job's patience says;
-/// - 1 `violations`: the job or the node was run so, and a node noted a violation;
-/// - 2 `usage`: the words are those of no command, or the rank is no node of the job;
-/// - 3 `bad-job LINE WHY`: the bytes read are no job's text; the first bad line, and the first reason that applies to
-///   it. Of more than 4,194,304 bytes they are `0 size`;
+/// - 0 `ok`: the job, the drill or the traces were run, the lines of that run were written before, and no node noted a
+///   violation; or the text of the job was written; or the node's scripts came to their ends, and it was quiet for as
+///   many turns as the job's patience says;
+/// - 1 `violations`: the job, the traces or the node were run so, and a node noted a violation;
+/// - 2 `usage`: the words are those of no command; or the rank is no node of the job, or not each node has a port;
+/// - 3 `bad-job LINE WHY`: the bytes read are no job's text (of `check`: with an output of each node behind it); the
+///   first bad line, and the first reason that applies to it. Of more than 4,194,304 bytes (of `check` 67,108,864)
+///   they are `0 size`;
 /// - 4 `read-fault`, only where the source's count of faults rose, or stands at its last value;
 /// - 5, only where the sink's count of faults rose, or stands at its last value: a prefix of the text was written;
 /// - 6 `link-fault`, of `node`, only where the link's count of faults rose, or stands at its last value; the trace was
 ///   written before, without turns where the link couldn't be bound;
+/// - 7 `spawn-fault`, of `launch`, only where the spawner's count of faults rose, or stands at its last value; each
+///   child that was started was finished;
 /// - 8 `no-memory`: memory ran out; whole lines of the run were written before, or none; of `upgrade` and `node` none;
 /// - 9 `stuck`, of `node`: it was quiet for so many turns, and some script isn't over; the trace was written before;
-/// - 10 `journal-full`, of `node`: its journal is full; the trace was written before.
+/// - 10 `journal-full`, of `node`: its journal is full; the trace was written before;
+/// - 11 `not-a-run NODE ENTRY`, of `check` and `launch`: the traces are no run; the smallest node with an entry that
+///   can't ever go, and that entry;
+/// - 12 `child RANK CODE`, of `check` and `launch`: a node ended with a status other than 0 and 1, or, of `launch`, its
+///   child gave something else than an output of the node with that status; the smallest such rank, and its status.
 pub fn gasnet<
     R: Threads + Wait + Sync,
     S: Source,
     K: Sink,
     L: Link + Send,
+    P: Spawner,
     C: Clock + Send,
     G: Gate + Sync,
 >(
     rt: &R,
     alloc: Global,
     words: &[String],
-    outside: Outside<S, K, L, C, G>,
-) -> (Status, Outside<S, K, L, C, G>)
+    outside: Outside<S, K, L, P, C, G>,
+) -> (Status, Outside<S, K, L, P, C, G>)
     // What each exit status says of what was read, what was written, and what is given.
     ensures means { StatusMeans (call_of (map string_bytes words.now)
-        (seen S.Source K.Sink L.Link C.Clock outside)
-        (seen S.Source K.Sink L.Link C.Clock result.1) (given_by result.0)) result.0.code }
+        (seen S.Source K.Sink L.Link P.Spawner C.Clock outside)
+        (seen S.Source K.Sink L.Link P.Spawner C.Clock result.1)
+        (given_by result.0)) result.0.code }
     // A job that could be read is run, or written, unless memory runs out.
     ensures complete { IsComplete (call_of (map string_bytes words.now)
-        (seen S.Source K.Sink L.Link C.Clock outside)
-        (seen S.Source K.Sink L.Link C.Clock result.1) (given_by result.0)) result.0.code }
+        (seen S.Source K.Sink L.Link P.Spawner C.Clock outside)
+        (seen S.Source K.Sink L.Link P.Spawner C.Clock result.1)
+        (given_by result.0)) result.0.code }
 {
     let Outside {
         source,
         sink,
         link,
+        spawner,
         clock,
         gate,
     } = outside;
@@ -95,6 +112,7 @@ pub fn gasnet<
         source,
         sink: BufferedSink::new(sink),
         link,
+        spawner,
         clock,
         gate,
     };
@@ -103,6 +121,7 @@ pub fn gasnet<
         source,
         sink,
         link,
+        spawner,
         clock,
         gate,
     } = after;
@@ -113,11 +132,13 @@ pub fn gasnet<
             code: end.code(),
             world: given.world,
             node: given.node,
+            nodes: given.nodes,
         },
         Outside {
             source,
             sink: sink.into_inner(),
             link,
+            spawner,
             clock,
             gate,
         },

@@ -5,6 +5,11 @@ ghost use Rattle.top_call.specs.Commands.{IsAsked};
 
 use itoa::Buffer;
 
+/// The least and the greatest port of rank 0.
+const LEAST_PORT: u16 = 1_024;
+
+const MOST_PORT: u16 = 65_472;
+
 /// A command of the program.
 #[derive(Clone, Copy, Debug, PartialEq, Eq)]
 pub enum Command {
@@ -12,6 +17,13 @@ pub enum Command {
     World,
     /// A job is read, and written with datagrams of version 2.
     Upgrade,
+    /// A job and what its nodes wrote are read, and their traces are checked.
+    Check,
+    /// A job is read, its nodes are started as children, and the traces that they give are checked.
+    Launch {
+        /// The port of rank 0, 1,024 to 65,472.
+        port: u16,
+    },
     /// A job is read, and one of its nodes is run.
     Node {
         /// The number of the node, 0 to 255.
@@ -81,6 +93,8 @@ fn of_one(word: &str) -> Option<Command>
         Some(Command::World)
     } else if word == "upgrade" {
         Some(Command::Upgrade)
+    } else if word == "check" {
+        Some(Command::Check)
     } else {
         None
     }
@@ -95,6 +109,11 @@ fn of_two(name: &str, word: &str) -> Option<Command>
             Some(seed) => Some(Command::Drill { seed }),
             None => None,
         }
+    } else if name == "launch" {
+        match number_in(word, LEAST_PORT, MOST_PORT) {
+            Some(port) => Some(Command::Launch { port }),
+            None => None,
+        }
     } else {
         None
     }
@@ -107,7 +126,7 @@ fn of_numbers(rank: &str, port: &str) -> Option<Command>
     let Some(rank) = number_in(rank, 0, 255) else {
         return None;
     };
-    match number_in(port, 1_024, 65_472) {
+    match number_in(port, LEAST_PORT, MOST_PORT) {
         Some(port) => Some(Command::Node { rank, port }),
         None => None,
     }

@@ -20,6 +20,20 @@ returns-in-Some-Upgrade g c = record {
   ends = c.upgrade_command.ensures;
 }
 
+pub returns-in-Some-Check : goal.returns-in-Some-Check
+returns-in-Some-Check g c = record {
+  asked = Some commands.Check;
+  asked_is = subst (Asks (map string_bytes c.args.words.now)) c.in-Some-Check.field-0-is c.in-Some-Check.ensures;
+  ends = c.check_command.ensures;
+}
+
+pub returns-in-Some-Launch : goal.returns-in-Some-Launch
+returns-in-Some-Launch g c = record {
+  asked = Some (commands.Launch c.in-Some-Launch.port);
+  asked_is = subst (Asks (map string_bytes c.args.words.now)) c.in-Some-Launch.field-0-is c.in-Some-Launch.ensures;
+  ends = c.launch_command.ensures;
+}
+
 pub returns-in-Some-Drill : goal.returns-in-Some-Drill
 returns-in-Some-Drill g c = record {
   asked = Some (commands.Drill c.in-Some-Drill.seed);

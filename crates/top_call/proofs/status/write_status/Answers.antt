@@ -24,8 +24,17 @@ returns-in-NoMemory g c = rw c.in-NoMemory.is c.write_named-in-NoMemory.ensures
 pub returns-in-LinkFault : goal.returns-in-LinkFault
 returns-in-LinkFault g c = rw c.in-LinkFault.is c.write_named-in-LinkFault.ensures
 
+pub returns-in-SpawnFault : goal.returns-in-SpawnFault
+returns-in-SpawnFault g c = rw c.in-SpawnFault.is c.write_named-in-SpawnFault.ensures
+
 pub returns-in-Stuck : goal.returns-in-Stuck
 returns-in-Stuck g c = rw c.in-Stuck.is c.write_named-in-Stuck.ensures
 
 pub returns-in-JournalFull : goal.returns-in-JournalFull
 returns-in-JournalFull g c = rw c.in-JournalFull.is c.write_named-in-JournalFull.ensures
+
+pub returns-in-NotARun : goal.returns-in-NotARun
+returns-in-NotARun g c = rw c.in-NotARun.is c.write_not_a_run.ensures
+
+pub returns-in-Child : goal.returns-in-Child
+returns-in-Child g c = rw c.in-Child.is c.write_child.ensures

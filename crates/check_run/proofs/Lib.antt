@@ -1,0 +1,10 @@
+pub mod Names
+pub mod Polling
+pub mod Pushed
+pub mod Greater
+pub mod StepText
+pub mod Going
+pub mod Merged
+pub mod Inputs
+pub mod Turning
+pub mod Ends

@@ -1,0 +1,411 @@
+-- What the answer of a step names is there at its node after the turn in which the step ended; and each step that a
+-- turn began has a handle.
+use Rattle.std.proofs.Common.{◌≡◌, ℕ, ◌+◌, ◌≤◌, ◌==◌, ◌%◌, Bool, true, false, not, List, [], ◌∷◌, ◌++◌, length, Option, Some}
+use Rattle.std.proofs.Common.{None, refl, sym, ap, subst, ◌∙◌, append-nil, if◌then◌else◌}
+use Rattle.std.specs.Prelude.{ℤ, IfSome, is_some, is_none, nat_lt, ◌&&◌, int_le}
+use Rattle.std.specs.Option.{option_map, option_to_list}
+use Rattle.std.proofs.lemmas.Bool.{false≢true, true≢false}
+use Rattle.raw_segment.specs.Image.{Write, image}
+use Rattle.datagram_grammar.specs.Parameters.{Parameters}
+use Rattle.handler_rules.specs.declared.rules.CallKind.TheVariants as kind
+use Rattle.handler_rules.specs.declared.table.Entry.{Entry as TableEntry}
+use Rattle.handler_rules.specs.Runs.{Meaning}
+use Rattle.lists.specs.Put.{put}
+use Rattle.node_record.specs.NodeStep.{Does, NodeEvent, done, node_after, node_answer}
+use Rattle.node_record.specs.Record.{Node}
+use Rattle.node_record.specs.Step.{is_worn_out}
+use Rattle.am_core.specs.ClientRules.{rules}
+use Rattle.am_core.specs.Kept.{segment_of}
+use Rattle.endpoint_rules.specs.BarrierCalls.{TryBarrier}
+use Rattle.endpoint_rules.specs.Called.{Requests, Performs, node_event}
+use Rattle.endpoint_rules.specs.CoreCalls.{Poll, Attempt, Lock, Unlock, Cell, SetCell, OnSegment}
+use Rattle.endpoint_rules.specs.EndpointLocal.{EndpointLocal}
+use Rattle.endpoint_rules.specs.EndpointRules.{OtherCall, OnCore, OnTransfers, OnBarrier, RecordEvent, endpoint_rules}
+use Rattle.endpoint_rules.specs.EndpointRules.{job_of, told}
+use Rattle.endpoint_rules.specs.Memory.{Show, Set, Fill, LoadWord, SetWord, range_fault, unless_fault}
+use Rattle.endpoint_rules.specs.TransferCalls.{Caller, transfer_kind}
+use Rattle.endpoint_rules.specs.declared.answer.Answer.{Answer}
+use Rattle.endpoint_rules.specs.declared.answer.Answer.TheVariants as answers
+use Rattle.endpoint_rules.specs.declared.answer.Begun.TheVariants as begun
+use Rattle.endpoint_rules.specs.declared.answer.Local.{Local as LocalAnswer}
+use Rattle.endpoint_rules.specs.declared.answer.Local.TheVariants as local
+use Rattle.put_get.specs.declared.operation.Handle.{Handle}
+use Rattle.gas_endpoint.specs.EndpointState.{EndpointState, EndpointStands}
+use Rattle.job_text.specs.declared.job.Job.{Job as JobState}
+use Rattle.job_text.specs.declared.job.ScheduledCall.{ScheduledCall}
+use Rattle.job_text.specs.declared.job.ScriptStep.{ScriptStep}
+use Rattle.job_text.specs.declared.job.ScriptStep.TheVariants as step
+use Rattle.job_text.specs.declared.job.WaitingStep.{WaitingStep}
+use Rattle.job_text.specs.declared.job.WaitingStep.TheVariants as waiting
+use Rattle.machine.specs.declared.entry.Entry.{Entry}
+use Rattle.node_machine.specs.NodeState.{script_job}
+use Rattle.node_runs.specs.Actions.{Form, Once, Again, Until, Twice, Looks, Progress, begins, ended_by, next_call}
+use Rattle.node_runs.specs.Actions.{progress_after, reached, tried_form, tried_step, unless}
+use Rattle.node_runs.specs.Scripts.{ThreadCall}
+use Rattle.node_runs.specs.Turn.{as_tried, first_events, node_run, tried_answer, tried_call, turn_events}
+use Rattle.node_script.specs.AnswersTold.{HasRange, NamesItsBytes, NamesWhatIs}
+use Rattle.node_script.specs.Bodies.{script_meaning}
+use Rattle.node_script.specs.Registration.{registered}
+use Rattle.script_steps.specs.Forms.{as_synced, begun_handle, is_issued, is_sent, step_form, sync_of, tried_while}
+use Rattle.script_steps.specs.Forms.{waiting_form, waits_of}
+use Rattle.world_run.proofs.ToldAnswers.{asked_names, barrier_names, judged_names, range_names, show_names}
+use Rattle.world_run.proofs.ToldAnswers.{transfer_names, unless_names, word_names}
+use Rattle.check_run.specs.Replaying.{HasHandles, ScriptedNode}
+use Rattle.check_run.specs.StepLines.{after_entry, answer_of_step}
+use Rattle.check_run.specs.TracesRun.{first_machine}
+
+-- ---- the answer of a call
+
+-- a call that shows bytes writes none
+shown_writes : (fault : Option LocalAnswer) (answer : LocalAnswer) → (unless_fault fault (answer, [])).1 ≡ []
+shown_writes None answer = refl
+shown_writes (Some fault) answer = refl
+
+-- the range that it shows lies inside the segment after it
+range_shown : (endpoint : EndpointState) (settings : Parameters) (table : List (Option TableEntry)) (meaning : Meaning)
+    (me thread now : ℕ) (node : Node EndpointLocal) (offset len : ℕ)
+    → EndpointStands endpoint (node_after (job_of settings table meaning) me node now
+    (Does thread (OnCore (OnSegment (Show offset len))))) → endpoint.core.settings ≡ settings
+    → offset + len ≤ length (segment_of settings node.local.core) → HasRange endpoint offset len
+range_shown endpoint settings table meaning me thread now node offset len stands same inside =
+    let none = shown_writes (range_fault (segment_of settings node.local.core) offset len) (local.Shown offset len) in
+    let all : node.local.core.writes
+    ++ (unless_fault (range_fault (segment_of settings node.local.core) offset len) (local.Shown offset len, [])).1
+    ≡ node.local.core.writes =
+    ap (λ (writes : List Write). node.local.core.writes ++ writes) none ∙ append-nil node.local.core.writes in
+    record {
+      node = _;
+      stands = stands;
+      inside = rw same (subst (λ (writes : List Write). offset + len ≤ length (image settings.segment writes)) (sym all)
+          inside);
+    }
+
+-- a call that makes no request
+call_names : (endpoint : EndpointState) (settings : Parameters) (table : List (Option TableEntry)) (meaning : Meaning)
+    (me thread now : ℕ) (node : Node EndpointLocal) (call : OtherCall)
+    → EndpointStands endpoint (node_after (job_of settings table meaning) me node now (Does thread call))
+    → endpoint.core.settings ≡ settings
+    → NamesWhatIs endpoint (done (job_of settings table meaning) me node thread call).0
+call_names endpoint settings table meaning me thread now node (OnCore Poll) stands same =
+    let own = rules settings table meaning in
+    judged_names endpoint own thread (own.judges thread kind.Poll node.local.core) answers.Polled node.local.core tt
+call_names endpoint settings table meaning me thread now node (OnCore (Attempt call)) stands same =
+    let own = rules settings table meaning in
+    judged_names endpoint own thread (own.judges thread call node.local.core) answers.Allowed node.local.core tt
+call_names endpoint settings table meaning me thread now node (OnCore (Lock lock)) stands same = tt
+call_names endpoint settings table meaning me thread now node (OnCore (Unlock lock)) stands same = tt
+call_names endpoint settings table meaning me thread now node (OnCore (Cell cell)) stands same = tt
+call_names endpoint settings table meaning me thread now node (OnCore (SetCell cell value)) stands same = tt
+call_names endpoint settings table meaning me thread now node (OnCore (OnSegment (Show offset len))) stands same =
+    let size = length (segment_of settings node.local.core) in
+    show_names endpoint size offset len (nat_lt size (offset + len)) refl
+    (range_shown endpoint settings table meaning me thread now node offset len stands same)
+call_names endpoint settings table meaning me thread now node (OnCore (OnSegment (Set write))) stands same =
+    range_names endpoint
+    (nat_lt (length (segment_of settings node.local.core)) (write.offset + length write.bytes)) _ tt
+call_names endpoint settings table meaning me thread now node (OnCore (OnSegment (Fill offset len byte))) stands same =
+    range_names endpoint (nat_lt (length (segment_of settings node.local.core)) (offset + len)) _ tt
+call_names endpoint settings table meaning me thread now node (OnCore (OnSegment (LoadWord offset))) stands same =
+    word_names endpoint (nat_lt (length (segment_of settings node.local.core)) (offset + 8)) (offset % 8 == 0) _ tt
+call_names endpoint settings table meaning me thread now node (OnCore (OnSegment (SetWord offset value))) stands same =
+    word_names endpoint (nat_lt (length (segment_of settings node.local.core)) (offset + 8)) (offset % 8 == 0) _ tt
+call_names endpoint settings table meaning me thread now node (OnTransfers call) stands same =
+    let own = endpoint_rules settings table meaning in
+    let caller : Caller = record {
+      settings = settings;
+      me = me;
+      thread = thread;
+      worn = is_worn_out settings node;
+    } in
+    unless_names endpoint own thread (own.judges thread (transfer_kind call) node.local) node.local _
+    (transfer_names endpoint caller call node.local)
+call_names endpoint settings table meaning me thread now node (OnBarrier call) stands same =
+    let own = endpoint_rules settings table meaning in
+    let caller : Caller = record {
+      settings = settings;
+      me = me;
+      thread = thread;
+      worn = is_worn_out settings node;
+    } in
+    unless_names endpoint own thread (own.judges thread kind.Barrier node.local) node.local _
+    (barrier_names endpoint caller call node.local.barrier)
+
+-- a call of a thread
+thread_names : (endpoint : EndpointState) (settings : Parameters) (table : List (Option TableEntry)) (meaning : Meaning)
+    (me thread now : ℕ) (node : Node EndpointLocal) (call : ThreadCall)
+    → EndpointStands endpoint (node_after (job_of settings table meaning) me node now (node_event thread call))
+    → endpoint.core.settings ≡ settings
+    → NamesWhatIs endpoint (told (node_answer (job_of settings table meaning) me node now (node_event thread call)))
+thread_names endpoint settings table meaning me thread now node (Requests to asking) stands same =
+    asked_names endpoint _
+thread_names endpoint settings table meaning me thread now node (Performs call) stands same =
+    call_names endpoint settings table meaning me thread now node call stands same
+
+-- the call that a try makes, if it makes one
+made_names : (endpoint : EndpointState) (settings : Parameters) (table : List (Option TableEntry)) (meaning : Meaning)
+    (me thread now : ℕ) (node : Node EndpointLocal) (call : Option ThreadCall)
+    → EndpointStands endpoint (node_run (job_of settings table meaning) me now
+    (option_to_list (option_map (node_event thread) call)) node)
+    → endpoint.core.settings ≡ settings
+    → IfSome (option_map (λ (made : ThreadCall).
+    told (node_answer (job_of settings table meaning) me node now (node_event thread made))) call) (NamesWhatIs endpoint)
+made_names endpoint settings table meaning me thread now node None stands same = tt
+made_names endpoint settings table meaning me thread now node (Some call) stands same =
+    thread_names endpoint settings table meaning me thread now node call stands same
+
+-- ---- forms of steps
+
+-- what the form says of its calls' answers names no more than these do
+abbrev SaysNoMore : Form EndpointLocal → Type 0
+SaysNoMore (Once call) = Unit {0}
+SaysNoMore (Again waits call) = Unit {0}
+SaysNoMore (Until cell value) = Unit {0}
+SaysNoMore (Twice begin next waits says) =
+    (endpoint : EndpointState) (answer : Answer) → NamesWhatIs endpoint answer → NamesWhatIs endpoint (says answer)
+SaysNoMore (Looks begin ready) = Unit {0}
+
+-- where its first call began something, the answer has a handle
+abbrev BeginsByHandle : Form EndpointLocal → Type 0
+BeginsByHandle (Once call) = Unit {0}
+BeginsByHandle (Again waits call) = Unit {0}
+BeginsByHandle (Until cell value) = Unit {0}
+BeginsByHandle (Twice begin next waits says) =
+    (answer : Answer) → is_some (next answer) ≡ true → is_some (begun_handle answer) ≡ true
+BeginsByHandle (Looks begin ready) =
+    (answer : Answer) (node : Node EndpointLocal) → ready answer node ≡ false → is_some (begun_handle answer) ≡ true
+
+record IsSound (form : Form EndpointLocal) : Type 0 where
+  says : SaysNoMore form
+  begins : BeginsByHandle form
+
+while_sound : (waits : Option (Answer → Bool)) (meant : ThreadCall) → IsSound (tried_while waits meant)
+while_sound None meant = record { says = tt; begins = tt }
+while_sound (Some waits) meant = record { says = tt; begins = tt }
+
+-- an answer of a blocking transfer
+synced_names : (endpoint : EndpointState) (answer : Answer) → NamesWhatIs endpoint answer
+    → NamesWhatIs endpoint (as_synced answer)
+synced_names endpoint (answers.Begun begun.Done) names = tt
+synced_names endpoint answer names = names
+
+some_mapped : (handle : Option Handle) (call : Handle → ThreadCall) → is_some (option_map call handle) ≡ true
+    → is_some handle ≡ true
+some_mapped None call is = absurd (false≢true is)
+some_mapped (Some handle) call is = refl
+
+sent_handle : (handle : Option Handle) (node : Node EndpointLocal) → is_issued handle node ≡ false
+    → is_some handle ≡ true
+sent_handle None node is = absurd (true≢false is)
+sent_handle (Some handle) node is = refl
+
+waiting_sound : (cells : List ℤ) (waiting : WaitingStep) → IsSound (waiting_form cells waiting)
+waiting_sound cells (waiting.Until cell operand) = record { says = tt; begins = tt }
+waiting_sound cells (waiting.Transfer transfer) = record {
+  says = synced_names;
+  begins = λ answer. some_mapped (begun_handle answer) _;
+}
+waiting_sound cells (waiting.PutBegin register put) = record {
+  says = tt;
+  begins = λ answer. sent_handle (begun_handle answer);
+}
+waiting_sound cells (waiting.PutImplicit put) = record {
+  says = tt;
+  begins = λ answer. sent_handle (begun_handle answer);
+}
+waiting_sound cells (waiting.Wait register) = record { says = tt; begins = tt }
+waiting_sound cells (waiting.WaitAll registers) = record { says = tt; begins = tt }
+waiting_sound cells (waiting.WaitSome registers) = record { says = tt; begins = tt }
+waiting_sound cells (waiting.WaitImplicit which) = record { says = tt; begins = tt }
+waiting_sound cells (waiting.BarrierWait id flags) = record { says = tt; begins = tt }
+
+-- so is that of each step of a script
+step_sound : (step : ScriptStep) (node : Node EndpointLocal) → IsSound (step_form step node)
+step_sound (step.Call call) node = while_sound (waits_of call) _
+step_sound (step.Waiting waiting) node = waiting_sound node.local.core.cells waiting
+
+-- ---- how a try ended
+
+-- an answer with a handle names nothing
+handle_names : (endpoint : EndpointState) (answer : Answer) → is_some (begun_handle answer) ≡ true
+    → NamesWhatIs endpoint answer
+handle_names endpoint (answers.Local answer) is = absurd (false≢true is)
+handle_names endpoint (answers.Ticked sent) is = absurd (false≢true is)
+handle_names endpoint answer is = tt
+
+unless_said : (endpoint : EndpointState) (waits : Bool) (answer : Answer) → NamesWhatIs endpoint answer
+    → IfSome (unless waits answer) (NamesWhatIs endpoint)
+unless_said endpoint true answer names = tt
+unless_said endpoint false answer names = names
+
+reached_said : (endpoint : EndpointState) (enough : Bool)
+    → IfSome (if enough then Some (answers.Local local.Done) else None) (NamesWhatIs endpoint)
+reached_said endpoint true = tt
+reached_said endpoint false = tt
+
+reached_names : (endpoint : EndpointState) (value : ℤ) (answer : Answer)
+    → IfSome (reached value answer) (NamesWhatIs endpoint)
+reached_names endpoint value (answers.Local (local.Cell number)) = reached_said endpoint (int_le value number)
+reached_names endpoint value answer = tt
+
+-- by the form of the step
+form_names : (endpoint : EndpointState) (form : Form EndpointLocal) (began : Option Answer)
+    (after : Node EndpointLocal) (answer : Option Answer) → SaysNoMore form
+    → IfSome began (λ first. is_some (begun_handle first) ≡ true) → IfSome answer (NamesWhatIs endpoint)
+    → IfSome (ended_by form began after answer) (NamesWhatIs endpoint)
+form_names endpoint (Once call) began after answer sound handle names = names
+form_names endpoint (Again waits call) began after None sound handle names = tt
+form_names endpoint (Again waits call) began after (Some answer) sound handle names =
+    unless_said endpoint (waits answer) answer names
+form_names endpoint (Until cell value) began after None sound handle names = tt
+form_names endpoint (Until cell value) began after (Some answer) sound handle names =
+    reached_names endpoint value answer
+form_names endpoint (Twice begin next waits says) None after None sound handle names = tt
+form_names endpoint (Twice begin next waits says) None after (Some answer) sound handle names =
+    unless_said endpoint (is_some (next answer)) (says answer) (sound endpoint answer names)
+form_names endpoint (Twice begin next waits says) (Some first) after None sound handle names = tt
+form_names endpoint (Twice begin next waits says) (Some first) after (Some answer) sound handle names =
+    unless_said endpoint (waits answer) (says answer) (sound endpoint answer names)
+form_names endpoint (Looks begin ready) None after None sound handle names = tt
+form_names endpoint (Looks begin ready) None after (Some answer) sound handle names =
+    unless_said endpoint (not (ready answer after)) answer names
+form_names endpoint (Looks begin ready) (Some first) after answer sound handle names =
+    unless_said endpoint (not (ready first after)) first (handle_names endpoint first handle)
+
+-- by what is left of the script
+step_names : (endpoint : EndpointState) (progress : Progress ScriptStep) (before after : Node EndpointLocal)
+    (answer : Option Answer) → IfSome progress.began (λ first. is_some (begun_handle first) ≡ true)
+    → IfSome answer (NamesWhatIs endpoint)
+    → IfSome (tried_step step_form progress.began progress.left before after answer).ended (NamesWhatIs endpoint)
+step_names endpoint progress before after answer handle names = by_left progress.left
+  where
+    by_left : (left : List ScriptStep)
+        → IfSome (tried_step step_form progress.began left before after answer).ended (NamesWhatIs endpoint)
+    by_left [] = tt
+    by_left (action ∷ rest) =
+        form_names endpoint (step_form action before) progress.began after answer (step_sound action before).says handle
+        names
+
+-- events one after another
+run_append : (settings : Parameters) (table : List (Option TableEntry)) (meaning : Meaning) (me now : ℕ)
+    (first second : List RecordEvent) (node : Node EndpointLocal)
+    → node_run (job_of settings table meaning) me now (first ++ second) node
+    ≡ node_run (job_of settings table meaning) me now second
+    (node_run (job_of settings table meaning) me now first node)
+run_append settings table meaning me now [] second node = refl
+run_append settings table meaning me now (event ∷ first) second node =
+    run_append settings table meaning me now first second
+    (node_after (job_of settings table meaning) me node now event)
+
+-- what the answer of the step that ended in the turn of an entry names is there after it
+pub ended_names : (job : JobState) (rank : ℕ) (machine : ScriptedNode) (entry : Entry) (endpoint : EndpointState)
+    → HasHandles machine → EndpointStands endpoint (after_entry job rank machine entry).node
+    → endpoint.core.settings ≡ job.settings
+    → IfSome (answer_of_step job rank machine entry) (NamesWhatIs endpoint)
+ended_names job rank machine entry endpoint handles stands same =
+    let all = script_job job in
+    let before = as_tried all rank machine entry.thread entry.now entry.got in
+    let call = tried_call all rank machine entry.thread entry.now entry.got in
+    let table = (registered job.handlers).table in
+    let meaning = script_meaning job.handlers in
+    let there : EndpointStands endpoint (node_run (job_of job.settings table meaning) rank entry.now
+    (option_to_list (option_map (node_event entry.thread) call)) before) =
+    subst (EndpointStands endpoint) (run_append job.settings table meaning rank entry.now
+    (first_events all machine entry.thread entry.got) (option_to_list (option_map (node_event entry.thread) call))
+    machine.node) stands in
+    step_names endpoint (machine.own entry.thread) before (after_entry job rank machine entry).node
+    (tried_answer all rank machine entry.thread entry.now entry.got) (handles entry.thread)
+    (made_names endpoint job.settings table meaning rank entry.thread entry.now before call there same)
+
+-- ---- what is left of the script
+
+waited : (waits : Bool) (answer : Answer) → unless waits answer ≡ None → waits ≡ true
+waited true answer none = refl
+waited false answer none = absurd (cc)
+
+not_true : (b : Bool) → not b ≡ true → b ≡ false
+not_true true is = absurd (false≢true is)
+not_true false is = refl
+
+-- where a try ended nothing, what its step began has a handle
+form_handles : (form : Form EndpointLocal) (after : Node EndpointLocal) (answer : Option Answer)
+    → BeginsByHandle form → begins form ≡ true → ended_by form None after answer ≡ None
+    → IfSome answer (λ first. is_some (begun_handle first) ≡ true)
+form_handles (Once call) after answer sound begun none = absurd (false≢true begun)
+form_handles (Again waits call) after answer sound begun none = absurd (false≢true begun)
+form_handles (Until cell value) after answer sound begun none = absurd (false≢true begun)
+form_handles (Twice begin next waits says) after None sound begun none = tt
+form_handles (Twice begin next waits says) after (Some answer) sound begun none =
+    sound answer (waited (is_some (next answer)) (says answer) none)
+form_handles (Looks begin ready) after None sound begun none = tt
+form_handles (Looks begin ready) after (Some answer) sound begun none =
+    sound answer after (not_true (ready answer after) (waited (not (ready answer after)) answer none))
+
+-- what is left where a try ended nothing
+abbrev left_then : (action : ScriptStep) → (rest : List ScriptStep) → (begins_it : Bool) → (first answer : Option Answer)
+    → Progress ScriptStep
+left_then action rest begins_it first answer =
+    if begins_it && is_none first then record { left = action ∷ rest; began = answer }
+    else record { left = action ∷ rest; began = first }
+
+-- the script after a try
+progress_handles : (form : Form EndpointLocal) (action : ScriptStep) (rest : List ScriptStep) (began : Option Answer)
+    (after : Node EndpointLocal) (answer : Option Answer) → BeginsByHandle form
+    → IfSome began (λ first. is_some (begun_handle first) ≡ true)
+    → IfSome (progress_after form action rest began (ended_by form began after answer) answer).began
+    (λ first. is_some (begun_handle first) ≡ true)
+progress_handles form action rest began after answer sound handle = by_end (ended_by form began after answer) refl
+  where
+    by_begin : (begins_it : Bool) → begins form ≡ begins_it → (first : Option Answer) → began ≡ first
+        → ended_by form began after answer ≡ None
+        → IfSome (left_then action rest begins_it first answer).began
+        (λ first. is_some (begun_handle first) ≡ true)
+    by_begin true is None none ended =
+        form_handles form after answer sound is
+        (subst (λ (first : Option Answer). ended_by form first after answer ≡ None) none ended)
+    by_begin true is (Some first) same ended =
+        subst (λ (one : Option Answer). IfSome one (λ first. is_some (begun_handle first) ≡ true)) same handle
+    by_begin false is first same ended =
+        subst (λ (one : Option Answer). IfSome one (λ first. is_some (begun_handle first) ≡ true)) same handle
+
+    by_end : (ended : Option Answer) → ended_by form began after answer ≡ ended
+        → IfSome (progress_after form action rest began ended answer).began
+        (λ first. is_some (begun_handle first) ≡ true)
+    by_end (Some said) is = tt
+    by_end None is = by_begin (begins form) refl began refl is
+
+step_handles : (progress : Progress ScriptStep) (before after : Node EndpointLocal) (answer : Option Answer)
+    → IfSome progress.began (λ first. is_some (begun_handle first) ≡ true)
+    → IfSome (tried_step step_form progress.began progress.left before after answer).left.began
+    (λ first. is_some (begun_handle first) ≡ true)
+step_handles progress before after answer handle = by_left progress.left
+  where
+    by_left : (left : List ScriptStep)
+        → IfSome (tried_step step_form progress.began left before after answer).left.began
+        (λ first. is_some (begun_handle first) ≡ true)
+    by_left [] = handle
+    by_left (action ∷ rest) =
+        progress_handles (step_form action before) action rest progress.began after answer
+        (step_sound action before).begins handle
+
+-- one of two
+either_handles : (here : Bool) (one other : Progress ScriptStep)
+    → IfSome one.began (λ first. is_some (begun_handle first) ≡ true)
+    → IfSome other.began (λ first. is_some (begun_handle first) ≡ true)
+    → IfSome (if here then one else other).began (λ first. is_some (begun_handle first) ≡ true)
+either_handles true one other first second = first
+either_handles false one other first second = second
+
+-- each step that was begun by the end of the turn of an entry has a handle
+pub after_handles : (job : JobState) (rank : ℕ) (machine : ScriptedNode) (entry : Entry) → HasHandles machine
+    → HasHandles (after_entry job rank machine entry)
+after_handles job rank machine entry handles thread =
+    let all = script_job job in
+    either_handles (thread == entry.thread) _ (machine.own thread)
+    (step_handles (machine.own entry.thread) (as_tried all rank machine entry.thread entry.now entry.got)
+    (after_entry job rank machine entry).node (tried_answer all rank machine entry.thread entry.now entry.got)
+    (handles entry.thread))
+    (handles thread)
+
+-- before all turns no step was begun
+pub first_handles : (job : JobState) (rank : ℕ) → HasHandles (first_machine job rank)
+first_handles job rank thread = tt

@@ -1,0 +1,23 @@
+-- The nodes that the merge leaves, or why there are none.
+use Rattle.std.proofs.Common.{◌≡◌, refl, inl}
+use Rattle.check_run.proofs.run.run_traces.Goals as goal
+
+pub merge_traces-requires : goal.merge_traces-requires
+merge_traces-requires g c = record { job = c.requires.job; count = c.requires.count; traces = c.requires.traces }
+
+pub tell_run-requires : goal.tell_run-requires
+tell_run-requires g c = record {
+  job = c.requires.job;
+  count = c.requires.count;
+  traces = c.requires.traces;
+  merged = c.in-Ok.ensures;
+}
+
+pub returns-in-Ok : goal.returns-in-Ok
+returns-in-Ok g c = c.tell_run.ensures
+
+pub returns-in-Err-NotARun : goal.returns-in-Err-NotARun
+returns-in-Err-NotARun g c = ?
+
+pub returns-in-Err-NoMemory : goal.returns-in-Err-NoMemory
+returns-in-Err-NoMemory g c = inl refl

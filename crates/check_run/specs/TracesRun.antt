@@ -1,0 +1,80 @@
+-- Traces of the nodes of a job that are a run of the world, and those that are none.
+-- Origin: this project's profile. What holds of the run is that of GASNet 1.8.1, as the records of nodes have it.
+use Rattle.std.specs.Prelude.{◌≡◌, ◌+◌, ℕ, List, length, map, Some, slice_get, slice_index, IsSomeAnd}
+use Rattle.std.specs.Option.{ForSome}
+use Rattle.gas_endpoint.specs.EndpointState.{EndpointState, EndpointStands, IsNodeOf}
+use Rattle.gasnet_trace.specs.Merged.{IsFirstLeft}
+use Rattle.gasnet_trace.specs.declared.trace.Trace.{Trace}
+use Rattle.job_text.specs.declared.job.Job.{Job as JobState}
+use Rattle.job_text.specs.declared.job.ScriptStep.{ScriptStep}
+use Rattle.machine.specs.declared.entry.Entry.{Entry}
+use Rattle.machine.specs.Fronts.{Node, IsRun, IsStuck, Reaches, full}
+use Rattle.node_machine.specs.Laws.{IsRunOf, nodes_of, order_by}
+use Rattle.node_machine.specs.NodeState.{NodeState, script_job, scripts_at, state_steps}
+use Rattle.node_record.specs.Record.{Node as Record}
+use Rattle.node_runs.specs.Actions.{OwnScripts}
+use Rattle.node_runs.specs.Order.{own_entries, replay}
+use Rattle.node_runs.specs.Turn.{MachineState}
+use Rattle.node_runs.specs.WorldRun.{opening_machines}
+use Rattle.node_script.specs.Registration.{registered}
+use Rattle.endpoint_rules.specs.EndpointLocal.{EndpointLocal}
+use Rattle.endpoint_rules.specs.EndpointRules.{OtherCall}
+use Rattle.plain_world.specs.World.{Timed}
+
+-- the entries of each trace
+abbrev pub entries_of : List Trace → List (List Entry)
+entries_of traces = map (λ trace. trace.entries) traces
+
+-- the nodes of the job before all turns, each with its trace
+abbrev pub first_nodes : JobState → List Trace → List (Node NodeState)
+first_nodes job traces = nodes_of job (entries_of traces)
+
+-- the traces are a run: in some order each of their entries can go in its turn
+abbrev pub AreARun : JobState → List Trace → Type 0
+AreARun job traces = IsRun state_steps (first_nodes job traces)
+
+-- they are none. At the one front that is reached and where entries are left, but none can go, this node is the
+-- smallest with an entry left, and this is the number of that entry, counted from 1
+pub record AreNoRun (job : JobState) (traces : List Trace) (node entry : ℕ) : Type 0 where
+  pub front : List ℕ
+  pub stuck : IsStuck state_steps (first_nodes job traces) front
+  pub first : IsFirstLeft (first_nodes job traces) front node
+  pub entry_is : entry ≡ slice_index front node + 1
+  pub none : AreARun job traces → ⊥
+
+-- they are one: the entries, in the order of these ranks, are a run of the job's world, with all that holds of every
+-- run of it (`IsWorldRun` of `node_runs`): the headline, the laws of transfers and of the barrier. The entries of each
+-- node in it are its trace
+pub record RunOfTraces (job : JobState) (traces : List Trace) : Type 0 where
+  pub ranks : List ℕ
+  pub reached : Reaches state_steps (first_nodes job traces) ranks (full (first_nodes job traces))
+  pub turns : List (List (Timed OtherCall))
+  pub run : IsRunOf job (order_by job (entries_of traces) ranks) turns
+  pub own : (rank : ℕ) (entries : List Entry) → slice_get (entries_of traces) rank ≡ Some entries
+      → own_entries rank (order_by job (entries_of traces) ranks) ≡ entries
+
+-- ---- its nodes
+
+-- the node of this rank before all turns, with its scripts
+abbrev pub first_machine : JobState → (rank : ℕ) → MachineState EndpointLocal (OwnScripts ScriptStep)
+first_machine job rank = opening_machines job.settings (scripts_at job) rank
+
+-- its record after the entries of its trace, which is the one that the run leaves it
+abbrev pub last_record : JobState → (rank : ℕ) → List Entry → Record EndpointLocal
+last_record job rank entries = (replay (script_job job) rank (first_machine job rank) entries).node
+
+-- the endpoint is that node, after its trace
+pub record IsNodeAfter (job : JobState) (rank : ℕ) (trace : Trace) (endpoint : EndpointState) : Type 0 where
+  pub node : IsNodeOf job.settings (registered job.handlers).table rank endpoint
+  pub stands : EndpointStands endpoint (last_record job rank trace.entries)
+
+-- they are the nodes of the job after their traces, in rising order of ranks
+pub record AreNodesAfter (job : JobState) (traces : List Trace) (endpoints : List EndpointState) : Type 0 where
+  pub count : length endpoints ≡ length traces
+  pub each : (rank : ℕ) → ForSome (slice_get endpoints rank) (λ endpoint.
+      IsSomeAnd (slice_get traces rank) (λ trace. IsNodeAfter job rank trace endpoint))
+
+-- each is the node of its place
+abbrev pub AreRanked : List EndpointState → Type 0
+AreRanked endpoints =
+    (rank : ℕ) → ForSome (slice_get endpoints rank) (λ endpoint. endpoint.core.me ≡ rank)

@@ -1,0 +1,91 @@
+//! The check of the traces of a job's nodes.
+
+ghost use Rattle.std.specs.Prelude.{◌≡◌, All, length};
+ghost use Rattle.gas_outside.specs.Buffered.{outbox};
+ghost use Rattle.job_text.specs.JobText.{IsJob};
+ghost use Rattle.check_run.specs.CheckInputs.{IsTraceOf};
+ghost use Rattle.check_run.specs.Merging.{IsMerged};
+ghost use Rattle.check_run.specs.TracesEnds.{EndsTraces};
+
+use crate::ending::{any_violation, write_ends};
+use crate::machines::merge_traces;
+use crate::replaying::{Replayed, replay_all};
+use gas_endpoint::Endpoint;
+use gas_outside::{BufferedSink, Sink, Wrote};
+use gasnet_trace::{MergeFault, Trace};
+use node_script::Script;
+use std::alloc::Global;
+
+/// How the check of traces ended.
+#[derive(Drop)]
+pub enum TracesEnd {
+    /// They are a run, and its lines were written.
+    Done {
+        /// Whether a node noted a violation in it.
+        violated: bool,
+        /// The nodes after it, in rising order of ranks.
+        nodes: Vec<Endpoint>,
+    },
+    /// They are no run.
+    NotARun {
+        /// The smallest node whose next entry can't ever go.
+        node: u16,
+        /// That entry, counted from 1.
+        entry: u32,
+    },
+    /// They are a run, and the sink failed: a front of the text of its lines was written.
+    Fault,
+    /// Memory ran out: where they are known to be a run, whole lines of it were written, or none; else nothing was.
+    NoMemory,
+}
+
+/// Writes the lines of traces that are a run, which left these nodes.
+fn tell_run<K: Sink>(
+    alloc: Global,
+    job: &Script,
+    traces: &[Trace],
+    nodes: Vec<Endpoint>,
+    sink: &mut BufferedSink<K>,
+) -> TracesEnd
+    requires job { IsJob job.now }
+    requires count { length traces.now ≡ job.now.settings.nodes }
+    requires traces { All (IsTraceOf job.now) traces.now }
+    requires merged { IsMerged job.now traces.now nodes.items }
+    ensures { EndsTraces job.now traces.now
+        (outbox K.taken K.faults sink.old) (outbox K.taken K.faults sink.new) result }
+{
+    let most = match replay_all(alloc, job, traces, sink) {
+        Replayed::Done(most) => most,
+        Replayed::Fault => return TracesEnd::Fault,
+        Replayed::NoMemory => return TracesEnd::NoMemory,
+    };
+    match write_ends(&nodes, &most, sink) {
+        Wrote::Done => {
+            let violated = any_violation(&nodes);
+            TracesEnd::Done { violated, nodes }
+        }
+        Wrote::Fault => TracesEnd::Fault,
+    }
+}
+
+/// Checks whether the traces of the nodes of a job, in rising order of ranks, are a run of the world, and writes the lines of that
+/// run: for each node and each of its entries, where a step of a script ended in it, the rank, the thread and the answer of the step;
+/// then the lines of each node at the end.
+pub fn run_traces<K: Sink>(
+    alloc: Global,
+    job: &Script,
+    traces: &[Trace],
+    sink: &mut BufferedSink<K>,
+) -> TracesEnd
+    requires job { IsJob job.now }
+    requires count { length traces.now ≡ job.now.settings.nodes }
+    requires traces { All (IsTraceOf job.now) traces.now }
+    ensures { EndsTraces job.now traces.now
+        (outbox K.taken K.faults sink.old) (outbox K.taken K.faults sink.new) result }
+{
+    match merge_traces(alloc, job, traces) {
+        Ok(nodes) => tell_run(alloc, job, traces, nodes, sink),
+        Err(MergeFault::NotARun { node, entry }) => TracesEnd::NotARun { node, entry },
+        Err(MergeFault::NoMemory) => TracesEnd::NoMemory,
+    }
+}

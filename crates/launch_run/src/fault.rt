@@ -1,0 +1,18 @@
+//! Why a launch gave no outputs.
+
+/// Why a launch gave no outputs.
+#[derive(Clone, Copy, Debug, PartialEq, Eq, Drop)]
+pub enum LaunchFault {
+    /// A child failed: it ended with a status other than 0 and 1, or gave something else than an output of its node
+    /// with that status.
+    Child {
+        /// The smallest rank of such a child.
+        rank: u16,
+        /// Its exit status.
+        code: u8,
+    },
+    /// The spawner failed.
+    SpawnFault,
+    /// Memory ran out.
+    NoMemory,
+}

@@ -1,0 +1,178 @@
+-- The command `check`.
+use Rattle.std.proofs.Common.{◌≡◌, ℕ, ◌+◌, ◌≤◌, ◌<◌, List, [], ◌∷◌, ◌++◌, length, Option, Some, None}
+use Rattle.std.proofs.Common.{refl, ap, subst, ◌∙◌, inl, inr, lit<, append-nil, length-append, arith}
+use Rattle.std.specs.List.{Contains}
+use Rattle.gas_outside.specs.Buffered.{Outbox, GathersAll}
+use Rattle.gasnet_trace.specs.declared.output.Output.{Output}
+use Rattle.job_text.specs.declared.fault.JobWhy.{JobWhy}
+use Rattle.job_text.specs.declared.job.Job.{Job as JobState}
+use Rattle.check_run.specs.CheckInputs.{InputText, IsUnread, TakesNone, traces_in}
+use Rattle.check_run.specs.Statuses.{AreOver, IsFirstFailed}
+use Rattle.check_run.specs.declared.input.InputFault.{InputFault}
+use Rattle.check_run.specs.declared.input.InputFault.TheVariants as inputs
+use Rattle.top_call.specs.Outsides.{Call, Input, Reading, read_in, took_in}
+use Rattle.top_call.specs.CheckCommand.{CheckCompletes, CheckEnds, CheckMeans, ChecksInput, GivesInput, HoldsInput}
+use Rattle.top_call.specs.Commands.{code_of}
+use Rattle.top_call.specs.HowEnds.{After, Means, gives, nothing, unasked}
+use Rattle.top_call.specs.TopParts.{EndsBy, Says, end_unread}
+use Rattle.top_call.specs.TracesReports.{TracesEnds}
+use Rattle.top_call.specs.declared.ending.End.{End}
+use Rattle.top_call.specs.declared.ending.End.TheVariants as ends
+use Rattle.top_call.specs.declared.ending.Ended.{Ended}
+use Rattle.top_call.specs.declared.ending.Given.{Given}
+use Rattle.top_call.proofs.LastLine.{Weakens, Widens, alone, says_alone, weak_alone, widened}
+use Rattle.top_call.proofs.Statuses.{code_means}
+use Rattle.top_call.proofs.TracesTold.{weak_traces}
+
+weak_checked : (reading : Reading) (end : End) (given : Given) (said : List ℕ)
+    → ChecksInput reading end (gives given) said → ChecksInput reading end unasked said
+weak_checked reading end given said h = record {
+  job = h.job;
+  outputs = h.outputs;
+  read = h.read;
+  over = h.over;
+  checked = weak_traces h.job (traces_in h.outputs) end given said h.checked;
+}
+
+pub weak_check : (reading : Reading) → Weakens (CheckEnds reading)
+weak_check reading ends.Done given said h = weak_checked reading ends.Done given said h
+weak_check reading ends.Violations given said h = weak_checked reading ends.Violations given said h
+weak_check reading (ends.BadJob line reason) given said h =
+    record { read = h.read; alone = weak_alone (ends.BadJob line reason) given said h.alone }
+weak_check reading ends.ReadFault given said h =
+    record { rose = h.rose; alone = weak_alone ends.ReadFault given said h.alone }
+weak_check reading ends.NoMemory given said (inl alone) = inl (weak_alone ends.NoMemory given said alone)
+weak_check reading ends.NoMemory given said (inr left) = inr (weak_checked reading ends.NoMemory given said left)
+weak_check reading (ends.NotARun node entry) given said h =
+    weak_checked reading (ends.NotARun node entry) given said h
+weak_check reading (ends.Child rank code) given said h = record {
+  job = h.job;
+  outputs = h.outputs;
+  read = h.read;
+  failed = h.failed;
+  alone = weak_alone (ends.Child rank code) given said h.alone;
+}
+weak_check reading ends.Usage given said h = h
+weak_check reading ends.WriteFault given said h = h
+weak_check reading ends.LinkFault given said h = h
+weak_check reading ends.SpawnFault given said h = h
+weak_check reading ends.Stuck given said h = h
+weak_check reading ends.JournalFull given said h = h
+
+-- ---- the traces were checked
+
+checks : (reading : Reading) (job : JobState) (outputs : List Output) → GivesInput reading job outputs
+    → AreOver outputs → Widens (TracesEnds job (traces_in outputs)) (CheckEnds reading)
+checks reading job outputs read over = by_end
+  where
+    checked : (end : End) (after : After) (said : List ℕ) → TracesEnds job (traces_in outputs) end after said
+        → ChecksInput reading end after said
+    checked end after said h = record { job = job; outputs = outputs; read = read; over = over; checked = h }
+
+    by_end : Widens (TracesEnds job (traces_in outputs)) (CheckEnds reading)
+    by_end ends.Done after said h = checked ends.Done after said h
+    by_end ends.Violations after said h = checked ends.Violations after said h
+    by_end ends.NoMemory after said h = inr (checked ends.NoMemory after said h)
+    by_end (ends.NotARun node entry) after said h = checked (ends.NotARun node entry) after said h
+    by_end ends.Usage after said h = h
+    by_end (ends.BadJob line reason) after said h = absurd h
+    by_end ends.ReadFault after said h = absurd h
+    by_end ends.WriteFault after said h = h
+    by_end ends.LinkFault after said h = h
+    by_end ends.SpawnFault after said h = h
+    by_end ends.Stuck after said h = h
+    by_end ends.JournalFull after said h = h
+    by_end (ends.Child rank code) after said h = absurd h
+
+-- the check of the traces in outputs that were read so ended so
+pub check_told : (reading : Reading) (job : JobState) (outputs : List Output) (old new : Outbox) (ended : Ended)
+    → GivesInput reading job outputs → AreOver outputs
+    → EndsBy (TracesEnds job (traces_in outputs)) old new ended → EndsBy (CheckEnds reading) old new ended
+check_told reading job outputs old new ended read over told =
+    widened (TracesEnds job (traces_in outputs)) (CheckEnds reading) (GathersAll old new) ended.given ended.end
+    (checks reading job outputs read over) told
+
+-- a node of them failed, and so its status line was said
+pub child_told : (reading : Reading) (job : JobState) (outputs : List Output) (rank code : ℕ) (old new : Outbox)
+    (ended : Ended) → GivesInput reading job outputs → IsFirstFailed outputs rank code
+    → Says (ends.Child rank code) nothing old new ended → EndsBy (CheckEnds reading) old new ended
+child_told reading job outputs rank code old new ended read failed says =
+    says_alone (CheckEnds reading) old new (ends.Child rank code) ended (weak_check reading) tt (record {
+      job = job;
+      outputs = outputs;
+      read = read;
+      failed = failed;
+      alone = alone (ends.Child rank code);
+    }) says
+
+-- no input was read, and so the status line was said
+pub unread_told : (reading : Reading) (fault : InputFault) (old new : Outbox) (ended : Ended)
+    → IsUnread reading.before.left reading.after.left reading.before.faults reading.after.faults fault
+    → Says (end_unread fault) nothing old new ended → EndsBy (CheckEnds reading) old new ended
+unread_told reading (inputs.Bad line reason) old new ended none says =
+    says_alone (CheckEnds reading) old new (ends.BadJob line reason) ended (weak_check reading) tt
+    (record { read = none; alone = alone (ends.BadJob line reason) }) says
+unread_told reading inputs.ReadFault old new ended rose says =
+    says_alone (CheckEnds reading) old new ends.ReadFault ended (weak_check reading) tt
+    (record { rose = rose; alone = alone ends.ReadFault }) says
+unread_told reading inputs.NoMemory old new ended short says =
+    says_alone (CheckEnds reading) old new ends.NoMemory ended (weak_check reading) tt (inl (alone ends.NoMemory)) says
+
+-- ---- exit statuses
+
+check_codes : (call : Call) (end : End) → Means (CheckEnds (read_in call)) (took_in call) call.given end
+    → Contains (0 ∷ 1 ∷ 3 ∷ 4 ∷ 5 ∷ 8 ∷ 11 ∷ 12 ∷ []) (code_of end)
+check_codes call ends.Done h = (0, lit< tt, refl)
+check_codes call ends.Violations h = (1, lit< tt, refl)
+check_codes call (ends.BadJob line reason) h = (2, lit< tt, refl)
+check_codes call ends.ReadFault h = (3, lit< tt, refl)
+check_codes call ends.WriteFault h = (4, lit< tt, refl)
+check_codes call ends.NoMemory h = (5, lit< tt, refl)
+check_codes call (ends.NotARun node entry) h = (6, lit< tt, refl)
+check_codes call (ends.Child rank code) h = (7, lit< tt, refl)
+check_codes call ends.Usage h = absurd h.ends
+check_codes call ends.LinkFault h = absurd h.ends
+check_codes call ends.SpawnFault h = absurd h.ends
+check_codes call ends.Stuck h = absurd h.ends
+check_codes call ends.JournalFull h = absurd h.ends
+
+pub check_means : (call : Call) (end : End) → Means (CheckEnds (read_in call)) (took_in call) call.given end
+    → CheckMeans call (code_of end)
+check_means call end h = code_means call (CheckEnds (read_in call)) _ end (check_codes call end h) h
+
+-- a source that told an input doesn't give bytes that are none
+not_no_input : (bytes : List ℕ) (left : Option (List ℕ)) (job : JobState) (outputs : List Output) (line : ℕ)
+    (reason : JobWhy) → InputText job outputs bytes → TakesNone (Some bytes) left line reason → ⊥
+not_no_input bytes None job outputs line reason text none = none.read
+not_no_input bytes (Some rest) job outputs line reason text none = elim none.none [
+  | inl long ↦
+      let both : length bytes ≡ length none.bytes + length rest = ap length none.read ∙ length-append none.bytes rest in
+      let within = text.within in let more = long.0 in omega arith
+  | inr bad ↦
+      let same : bytes ≡ none.bytes =
+      none.read ∙ ap (λ z. none.bytes ++ z) bad.0 ∙ append-nil none.bytes in
+      bad.1.none job outputs (subst (InputText job outputs) same text)
+]
+
+was_no_input : (source : Input) (left : Option (List ℕ)) (line : ℕ) (reason : JobWhy) → HoldsInput source
+    → TakesNone source.left left line reason → ⊥
+was_no_input source left line reason holds none =
+    not_no_input holds.bytes left holds.job holds.outputs line reason holds.text
+    (subst (λ (before : Option (List ℕ)). TakesNone before left line reason) holds.told none)
+
+pub check_completes : (call : Call) (end : End) → Means (CheckEnds (read_in call)) (took_in call) call.given end
+    → CheckCompletes call (code_of end)
+check_completes call ends.Done h holds faultless = (0, lit< tt, refl)
+check_completes call ends.Violations h holds faultless = (1, lit< tt, refl)
+check_completes call ends.NoMemory h holds faultless = (2, lit< tt, refl)
+check_completes call (ends.NotARun node entry) h holds faultless = (3, lit< tt, refl)
+check_completes call (ends.Child rank code) h holds faultless = (4, lit< tt, refl)
+check_completes call ends.Usage h holds faultless = absurd h.ends
+check_completes call ends.LinkFault h holds faultless = absurd h.ends
+check_completes call ends.SpawnFault h holds faultless = absurd h.ends
+check_completes call ends.Stuck h holds faultless = absurd h.ends
+check_completes call ends.JournalFull h holds faultless = absurd h.ends
+check_completes call ends.ReadFault h holds faultless = absurd (faultless.source h.ends.rose)
+check_completes call ends.WriteFault h holds faultless = absurd (faultless.sink h.cut.0)
+check_completes call (ends.BadJob line reason) h holds faultless =
+    absurd (was_no_input call.before.source call.after.source.left line reason holds h.ends.read)

@@ -1,0 +1,109 @@
+-- The command `launch`: a job is read, a child is started for each of its nodes, and the traces that they give are
+-- checked.
+use Rattle.std.specs.Prelude.{◌≡◌, ◌⊎◌, ℕ, List, [], ◌∷◌, true, false}
+use Rattle.std.specs.List.{Contains}
+use Rattle.gas_outside.specs.Faults.{Rose}
+use Rattle.gasnet_trace.specs.declared.output.Output.{Output}
+use Rattle.job_text.specs.declared.job.Job.{Job as JobState}
+use Rattle.check_run.specs.CheckInputs.{traces_in}
+use Rattle.launch_run.specs.LaunchEnds.{FailsToSpawn, GivesOutputs, Launch, LosesChild, RunsShort}
+use Rattle.top_call.specs.Outsides.{Call, Input, IsFaultless, Reading, Spawning, read_in, spawning_in}
+use Rattle.top_call.specs.HowEnds.{After, EndsHow, SaysAlone}
+use Rattle.top_call.specs.JobReads.{FailsToRead, GivesJob, HoldsJob, RefusesJob}
+use Rattle.top_call.specs.Ports.{has_ports}
+use Rattle.top_call.specs.Statuses.{CodeMeans}
+use Rattle.top_call.specs.TracesReports.{TracesEnds}
+use Rattle.top_call.specs.declared.ending.End.{End}
+use Rattle.top_call.specs.declared.ending.End.TheVariants as ends
+
+-- a job was read that has a port for each of its nodes
+pub record ReadsLaunch (port : ℕ) (reading : Reading) : Type 0 where
+  pub job : JobState
+  pub read : GivesJob reading job
+  pub ports : has_ports port job.settings.nodes ≡ true
+
+-- the launch of that job: each child is given the bytes that were read
+abbrev pub launch_of : (port : ℕ) (reading : Reading) → ReadsLaunch port reading → Launch
+launch_of port reading reads = record { job = reads.job; port = port; input = reads.read.bytes }
+
+-- the spawner wasn't used
+abbrev pub IsUnused : Spawning → Type 0
+IsUnused spawning = spawning.after ≡ spawning.before
+
+-- a job was read, and not each of its nodes has a port: the status line alone
+pub record HasNoPorts (port : ℕ) (reading : Reading) (spawning : Spawning) (after : After) (said : List ℕ)
+    : Type 0 where
+  pub job : JobState
+  pub read : GivesJob reading job
+  pub no_ports : has_ports port job.settings.nodes ≡ false
+  pub unused : IsUnused spawning
+  pub alone : SaysAlone ends.Usage after said
+
+-- it was launched, each child gave an output of its node, with status 0 or 1, and the check of their traces ended so
+pub record ChecksLaunch (port : ℕ) (reading : Reading) (spawning : Spawning) (end : End) (after : After)
+    (said : List ℕ) : Type 0 where
+  pub reads : ReadsLaunch port reading
+  pub outputs : List Output
+  pub gives : GivesOutputs (launch_of port reading reads) spawning.before spawning.after outputs
+  pub checked : TracesEnds reads.job (traces_in outputs) end after said
+
+-- it was launched, no start and no finish failed, and this is the first child that failed: the status line alone
+pub record NamesLost (port : ℕ) (reading : Reading) (spawning : Spawning) (rank code : ℕ) (after : After)
+    (said : List ℕ) : Type 0 where
+  pub reads : ReadsLaunch port reading
+  pub loses : LosesChild (launch_of port reading reads) spawning.before spawning.after rank code
+  pub alone : SaysAlone (ends.Child rank code) after said
+
+-- a start or a finish failed: the status line alone
+pub record FailsToLaunch (port : ℕ) (reading : Reading) (spawning : Spawning) (after : After) (said : List ℕ)
+    : Type 0 where
+  pub reads : ReadsLaunch port reading
+  pub fails : FailsToSpawn (launch_of port reading reads) spawning.before spawning.after
+  pub alone : SaysAlone ends.SpawnFault after said
+
+-- memory ran out in the launch: the status line alone
+pub record ShortOfMemory (port : ℕ) (reading : Reading) (spawning : Spawning) (after : After) (said : List ℕ)
+    : Type 0 where
+  pub reads : ReadsLaunch port reading
+  pub short : RunsShort (launch_of port reading reads) spawning.before spawning.after
+  pub alone : SaysAlone ends.NoMemory after said
+
+-- how it may end, by how its source was read, and by what is seen of its spawner before and after
+abbrev pub LaunchEnds : (port : ℕ) → Reading → Spawning → EndsHow
+LaunchEnds port reading spawning ends.Done after said = ChecksLaunch port reading spawning ends.Done after said
+LaunchEnds port reading spawning ends.Violations after said =
+    ChecksLaunch port reading spawning ends.Violations after said
+LaunchEnds port reading spawning ends.Usage after said = HasNoPorts port reading spawning after said
+LaunchEnds port reading spawning (ends.BadJob line reason) after said =
+    RefusesJob reading line reason after said × IsUnused spawning
+LaunchEnds port reading spawning ends.ReadFault after said = FailsToRead reading after said × IsUnused spawning
+LaunchEnds port reading spawning ends.WriteFault after said = ⊥
+LaunchEnds port reading spawning ends.LinkFault after said = ⊥
+LaunchEnds port reading spawning ends.SpawnFault after said = FailsToLaunch port reading spawning after said
+LaunchEnds port reading spawning ends.NoMemory after said =
+    (SaysAlone ends.NoMemory after said × IsUnused spawning)
+    ⊎ (ShortOfMemory port reading spawning after said ⊎ ChecksLaunch port reading spawning ends.NoMemory after said)
+LaunchEnds port reading spawning ends.Stuck after said = ⊥
+LaunchEnds port reading spawning ends.JournalFull after said = ⊥
+LaunchEnds port reading spawning (ends.NotARun node entry) after said =
+    ChecksLaunch port reading spawning (ends.NotARun node entry) after said
+LaunchEnds port reading spawning (ends.Child rank code) after said =
+    NamesLost port reading spawning rank code after said
+
+-- what each of its exit statuses says
+abbrev pub LaunchMeans : Call → (port code : ℕ) → Type 0
+LaunchMeans call port code =
+    CodeMeans call (LaunchEnds port (read_in call) (spawning_in call))
+    (0 ∷ 1 ∷ 2 ∷ 3 ∷ 4 ∷ 5 ∷ 7 ∷ 8 ∷ 11 ∷ 12 ∷ []) code
+
+-- the bytes that are left are told, and they are the text of some job that has a port for each of its nodes
+pub record HoldsLaunch (port : ℕ) (source : Input) : Type 0 where
+  pub holds : HoldsJob source
+  pub ports : has_ports port holds.job.settings.nodes ≡ true
+
+-- where no count of faults rose, the nodes of a job that could be read were judged, or memory ran out
+abbrev pub LaunchCompletes : Call → (port code : ℕ) → Type 0
+LaunchCompletes call port code =
+    HoldsLaunch port call.before.source → IsFaultless call
+    → (Rose call.before.spawner.faults call.after.spawner.faults → ⊥)
+    → Contains (0 ∷ 1 ∷ 8 ∷ 11 ∷ 12 ∷ []) code

@@ -1,0 +1,67 @@
+//! The command `check`.
+
+ghost use Rattle.std.specs.Prelude.{◌≡◌, length};
+ghost use Rattle.gas_outside.specs.Buffered.{outbox};
+ghost use Rattle.job_text.specs.JobText.{IsJob};
+ghost use Rattle.check_run.specs.CheckInputs.{HaveTraces};
+ghost use Rattle.top_call.specs.CheckCommand.{CheckEnds, GivesInput};
+ghost use Rattle.top_call.specs.Outsides.{Reading, input, reading_of};
+ghost use Rattle.top_call.specs.TopParts.{EndsBy, end_unread};
+
+use crate::ending::{End, Ended, Given};
+use crate::status::say;
+use crate::traces::check_outputs;
+use check_run::{CheckInput, InputFault, first_failed, read_input};
+use gas_outside::{BufferedSink, Sink, Source};
+use std::alloc::Global;
+
+/// How the command ends where no input was read.
+fn end_unread(fault: InputFault) -> End
+    ensures { result ≡ end_unread fault }
+{
+    match fault {
+        InputFault::Bad { line, why } => End::BadJob { line, why },
+        InputFault::ReadFault => End::ReadFault,
+        InputFault::NoMemory => End::NoMemory,
+    }
+}
+
+/// Checks an input that was read.
+fn check_input<K: Sink>(alloc: Global, input: CheckInput, sink: &mut BufferedSink<K>) -> Ended
+    requires job { IsJob input.job }
+    requires count { length input.outputs.items ≡ input.job.settings.nodes }
+    requires traces { HaveTraces input.job input.outputs.items }
+    ensures { (reading : Reading) → GivesInput reading input.job input.outputs.items
+        → EndsBy (CheckEnds reading)
+        (outbox K.taken K.faults sink.old) (outbox K.taken K.faults sink.new) result }
+{
+    let CheckInput { job, outputs } = input;
+    match first_failed(&outputs) {
+        Some(failed) => {
+            let end = End::Child {
+                rank: failed.rank,
+                code: failed.code,
+            };
+            say(sink, end, Given::nothing())
+        }
+        None => check_outputs(alloc, job, outputs, sink),
+    }
+}
+
+/// The command `check`: reads a job and what each of its nodes wrote, checks whether their traces are a run of the
+/// world, and says its lines.
+pub fn check_command<S: Source, K: Sink>(
+    alloc: Global,
+    source: &mut S,
+    sink: &mut BufferedSink<K>,
+) -> Ended
+    ensures { EndsBy
+        (CheckEnds (reading_of (input S.left S.faults source.old)
+        (input S.left S.faults source.new)))
+        (outbox K.taken K.faults sink.old) (outbox K.taken K.faults sink.new) result }
+{
+    match read_input(alloc, source) {
+        Ok(input) => check_input(alloc, input, sink),
+        Err(fault) => say(sink, end_unread(fault), Given::nothing()),
+    }
+}

@@ -1,0 +1,77 @@
+//! The command `launch`.
+
+ghost use Rattle.std.specs.Prelude.{◌≡◌};
+ghost use Rattle.gas_outside.specs.Buffered.{outbox};
+ghost use Rattle.job_text.specs.JobText.{IsJob};
+ghost use Rattle.launch_run.specs.Children.{spawner_seen};
+ghost use Rattle.top_call.specs.LaunchCommand.{LaunchEnds};
+ghost use Rattle.top_call.specs.Outsides.{Reading, input, reading_of, spawning_of};
+ghost use Rattle.top_call.specs.TopParts.{EndsBy, GivesText, end_of_fault};
+
+use crate::ending::{End, Ended, Given};
+use crate::ports::has_ports;
+use crate::reading::{JobRead, text_from};
+use crate::status::say;
+use crate::traces::check_outputs;
+use gas_outside::{BufferedSink, Sink, Source, Spawner};
+use launch_run::{LaunchFault, launch_nodes};
+use std::alloc::Global;
+
+/// How a command ends whose launch gave no outputs.
+fn end_of_fault(fault: LaunchFault) -> End
+    ensures { result ≡ end_of_fault fault }
+{
+    match fault {
+        LaunchFault::Child { rank, code } => End::Child { rank, code },
+        LaunchFault::SpawnFault => End::SpawnFault,
+        LaunchFault::NoMemory => End::NoMemory,
+    }
+}
+
+/// Launches the nodes of a job that was read, if each has a port, and checks what they gave.
+fn launch_read<P: Spawner, K: Sink>(
+    alloc: Global,
+    port: u16,
+    read: JobRead,
+    spawner: &mut P,
+    sink: &mut BufferedSink<K>,
+) -> Ended
+    requires { IsJob read.job }
+    ensures { (reading : Reading) → GivesText reading read.job read.bytes.items
+        → EndsBy (LaunchEnds port reading (spawning_of
+        (spawner_seen P.Spawner spawner.old) (spawner_seen P.Spawner spawner.new)))
+        (outbox K.taken K.faults sink.old) (outbox K.taken K.faults sink.new) result }
+{
+    let JobRead { job, bytes } = read;
+    if !has_ports(port, job.settings.nodes()) {
+        return say(sink, End::Usage, Given::nothing());
+    }
+    match launch_nodes(alloc, &job, port, &bytes, spawner) {
+        Ok(outputs) => check_outputs(alloc, job, outputs, sink),
+        Err(fault) => say(sink, end_of_fault(fault), Given::nothing()),
+    }
+}
+
+/// The command `launch`: reads a job, starts a child for each of its nodes and finishes them, checks whether the traces
+/// that they gave are a run of the world, and says its lines.
+///
+/// The status line is told by the first of these steps that gives one: reading the job; its ports, of which there has
+/// to be one for each node; the starts and the finishes of children; what each of them gave, and its status; the
+/// check.
+pub fn launch_command<S: Source, P: Spawner, K: Sink>(
+    alloc: Global,
+    port: u16,
+    source: &mut S,
+    spawner: &mut P,
+    sink: &mut BufferedSink<K>,
+) -> Ended
+    ensures { EndsBy (LaunchEnds port
+        (reading_of (input S.left S.faults source.old) (input S.left S.faults source.new))
+        (spawning_of (spawner_seen P.Spawner spawner.old) (spawner_seen P.Spawner spawner.new)))
+        (outbox K.taken K.faults sink.old) (outbox K.taken K.faults sink.new) result }
+{
+    match text_from(alloc, source) {
+        Ok(read) => launch_read(alloc, port, read, spawner, sink),
+        Err(end) => say(sink, end, Given::nothing()),
+    }
+}

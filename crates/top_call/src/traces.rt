@@ -1,0 +1,77 @@
+//! The check of what the nodes of a job wrote, of the commands that check it.
+
+ghost use Rattle.std.specs.Prelude.{◌≡◌, All, length};
+ghost use Rattle.gas_outside.specs.Buffered.{outbox};
+ghost use Rattle.job_text.specs.JobText.{IsJob};
+ghost use Rattle.check_run.specs.CheckInputs.{HaveTraces, IsTraceOf, traces_in};
+ghost use Rattle.top_call.specs.TopParts.{EndsBy, SaysTraces};
+ghost use Rattle.top_call.specs.TracesReports.{TracesEnds};
+
+use crate::ending::{End, Ended, Given};
+use crate::status::say;
+use check_run::{TracesEnd, run_traces, traces_of};
+use gas_outside::{BufferedSink, Sink};
+use gasnet_trace::{Output, Trace};
+use job_text::Job;
+use node_script::Script;
+use std::alloc::{AllocError, Global};
+
+/// Says the status line behind the lines of traces, and answers how the command ended.
+fn say_traces<K: Sink>(sink: &mut BufferedSink<K>, end: TracesEnd) -> Ended
+    ensures { SaysTraces end (outbox K.taken K.faults sink.old)
+        (outbox K.taken K.faults sink.new) result }
+{
+    match end {
+        TracesEnd::Done { violated, nodes } => say(
+            sink,
+            End::of_run(violated),
+            Given::nodes(nodes),
+        ),
+        TracesEnd::NotARun { node, entry } => {
+            say(sink, End::NotARun { node, entry }, Given::nothing())
+        }
+        TracesEnd::Fault => Ended::cut(),
+        TracesEnd::NoMemory => say(sink, End::NoMemory, Given::nothing()),
+    }
+}
+
+/// Checks the traces of a job's nodes, and says their lines.
+fn check_traces<K: Sink>(
+    alloc: Global,
+    job: Job,
+    traces: &[Trace],
+    sink: &mut BufferedSink<K>,
+) -> Ended
+    requires job { IsJob job }
+    requires count { length traces.now ≡ job.settings.nodes }
+    requires traces { All (IsTraceOf job) traces.now }
+    ensures { EndsBy (TracesEnds job traces.now) (outbox K.taken K.faults sink.old)
+        (outbox K.taken K.faults sink.new) result }
+{
+    match Script::new(alloc, job) {
+        Ok(script) => {
+            let end = run_traces(alloc, &script, traces, sink);
+            say_traces(sink, end)
+        }
+        Err(AllocError) => say(sink, End::NoMemory, Given::nothing()),
+    }
+}
+
+/// Checks the traces of the outputs of a job's nodes, in rising order of ranks, and says their lines.
+pub fn check_outputs<K: Sink>(
+    alloc: Global,
+    job: Job,
+    outputs: Vec<Output>,
+    sink: &mut BufferedSink<K>,
+) -> Ended
+    requires job { IsJob job }
+    requires count { length outputs.items ≡ job.settings.nodes }
+    requires traces { HaveTraces job outputs.items }
+    ensures { EndsBy (TracesEnds job (traces_in outputs.items)) (outbox K.taken K.faults sink.old)
+        (outbox K.taken K.faults sink.new) result }
+{
+    match traces_of(alloc, outputs) {
+        Ok(traces) => check_traces(alloc, job, &traces, sink),
+        Err(AllocError) => say(sink, End::NoMemory, Given::nothing()),
+    }
+}
