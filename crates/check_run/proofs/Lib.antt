@@ -8,3 +8,4 @@ pub mod Merged
 pub mod Inputs
 pub mod Turning
 pub mod Ends
+pub mod RunLines
