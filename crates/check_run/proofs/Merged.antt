@@ -1,11 +1,11 @@
 -- What a merge of the machines of a job's nodes says of their traces.
-use Rattle.std.proofs.Common.{◌≡◌, ℕ, zero, suc, ◌+◌, ◌<◌, ◌≤◌, List, [], ◌∷◌, length, map, take, Option, Some, None}
+use Rattle.std.proofs.Common.{◌≡◌, ℕ, zero, suc, ◌+◌, ◌<◌, ◌≤◌, List, [], ◌∷◌, ◌++◌, length, map, take, drop, Option, Some, None}
 use Rattle.std.proofs.Common.{refl, sym, ap, ap₂, subst, ◌∙◌, arith, slice_get, slice_index, IsSomeAnd, take_all}
 use Rattle.std.specs.Prelude.{All, Result, Ok, Err, Vec}
 use Rattle.std.specs.Global.{Global}
 use Rattle.std.specs.Result.{IsErrOf}
 use Rattle.std.specs.Option.{ForSome, option_map}
-use Rattle.std.proofs.lemmas.List.{length-map}
+use Rattle.std.proofs.lemmas.List.{append-nil, drop_all, length-map}
 use Rattle.std.proofs.lemmas.Option.{same_Some, slice_get-map, slice_get_within}
 use Rattle.handler_rules.specs.declared.table.Entry.{Entry as TableEntry}
 use Rattle.datagram_grammar.specs.Parameters.{Parameters}
@@ -110,6 +110,12 @@ Fronts machines traces then_ answer =
     (front : List ℕ) × ((states : List NodeState) → StandFor node_machines machines states
     → Merges node_machines (nodes_of states traces) front answer then_)
 
+-- what holds where it answers that there is no run
+abbrev pub HasNoRun : (machines : List MachineKept) (traces : List Trace) → Result (Vec Placed Global) MergeFault → Type 0
+HasNoRun machines traces answer =
+    (states : List NodeState) → StandFor node_machines machines states → (node entry : ℕ)
+    → IsErrOf answer (faults.NotARun node entry) → IsRun state_steps (nodes_of states traces) → ⊥
+
 -- so it is of the nodes of the job
 merged_first : (job : JobState) (traces : List Trace) (machines then_ : List MachineKept)
     (answer : Result (Vec Placed Global) MergeFault) → AreFirstMachines job machines → length traces ≡ length machines
@@ -200,6 +206,13 @@ nodes_after opens job traces machines endpoints count replays are = record {
         (same_Some machine.endpoint endpoint same)
         (node_after opens job traces machines rank machine replays (are.nodes rank machine at) at)
 
+-- the list of the machines, after all of its slice was written
+pub refilled_all : (len : ℕ) (old new : List MachineKept) → len ≡ length old → length new ≡ length old
+    → take len (new ++ drop (length new) old) ≡ new
+refilled_all len old new same as_many =
+    ap (λ (rest : List MachineKept). take len (new ++ rest)) (drop_all (length new) old (omega arith))
+    ∙ ap (take len) (append-nil new) ∙ take_all len new (omega arith)
+
 -- ---- what is answered
 
 -- they are a run
@@ -242,10 +255,7 @@ merged_none job traces machines then_ node entry count first front none =
 -- so of either
 pub merged_err : (job : JobState) (traces : List Trace) (machines then_ : List MachineKept) (fault : MergeFault)
     → length traces ≡ job.settings.nodes → AreFirstMachines job machines → Fronts machines traces then_ (Err fault)
-    → ((states : List NodeState) → StandFor node_machines machines states → (node entry : ℕ)
-    → IsErrOf (Err {T = Vec Placed Global} fault) (faults.NotARun node entry)
-    → IsRun state_steps (nodes_of states traces) → ⊥)
-    → MergesTraces job traces (Err fault)
+    → HasNoRun machines traces (Err fault) → MergesTraces job traces (Err fault)
 merged_err job traces machines then_ (faults.NotARun node entry) count first front none =
     merged_none job traces machines then_ node entry count first front
     (λ states stand run. none states stand node entry refl run)

@@ -18,7 +18,7 @@ returns-in-Ok g c = c.tell_run.ensures
 
 pub returns-in-Err-NotARun : goal.returns-in-Err-NotARun
 returns-in-Err-NotARun g c = record {
-  none = rw c.in-Err-NotARun.field-0-is at c.in-Err-NotARun.ensures;
+  none = rw c.in-Err-NotARun.field-0-is (rw c.in-Err-NotARun.field-0-is at c.in-Err-NotARun.ensures);
   same = refl;
 }
 
