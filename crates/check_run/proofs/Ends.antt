@@ -1,14 +1,14 @@
 -- What is written of nodes at the end of a run of traces.
-use Rattle.std.proofs.Common.{◌≡◌, ℕ, suc, ◌+◌, ◌<◌, ◌≤◌, Bool, true, false, not, ◌==◌, ◌||◌, List, [], ◌∷◌, ◌++◌, length, drop}
-use Rattle.std.proofs.Common.{get_or, Option, Some, None, refl, sym, ap, subst, ◌∙◌, arith, slice_get, ne_eqb}
-use Rattle.std.specs.Prelude.{All}
+use Rattle.std.proofs.Common.{◌≡◌, ℕ, suc, ◌+◌, ◌<◌, ◌≤◌, true, false, not, ◌==◌, ◌||◌, List, [], ◌∷◌, ◌++◌, length}
+use Rattle.std.proofs.Common.{drop}
+use Rattle.std.proofs.Common.{get_or, Some, refl, sym, ap, subst, ◌∙◌, arith, slice_get, ne_eqb}
 use Rattle.std.proofs.lemmas.Bool.{cases_eq}
 use Rattle.std.proofs.lemmas.List.{drop_all}
 use Rattle.std.proofs.lemmas.List.Concat.{flat_map-append}
 use Rattle.std.proofs.lemmas.Option.{get_or_from_slice_get, same_Some, slice_get_cases}
 use Rattle.std.proofs.Common.{inl, inr}
 use Rattle.datagram_grammar.specs.Parameters.{Parameters}
-use Rattle.gas_endpoint.specs.EndpointState.{EndpointState, EndpointStands, ForItsRecord}
+use Rattle.gas_endpoint.specs.EndpointState.{EndpointState, ForItsRecord}
 use Rattle.gas_outside.specs.Buffered.{Outbox, GathersAll, GathersFront, GathersUpTo}
 use Rattle.gas_outside.specs.declared.writing.Wrote.{Wrote}
 use Rattle.gas_outside.specs.declared.writing.Wrote.TheVariants as wrote
@@ -16,7 +16,6 @@ use Rattle.gas_outside.proofs.Outboxes.{past_done, past_fault}
 use Rattle.gasnet_trace.specs.declared.output.Output.{Output}
 use Rattle.gasnet_trace.specs.declared.trace.Trace.{Trace}
 use Rattle.job_text.specs.declared.job.Job.{Job as JobState}
-use Rattle.machine.specs.declared.entry.Entry.{Entry}
 use Rattle.node_script.specs.Lines.{line_text, spell}
 use Rattle.world_run.specs.RunText.{lines_of_node, violations}
 use Rattle.check_run.specs.Replaying.{AreMost}

@@ -1,5 +1,5 @@
 -- How far the lines of a run of traces went in, where not all of those of its steps did.
-use Rattle.std.proofs.Common.{◌≡◌, List, refl}
+use Rattle.std.proofs.Common.{List, refl}
 use Rattle.gas_outside.specs.Buffered.{Outbox, GathersFront}
 use Rattle.gasnet_trace.specs.declared.trace.Trace.{Trace}
 use Rattle.job_text.specs.declared.job.Job.{Job as JobState}

@@ -1,5 +1,5 @@
 -- The endpoints of the machines that were taken from the list.
-use Rattle.std.proofs.Common.{◌≡◌, ℕ, List, [], ◌∷◌, ◌++◌, length, map, Some, slice_get, refl, sym, ap, subst, ◌∙◌}
+use Rattle.std.proofs.Common.{◌≡◌, List, [], ◌∷◌, ◌++◌, map, sym, ap, subst, ◌∙◌}
 use Rattle.std.proofs.lemmas.Iterator.Adapters.{YieldsList-from_vec}
 use Rattle.std.proofs.lemmas.Iterator.Consumers.{YieldsList-end}
 use Rattle.std.proofs.lemmas.List.{map-append, map-id}
@@ -11,8 +11,9 @@ use Rattle.check_run.proofs.Pushed.{pushed_at}
 use Rattle.check_run.proofs.machines.endpoints_of.Goals as goal
 
 -- one endpoint more
-one_more : (yielded : List MachineKept) (machine : MachineKept) (old new : List EndpointState) (endpoint : EndpointState)
-    → new ≡ old ++ endpoint ∷ [] → endpoint ≡ machine.endpoint → old ≡ map (λ (one : MachineKept). one.endpoint) yielded
+one_more : (yielded : List MachineKept) (machine : MachineKept) (old new : List EndpointState)
+    (endpoint : EndpointState) → new ≡ old ++ endpoint ∷ [] → endpoint ≡ machine.endpoint
+    → old ≡ map (λ (one : MachineKept). one.endpoint) yielded
     → new ≡ map (λ (one : MachineKept). one.endpoint) (yielded ++ machine ∷ [])
 one_more yielded machine old new endpoint pushed is are =
     pushed ∙ ap (λ (one : EndpointState). old ++ one ∷ []) is
@@ -22,8 +23,9 @@ one_more yielded machine old new endpoint pushed is are =
 pub loop-machine-preserved : goal.loop-machine-preserved
 loop-machine-preserved c =
     let machine = c.in-Some.machine in
+    let table = (registered machine.job.handlers).table in
     let own : IsOfItsJob machine =
-    subst (λ (one : EndpointState). IsNodeOf machine.job.settings (registered machine.job.handlers).table one.core.me one)
+    subst (λ (one : EndpointState). IsNodeOf machine.job.settings table one.core.me one)
     c.into_endpoint.ensures.is c.into_endpoint.ensures.node in
     record {
       are = one_more c.loop-machine.yielded machine c.loop-machine.endpoints.items _

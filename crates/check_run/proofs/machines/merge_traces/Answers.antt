@@ -1,18 +1,10 @@
 -- The machines of the job's nodes are merged, and their endpoints taken.
-use Rattle.std.proofs.Common.{◌≡◌, ℕ, ◌<◌, ◌≤◌, ◌^◌, List, length, Ok, Err, Vec, refl, sym, ap, subst, ◌∙◌, arith}
-use Rattle.std.specs.Prelude.{All}
-use Rattle.std.specs.Global.{Global}
-use Rattle.std.specs.Result.{IsErrOf}
-use Rattle.gasnet_trace.specs.Merged.{HaveThreads, StandFor, nodes_of}
-use Rattle.gasnet_trace.specs.declared.merging.MergeFault.{MergeFault}
-use Rattle.gasnet_trace.specs.declared.merging.MergeFault.TheVariants as faults
-use Rattle.gasnet_trace.specs.declared.trace.Trace.{Trace}
-use Rattle.gasnet_trace.specs.declared.trace.Placed.{Placed}
-use Rattle.machine.specs.Fronts.{IsRun}
+use Rattle.std.proofs.Common.{◌≡◌, List, length, Ok, Err, sym, ap, subst, ◌∙◌, arith}
+use Rattle.gasnet_trace.specs.Merged.{HaveThreads}
 use Rattle.node_machine.specs.Kept.{MachineKept}
-use Rattle.node_machine.specs.NodeState.{NodeState, state_steps}
 use Rattle.check_run.specs.Merging.{AreEndpointsOf}
-use Rattle.check_run.proofs.Merged.{Fronts, HasNoRun, first_threads, merged_err, merged_run, node_machines, refilled_all}
+use Rattle.check_run.proofs.Merged.{Fronts, HasNoRun, first_threads, merged_err, merged_run, node_machines}
+use Rattle.check_run.proofs.Merged.{refilled_all}
 use Rattle.check_run.proofs.machines.merge_traces.Goals as goal
 
 pub merge-requires : goal.merge-requires

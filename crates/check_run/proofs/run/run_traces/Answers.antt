@@ -1,5 +1,5 @@
 -- The nodes that the merge leaves, or why there are none.
-use Rattle.std.proofs.Common.{◌≡◌, refl, inl}
+use Rattle.std.proofs.Common.{refl, inl}
 use Rattle.check_run.proofs.run.run_traces.Goals as goal
 
 pub merge_traces-requires : goal.merge_traces-requires
