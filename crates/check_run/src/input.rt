@@ -4,7 +4,7 @@ ghost use Rattle.std.specs.Prelude.{◌≡◌, ◌≤◌, MatchResult, length};
 ghost use Rattle.gasnet_trace.specs.OutputReading.{IsNear};
 ghost use Rattle.check_run.specs.CheckInputs.{IsInput, IsRefused, IsUnread, TakesInput};
 ghost use Rattle.check_run.specs.CheckInputs.{ReadsOutputs, OutputsOf, fault_behind};
-ghost use Rattle.check_run.specs.CheckInputs.{lines_in, why_of};
+ghost use Rattle.check_run.specs.CheckInputs.{lines_in, wanted_of, why_of};
 
 use gas_outside::{ReadAll, Source, read_all};
 use gasnet_trace::{Output, TraceFault, TraceWhy, Wanted, read_output};
@@ -74,6 +74,18 @@ fn fault_behind(before: &[u8], fault: TraceFault) -> InputFault
     }
 }
 
+/// The node of this rank of the job, as that whose output is wanted.
+fn wanted_of(job: &Job, rank: u16) -> Wanted
+    ensures { result ≡ wanted_of job.now rank }
+{
+    Wanted {
+        version: job.settings.version(),
+        threads: job.settings.threads(),
+        job: job.settings.job(),
+        rank,
+    }
+}
+
 /// The outputs of the job's nodes, which begin at this place of the bytes, and where they end.
 fn outputs_from(
     alloc: Global,
@@ -89,13 +101,7 @@ fn outputs_from(
     let mut at = from;
     for rank in 0..job.settings.nodes() {
         let (before, rest) = bytes.split_at(at);
-        let wanted = Wanted {
-            version: job.settings.version(),
-            threads: job.settings.threads(),
-            job: job.settings.job(),
-            rank,
-        };
-        let (output, len) = match read_output(alloc, rest, wanted) {
+        let (output, len) = match read_output(alloc, rest, wanted_of(job, rank)) {
             Ok(read) => read,
             Err(fault) => return Err(fault_behind(before, fault)),
         };

@@ -1,19 +1,37 @@
+-- The job at the front and the outputs behind it are all, or why they are not.
+use Rattle.std.proofs.Common.{ℕ, ◌+◌, List, sym, subst, ap, ◌∙◌, arith}
+use Rattle.check_run.specs.CheckInputs.{IsBadInput, lines_in}
+use Rattle.job_text.specs.declared.fault.JobWhy.TheVariants as why
+use Rattle.check_run.proofs.Inputs.{bad_behind_all, begins_within, behind_refused, front_refused, is_input}
 use Rattle.check_run.proofs.input.input_of.Goals as goal
 
 pub outputs_from-requires : goal.outputs_from-requires
-outputs_from-requires c = ?
+outputs_from-requires c = record {
+  few = c.requires;
+  from = begins_within c.in-Ok.front.0 c.in-Ok.front.1 c.args.bytes.now c.in-Ok.ensures.found;
+}
 
 pub returns-in-Err-Bad : goal.returns-in-Err-Bad
-returns-in-Err-Bad c = ?
-
-pub returns-in-Err-NoMemory : goal.returns-in-Err-NoMemory
-returns-in-Err-NoMemory c = ?
+returns-in-Err-Bad c =
+    rw (c.in-Err-Bad.line-is, c.in-Err-Bad.why-is)
+    (front_refused c.args.bytes.now c.in-Err-Bad.field-0 c.in-Err-Bad.line c.in-Err-Bad.why c.in-Err-Bad.field-0-is
+    c.in-Err-Bad.ensures.bad c.in-Err-Bad.ensures.meant c.in-Err-Bad.ensures.none)
 
 pub returns-in-Err : goal.returns-in-Err
-returns-in-Err c = ?
+returns-in-Err c =
+    behind_refused c.in-Ok.front.0 c.in-Ok.front.1 c.args.bytes.now c.in-Err.fault c.in-Ok.ensures.found
+    c.in-Ok.ensures.one c.in-Err.ensures
 
 pub returns-then-end : goal.returns-then-end
-returns-then-end c = ?
+returns-then-end c =
+    subst (λ (line : ℕ). IsBadInput c.args.bytes.now line why.After)
+    (sym (ap (λ (count : ℕ). count + 1) (c.lines_in.ensures.is ∙ ap lines_in c.split_at.ensures.front)))
+    (bad_behind_all c.in-Ok.front.0 c.in-Ok.front.1 c.args.bytes.now c.in-Ok-outputs_from.read.0.items
+    c.in-Ok-outputs_from.read.1 c.in-Ok.ensures.found c.in-Ok.ensures.one c.in-Ok-outputs_from.ensures
+    c.if-end-len.true)
 
 pub returns : goal.returns
-returns c = ?
+returns c =
+    is_input c.in-Ok.front.0 c.in-Ok.front.1 c.args.bytes.now c.in-Ok-outputs_from.read.0.items
+    c.in-Ok-outputs_from.read.1 c.in-Ok.ensures.found c.in-Ok.ensures.one c.requires c.in-Ok-outputs_from.ensures
+    c.if-end-len.false
