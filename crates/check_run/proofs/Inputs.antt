@@ -433,9 +433,13 @@ bad_front bytes line reason read means none = record {
 
 -- ---- what the readers tell
 
+front_within : (front rest bytes : List ℕ) → bytes ≡ front ++ rest → length front ≤ length bytes
+front_within front rest bytes text = omega (arith, length-append front rest, ap length text)
+
 -- the text at the front is within the bytes
 pub begins_within : (job : JobState) (size : ℕ) (bytes : List ℕ) → BeginsWith job size bytes → size ≤ length bytes
-begins_within job size bytes front = omega (arith, front.long, simp length-append at (ap length front.text))
+begins_within job size bytes front =
+    subst (λ (n : ℕ). n ≤ length bytes) (sym front.long) (front_within (job_text job) front.rest bytes front.text)
 
 -- the reader of the front refused it
 pub front_refused : (bytes : List ℕ) (fault : JobFault) (line : ℕ) (reason : JobWhy) → fault ≡ jobfaults.Bad line reason

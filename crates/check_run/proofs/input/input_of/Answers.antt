@@ -22,16 +22,16 @@ returns-in-Err c =
     behind_refused c.in-Ok.front.0 c.in-Ok.front.1 c.args.bytes.now c.in-Err.fault c.in-Ok.ensures.found
     c.in-Ok.ensures.one c.in-Err.ensures
 
-pub returns-then-end : goal.returns-then-end
-returns-then-end c =
+pub returns-then-end-bytes : goal.returns-then-end-bytes
+returns-then-end-bytes c =
     subst (λ (line : ℕ). IsBadInput c.args.bytes.now line why.After)
     (sym (ap (λ (count : ℕ). count + 1) (c.lines_in.ensures.is ∙ ap lines_in c.split_at.ensures.front)))
     (bad_behind_all c.in-Ok.front.0 c.in-Ok.front.1 c.args.bytes.now c.in-Ok-outputs_from.read.0.items
     c.in-Ok-outputs_from.read.1 c.in-Ok.ensures.found c.in-Ok.ensures.one c.in-Ok-outputs_from.ensures
-    c.if-end-len.true)
+    c.if-end-bytes.true)
 
 pub returns : goal.returns
 returns c =
     is_input c.in-Ok.front.0 c.in-Ok.front.1 c.args.bytes.now c.in-Ok-outputs_from.read.0.items
     c.in-Ok-outputs_from.read.1 c.in-Ok.ensures.found c.in-Ok.ensures.one c.requires c.in-Ok-outputs_from.ensures
-    c.if-end-len.false
+    c.if-end-bytes.false
