@@ -1,9 +1,8 @@
 -- Reading an input: the job at its front, and the outputs behind it, one after another.
 use Rattle.std.proofs.Common.{◌≡◌, ℕ, zero, suc, ◌+◌, ◌-◌, ◌<◌, ◌≤◌, List, [], ◌∷◌, ◌++◌, length, drop, take, Result, Ok, Err}
 use Rattle.std.proofs.Common.{refl, sym, ap, subst, ◌∙◌, arith, append_assoc, append-nil, length-append, length-drop}
-use Rattle.std.proofs.Common.{drop-drop, drop-cons, add-one, inl, inr, Option, Some, None, slice_get}
-use Rattle.std.proofs.Common.{◌⊎◌}
-use Rattle.std.specs.Prelude.{All, MatchResult, nat_lt}
+use Rattle.std.proofs.Common.{drop-drop, drop-cons, add-one, ◌⊎◌, inl, inr, Option, Some, slice_get}
+use Rattle.std.specs.Prelude.{All, MatchResult}
 use Rattle.std.specs.Io.KnownBytes.{Consumes, IsAtEnd}
 use Rattle.std.proofs.lemmas.Bool.{lt-ltb}
 use Rattle.std.proofs.lemmas.List.{drop_all}
@@ -17,8 +16,8 @@ use Rattle.gasnet_trace.specs.declared.fault.TraceFault.{TraceFault}
 use Rattle.gasnet_trace.specs.declared.fault.TraceFault.TheVariants as tracefaults
 use Rattle.gasnet_trace.specs.declared.output.Output.{Output}
 use Rattle.gasnet_trace.specs.declared.output.Wanted.{Wanted}
-use Rattle.job_text.specs.JobReading.{BadLine, front_of, limit}
-use Rattle.job_text.specs.JobText.{BeginsWith, IsJob, job_text}
+use Rattle.job_text.specs.JobReading.{front_of}
+use Rattle.job_text.specs.JobText.{BeginsWith, job_text}
 use Rattle.job_text.specs.Refusals.{FrontMeans, IsFrontMeant, IsNoMemory}
 use Rattle.job_text.specs.Refusals as refusals
 use Rattle.job_text.specs.declared.fault.JobFault.{JobFault}

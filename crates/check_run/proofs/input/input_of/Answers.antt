@@ -1,5 +1,5 @@
 -- The job at the front and the outputs behind it are all, or why they are not.
-use Rattle.std.proofs.Common.{ℕ, ◌+◌, List, sym, subst, ap, ◌∙◌, arith}
+use Rattle.std.proofs.Common.{ℕ, ◌+◌, sym, subst, ap, ◌∙◌}
 use Rattle.check_run.specs.CheckInputs.{IsBadInput, lines_in}
 use Rattle.job_text.specs.declared.fault.JobWhy.TheVariants as why
 use Rattle.check_run.proofs.Inputs.{bad_behind_all, begins_within, behind_refused, front_refused, is_input}
