@@ -1,6 +1,7 @@
 -- What the code's machine is after the turn of an entry, and what is told of the step that ended in it.
-use Rattle.std.proofs.Common.{◌≡◌, ℕ, Bool, true, false, ◌||◌, not, List, [], ◌∷◌, Option, Some, None, refl, sym, ap, subst}
-use Rattle.std.proofs.Common.{◌∙◌, decimal, append-nil}
+use Rattle.std.proofs.Common.{◌≡◌, ℕ, Bool, true, false, ◌||◌, not, List, ◌∷◌, Option, Some, None, refl, sym, ap, subst}
+use Rattle.std.proofs.Common.{◌∙◌, decimal, append-nil, max}
+use Rattle.std.specs.Ordering.{nat_cmp, ord_max}
 use Rattle.std.specs.Prelude.{is_some, if◌then◌else◌, IfSome, option_copied}
 use Rattle.std.specs.Borrow.{Bor}
 use Rattle.std.proofs.lemmas.Bool.{false≢true, true≢false}
@@ -25,9 +26,9 @@ use Rattle.node_script.specs.AnswerWords.{answer_words, sight_of}
 use Rattle.node_script.specs.Lines.{line_text, spell}
 use Rattle.node_script.specs.Registration.{registered}
 use Rattle.endpoint_rules.specs.declared.answer.Answer.{Answer}
-use Rattle.world_run.proofs.LinesWritten.{one_line}
-use Rattle.check_run.specs.Replaying.{CanTake, IsNodeAt, ScriptedNode, TakesEntry, entry_lines, node_state}
+use Rattle.check_run.specs.Replaying.{CanTake, IsNodeAt, ScriptedNode, TakesEntry, node_state}
 use Rattle.check_run.specs.StepLines.{after_entry, answer_of_step, lines_of_answer}
+use Rattle.check_run.proofs.Greater.{max_is}
 use Rattle.check_run.proofs.Names.{after_handles, ended_names}
 
 -- ---- before the turn
@@ -195,7 +196,7 @@ one_ended rank entry old new told endpoint answer before after wrote turns some 
 
 -- ---- what a node holds
 
-pub held_so : (job : JobState) (rank : ℕ) (machine : ScriptedNode) (kept : MachineKept) (endpoint : EndpointState)
+held_so : (job : JobState) (rank : ℕ) (machine : ScriptedNode) (kept : MachineKept) (endpoint : EndpointState)
     (value : ℕ) → IsNodeAt job rank machine kept → endpoint ≡ kept.endpoint
     → IsNodeOf kept.job.settings (registered kept.job.handlers).table endpoint.core.me endpoint
     → ForItsRecord endpoint (λ node. value ≡ held endpoint.core.settings endpoint.core.me node)
@@ -206,3 +207,13 @@ held_so job rank machine kept endpoint value is same node holds =
     let me : endpoint.core.me ≡ rank = ap (λ (one : EndpointState). one.core.me) same ∙ sym is.stands.me_is in
     holds machine.node stands ∙ ap (λ (s : Parameters). held s endpoint.core.me machine.node) settings
     ∙ ap (λ n. held job.settings n machine.node) me
+
+-- the most so far, with what it holds
+pub most_so : (job : JobState) (rank : ℕ) (machine : ScriptedNode) (kept : MachineKept) (endpoint : EndpointState)
+    (most more value : ℕ) → more ≡ ord_max nat_cmp most value → IsNodeAt job rank machine kept
+    → endpoint ≡ kept.endpoint
+    → IsNodeOf kept.job.settings (registered kept.job.handlers).table endpoint.core.me endpoint
+    → ForItsRecord endpoint (λ node. value ≡ held endpoint.core.settings endpoint.core.me node)
+    → more ≡ max most (held job.settings rank machine.node)
+most_so job rank machine kept endpoint most more value greater is same node holds =
+    greater ∙ max_is most value ∙ ap (max most) (held_so job rank machine kept endpoint value is same node holds)

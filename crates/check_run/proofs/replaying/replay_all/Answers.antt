@@ -1,9 +1,8 @@
 -- The lines of one node more, and of all.
-use Rattle.std.proofs.Common.{◌≡◌, ℕ, ◌+◌, List, [], length, take, drop, refl, sym, ap, subst, ◌∙◌, arith, take_all}
+use Rattle.std.proofs.Common.{◌≡◌, ◌+◌, List, [], length, take, drop, refl, sym, ap, subst, ◌∙◌, arith, take_all}
 use Rattle.std.proofs.lemmas.Option.{slice_get_read}
 use Rattle.gas_outside.specs.Buffered.{Gathers, GathersFront, outbox}
 use Rattle.gasnet_trace.specs.declared.trace.Trace.{Trace}
-use Rattle.job_text.specs.declared.job.Job.{Job as JobState}
 use Rattle.machine.specs.declared.entry.Entry.{Entry}
 use Rattle.node_script.specs.Lines.{Line, spell}
 use Rattle.world_run.specs.LinesWritten.{LinesUpTo}

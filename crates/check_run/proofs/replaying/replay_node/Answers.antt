@@ -1,5 +1,4 @@
 -- The node before all turns takes them.
-use Rattle.std.proofs.Common.{◌≡◌, refl}
 use Rattle.gas_outside.specs.Buffered.{outbox}
 use Rattle.world_run.proofs.LinesWritten.{no_lines_yet}
 use Rattle.check_run.specs.StepLines.{step_lines}
