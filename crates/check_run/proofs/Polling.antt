@@ -1,6 +1,6 @@
 -- The entries of traces that are a run may be taken, node by node: each that got something is of a thread that polls
 -- then.
-use Rattle.std.proofs.Common.{◌≡◌, ◌≢◌, ℕ, zero, suc, ◌+◌, ◌<◌, ◌≤◌, true, List, [], ◌∷◌, length, Option, Some, None}
+use Rattle.std.proofs.Common.{◌≡◌, ℕ, zero, suc, ◌+◌, ◌<◌, ◌≤◌, true, List, [], ◌∷◌, length, Option, Some, None}
 use Rattle.std.proofs.Common.{refl, sym, ap, subst, ◌∙◌, inl, inr, arith, slice_get, slice_index, IsSome, IsSomeAnd}
 use Rattle.std.specs.Prelude.{All}
 use Rattle.std.specs.Option.{option_map}
@@ -10,7 +10,7 @@ use Rattle.std.proofs.lemmas.Option.{get_or_from_slice_get, same_Some, slice_get
 use Rattle.gasnet_trace.specs.declared.trace.Trace.{Trace}
 use Rattle.job_text.specs.declared.job.Job.{Job as JobState}
 use Rattle.machine.specs.declared.entry.Entry.{Entry}
-use Rattle.machine.specs.Replay.{Steps, after_entry}
+use Rattle.machine.specs.Replay.{Steps}
 use Rattle.machine.specs.Fronts.{Node, CanGet, CanGo, GoesOn, Reaches, advance, full, replay, start}
 use Rattle.node_machine.specs.Laws.{NodesOpen, opening_node}
 use Rattle.node_machine.specs.NodeState.{state_steps}

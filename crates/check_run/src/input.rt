@@ -124,10 +124,7 @@ fn input_of(alloc: Global, bytes: &[u8]) -> Result<CheckInput, InputFault>
         Err(JobFault::Bad { line, why }) => return Err(InputFault::Bad { line, why }),
         Err(JobFault::NoMemory) => return Err(InputFault::NoMemory),
     };
-    let (outputs, end) = match outputs_from(alloc, &job, bytes, from) {
-        Ok(read) => read,
-        Err(fault) => return Err(fault),
-    };
+    let (outputs, end) = outputs_from(alloc, &job, bytes, from)?;
     if end < bytes.len() {
         let (read, _) = bytes.split_at(end);
         let line = lines_in(read) as u32 + 1;
