@@ -1,6 +1,6 @@
 -- Reading an input: the job at its front, and the outputs behind it, one after another.
-use Rattle.std.proofs.Common.{◌≡◌, ℕ, zero, suc, ◌+◌, ◌-◌, ◌<◌, ◌≤◌, List, [], ◌∷◌, ◌++◌, length, drop, take, Result, Ok, Err}
-use Rattle.std.proofs.Common.{refl, sym, ap, subst, ◌∙◌, arith, append_assoc, append-nil, length-append, length-drop}
+use Rattle.std.proofs.Common.{◌≡◌, ℕ, zero, suc, ◌+◌, ◌-◌, ◌<◌, ◌≤◌, List, [], ◌∷◌, ◌++◌, length, drop, take}
+use Rattle.std.proofs.Common.{Result, Ok, Err, refl, sym, ap, subst, ◌∙◌, arith, append_assoc, append-nil, length-append, length-drop}
 use Rattle.std.proofs.Common.{drop-drop, drop-cons, add-one, ◌⊎◌, inl, inr, Option, Some, slice_get}
 use Rattle.std.specs.Prelude.{All, MatchResult}
 use Rattle.std.specs.Io.KnownBytes.{Consumes, IsAtEnd}
@@ -27,8 +27,8 @@ use Rattle.job_text.specs.declared.fault.JobWhy.TheVariants as why
 use Rattle.job_text.specs.declared.job.Job.{Job as JobState}
 use Rattle.check_run.specs.CheckInputs.{AreOutputs, AreRead, AreUnread, HaveTraces, InputText, IsBadInput, IsInput}
 use Rattle.check_run.specs.CheckInputs.{IsTraceOf, OutputsOf, OutputsRead, StandThere, after_output, all_of, bad_behind}
-use Rattle.check_run.specs.CheckInputs.{input_limit, lines_in, outputs_at, outputs_text, wanted_of, why_of, with_outputs}
-use Rattle.check_run.specs.CheckInputs.{IsRefused, IsUnread, ReadsOutputs, TakesInput, TakesNone, fault_behind}
+use Rattle.check_run.specs.CheckInputs.{input_limit, lines_in, outputs_at, outputs_text, wanted_of, why_of}
+use Rattle.check_run.specs.CheckInputs.{with_outputs, IsRefused, IsUnread, ReadsOutputs, TakesInput, TakesNone, fault_behind}
 use Rattle.check_run.specs.declared.input.CheckInput.{CheckInput}
 use Rattle.check_run.specs.declared.input.InputFault.{InputFault}
 use Rattle.check_run.specs.declared.input.InputFault.TheVariants as faults
@@ -205,11 +205,11 @@ read_next place outputs rank at len output low size so is_read = record {
       let next = next_there place outputs rank at others rest low so there in
       let is = is_read.gives next.output (length (output_text version next.output)) next.begins in (
         (so.only others rest there).0 ∙ ap (λ z. outputs ++ z) next.all
-        ∙ ap (λ (one : Output). outputs ++ (one ∷ drop (rank + 1) others)) (sym is.0)
-        ∙ sym (append_assoc outputs (output ∷ []) (drop (rank + 1) others)),
+            ∙ ap (λ (one : Output). outputs ++ (one ∷ drop (rank + 1) others)) (sym is.0)
+            ∙ sym (append_assoc outputs (output ∷ []) (drop (rank + 1) others)),
         sym (drop-drop len at bytes) ∙ ap (λ n. drop n (drop at bytes)) is.1
-        ∙ ap (drop (length (output_text version next.output))) next.behind
-        ∙ drop_front (output_text version next.output) (outputs_text version (drop (rank + 1) others) ++ rest),
+            ∙ ap (drop (length (output_text version next.output))) next.behind
+            ∙ drop_front (output_text version next.output) (outputs_text version (drop (rank + 1) others) ++ rest),
       );
 }
   where
@@ -241,7 +241,8 @@ read_next place outputs rank at len output low size so is_read = record {
         ∙ ap (drop (length (output_text version output))) is_read.begins.text
         ∙ drop_front (output_text version output) is_read.begins.rest))
 
-    one_more : outputs_text version (outputs ++ output ∷ []) ≡ outputs_text version outputs ++ output_text version output
+    one_more : outputs_text version (outputs ++ output ∷ [])
+        ≡ outputs_text version outputs ++ output_text version output
     one_more =
         flat_map-append (output_text version) outputs (output ∷ [])
         ∙ ap (λ z. outputs_text version outputs ++ z) (append-nil (output_text version output))

@@ -118,8 +118,8 @@ may_take job rank machine [] threads polled = tt
 may_take job rank machine (entry ∷ entries) threads polled = (
   record { thread = threads 0 entry (omega arith); polls = polled 0 (omega arith) entry refl },
   may_take job rank (lines.after_entry job rank machine entry) entries
-  (λ place other inside. threads (suc place) other (omega arith))
-  (λ place inside other at some. polled (suc place) (omega arith) other at some),
+      (λ place other inside. threads (suc place) other (omega arith))
+      (λ place inside other at some. polled (suc place) (omega arith) other at some),
 )
 
 -- the node of a rank
@@ -147,8 +147,8 @@ take_from job rank (trace ∷ traces) may =
     let here : rank + 0 ≡ rank = omega arith in (
       subst (λ n. P n trace.entries) here (may 0 trace refl),
       take_from job (rank + 1) traces (λ place other there.
-      let same : rank + suc place ≡ (rank + 1) + place = omega arith in
-      subst (λ n. P n other.entries) same (may (suc place) other there)),
+          let same : rank + suc place ≡ (rank + 1) + place = omega arith in
+          subst (λ n. P n other.entries) same (may (suc place) other there)),
     )
 
 -- all nodes of a run may take the entries of their traces

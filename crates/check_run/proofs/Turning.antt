@@ -78,7 +78,8 @@ is_true false is = absurd (true≢false is)
 
 -- it is the node after the entry
 node_then : (job : JobState) (rank : ℕ) (machine : ScriptedNode) (entry : Entry) (old new : MachineKept) (told : Turned)
-    → Turns entry old new told → IsNodeAt job rank machine old → IsNodeAt job rank (after_entry job rank machine entry) new
+    → Turns entry old new told → IsNodeAt job rank machine old
+    → IsNodeAt job rank (after_entry job rank machine entry) new
 node_then job rank machine entry old new told turns is = record {
   stands = turns.0 (node_state job rank machine) is.stands;
   handles = after_handles job rank machine entry is.handles;
@@ -89,8 +90,8 @@ none_of None is = refl
 none_of (Some x) is = absurd (true≢false is)
 
 -- whether a step ended
-stepped_so : (job : JobState) (rank : ℕ) (machine : ScriptedNode) (entry : Entry) (old new : MachineKept) (told : Turned)
-    → Turns entry old new told → IsNodeAt job rank machine old
+stepped_so : (job : JobState) (rank : ℕ) (machine : ScriptedNode) (entry : Entry) (old new : MachineKept)
+    (told : Turned) → Turns entry old new told → IsNodeAt job rank machine old
     → told.stepped ≡ is_some (answer_of_step job rank machine entry)
 stepped_so job rank machine entry old new told turns is =
     ap (λ (it : Turned). it.stepped) (turns.1 (node_state job rank machine) is.stands)
@@ -103,8 +104,8 @@ none_ended rank entry old new told out turns none = λ job machine is.
     (sym (stepped_so job rank machine entry old new told turns is) ∙ none) in (
       node_then job rank machine entry old new told turns is,
       subst (λ (answer : Option Answer). Gathers out out (spell (lines_of_answer job
-      (record { rank = rank; thread = entry.thread }) (after_entry job rank machine entry).node answer))) (sym no)
-      (gathers_none out),
+          (record { rank = rank; thread = entry.thread }) (after_entry job rank machine entry).node answer))) (sym no)
+          (gathers_none out),
     )
 
 -- one ended: the machine keeps its answer
@@ -190,8 +191,8 @@ one_ended rank entry old new told endpoint answer before after wrote turns some 
     ∷ answer_words (sight_of job.settings rank record_) answer)) in (
       now,
       subst (λ (found : Option Answer). GathersAll before after (spell (lines_of_answer job
-      (record { rank = rank; thread = entry.thread }) record_ found)) wrote) (sym ended)
-      (subst (λ (bytes : List ℕ). GathersAll before after bytes wrote) (sym whole) line),
+          (record { rank = rank; thread = entry.thread }) record_ found)) wrote) (sym ended)
+          (subst (λ (bytes : List ℕ). GathersAll before after bytes wrote) (sym whole) line),
     )
 
 -- ---- what a node holds

@@ -7,8 +7,8 @@ use Rattle.check_run.proofs.input.outputs_from.Goals as goal
 pub loop-rank-init : goal.loop-rank-init
 loop-rank-init c =
     let place = place_of c.args.job.now c.args.bytes.now c.args.from in record {
-      so_far = subst (λ (outputs : List Output). ReadSoFar place outputs 0 c.args.from) (sym c.new-outputs.ensures.items)
-          (read_start place c.requires.from);
+      so_far = subst (λ (outputs : List Output). ReadSoFar place outputs 0 c.args.from)
+          (sym c.new-outputs.ensures.items) (read_start place c.requires.from);
     }
 
 pub split_at-requires : goal.split_at-requires

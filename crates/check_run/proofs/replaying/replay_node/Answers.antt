@@ -23,5 +23,5 @@ pub returns-in-Err : goal.returns-in-Err
 returns-in-Err g c = (
   step_lines c.args.job.now c.args.rank (first_machine c.args.job.now c.args.rank) c.args.entries.now,
   no_lines_yet (outbox g.K.Sink.taken g.K.Sink.faults c.args.sink.now)
-  (step_lines c.args.job.now c.args.rank (first_machine c.args.job.now c.args.rank) c.args.entries.now),
+      (step_lines c.args.job.now c.args.rank (first_machine c.args.job.now c.args.rank) c.args.entries.now),
 )
