@@ -1,6 +1,7 @@
 -- Reading an input: the job at its front, and the outputs behind it, one after another.
 use Rattle.std.proofs.Common.{◌≡◌, ℕ, zero, suc, ◌+◌, ◌-◌, ◌<◌, ◌≤◌, List, [], ◌∷◌, ◌++◌, length, drop, take}
-use Rattle.std.proofs.Common.{Result, Ok, Err, refl, sym, ap, subst, ◌∙◌, arith, append_assoc, append-nil, length-append, length-drop}
+use Rattle.std.proofs.Common.{Result, Ok, Err, refl, sym, ap, subst, ◌∙◌, arith, append_assoc, append-nil}
+use Rattle.std.proofs.Common.{length-append, length-drop}
 use Rattle.std.proofs.Common.{drop-drop, drop-cons, add-one, ◌⊎◌, inl, inr, Option, Some, slice_get}
 use Rattle.std.specs.Prelude.{All, MatchResult}
 use Rattle.std.specs.Io.KnownBytes.{Consumes, IsAtEnd}
@@ -28,7 +29,8 @@ use Rattle.job_text.specs.declared.job.Job.{Job as JobState}
 use Rattle.check_run.specs.CheckInputs.{AreOutputs, AreRead, AreUnread, HaveTraces, InputText, IsBadInput, IsInput}
 use Rattle.check_run.specs.CheckInputs.{IsTraceOf, OutputsOf, OutputsRead, StandThere, after_output, all_of, bad_behind}
 use Rattle.check_run.specs.CheckInputs.{input_limit, lines_in, outputs_at, outputs_text, wanted_of, why_of}
-use Rattle.check_run.specs.CheckInputs.{with_outputs, IsRefused, IsUnread, ReadsOutputs, TakesInput, TakesNone, fault_behind}
+use Rattle.check_run.specs.CheckInputs.{with_outputs, IsRefused, IsUnread, ReadsOutputs, TakesInput, TakesNone}
+use Rattle.check_run.specs.CheckInputs.{fault_behind}
 use Rattle.check_run.specs.declared.input.CheckInput.{CheckInput}
 use Rattle.check_run.specs.declared.input.InputFault.{InputFault}
 use Rattle.check_run.specs.declared.input.InputFault.TheVariants as faults

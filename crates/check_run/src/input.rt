@@ -138,9 +138,9 @@ fn input_of(alloc: Global, bytes: &[u8]) -> Result<CheckInput, InputFault>
 ///
 /// # Errors
 ///
-/// `Bad` exactly where the bytes are no such input or more than 67,108,864, with the first bad line and the first reason
-/// that applies to it; `ReadFault` only where the source's count of faults rose, or stands at its last value; `NoMemory`
-/// where memory ran out.
+/// `Bad` exactly where the bytes are no such input or more than 67,108,864, with the first bad line and the first
+/// reason that applies to it; `ReadFault` only where the source's count of faults rose, or stands at its last value;
+/// `NoMemory` where memory ran out.
 pub fn read_input<S: Source>(alloc: Global, source: &mut S) -> Result<CheckInput, InputFault>
     ensures { MatchResult result
         (λ input. TakesInput (S.left source.old) (S.left source.new) input.job input.outputs.items)
