@@ -1,9 +1,8 @@
 -- The lines of one node more, and of all.
-use Rattle.std.proofs.Common.{◌≡◌, ℕ, ◌+◌, List, [], length, take, drop, refl, sym, ap, subst, ◌∙◌, arith, take_all}
+use Rattle.std.proofs.Common.{◌≡◌, ◌+◌, List, [], length, take, drop, refl, sym, ap, subst, ◌∙◌, arith, take_all}
 use Rattle.std.proofs.lemmas.Option.{slice_get_read}
 use Rattle.gas_outside.specs.Buffered.{Gathers, GathersFront, outbox}
 use Rattle.gasnet_trace.specs.declared.trace.Trace.{Trace}
-use Rattle.job_text.specs.declared.job.Job.{Job as JobState}
 use Rattle.machine.specs.declared.entry.Entry.{Entry}
 use Rattle.node_script.specs.Lines.{Line, spell}
 use Rattle.world_run.specs.LinesWritten.{LinesUpTo}
@@ -67,15 +66,15 @@ returns-in_default g c =
     let job = c.args.job.now in
     let rank = c.loop-rank.rank in
     let there = slice_get_read c.args.traces.now (length c.args.traces.now) rank c.index-traces-rank.result refl
-    c.loop-rank-test.true c.index-traces-rank.is in
-    (
+    c.loop-rank-test.true c.index-traces-rank.is in (
       steps_from job (rank + 1) (drop (rank + 1) c.args.traces.now),
       steps_done job c.args.traces.now rank c.index-traces-rank.result
-      (outbox g.K.Sink.taken g.K.Sink.faults c.args.sink.now) (outbox g.K.Sink.taken g.K.Sink.faults c.loop-rank.sink)
-      (outbox g.K.Sink.taken g.K.Sink.faults c.replay_node.new.sink) there c.loop-rank.invariant.lines
-      (subst (λ (entries : List Entry). Gathers (outbox g.K.Sink.taken g.K.Sink.faults c.loop-rank.sink)
-      (outbox g.K.Sink.taken g.K.Sink.faults c.replay_node.new.sink)
-      (spell (step_lines job rank (first_machine job rank) entries))) c.as_slice.ensures c.in-Done.ensures.0),
+          (outbox g.K.Sink.taken g.K.Sink.faults c.args.sink.now)
+          (outbox g.K.Sink.taken g.K.Sink.faults c.loop-rank.sink)
+          (outbox g.K.Sink.taken g.K.Sink.faults c.replay_node.new.sink) there c.loop-rank.invariant.lines
+          (subst (λ (entries : List Entry). Gathers (outbox g.K.Sink.taken g.K.Sink.faults c.loop-rank.sink)
+          (outbox g.K.Sink.taken g.K.Sink.faults c.replay_node.new.sink)
+          (spell (step_lines job rank (first_machine job rank) entries))) c.as_slice.ensures c.in-Done.ensures.0),
     )
 
 pub loop-rank-preserved : goal.loop-rank-preserved
@@ -103,7 +102,7 @@ loop-rank-preserved g c =
 pub returns : goal.returns
 returns g c = (
   steps_all c.args.job.now c.args.traces.now c.loop-rank.rank (outbox g.K.Sink.taken g.K.Sink.faults c.args.sink.now)
-  (outbox g.K.Sink.taken g.K.Sink.faults c.loop-rank.sink) c.loop-rank-test.false c.loop-rank.invariant.lines,
+      (outbox g.K.Sink.taken g.K.Sink.faults c.loop-rank.sink) c.loop-rank-test.false c.loop-rank.invariant.lines,
   subst (λ (traces : List Trace). AreMost c.args.job.now 0 traces c.loop-rank.all.items)
-  (take_all c.loop-rank.rank c.args.traces.now c.loop-rank-test.false) c.loop-rank.invariant.most,
+      (take_all c.loop-rank.rank c.args.traces.now c.loop-rank-test.false) c.loop-rank.invariant.most,
 )
