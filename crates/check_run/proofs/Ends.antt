@@ -1,14 +1,14 @@
 -- What is written of nodes at the end of a run of traces.
-use Rattle.std.proofs.Common.{◌≡◌, ℕ, suc, ◌+◌, ◌<◌, ◌≤◌, Bool, true, false, not, ◌==◌, ◌||◌, List, [], ◌∷◌, ◌++◌, length, drop}
-use Rattle.std.proofs.Common.{get_or, Option, Some, None, refl, sym, ap, subst, ◌∙◌, arith, slice_get, ne_eqb}
-use Rattle.std.specs.Prelude.{All}
+use Rattle.std.proofs.Common.{◌≡◌, ℕ, suc, ◌+◌, ◌<◌, ◌≤◌, true, false, not, ◌==◌, ◌||◌, List, [], ◌∷◌, ◌++◌, length}
+use Rattle.std.proofs.Common.{drop}
+use Rattle.std.proofs.Common.{get_or, Some, refl, sym, ap, subst, ◌∙◌, arith, slice_get, ne_eqb}
 use Rattle.std.proofs.lemmas.Bool.{cases_eq}
 use Rattle.std.proofs.lemmas.List.{drop_all}
 use Rattle.std.proofs.lemmas.List.Concat.{flat_map-append}
 use Rattle.std.proofs.lemmas.Option.{get_or_from_slice_get, same_Some, slice_get_cases}
 use Rattle.std.proofs.Common.{inl, inr}
 use Rattle.datagram_grammar.specs.Parameters.{Parameters}
-use Rattle.gas_endpoint.specs.EndpointState.{EndpointState, EndpointStands, ForItsRecord}
+use Rattle.gas_endpoint.specs.EndpointState.{EndpointState, ForItsRecord}
 use Rattle.gas_outside.specs.Buffered.{Outbox, GathersAll, GathersFront, GathersUpTo}
 use Rattle.gas_outside.specs.declared.writing.Wrote.{Wrote}
 use Rattle.gas_outside.specs.declared.writing.Wrote.TheVariants as wrote
@@ -16,13 +16,12 @@ use Rattle.gas_outside.proofs.Outboxes.{past_done, past_fault}
 use Rattle.gasnet_trace.specs.declared.output.Output.{Output}
 use Rattle.gasnet_trace.specs.declared.trace.Trace.{Trace}
 use Rattle.job_text.specs.declared.job.Job.{Job as JobState}
-use Rattle.machine.specs.declared.entry.Entry.{Entry}
 use Rattle.node_script.specs.Lines.{line_text, spell}
 use Rattle.world_run.specs.RunText.{lines_of_node, violations}
 use Rattle.check_run.specs.Replaying.{AreMost}
 use Rattle.check_run.specs.Statuses.{AreOver, is_over}
 use Rattle.check_run.specs.StepLines.{end_lines, ends_from, is_violated_from, most_held}
-use Rattle.check_run.specs.TracesRun.{AreNodesAfter, IsNodeAfter, last_record}
+use Rattle.check_run.specs.TracesRun.{AreNodesAfter, AreRanked, IsNodeAfter, last_record}
 use Rattle.check_run.proofs.Going.{most_at, next_trace}
 use Rattle.check_run.proofs.Polling.{some_from}
 
@@ -59,6 +58,20 @@ pub node_of : (job : JobState) (traces : List Trace) (endpoints : List EndpointS
     → (trace : Trace) × (slice_get traces rank ≡ Some trace) × IsNodeAfter job rank trace endpoint
 node_of job traces endpoints rank endpoint nodes there =
     some_from (slice_get traces rank) (λ trace. IsNodeAfter job rank trace endpoint) (nodes.each rank endpoint there)
+
+-- each is the node of its place
+pub nodes_ranked : (job : JobState) (traces : List Trace) (endpoints : List EndpointState)
+    → AreNodesAfter job traces endpoints → AreRanked endpoints
+nodes_ranked job traces endpoints nodes rank endpoint there =
+    (node_of job traces endpoints rank endpoint nodes there).2.node.me_is
+
+-- as many are told of as have traces
+pub most_count : (job : JobState) (rank : ℕ) (traces : List Trace) (all : List ℕ) → AreMost job rank traces all
+    → length all ≡ length traces
+most_count job rank [] [] are = refl
+most_count job rank [] (most ∷ all) are = absurd are
+most_count job rank (trace ∷ traces) [] are = absurd are
+most_count job rank (trace ∷ traces) (most ∷ all) are = ap suc (most_count job (rank + 1) traces all are.1)
 
 -- its lines, which its endpoint gives
 pub end_written : (job : JobState) (traces : List Trace) (all : List ℕ) (rank : ℕ) (trace : Trace)

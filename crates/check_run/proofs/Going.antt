@@ -1,10 +1,10 @@
 -- How far the entries of a node went, and what was written of them.
-use Rattle.std.proofs.Common.{◌≡◌, ℕ, suc, ◌+◌, ◌<◌, max, List, [], ◌∷◌, ◌++◌, length, get_or, drop, take, Option, Some, None}
+use Rattle.std.proofs.Common.{◌≡◌, ℕ, suc, ◌+◌, max, List, [], ◌∷◌, ◌++◌, length, get_or, drop, take, Some}
 use Rattle.std.proofs.Common.{refl, sym, ap, subst, ◌∙◌, arith, drop-cons, add-one, zero, ◌≤◌}
 use Rattle.std.specs.Prelude.{slice_get}
 use Rattle.std.proofs.lemmas.List.{drop_all}
 use Rattle.std.proofs.lemmas.Option.{get_or_from_slice_get, same_Some, slice_get_within}
-use Rattle.gas_outside.specs.Buffered.{Outbox, Gathers, GathersAll, GathersFront}
+use Rattle.gas_outside.specs.Buffered.{Outbox, Gathers, GathersFront}
 use Rattle.gas_outside.specs.declared.writing.Wrote.TheVariants as wrote
 use Rattle.gasnet_trace.specs.declared.trace.Trace.{Trace}
 use Rattle.job_text.specs.declared.job.Job.{Job as JobState}
@@ -17,7 +17,8 @@ use Rattle.node_script.specs.Lines.{Line, spell}
 use Rattle.world_run.specs.LinesWritten.{LinesUpTo}
 use Rattle.world_run.specs.declared.said.Said.TheVariants as said
 use Rattle.world_run.proofs.LinesWritten.{no_lines_yet, lines_done, lines_all, lines_said}
-use Rattle.check_run.specs.Replaying.{AreMost, CanTake, IsNodeAt, MayReplay, MayTakeAll, ScriptedNode, TakesEntry, entry_lines}
+use Rattle.check_run.specs.Replaying.{AreMost, CanTake, IsNodeAt, MayReplay, MayTakeAll, ScriptedNode, TakesEntry}
+use Rattle.check_run.specs.Replaying.{entry_lines}
 use Rattle.check_run.specs.StepLines.{after_entry, most_held, step_lines, steps_from}
 use Rattle.check_run.specs.TracesRun.{first_machine}
 
@@ -93,7 +94,7 @@ pub went_all : (job : JobState) (rank : ℕ) (entries : List Entry) (place most 
 went_all job rank entries place most first kept before after all went =
     let none : drop place entries ≡ [] = drop_all place entries all in (
       lines_all before after (step_lines job rank first entries) (step_lines job rank went.now (drop place entries))
-      (ap (step_lines job rank went.now) none) went.lines,
+          (ap (step_lines job rank went.now) none) went.lines,
       sym (went.most_is ∙ ap (λ rest. most_in (script_job job) rank went.now rest most) none),
     )
 
@@ -137,7 +138,7 @@ most_more job rank [] place trace all most there are is = absurd (cc)
 most_more job rank (first ∷ traces) zero trace [] most there are is =
     let here : rank + 0 ≡ rank = omega arith in (
       is ∙ ap (λ n. most_held job n trace.entries) here
-      ∙ ap (λ (one : Trace). most_held job rank one.entries) (sym (same_Some first trace there)),
+          ∙ ap (λ (one : Trace). most_held job rank one.entries) (sym (same_Some first trace there)),
       tt,
     )
 most_more job rank (first ∷ traces) zero trace (one ∷ all) most there are is = absurd are
@@ -145,9 +146,11 @@ most_more job rank (first ∷ traces) (suc place) trace [] most there are is = a
 most_more job rank (first ∷ traces) (suc place) trace (one ∷ all) most there are is =
     let same : rank + suc place ≡ (rank + 1) + place = omega arith in
     let more : (suc place) + 1 ≡ suc (place + 1) = omega arith in
-    subst (λ n. AreMost job rank (take n (first ∷ traces)) ((one ∷ all) ++ most ∷ [])) (sym more)
-    (are.0, most_more job (rank + 1) traces place trace all most there are.1
-    (is ∙ ap (λ n. most_held job n trace.entries) same))
+    subst (λ n. AreMost job rank (take n (first ∷ traces)) ((one ∷ all) ++ most ∷ [])) (sym more) (
+      are.0,
+      most_more job (rank + 1) traces place trace all most there are.1
+          (is ∙ ap (λ n. most_held job n trace.entries) same),
+    )
 
 -- that of the node of a rank
 pub most_at : (job : JobState) (rank : ℕ) (traces : List Trace) (place : ℕ) (trace : Trace) (all : List ℕ)

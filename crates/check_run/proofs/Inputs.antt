@@ -1,26 +1,39 @@
 -- Reading an input: the job at its front, and the outputs behind it, one after another.
-use Rattle.std.proofs.Common.{◌≡◌, ℕ, zero, suc, ◌+◌, ◌-◌, ◌<◌, ◌≤◌, List, [], ◌∷◌, ◌++◌, length, drop, take, Result, Ok, Err}
-use Rattle.std.proofs.Common.{refl, sym, ap, subst, ◌∙◌, arith, append_assoc, append-nil, length-append, length-drop}
-use Rattle.std.proofs.Common.{drop-drop, drop-cons, add-one, inl, inr, Option, Some, None, slice_get}
-use Rattle.std.specs.Prelude.{All, nat_lt}
+use Rattle.std.proofs.Common.{◌≡◌, ℕ, zero, suc, ◌+◌, ◌-◌, ◌<◌, ◌≤◌, List, [], ◌∷◌, ◌++◌, length, drop, take}
+use Rattle.std.proofs.Common.{Result, Ok, Err, refl, sym, ap, subst, ◌∙◌, arith, append_assoc, append-nil}
+use Rattle.std.proofs.Common.{length-append, length-drop}
+use Rattle.std.proofs.Common.{drop-drop, drop-cons, add-one, ◌⊎◌, inl, inr, Option, Some, slice_get}
+use Rattle.std.specs.Prelude.{All, MatchResult}
+use Rattle.std.specs.Io.KnownBytes.{Consumes, IsAtEnd}
 use Rattle.std.proofs.lemmas.Bool.{lt-ltb}
 use Rattle.std.proofs.lemmas.List.{drop_all}
 use Rattle.std.proofs.lemmas.List.Concat.{flat_map-append}
 use Rattle.std.proofs.lemmas.List.Elements.{All-nil, All-push}
 use Rattle.std.proofs.lemmas.Option.{get_or_from_slice_get, same_Some, slice_get_within, slice_get_cases}
-use Rattle.gasnet_trace.specs.OutputReading.{GivesOutput, ReadsOutput, output_at}
+use Rattle.gasnet_trace.specs.OutputReading.{GivesOutput, IsNear, ReadsOutput, output_at}
 use Rattle.gasnet_trace.specs.OutputText.{IsOutput, OutputBegins, output_text}
 use Rattle.gasnet_trace.specs.TraceReading.{BadLine as BadTraceLine}
+use Rattle.gasnet_trace.specs.declared.fault.TraceFault.{TraceFault}
+use Rattle.gasnet_trace.specs.declared.fault.TraceFault.TheVariants as tracefaults
 use Rattle.gasnet_trace.specs.declared.output.Output.{Output}
-use Rattle.job_text.specs.JobReading.{BadLine, front_of, limit}
-use Rattle.job_text.specs.JobText.{BeginsWith, IsJob, job_text}
-use Rattle.job_text.specs.Refusals.{FrontMeans}
+use Rattle.gasnet_trace.specs.declared.output.Wanted.{Wanted}
+use Rattle.job_text.specs.JobReading.{front_of}
+use Rattle.job_text.specs.JobText.{BeginsWith, job_text}
+use Rattle.job_text.specs.Refusals.{FrontMeans, IsFrontMeant, IsNoMemory}
+use Rattle.job_text.specs.Refusals as refusals
+use Rattle.job_text.specs.declared.fault.JobFault.{JobFault}
+use Rattle.job_text.specs.declared.fault.JobFault.TheVariants as jobfaults
 use Rattle.job_text.specs.declared.fault.JobWhy.{JobWhy}
 use Rattle.job_text.specs.declared.fault.JobWhy.TheVariants as why
 use Rattle.job_text.specs.declared.job.Job.{Job as JobState}
 use Rattle.check_run.specs.CheckInputs.{AreOutputs, AreRead, AreUnread, HaveTraces, InputText, IsBadInput, IsInput}
 use Rattle.check_run.specs.CheckInputs.{IsTraceOf, OutputsOf, OutputsRead, StandThere, after_output, all_of, bad_behind}
-use Rattle.check_run.specs.CheckInputs.{input_limit, lines_in, outputs_at, outputs_text, wanted_of, why_of, with_outputs}
+use Rattle.check_run.specs.CheckInputs.{input_limit, lines_in, outputs_at, outputs_text, wanted_of, why_of}
+use Rattle.check_run.specs.CheckInputs.{with_outputs, IsRefused, IsUnread, ReadsOutputs, TakesInput, TakesNone}
+use Rattle.check_run.specs.CheckInputs.{fault_behind}
+use Rattle.check_run.specs.declared.input.CheckInput.{CheckInput}
+use Rattle.check_run.specs.declared.input.InputFault.{InputFault}
+use Rattle.check_run.specs.declared.input.InputFault.TheVariants as faults
 
 -- ---- outputs
 
@@ -104,7 +117,7 @@ read_start place within =
     record {
       count = refl;
       within = within;
-      read = sym (with_none _
+      read = sym (with_none (outputs_at place.job place.bytes place.from 0 (place.job.settings.nodes - 0))
           ∙ ap (outputs_at place.job place.bytes place.from 0) (sym all));
       are = tt;
       text = refl;
@@ -159,42 +172,46 @@ next_there place outputs rank at others rest low so there =
           };
         }
 
+-- what is told of an output that was read at the front of these bytes
+pub record IsRead (wanted : Wanted) (bytes : List ℕ) (output : Output) (len : ℕ) : Type 0 where
+  pub begins : OutputBegins wanted bytes output len
+  pub gives : (other : Output) (size : ℕ) → OutputBegins wanted bytes other size
+      → GivesOutput other size (Ok (output, len))
+  pub reads : ReadsOutput (length bytes) (Ok (output, len)) (output_at wanted bytes)
+  pub threads : All (λ entry. entry.thread < wanted.threads) output.trace.entries
+  pub few : length output.trace.entries < length bytes
+
 -- one more was read
-pub read_more : (place : OutputsOf) (outputs : List Output) (rank at len : ℕ) (output : Output)
-    → rank < place.job.settings.nodes → length place.bytes ≤ 67108864 → ReadSoFar place outputs rank at
-    → OutputBegins (wanted_of place.job rank) (drop at place.bytes) output len
-    → ((other : Output) (size : ℕ) → OutputBegins (wanted_of place.job rank) (drop at place.bytes) other size
-    → GivesOutput other size (Ok (output, len)))
-    → ReadsOutput (length (drop at place.bytes)) (Ok (output, len))
-    (output_at (wanted_of place.job rank) (drop at place.bytes))
-    → All (λ entry. entry.thread < place.job.settings.threads) output.trace.entries
-    → length output.trace.entries < length (drop at place.bytes)
+read_next : (place : OutputsOf) (outputs : List Output) (rank at len : ℕ) (output : Output)
+    → rank < place.job.settings.nodes → length place.bytes ≤ input_limit → ReadSoFar place outputs rank at
+    → IsRead (wanted_of place.job rank) (drop at place.bytes) output len
     → ReadSoFar place (outputs ++ output ∷ []) (rank + 1) (at + len)
-read_more place outputs rank at len output low size so begins gives reads threads few = record {
+read_next place outputs rank at len output low size so is_read = record {
   count = length-append outputs (output ∷ []) ∙ ap (λ n. n + 1) so.count;
-  within = omega (arith, left, reads.2, so.within);
+  within = omega (arith, left, is_read.reads.2, so.within);
   read = so.read ∙ ap (with_outputs outputs)
       (ap (outputs_at place.job bytes at rank) counted
-      ∙ outputs_next place.job bytes at rank (nodes - (rank + 1)) output reads.0 reads.1)
-      ∙ with_more outputs (output ∷ []) _
+      ∙ outputs_next place.job bytes at rank (nodes - (rank + 1)) output is_read.reads.0 is_read.reads.1)
+      ∙ with_more outputs (output ∷ [])
+      (outputs_at place.job bytes (length bytes - length is_read.reads.0) (rank + 1) (nodes - (rank + 1)))
       ∙ ap (λ n. with_outputs (outputs ++ output ∷ []) (outputs_at place.job bytes n (rank + 1) (nodes - (rank + 1))))
       ended;
   are = are_more place.job 0 outputs output so.are
-      (subst (λ n. IsOutput (wanted_of place.job n) output) numbered begins.is_output);
+      (subst (λ n. IsOutput (wanted_of place.job n) output) numbered is_read.begins.is_output);
   text = so.text ∙ ap (λ z. outputs_text version outputs ++ z) here
       ∙ sym (append_assoc (outputs_text version outputs) (output_text version output) (drop (at + len) bytes))
       ∙ ap (λ z. z ++ drop (at + len) bytes) (sym one_more);
   traces = All-push (λ (one : Output). IsTraceOf place.job one.trace) outputs output so.traces
-      (record { threads = threads; few = omega (arith, few, left, size) });
+      (record { threads = is_read.threads; few = omega (arith, is_read.few, left, size) });
   only = λ others rest there.
       let next = next_there place outputs rank at others rest low so there in
-      let is = gives next.output (length (output_text version next.output)) next.begins in (
+      let is = is_read.gives next.output (length (output_text version next.output)) next.begins in (
         (so.only others rest there).0 ∙ ap (λ z. outputs ++ z) next.all
-        ∙ ap (λ (one : Output). outputs ++ (one ∷ drop (rank + 1) others)) (sym is.0)
-        ∙ sym (append_assoc outputs (output ∷ []) (drop (rank + 1) others)),
+            ∙ ap (λ (one : Output). outputs ++ (one ∷ drop (rank + 1) others)) (sym is.0)
+            ∙ sym (append_assoc outputs (output ∷ []) (drop (rank + 1) others)),
         sym (drop-drop len at bytes) ∙ ap (λ n. drop n (drop at bytes)) is.1
-        ∙ ap (drop (length (output_text version next.output))) next.behind
-        ∙ drop_front (output_text version next.output) (outputs_text version (drop (rank + 1) others) ++ rest),
+            ∙ ap (drop (length (output_text version next.output))) next.behind
+            ∙ drop_front (output_text version next.output) (outputs_text version (drop (rank + 1) others) ++ rest),
       );
 }
   where
@@ -216,20 +233,31 @@ read_more place outputs rank at len output low size so begins gives reads thread
     numbered : rank ≡ 0 + length outputs
     numbered = omega (arith, so.count)
 
-    ended : length bytes - length reads.0 ≡ at + len
-    ended = omega (arith, left, reads.2, so.within)
+    ended : length bytes - length is_read.reads.0 ≡ at + len
+    ended = omega (arith, left, is_read.reads.2, so.within)
 
     here : drop at bytes ≡ output_text version output ++ drop (at + len) bytes
     here =
-        begins.text ∙ ap (λ z. output_text version output ++ z)
-        (sym (sym (drop-drop len at bytes) ∙ ap (λ n. drop n (drop at bytes)) begins.size
-        ∙ ap (drop (length (output_text version output))) begins.text
-        ∙ drop_front (output_text version output) begins.rest))
+        is_read.begins.text ∙ ap (λ z. output_text version output ++ z)
+        (sym (sym (drop-drop len at bytes) ∙ ap (λ n. drop n (drop at bytes)) is_read.begins.size
+        ∙ ap (drop (length (output_text version output))) is_read.begins.text
+        ∙ drop_front (output_text version output) is_read.begins.rest))
 
-    one_more : outputs_text version (outputs ++ output ∷ []) ≡ outputs_text version outputs ++ output_text version output
+    one_more : outputs_text version (outputs ++ output ∷ [])
+        ≡ outputs_text version outputs ++ output_text version output
     one_more =
         flat_map-append (output_text version) outputs (output ∷ [])
         ∙ ap (λ z. outputs_text version outputs ++ z) (append-nil (output_text version output))
+
+-- so it is of what was told where the bytes are those that are left
+pub read_more : (place : OutputsOf) (outputs : List Output) (rank at len : ℕ) (wanted : Wanted) (left : List ℕ)
+    (output : Output) → wanted ≡ wanted_of place.job rank → left ≡ drop at place.bytes
+    → rank < place.job.settings.nodes → length place.bytes ≤ input_limit → ReadSoFar place outputs rank at
+    → IsRead wanted left output len → ReadSoFar place (outputs ++ output ∷ []) (rank + 1) (at + len)
+read_more place outputs rank at len wanted left output same there low size so is_read =
+    read_next place outputs rank at len output low size so
+    (subst (λ (bytes : List ℕ). IsRead (wanted_of place.job rank) bytes output len) there
+    (subst (λ (it : Wanted). IsRead it left output len) same is_read))
 
 -- all were read
 pub read_end : (place : OutputsOf) (outputs : List Output) (rank at : ℕ) → place.job.settings.nodes ≤ rank
@@ -269,6 +297,36 @@ read_bad place outputs rank at bad low so none read =
           let next = next_there place outputs rank at others rest low so there in
           none next.output (length (output_text place.job.settings.version next.output)) next.begins;
     }
+
+-- what is told where none was read at the front of these bytes
+pub record IsUnreadable (wanted : Wanted) (bytes : List ℕ) (fault : TraceFault) : Type 0 where
+  pub gives : (other : Output) (size : ℕ) → OutputBegins wanted bytes other size → GivesOutput other size (Err fault)
+  pub reads : ReadsOutput (length bytes) (Err fault) (output_at wanted bytes)
+
+none_next : (place : OutputsOf) (outputs : List Output) (rank at : ℕ) (fault : TraceFault)
+    → rank < place.job.settings.nodes → ReadSoFar place outputs rank at
+    → IsUnreadable (wanted_of place.job rank) (drop at place.bytes) fault
+    → ReadsOutputs place (Err (fault_behind (take at place.bytes) fault))
+none_next place outputs rank at (tracefaults.Bad line reason) low so unreadable =
+    read_bad place outputs rank at (record { line = line; why = reason }) low so unreadable.gives unreadable.reads
+none_next place outputs rank at tracefaults.NoMemory low so unreadable = tt
+
+-- so it is of what was told where the bytes are those that are left
+pub none_more : (place : OutputsOf) (outputs : List Output) (rank at : ℕ) (wanted : Wanted) (before left : List ℕ)
+    (fault : TraceFault) (told : InputFault) → told ≡ fault_behind before fault → before ≡ take at place.bytes
+    → wanted ≡ wanted_of place.job rank → left ≡ drop at place.bytes → rank < place.job.settings.nodes
+    → ReadSoFar place outputs rank at → IsUnreadable wanted left fault → ReadsOutputs place (Err told)
+none_more place outputs rank at wanted before left fault told is front same there low so unreadable =
+    subst (λ (it : InputFault). ReadsOutputs place (Err it))
+    (sym (is ∙ ap (λ (bytes : List ℕ). fault_behind bytes fault) front))
+    (none_next place outputs rank at fault low so
+    (subst (λ (bytes : List ℕ). IsUnreadable (wanted_of place.job rank) bytes fault) there
+    (subst (λ (it : Wanted). IsUnreadable it left fault) same unreadable)))
+
+-- a line that is near in few bytes is near in many
+pub near_more : (few many : ℕ) (fault : TraceFault) → few ≤ many → IsNear few fault → IsNear many fault
+near_more few many (tracefaults.Bad line reason) more near = omega (arith, more, near)
+near_more few many tracefaults.NoMemory more near = tt
 
 -- ---- the whole input
 
@@ -374,3 +432,60 @@ bad_front bytes line reason read means none = record {
   line_is = inl (record { read = read; means = means });
   none = λ job outputs text. none job (length (job_text job)) (input_front job outputs bytes text);
 }
+
+-- ---- what the readers tell
+
+front_within : (front rest bytes : List ℕ) → bytes ≡ front ++ rest → length front ≤ length bytes
+front_within front rest bytes text = omega (arith, length-append front rest, ap length text)
+
+-- the text at the front is within the bytes
+pub begins_within : (job : JobState) (size : ℕ) (bytes : List ℕ) → BeginsWith job size bytes → size ≤ length bytes
+begins_within job size bytes front =
+    subst (λ (n : ℕ). n ≤ length bytes) (sym front.long) (front_within (job_text job) front.rest bytes front.text)
+
+-- the reader of the front refused it
+pub front_refused : (bytes : List ℕ) (fault : JobFault) (line : ℕ) (reason : JobWhy) → fault ≡ jobfaults.Bad line reason
+    → IsNoMemory fault ⊎ refusals.IsBadFront bytes fault → IsFrontMeant bytes fault
+    → IsNoMemory fault ⊎ ((job : JobState) (size : ℕ) → BeginsWith job size bytes → ⊥) → IsBadInput bytes line reason
+front_refused bytes jobfaults.NoMemory line reason is bad meant none = absurd (cc)
+front_refused bytes (jobfaults.Bad n why) line reason is (inl memory) meant none = absurd memory
+front_refused bytes (jobfaults.Bad n why) line reason is (inr bad) meant (inl memory) = absurd memory
+front_refused bytes (jobfaults.Bad n why) line reason is (inr bad) meant (inr none) =
+    let told : refusals.IsBadFront bytes (jobfaults.Bad line reason) = subst (refusals.IsBadFront bytes) is bad in
+    let means : IsFrontMeant bytes (jobfaults.Bad line reason) = subst (IsFrontMeant bytes) is meant in
+    bad_front bytes line reason told means none
+
+-- the reader of the outputs behind it refused one
+pub behind_refused : (job : JobState) (size : ℕ) (bytes : List ℕ) (fault : InputFault) → BeginsWith job size bytes
+    → IsOneFront job size bytes → ReadsOutputs (place_of job bytes size) (Err fault) → IsRefused bytes fault
+behind_refused job size bytes (faults.Bad line reason) front one unread =
+    bad_output job size bytes line reason front one unread
+behind_refused job size bytes faults.ReadFault front one unread = unread
+behind_refused job size bytes faults.NoMemory front one unread = tt
+
+-- a source was read to its end
+took_all : (old new : Option (List ℕ)) (before after : ℕ) (bytes : List ℕ) (told : Result CheckInput InputFault)
+    → Consumes old new bytes → IsAtEnd new
+    → MatchResult told (λ input. IsInput bytes input.job input.outputs.items) (IsRefused bytes)
+    → MatchResult told (λ input. TakesInput old new input.job input.outputs.items) (IsUnread old new before after)
+took_all old new before after bytes (Ok input) read ended is =
+    record { bytes = bytes; read = read; ended = ended; is_input = is }
+took_all old new before after bytes (Err (faults.Bad line reason)) read ended is =
+    record { bytes = bytes; read = read; none = inr (ended, is) }
+took_all old new before after bytes (Err faults.ReadFault) read ended is = absurd is
+took_all old new before after bytes (Err faults.NoMemory) read ended is = tt
+
+pub took_these : (old new : Option (List ℕ)) (before after : ℕ) (bytes seen : List ℕ)
+    (told : Result CheckInput InputFault) → seen ≡ bytes
+    → (length bytes ≤ input_limit) × Consumes old new bytes × IsAtEnd new
+    → MatchResult told (λ input. IsInput seen input.job input.outputs.items) (IsRefused seen)
+    → MatchResult told (λ input. TakesInput old new input.job input.outputs.items) (IsUnread old new before after)
+took_these old new before after bytes seen told same all is =
+    took_all old new before after bytes told all.1 all.2
+    (subst (λ (these : List ℕ). MatchResult told (λ input. IsInput these input.job input.outputs.items)
+    (IsRefused these)) same is)
+
+-- a source was read past the limit
+pub took_more : (old new : Option (List ℕ))
+    → (bytes : List ℕ) × (input_limit < length bytes) × Consumes old new bytes → TakesNone old new 0 why.Size
+took_more old new long = record { bytes = long.0; read = long.2; none = inl (long.1, refl, refl) }

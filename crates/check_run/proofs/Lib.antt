@@ -4,7 +4,9 @@ pub mod Pushed
 pub mod Greater
 pub mod StepText
 pub mod Going
+pub mod Replays
 pub mod Merged
 pub mod Inputs
 pub mod Turning
 pub mod Ends
+pub mod RunLines

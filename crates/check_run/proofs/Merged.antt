@@ -1,15 +1,14 @@
 -- What a merge of the machines of a job's nodes says of their traces.
-use Rattle.std.proofs.Common.{◌≡◌, ℕ, zero, suc, ◌+◌, ◌<◌, ◌≤◌, List, [], ◌∷◌, length, map, take, Option, Some, None}
-use Rattle.std.proofs.Common.{refl, sym, ap, ap₂, subst, ◌∙◌, arith, slice_get, slice_index, IsSomeAnd, take_all}
+use Rattle.std.proofs.Common.{◌≡◌, ℕ, zero, suc, ◌+◌, ◌<◌, ◌≤◌, List, [], ◌∷◌, ◌++◌, length, map, take, drop, Option}
+use Rattle.std.proofs.Common.{Some, None}
+use Rattle.std.proofs.Common.{refl, sym, ap, subst, ◌∙◌, arith, slice_get, slice_index, IsSomeAnd, take_all}
 use Rattle.std.specs.Prelude.{All, Result, Ok, Err, Vec}
 use Rattle.std.specs.Global.{Global}
 use Rattle.std.specs.Result.{IsErrOf}
-use Rattle.std.specs.Option.{ForSome, option_map}
-use Rattle.std.proofs.lemmas.List.{length-map}
-use Rattle.std.proofs.lemmas.Option.{same_Some, slice_get-map, slice_get_within}
-use Rattle.handler_rules.specs.declared.table.Entry.{Entry as TableEntry}
-use Rattle.datagram_grammar.specs.Parameters.{Parameters}
-use Rattle.gas_endpoint.specs.EndpointState.{EndpointState, EndpointStands, IsNodeOf}
+use Rattle.std.specs.Option.{option_map}
+use Rattle.std.proofs.lemmas.List.{append-nil, drop_all, length-map}
+use Rattle.std.proofs.lemmas.Option.{same_Some, slice_get-map}
+use Rattle.gas_endpoint.specs.EndpointState.{EndpointState, IsNodeOf}
 use Rattle.gasnet_trace.specs.Merged.{AreReplays, HaveThreads, IsOrder, Merges, StandFor, nodes_of}
 use Rattle.gasnet_trace.specs.declared.merging.MergeFault.{MergeFault}
 use Rattle.gasnet_trace.specs.declared.merging.MergeFault.TheVariants as faults
@@ -25,19 +24,17 @@ use Rattle.node_machine.specs.Kept.{MachineKept, are_done, polls_at}
 use Rattle.node_machine.specs.Laws.{AreTracesARun, NodesOpen, opening_node}
 use Rattle.node_machine.specs.NodeState.{NodeState, NodeStands, after_turn, opening_state, polls_in, script_job}
 use Rattle.node_machine.specs.NodeState.{scripts_at, sent, state_of, state_steps, turned}
-use Rattle.node_record.specs.Record.{Node as Record}
 use Rattle.node_runs.specs.Merged.{carried, nodes_from}
 use Rattle.node_runs.specs.Order.{replay as replay_of}
 use Rattle.node_runs.specs.WorldRun.{opening_machines}
 use Rattle.node_script.specs.Registration.{registered}
-use Rattle.endpoint_rules.specs.EndpointLocal.{EndpointLocal}
 use Rattle.check_run.specs.CheckInputs.{IsTraceOf}
 use Rattle.check_run.specs.Merging.{AreEndpointsOf, AreFirstMachines, IsMerged, IsOfItsJob, MergesTraces}
 use Rattle.check_run.specs.Replaying.{ScriptedNode, node_state}
 use Rattle.check_run.specs.StepLines.{after_entry}
-use Rattle.check_run.specs.TracesRun.{AreNoRun, AreNodesAfter, IsNodeAfter, RunOfTraces, entries_of, first_machine, first_nodes}
-use Rattle.check_run.specs.TracesRun.{last_record}
-use Rattle.check_run.proofs.Polling.{All-at, full_at, run_may, some_from}
+use Rattle.check_run.specs.TracesRun.{AreNoRun, AreNodesAfter, IsNodeAfter, RunOfTraces, entries_of, first_machine}
+use Rattle.check_run.specs.TracesRun.{first_nodes}
+use Rattle.check_run.proofs.Polling.{All-at, full_at, run_may}
 
 -- the machines of nodes: their states are those of `node_machine`
 abbrev pub node_machines : Ghosts MachineKept
@@ -70,8 +67,8 @@ stand_from job rank (machine ∷ machines) stand =
     let here : rank + 0 ≡ rank = omega arith in (
       subst (λ n. NodeStands machine (opening_state job n)) here (stand 0 machine refl),
       stand_from job (rank + 1) machines (λ place other there.
-      let same : rank + suc place ≡ (rank + 1) + place = omega arith in
-      subst (λ n. NodeStands other (opening_state job n)) same (stand (suc place) other there)),
+          let same : rank + suc place ≡ (rank + 1) + place = omega arith in
+          subst (λ n. NodeStands other (opening_state job n)) same (stand (suc place) other there)),
     )
 
 pub first_stand : (job : JobState) (machines : List MachineKept) → AreFirstMachines job machines
@@ -109,6 +106,13 @@ abbrev pub Fronts : (machines : List MachineKept) (traces : List Trace) → (the
 Fronts machines traces then_ answer =
     (front : List ℕ) × ((states : List NodeState) → StandFor node_machines machines states
     → Merges node_machines (nodes_of states traces) front answer then_)
+
+-- what holds where it answers that there is no run
+abbrev pub HasNoRun : (machines : List MachineKept) (traces : List Trace) → Result (Vec Placed Global) MergeFault
+    → Type 0
+HasNoRun machines traces answer =
+    (states : List NodeState) → StandFor node_machines machines states → (node entry : ℕ)
+    → IsErrOf answer (faults.NotARun node entry) → IsRun state_steps (nodes_of states traces) → ⊥
 
 -- so it is of the nodes of the job
 merged_first : (job : JobState) (traces : List Trace) (machines then_ : List MachineKept)
@@ -192,13 +196,21 @@ nodes_after opens job traces machines endpoints count replays are = record {
 }
   where
     from_machine : (rank : ℕ) (endpoint : EndpointState) (found : Option MachineKept)
-        → slice_get machines rank ≡ found → option_map (λ (machine : MachineKept). machine.endpoint) found ≡ Some endpoint
+        → slice_get machines rank ≡ found
+        → option_map (λ (machine : MachineKept). machine.endpoint) found ≡ Some endpoint
         → IsSomeAnd (slice_get traces rank) (λ trace. IsNodeAfter job rank trace endpoint)
     from_machine rank endpoint None at same = absurd (cc)
     from_machine rank endpoint (Some machine) at same =
         subst (λ (one : EndpointState). IsSomeAnd (slice_get traces rank) (λ trace. IsNodeAfter job rank trace one))
         (same_Some machine.endpoint endpoint same)
         (node_after opens job traces machines rank machine replays (are.nodes rank machine at) at)
+
+-- the list of the machines, after all of its slice was written
+pub refilled_all : (len : ℕ) (old new : List MachineKept) → len ≡ length old → length new ≡ length old
+    → take len (new ++ drop (length new) old) ≡ new
+refilled_all len old new same as_many =
+    ap (λ (rest : List MachineKept). take len (new ++ rest)) (drop_all (length new) old (omega arith))
+    ∙ ap (take len) (append-nil new) ∙ take_all len new (omega arith)
 
 -- ---- what is answered
 
@@ -242,10 +254,7 @@ merged_none job traces machines then_ node entry count first front none =
 -- so of either
 pub merged_err : (job : JobState) (traces : List Trace) (machines then_ : List MachineKept) (fault : MergeFault)
     → length traces ≡ job.settings.nodes → AreFirstMachines job machines → Fronts machines traces then_ (Err fault)
-    → ((states : List NodeState) → StandFor node_machines machines states → (node entry : ℕ)
-    → IsErrOf (Err {T = Vec Placed Global} fault) (faults.NotARun node entry)
-    → IsRun state_steps (nodes_of states traces) → ⊥)
-    → MergesTraces job traces (Err fault)
+    → HasNoRun machines traces (Err fault) → MergesTraces job traces (Err fault)
 merged_err job traces machines then_ (faults.NotARun node entry) count first front none =
     merged_none job traces machines then_ node entry count first front
     (λ states stand run. none states stand node entry refl run)

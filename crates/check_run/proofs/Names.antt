@@ -1,6 +1,7 @@
 -- What the answer of a step names is there at its node after the turn in which the step ended; and each step that a
 -- turn began has a handle.
-use Rattle.std.proofs.Common.{◌≡◌, ℕ, ◌+◌, ◌≤◌, ◌==◌, ◌%◌, Bool, true, false, not, List, [], ◌∷◌, ◌++◌, length, Option, Some}
+use Rattle.std.proofs.Common.{◌≡◌, ℕ, ◌+◌, ◌≤◌, ◌==◌, ◌%◌, Bool, true, false, not, List, [], ◌∷◌, ◌++◌, length, Option}
+use Rattle.std.proofs.Common.{Some}
 use Rattle.std.proofs.Common.{None, refl, sym, ap, subst, ◌∙◌, append-nil, if◌then◌else◌}
 use Rattle.std.specs.Prelude.{ℤ, IfSome, is_some, is_none, nat_lt, ◌&&◌, int_le}
 use Rattle.std.specs.Option.{option_map, option_to_list}
@@ -11,12 +12,11 @@ use Rattle.handler_rules.specs.declared.rules.CallKind.TheVariants as kind
 use Rattle.handler_rules.specs.declared.table.Entry.{Entry as TableEntry}
 use Rattle.handler_rules.specs.Runs.{Meaning}
 use Rattle.lists.specs.Put.{put}
-use Rattle.node_record.specs.NodeStep.{Does, NodeEvent, done, node_after, node_answer}
+use Rattle.node_record.specs.NodeStep.{Does, done, node_after, node_answer}
 use Rattle.node_record.specs.Record.{Node}
 use Rattle.node_record.specs.Step.{is_worn_out}
 use Rattle.am_core.specs.ClientRules.{rules}
 use Rattle.am_core.specs.Kept.{segment_of}
-use Rattle.endpoint_rules.specs.BarrierCalls.{TryBarrier}
 use Rattle.endpoint_rules.specs.Called.{Requests, Performs, node_event}
 use Rattle.endpoint_rules.specs.CoreCalls.{Poll, Attempt, Lock, Unlock, Cell, SetCell, OnSegment}
 use Rattle.endpoint_rules.specs.EndpointLocal.{EndpointLocal}
@@ -32,21 +32,20 @@ use Rattle.endpoint_rules.specs.declared.answer.Local.TheVariants as local
 use Rattle.put_get.specs.declared.operation.Handle.{Handle}
 use Rattle.gas_endpoint.specs.EndpointState.{EndpointState, EndpointStands}
 use Rattle.job_text.specs.declared.job.Job.{Job as JobState}
-use Rattle.job_text.specs.declared.job.ScheduledCall.{ScheduledCall}
 use Rattle.job_text.specs.declared.job.ScriptStep.{ScriptStep}
 use Rattle.job_text.specs.declared.job.ScriptStep.TheVariants as step
 use Rattle.job_text.specs.declared.job.WaitingStep.{WaitingStep}
 use Rattle.job_text.specs.declared.job.WaitingStep.TheVariants as waiting
 use Rattle.machine.specs.declared.entry.Entry.{Entry}
 use Rattle.node_machine.specs.NodeState.{script_job}
-use Rattle.node_runs.specs.Actions.{Form, Once, Again, Until, Twice, Looks, Progress, begins, ended_by, next_call}
-use Rattle.node_runs.specs.Actions.{progress_after, reached, tried_form, tried_step, unless}
+use Rattle.node_runs.specs.Actions.{Form, Once, Again, Until, Twice, Looks, Progress, begins, ended_by}
+use Rattle.node_runs.specs.Actions.{progress_after, reached, tried_step, unless}
 use Rattle.node_runs.specs.Scripts.{ThreadCall}
-use Rattle.node_runs.specs.Turn.{as_tried, first_events, node_run, tried_answer, tried_call, turn_events}
-use Rattle.node_script.specs.AnswersTold.{HasRange, NamesItsBytes, NamesWhatIs}
+use Rattle.node_runs.specs.Turn.{as_tried, first_events, node_run, tried_answer, tried_call}
+use Rattle.node_script.specs.AnswersTold.{HasRange, NamesWhatIs}
 use Rattle.node_script.specs.Bodies.{script_meaning}
 use Rattle.node_script.specs.Registration.{registered}
-use Rattle.script_steps.specs.Forms.{as_synced, begun_handle, is_issued, is_sent, step_form, sync_of, tried_while}
+use Rattle.script_steps.specs.Forms.{as_synced, begun_handle, is_issued, step_form, tried_while}
 use Rattle.script_steps.specs.Forms.{waiting_form, waits_of}
 use Rattle.world_run.proofs.ToldAnswers.{asked_names, barrier_names, judged_names, range_names, show_names}
 use Rattle.world_run.proofs.ToldAnswers.{transfer_names, unless_names, word_names}
@@ -148,7 +147,8 @@ made_names : (endpoint : EndpointState) (settings : Parameters) (table : List (O
     (option_to_list (option_map (node_event thread) call)) node)
     → endpoint.core.settings ≡ settings
     → IfSome (option_map (λ (made : ThreadCall).
-    told (node_answer (job_of settings table meaning) me node now (node_event thread made))) call) (NamesWhatIs endpoint)
+    told (node_answer (job_of settings table meaning) me node now (node_event thread made))) call)
+    (NamesWhatIs endpoint)
 made_names endpoint settings table meaning me thread now node None stands same = tt
 made_names endpoint settings table meaning me thread now node (Some call) stands same =
     thread_names endpoint settings table meaning me thread now node call stands same
@@ -341,8 +341,8 @@ form_handles (Looks begin ready) after (Some answer) sound begun none =
     sound answer after (not_true (ready answer after) (waited (not (ready answer after)) answer none))
 
 -- what is left where a try ended nothing
-abbrev left_then : (action : ScriptStep) → (rest : List ScriptStep) → (begins_it : Bool) → (first answer : Option Answer)
-    → Progress ScriptStep
+abbrev left_then : (action : ScriptStep) → (rest : List ScriptStep) → (begins_it : Bool)
+    → (first answer : Option Answer) → Progress ScriptStep
 left_then action rest begins_it first answer =
     if begins_it && is_none first then record { left = action ∷ rest; began = answer }
     else record { left = action ∷ rest; began = first }

@@ -1,23 +1,22 @@
 -- The entries of traces that are a run may be taken, node by node: each that got something is of a thread that polls
 -- then.
-use Rattle.std.proofs.Common.{◌≡◌, ◌≢◌, ℕ, zero, suc, ◌+◌, ◌<◌, ◌≤◌, true, List, [], ◌∷◌, length, map, take, Option, Some, None}
+use Rattle.std.proofs.Common.{◌≡◌, ℕ, zero, suc, ◌+◌, ◌<◌, ◌≤◌, true, List, [], ◌∷◌, length, Option, Some, None}
 use Rattle.std.proofs.Common.{refl, sym, ap, subst, ◌∙◌, inl, inr, arith, slice_get, slice_index, IsSome, IsSomeAnd}
 use Rattle.std.specs.Prelude.{All}
 use Rattle.std.specs.Option.{option_map}
 use Rattle.std.proofs.lemmas.Bool.{cases_eq, false≢true}
 use Rattle.std.proofs.lemmas.List.{get_or-set_same, get_or-set_other, length-set, length-map}
 use Rattle.std.proofs.lemmas.Option.{get_or_from_slice_get, same_Some, slice_get-map, slice_get_within}
-use Rattle.endpoint_rules.specs.EndpointLocal.{EndpointLocal}
 use Rattle.gasnet_trace.specs.declared.trace.Trace.{Trace}
 use Rattle.job_text.specs.declared.job.Job.{Job as JobState}
 use Rattle.machine.specs.declared.entry.Entry.{Entry}
-use Rattle.machine.specs.Replay.{Steps, after_entry, replayed}
+use Rattle.machine.specs.Replay.{Steps}
 use Rattle.machine.specs.Fronts.{Node, CanGet, CanGo, GoesOn, Reaches, advance, full, replay, start}
 use Rattle.node_machine.specs.Laws.{NodesOpen, opening_node}
-use Rattle.node_machine.specs.NodeState.{NodeState, opening_state, state_steps}
+use Rattle.node_machine.specs.NodeState.{state_steps}
 use Rattle.check_run.specs.CheckInputs.{IsTraceOf}
 use Rattle.check_run.specs.StepLines as lines
-use Rattle.check_run.specs.Replaying.{MayReplay, MayTake, MayTakeAll, ScriptedNode, node_state}
+use Rattle.check_run.specs.Replaying.{MayReplay, MayTakeAll, ScriptedNode, node_state}
 use Rattle.check_run.specs.TracesRun.{RunOfTraces, entries_of, first_machine, first_nodes}
 
 -- ---- fronts
@@ -119,8 +118,8 @@ may_take job rank machine [] threads polled = tt
 may_take job rank machine (entry ∷ entries) threads polled = (
   record { thread = threads 0 entry (omega arith); polls = polled 0 (omega arith) entry refl },
   may_take job rank (lines.after_entry job rank machine entry) entries
-  (λ place other inside. threads (suc place) other (omega arith))
-  (λ place inside other at some. polled (suc place) (omega arith) other at some),
+      (λ place other inside. threads (suc place) other (omega arith))
+      (λ place inside other at some. polled (suc place) (omega arith) other at some),
 )
 
 -- the node of a rank
@@ -148,8 +147,8 @@ take_from job rank (trace ∷ traces) may =
     let here : rank + 0 ≡ rank = omega arith in (
       subst (λ n. P n trace.entries) here (may 0 trace refl),
       take_from job (rank + 1) traces (λ place other there.
-      let same : rank + suc place ≡ (rank + 1) + place = omega arith in
-      subst (λ n. P n other.entries) same (may (suc place) other there)),
+          let same : rank + suc place ≡ (rank + 1) + place = omega arith in
+          subst (λ n. P n other.entries) same (may (suc place) other there)),
     )
 
 -- all nodes of a run may take the entries of their traces

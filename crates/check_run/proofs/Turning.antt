@@ -1,6 +1,7 @@
 -- What the code's machine is after the turn of an entry, and what is told of the step that ended in it.
-use Rattle.std.proofs.Common.{◌≡◌, ℕ, Bool, true, false, ◌||◌, not, List, [], ◌∷◌, Option, Some, None, refl, sym, ap, subst}
-use Rattle.std.proofs.Common.{◌∙◌, decimal, append-nil}
+use Rattle.std.proofs.Common.{◌≡◌, ℕ, Bool, true, false, ◌||◌, not, List, ◌∷◌, Option, Some, None, refl, sym, ap, subst}
+use Rattle.std.proofs.Common.{◌∙◌, decimal, append-nil, max}
+use Rattle.std.specs.Ordering.{nat_cmp, ord_max}
 use Rattle.std.specs.Prelude.{is_some, if◌then◌else◌, IfSome, option_copied}
 use Rattle.std.specs.Borrow.{Bor}
 use Rattle.std.proofs.lemmas.Bool.{false≢true, true≢false}
@@ -25,9 +26,9 @@ use Rattle.node_script.specs.AnswerWords.{answer_words, sight_of}
 use Rattle.node_script.specs.Lines.{line_text, spell}
 use Rattle.node_script.specs.Registration.{registered}
 use Rattle.endpoint_rules.specs.declared.answer.Answer.{Answer}
-use Rattle.world_run.proofs.LinesWritten.{one_line}
-use Rattle.check_run.specs.Replaying.{CanTake, IsNodeAt, ScriptedNode, TakesEntry, entry_lines, node_state}
+use Rattle.check_run.specs.Replaying.{CanTake, IsNodeAt, ScriptedNode, TakesEntry, node_state}
 use Rattle.check_run.specs.StepLines.{after_entry, answer_of_step, lines_of_answer}
+use Rattle.check_run.proofs.Greater.{max_is}
 use Rattle.check_run.proofs.Names.{after_handles, ended_names}
 
 -- ---- before the turn
@@ -77,7 +78,8 @@ is_true false is = absurd (true≢false is)
 
 -- it is the node after the entry
 node_then : (job : JobState) (rank : ℕ) (machine : ScriptedNode) (entry : Entry) (old new : MachineKept) (told : Turned)
-    → Turns entry old new told → IsNodeAt job rank machine old → IsNodeAt job rank (after_entry job rank machine entry) new
+    → Turns entry old new told → IsNodeAt job rank machine old
+    → IsNodeAt job rank (after_entry job rank machine entry) new
 node_then job rank machine entry old new told turns is = record {
   stands = turns.0 (node_state job rank machine) is.stands;
   handles = after_handles job rank machine entry is.handles;
@@ -88,8 +90,8 @@ none_of None is = refl
 none_of (Some x) is = absurd (true≢false is)
 
 -- whether a step ended
-stepped_so : (job : JobState) (rank : ℕ) (machine : ScriptedNode) (entry : Entry) (old new : MachineKept) (told : Turned)
-    → Turns entry old new told → IsNodeAt job rank machine old
+stepped_so : (job : JobState) (rank : ℕ) (machine : ScriptedNode) (entry : Entry) (old new : MachineKept)
+    (told : Turned) → Turns entry old new told → IsNodeAt job rank machine old
     → told.stepped ≡ is_some (answer_of_step job rank machine entry)
 stepped_so job rank machine entry old new told turns is =
     ap (λ (it : Turned). it.stepped) (turns.1 (node_state job rank machine) is.stands)
@@ -102,8 +104,8 @@ none_ended rank entry old new told out turns none = λ job machine is.
     (sym (stepped_so job rank machine entry old new told turns is) ∙ none) in (
       node_then job rank machine entry old new told turns is,
       subst (λ (answer : Option Answer). Gathers out out (spell (lines_of_answer job
-      (record { rank = rank; thread = entry.thread }) (after_entry job rank machine entry).node answer))) (sym no)
-      (gathers_none out),
+          (record { rank = rank; thread = entry.thread }) (after_entry job rank machine entry).node answer))) (sym no)
+          (gathers_none out),
     )
 
 -- one ended: the machine keeps its answer
@@ -189,13 +191,13 @@ one_ended rank entry old new told endpoint answer before after wrote turns some 
     ∷ answer_words (sight_of job.settings rank record_) answer)) in (
       now,
       subst (λ (found : Option Answer). GathersAll before after (spell (lines_of_answer job
-      (record { rank = rank; thread = entry.thread }) record_ found)) wrote) (sym ended)
-      (subst (λ (bytes : List ℕ). GathersAll before after bytes wrote) (sym whole) line),
+          (record { rank = rank; thread = entry.thread }) record_ found)) wrote) (sym ended)
+          (subst (λ (bytes : List ℕ). GathersAll before after bytes wrote) (sym whole) line),
     )
 
 -- ---- what a node holds
 
-pub held_so : (job : JobState) (rank : ℕ) (machine : ScriptedNode) (kept : MachineKept) (endpoint : EndpointState)
+held_so : (job : JobState) (rank : ℕ) (machine : ScriptedNode) (kept : MachineKept) (endpoint : EndpointState)
     (value : ℕ) → IsNodeAt job rank machine kept → endpoint ≡ kept.endpoint
     → IsNodeOf kept.job.settings (registered kept.job.handlers).table endpoint.core.me endpoint
     → ForItsRecord endpoint (λ node. value ≡ held endpoint.core.settings endpoint.core.me node)
@@ -206,3 +208,13 @@ held_so job rank machine kept endpoint value is same node holds =
     let me : endpoint.core.me ≡ rank = ap (λ (one : EndpointState). one.core.me) same ∙ sym is.stands.me_is in
     holds machine.node stands ∙ ap (λ (s : Parameters). held s endpoint.core.me machine.node) settings
     ∙ ap (λ n. held job.settings n machine.node) me
+
+-- the most so far, with what it holds
+pub most_so : (job : JobState) (rank : ℕ) (machine : ScriptedNode) (kept : MachineKept) (endpoint : EndpointState)
+    (most more value : ℕ) → more ≡ ord_max nat_cmp most value → IsNodeAt job rank machine kept
+    → endpoint ≡ kept.endpoint
+    → IsNodeOf kept.job.settings (registered kept.job.handlers).table endpoint.core.me endpoint
+    → ForItsRecord endpoint (λ node. value ≡ held endpoint.core.settings endpoint.core.me node)
+    → more ≡ max most (held job.settings rank machine.node)
+most_so job rank machine kept endpoint most more value greater is same node holds =
+    greater ∙ max_is most value ∙ ap (max most) (held_so job rank machine kept endpoint value is same node holds)

@@ -137,7 +137,6 @@ pub record IsTraceOf (job : JobState) (trace : Trace) : Type 0 where
 abbrev pub HaveTraces : JobState → List Output → Type 0
 HaveTraces job outputs = All (λ output. IsTraceOf job output.trace) outputs
 
-
 -- the fault of an output behind these bytes
 abbrev pub fault_behind : List ℕ → TraceFault → InputFault
 fault_behind before (tracefaults.Bad line reason) = faults.Bad (lines_in before + line) (why_of reason)

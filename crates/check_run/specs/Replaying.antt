@@ -16,7 +16,7 @@ use Rattle.node_script.specs.Lines.{Line, spell}
 use Rattle.script_steps.specs.Forms.{begun_handle}
 use Rattle.endpoint_rules.specs.EndpointLocal.{EndpointLocal}
 use Rattle.world_run.specs.LinesWritten.{LinesUpTo}
-use Rattle.check_run.specs.StepLines.{after_entry, answer_of_step, lines_of_answer, most_held, step_lines, steps_from}
+use Rattle.check_run.specs.StepLines.{after_entry, answer_of_step, lines_of_answer, most_held, step_lines}
 use Rattle.check_run.specs.TracesRun.{first_machine}
 use Rattle.check_run.specs.declared.replaying.Replayed.{Replayed}
 use Rattle.check_run.specs.declared.replaying.Replayed.TheVariants as replayed

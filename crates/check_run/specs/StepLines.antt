@@ -41,7 +41,8 @@ after_entry job rank machine entry =
     (turn (script_job job) rank machine entry.thread entry.now entry.got).after
 
 -- the answer of the step that ended in it, if one did
-abbrev pub answer_of_step : JobState → (rank : ℕ) → MachineState EndpointLocal (OwnScripts ScriptStep) → Entry → Option Answer
+abbrev pub answer_of_step : JobState → (rank : ℕ) → MachineState EndpointLocal (OwnScripts ScriptStep) → Entry
+    → Option Answer
 answer_of_step job rank machine entry =
     (try_of (script_job job) rank machine entry.thread entry.now entry.got).ended
 

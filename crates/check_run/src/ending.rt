@@ -16,7 +16,8 @@ use gas_endpoint::Endpoint;
 use gas_outside::{BufferedSink, Sink, Wrote};
 use world_run::{write_node_line, write_violations};
 
-/// Writes the lines of a node: its own, with the most message buffers that it held, and one for each of its last violations.
+/// Writes the lines of a node: its own, with the most message buffers that it held, and one for each of its last
+/// violations.
 fn write_end<K: Sink>(
     endpoint: &Endpoint,
     rank: u16,

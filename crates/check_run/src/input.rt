@@ -4,7 +4,7 @@ ghost use Rattle.std.specs.Prelude.{◌≡◌, ◌≤◌, MatchResult, length};
 ghost use Rattle.gasnet_trace.specs.OutputReading.{IsNear};
 ghost use Rattle.check_run.specs.CheckInputs.{IsInput, IsRefused, IsUnread, TakesInput};
 ghost use Rattle.check_run.specs.CheckInputs.{ReadsOutputs, OutputsOf, fault_behind};
-ghost use Rattle.check_run.specs.CheckInputs.{lines_in, why_of};
+ghost use Rattle.check_run.specs.CheckInputs.{lines_in, wanted_of, why_of};
 
 use gas_outside::{ReadAll, Source, read_all};
 use gasnet_trace::{Output, TraceFault, TraceWhy, Wanted, read_output};
@@ -74,6 +74,18 @@ fn fault_behind(before: &[u8], fault: TraceFault) -> InputFault
     }
 }
 
+/// The node of this rank of the job, as that whose output is wanted.
+fn wanted_of(job: &Job, rank: u16) -> Wanted
+    ensures { result ≡ wanted_of job.now rank }
+{
+    Wanted {
+        version: job.settings.version(),
+        threads: job.settings.threads(),
+        job: job.settings.job(),
+        rank,
+    }
+}
+
 /// The outputs of the job's nodes, which begin at this place of the bytes, and where they end.
 fn outputs_from(
     alloc: Global,
@@ -89,13 +101,7 @@ fn outputs_from(
     let mut at = from;
     for rank in 0..job.settings.nodes() {
         let (before, rest) = bytes.split_at(at);
-        let wanted = Wanted {
-            version: job.settings.version(),
-            threads: job.settings.threads(),
-            job: job.settings.job(),
-            rank,
-        };
-        let (output, len) = match read_output(alloc, rest, wanted) {
+        let (output, len) = match read_output(alloc, rest, wanted_of(job, rank)) {
             Ok(read) => read,
             Err(fault) => return Err(fault_behind(before, fault)),
         };
@@ -118,10 +124,7 @@ fn input_of(alloc: Global, bytes: &[u8]) -> Result<CheckInput, InputFault>
         Err(JobFault::Bad { line, why }) => return Err(InputFault::Bad { line, why }),
         Err(JobFault::NoMemory) => return Err(InputFault::NoMemory),
     };
-    let (outputs, end) = match outputs_from(alloc, &job, bytes, from) {
-        Ok(read) => read,
-        Err(fault) => return Err(fault),
-    };
+    let (outputs, end) = outputs_from(alloc, &job, bytes, from)?;
     if end < bytes.len() {
         let (read, _) = bytes.split_at(end);
         let line = lines_in(read) as u32 + 1;
@@ -135,8 +138,9 @@ fn input_of(alloc: Global, bytes: &[u8]) -> Result<CheckInput, InputFault>
 ///
 /// # Errors
 ///
-/// `Bad` exactly where the bytes are no such input or more than 67,108,864, with the first bad line and the first reason that applies
-/// to it; `ReadFault` only where the source's count of faults rose, or stands at its last value; `NoMemory` where memory ran out.
+/// `Bad` exactly where the bytes are no such input or more than 67,108,864, with the first bad line and the first
+/// reason that applies to it; `ReadFault` only where the source's count of faults rose, or stands at its last value;
+/// `NoMemory` where memory ran out.
 pub fn read_input<S: Source>(alloc: Global, source: &mut S) -> Result<CheckInput, InputFault>
     ensures { MatchResult result
         (λ input. TakesInput (S.left source.old) (S.left source.new) input.job input.outputs.items)

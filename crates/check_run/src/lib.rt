@@ -2,18 +2,21 @@
 //!
 //! What is proved, by the names of clauses (in `src/`) and definitions (in `specs/`):
 //!
-//! - `read_input` [`TakesInput`, `IsUnread`]: the bytes of the source are read as a job with an output of each of its nodes exactly
-//!   where they are the text of such (`InputText`), as that; else the fault names the first bad line, counted over all of them, and
-//!   the first reason that applies to it (`IsBadInput`), and they are the text of none; or the source failed, or memory ran out.
-//! - `first_failed` [`IsFirstFailed`, `AreOver`] is the smallest rank of a node that ended with a status other than 0 and 1.
-//! - `run_traces` [`EndsTraces`]: it ends as `NotARun` only where the traces are no run (`AreNoRun`), with the smallest node with an
-//!   entry left at the one stuck front. Else it ends as `Done`, and what is written is the text of the run (`run_lines`: the answer of
-//!   each step of a script, where it ended, and the lines of each node), or as the sink failed, a front of it, or as memory ran out.
-//!   Then the traces are a run of the world (`RunOfTraces`, with all that `IsWorldRun` of `node_runs` says: the headline, the laws of
-//!   transfers and of the barrier), and the endpoints that are given stand for the records that this run leaves its nodes
-//!   (`AreNodesAfter`).
+//! - `read_input` [`TakesInput`, `IsUnread`]: the bytes of the source are read as a job with an output of each of its
+//!   nodes exactly where they are the text of such (`InputText`), as that; else the fault names the first bad line,
+//!   counted over all of them, and the first reason that applies to it (`IsBadInput`), and they are the text of none;
+//!   or the source failed, or memory ran out.
+//! - `first_failed` [`IsFirstFailed`, `AreOver`] is the smallest rank of a node that ended with a status other than 0
+//!   and 1.
+//! - `run_traces` [`EndsTraces`]: it ends as `NotARun` only where the traces are no run (`AreNoRun`), with the smallest
+//!   node with an entry left at the one stuck front. Else it ends as `Done`, and what is written is the text of the run
+//!   (`run_lines`: the answer of each step of a script, where it ended, and the lines of each node), or as the sink
+//!   failed, a front of it, or as memory ran out. Then the traces are a run of the world (`RunOfTraces`, with all that
+//!   `IsWorldRun` of `node_runs` says: the headline, the laws of transfers and of the barrier), and the endpoints that
+//!   are given stand for the records that this run leaves its nodes (`AreNodesAfter`).
 //!
-//! Each node's trace is replayed twice: in the merge, where entries of all nodes go as they can, and alone, where its lines are written.
+//! Each node's trace is replayed twice: in the merge, where entries of all nodes go as they can, and alone, where its
+//! lines are written.
 #![tactic(auto)]
 
 mod checks;

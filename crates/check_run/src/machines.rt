@@ -25,10 +25,7 @@ fn new_machines(alloc: Global, job: &Script) -> Result<Vec<NodeMachine<'_>>, All
 }
 
 /// The endpoints of machines.
-fn endpoints_of(
-    alloc: Global,
-    machines: Vec<NodeMachine<'_>>,
-) -> Result<Vec<Endpoint>, AllocError>
+fn endpoints_of(alloc: Global, machines: Vec<NodeMachine<'_>>) -> Result<Vec<Endpoint>, AllocError>
     ensures { IfOk result (λ endpoints.
         AreEndpointsOf machines.entry.items endpoints.items) }
 {

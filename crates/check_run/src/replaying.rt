@@ -27,8 +27,8 @@ pub enum Replayed<T> {
     NoMemory,
 }
 
-/// Takes the turns of the entries of a node's trace, writes the lines of the steps that end in them, and answers the most message
-/// buffers that the node held.
+/// Takes the turns of the entries of a node's trace, writes the lines of the steps that end in them, and answers the
+/// most message buffers that the node held.
 fn take_entries<K: Sink>(
     machine: &mut NodeMachine<'_>,
     rank: u16,

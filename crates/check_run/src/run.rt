@@ -68,9 +68,9 @@ fn tell_run<K: Sink>(
     }
 }
 
-/// Checks whether the traces of the nodes of a job, in rising order of ranks, are a run of the world, and writes the lines of that
-/// run: for each node and each of its entries, where a step of a script ended in it, the rank, the thread and the answer of the step;
-/// then the lines of each node at the end.
+/// Checks whether the traces of the nodes of a job, in rising order of ranks, are a run of the world, and writes the
+/// lines of that run: for each node and each of its entries, where a step of a script ended in it, the rank, the thread
+/// and the answer of the step; then the lines of each node at the end.
 pub fn run_traces<K: Sink>(
     alloc: Global,
     job: &Script,

@@ -1,5 +1,5 @@
 -- The first node that failed, or none.
-use Rattle.std.proofs.Common.{◌≡◌, Some, refl, sym, ◌∙◌, length, slice_get}
+use Rattle.std.proofs.Common.{refl, sym, ◌∙◌, length}
 use Rattle.std.proofs.lemmas.Option.{slice_get_read}
 use Rattle.check_run.proofs.Ends.{over_all, over_more}
 use Rattle.check_run.proofs.checks.first_failed.Goals as goal

@@ -1,5 +1,5 @@
 -- The nodes before this one are passed, until one is found.
-use Rattle.std.proofs.Common.{◌≡◌, length, refl, sym, ap, ◌∙◌}
+use Rattle.std.proofs.Common.{length, refl, sym, ap, ◌∙◌}
 use Rattle.std.proofs.lemmas.Option.{slice_get_read}
 use Rattle.handler_rules.specs.LogState.{Logged}
 use Rattle.check_run.proofs.Ends.{found, node_of, none_left, passed}

@@ -1,5 +1,5 @@
 -- The line of the node, and those of its last violations.
-use Rattle.std.proofs.Common.{◌≡◌, ◌≤◌, length, map, refl, sym, ap, subst, ◌∙◌}
+use Rattle.std.proofs.Common.{◌≤◌, length, map, refl, sym, ap, subst, ◌∙◌}
 use Rattle.gas_outside.specs.Buffered.{GathersAll, outbox}
 use Rattle.gas_outside.proofs.Outboxes.{nothing_yet, past_done, past_fault, past_last}
 use Rattle.handler_rules.specs.LogState.{Logged}

@@ -1,5 +1,5 @@
 -- The lines of one node more, and of all.
-use Rattle.std.proofs.Common.{◌≡◌, length, refl, sym, arith}
+use Rattle.std.proofs.Common.{length, refl, sym, arith}
 use Rattle.std.proofs.lemmas.Option.{slice_get_read}
 use Rattle.gas_outside.specs.Buffered.{outbox}
 use Rattle.gas_outside.proofs.Outboxes.{all_gathered, nothing_yet}

@@ -1,5 +1,5 @@
 -- The endpoints of the machines that were taken from the list.
-use Rattle.std.proofs.Common.{◌≡◌, ℕ, List, [], ◌∷◌, ◌++◌, length, map, Some, slice_get, refl, sym, ap, subst, ◌∙◌}
+use Rattle.std.proofs.Common.{◌≡◌, List, [], ◌∷◌, ◌++◌, map, sym, ap, subst, ◌∙◌}
 use Rattle.std.proofs.lemmas.Iterator.Adapters.{YieldsList-from_vec}
 use Rattle.std.proofs.lemmas.Iterator.Consumers.{YieldsList-end}
 use Rattle.std.proofs.lemmas.List.{map-append, map-id}
@@ -10,17 +10,26 @@ use Rattle.check_run.specs.Merging.{AreEndpointsOf, IsOfItsJob}
 use Rattle.check_run.proofs.Pushed.{pushed_at}
 use Rattle.check_run.proofs.machines.endpoints_of.Goals as goal
 
+-- one endpoint more
+one_more : (yielded : List MachineKept) (machine : MachineKept) (old new : List EndpointState)
+    (endpoint : EndpointState) → new ≡ old ++ endpoint ∷ [] → endpoint ≡ machine.endpoint
+    → old ≡ map (λ (one : MachineKept). one.endpoint) yielded
+    → new ≡ map (λ (one : MachineKept). one.endpoint) (yielded ++ machine ∷ [])
+one_more yielded machine old new endpoint pushed is are =
+    pushed ∙ ap (λ (one : EndpointState). old ++ one ∷ []) is
+    ∙ ap (λ (all : List EndpointState). all ++ machine.endpoint ∷ []) are
+    ∙ sym (map-append (λ (one : MachineKept). one.endpoint) yielded (machine ∷ []))
+
 pub loop-machine-preserved : goal.loop-machine-preserved
 loop-machine-preserved c =
     let machine = c.in-Some.machine in
+    let table = (registered machine.job.handlers).table in
     let own : IsOfItsJob machine =
-    subst (λ (one : EndpointState). IsNodeOf machine.job.settings (registered machine.job.handlers).table one.core.me one)
+    subst (λ (one : EndpointState). IsNodeOf machine.job.settings table one.core.me one)
     c.into_endpoint.ensures.is c.into_endpoint.ensures.node in
     record {
-      are = c.in_ok-push.ensures.items
-          ∙ ap (λ (one : EndpointState). c.loop-machine.endpoints.items ++ one ∷ []) c.into_endpoint.ensures.is
-          ∙ ap (λ z. z ++ machine.endpoint ∷ []) c.loop-machine.invariant.are
-          ∙ sym (map-append (λ (one : MachineKept). one.endpoint) c.loop-machine.yielded (machine ∷ []));
+      are = one_more c.loop-machine.yielded machine c.loop-machine.endpoints.items _
+          c.into_endpoint.result c.in_ok-push.ensures.items c.into_endpoint.ensures.is c.loop-machine.invariant.are;
       nodes = pushed_at (λ _ one. IsOfItsJob one) c.loop-machine.yielded machine c.loop-machine.invariant.nodes own;
     }
 

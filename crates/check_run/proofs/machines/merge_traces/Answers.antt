@@ -1,17 +1,10 @@
 -- The machines of the job's nodes are merged, and their endpoints taken.
-use Rattle.std.proofs.Common.{◌≡◌, ℕ, ◌<◌, ◌≤◌, ◌^◌, List, length, Ok, Err, Vec, refl, sym, ap, subst, ◌∙◌, arith}
-use Rattle.std.specs.Prelude.{All}
-use Rattle.std.specs.Global.{Global}
-use Rattle.std.specs.Result.{IsErrOf}
-use Rattle.gasnet_trace.specs.Merged.{HaveThreads, StandFor, nodes_of}
-use Rattle.gasnet_trace.specs.declared.merging.MergeFault.{MergeFault}
-use Rattle.gasnet_trace.specs.declared.merging.MergeFault.TheVariants as faults
-use Rattle.gasnet_trace.specs.declared.trace.Trace.{Trace}
-use Rattle.gasnet_trace.specs.declared.trace.Placed.{Placed}
-use Rattle.machine.specs.Fronts.{IsRun}
+use Rattle.std.proofs.Common.{◌≡◌, List, length, Ok, Err, sym, ap, subst, ◌∙◌, arith}
+use Rattle.gasnet_trace.specs.Merged.{HaveThreads}
 use Rattle.node_machine.specs.Kept.{MachineKept}
-use Rattle.node_machine.specs.NodeState.{NodeState, state_steps}
-use Rattle.check_run.proofs.Merged.{Fronts, first_threads, merged_err, merged_run, node_machines}
+use Rattle.check_run.specs.Merging.{AreEndpointsOf}
+use Rattle.check_run.proofs.Merged.{Fronts, HasNoRun, first_threads, merged_err, merged_run, node_machines}
+use Rattle.check_run.proofs.Merged.{refilled_all}
 use Rattle.check_run.proofs.machines.merge_traces.Goals as goal
 
 pub merge-requires : goal.merge-requires
@@ -31,16 +24,21 @@ pub returns-in-Err : goal.returns-in-Err
 returns-in-Err c =
     let Machines : List MachineKept → Type 0 = λ machines. Fronts machines c.args.traces.now c.merge.new.machines
     (Err c.in-Err.fault) in
-    let None_ : List MachineKept → Type 0 = λ machines. (states : List NodeState) → StandFor node_machines machines states
-    → (node entry : ℕ) → IsErrOf (Err {T = Vec Placed Global} c.in-Err.fault) (faults.NotARun node entry)
-    → IsRun state_steps (nodes_of states c.args.traces.now) → ⊥ in
+    let No_run : List MachineKept → Type 0 = λ machines. HasNoRun machines c.args.traces.now (Err c.in-Err.fault) in
     merged_err c.args.job.now c.args.traces.now c.in-Ok.machines.items c.merge.new.machines c.in-Err.fault
     c.requires.count c.in-Ok.ensures (subst Machines c.as_mut_slice.ensures.value c.in-Err.ensures.front)
-    (subst None_ c.as_mut_slice.ensures.value c.in-Err.ensures.no_run)
+    (subst No_run c.as_mut_slice.ensures.value c.in-Err.ensures.no_run)
 
 pub returns-in-Ok-endpoints_of : goal.returns-in-Ok-endpoints_of
 returns-in-Ok-endpoints_of c =
-    let e : ⊥ = c.in-Ok-endpoints_of.ensures in
-    let f : ⊥ = c.merge.auto in
-    let h : ⊥ = c.in-Ok-merge.ensures.front in
-    ?
+    let machines = c.in-Ok.machines in
+    let then_ = c.merge.new.machines in
+    let kept = c.as_mut_slice.ensures.value in
+    let as_many : length then_ ≡ length machines.items = c.merge.auto.machines ∙ ap length kept in
+    let same = refilled_all machines.len machines.items then_ machines.ok.0 as_many in
+    let Machines : List MachineKept → Type 0 = λ all. Fronts all c.args.traces.now then_ (Ok c.in-Ok-merge.field-0) in
+    let Ends : List MachineKept → Type 0 = λ all. AreEndpointsOf all c.in-Ok-endpoints_of.endpoints.items in
+    merged_run c.traces_law.ensures.run c.traces_law.ensures.opens c.args.job.now c.args.traces.now machines.items then_
+    c.in-Ok-merge.field-0 c.in-Ok-endpoints_of.endpoints.items c.requires.job c.requires.count c.requires.traces
+    c.in-Ok.ensures (subst Machines kept c.in-Ok-merge.ensures.front) as_many
+    (subst Ends same c.in-Ok-endpoints_of.ensures)

@@ -1,5 +1,5 @@
 -- One machine more, and all of them.
-use Rattle.std.proofs.Common.{◌≡◌, ℕ, ◌+◌, ◌<◌, List, [], ◌∷◌, ◌++◌, length, length-append, Some, slice_get, sym, ap, subst, ◌∙◌, arith}
+use Rattle.std.proofs.Common.{◌+◌, List, [], ◌∷◌, length, length-append, slice_get, sym, ap, subst, ◌∙◌, arith}
 use Rattle.datagram_grammar.specs.Parameters.{Parameters}
 use Rattle.node_machine.specs.Kept.{MachineKept}
 use Rattle.node_machine.specs.NodeState.{NodeStands, opening_state}

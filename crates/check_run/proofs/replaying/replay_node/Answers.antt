@@ -1,5 +1,4 @@
 -- The node before all turns takes them.
-use Rattle.std.proofs.Common.{◌≡◌, refl}
 use Rattle.gas_outside.specs.Buffered.{outbox}
 use Rattle.world_run.proofs.LinesWritten.{no_lines_yet}
 use Rattle.check_run.specs.StepLines.{step_lines}
@@ -24,5 +23,5 @@ pub returns-in-Err : goal.returns-in-Err
 returns-in-Err g c = (
   step_lines c.args.job.now c.args.rank (first_machine c.args.job.now c.args.rank) c.args.entries.now,
   no_lines_yet (outbox g.K.Sink.taken g.K.Sink.faults c.args.sink.now)
-  (step_lines c.args.job.now c.args.rank (first_machine c.args.job.now c.args.rank) c.args.entries.now),
+      (step_lines c.args.job.now c.args.rank (first_machine c.args.job.now c.args.rank) c.args.entries.now),
 )

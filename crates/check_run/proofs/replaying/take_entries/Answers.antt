@@ -1,11 +1,10 @@
 -- One entry more, and all of them.
-use Rattle.std.proofs.Common.{◌≡◌, ℕ, max, length, refl, ap, ◌∙◌}
+use Rattle.std.proofs.Common.{length, refl}
 use Rattle.std.proofs.lemmas.Option.{slice_get_read}
 use Rattle.gas_outside.specs.Buffered.{outbox}
 use Rattle.gas_outside.specs.declared.writing.Wrote.TheVariants as wrote
 use Rattle.check_run.proofs.Going.{can_more, can_next, went_all, went_fault, went_more, went_none}
-use Rattle.check_run.proofs.Greater.{max_is}
-use Rattle.check_run.proofs.Turning.{held_so}
+use Rattle.check_run.proofs.Turning.{most_so}
 use Rattle.check_run.proofs.replaying.take_entries.Goals as goal
 
 pub loop-entry-init : goal.loop-entry-init
@@ -48,10 +47,9 @@ loop-entry-preserved g c =
           (outbox g.K.Sink.taken g.K.Sink.faults c.take_entry.new.sink) there
           (c.loop-entry.invariant.went job node is) c.in_default.ensures
           (λ now at.
-          c.max-most.ensures ∙ max_is c.loop-entry.most c.held.result
-          ∙ ap (max c.loop-entry.most)
-          (held_so job c.args.rank now c.take_entry.new.machine c.endpoint.result.now c.held.result at
-          c.endpoint.ensures.is c.endpoint.ensures.node c.held.ensures.is));
+          most_so job c.args.rank now c.take_entry.new.machine c.endpoint.result.now c.loop-entry.most
+          c.max-most.result c.held.result c.max-most.ensures at c.endpoint.ensures.is c.endpoint.ensures.node
+          c.held.ensures.is);
     }
 
 pub returns : goal.returns

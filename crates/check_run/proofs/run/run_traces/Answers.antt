@@ -1,5 +1,5 @@
 -- The nodes that the merge leaves, or why there are none.
-use Rattle.std.proofs.Common.{◌≡◌, refl, inl}
+use Rattle.std.proofs.Common.{refl, inl}
 use Rattle.check_run.proofs.run.run_traces.Goals as goal
 
 pub merge_traces-requires : goal.merge_traces-requires
@@ -17,7 +17,10 @@ pub returns-in-Ok : goal.returns-in-Ok
 returns-in-Ok g c = c.tell_run.ensures
 
 pub returns-in-Err-NotARun : goal.returns-in-Err-NotARun
-returns-in-Err-NotARun g c = ?
+returns-in-Err-NotARun g c = record {
+  none = rw c.in-Err-NotARun.field-0-is (rw c.in-Err-NotARun.field-0-is at c.in-Err-NotARun.ensures);
+  same = refl;
+}
 
 pub returns-in-Err-NoMemory : goal.returns-in-Err-NoMemory
 returns-in-Err-NoMemory g c = inl refl

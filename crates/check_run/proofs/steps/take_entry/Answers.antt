@@ -1,5 +1,5 @@
 -- The turn of the entry, and the line of its step.
-use Rattle.std.proofs.Common.{◌≡◌, ◌<◌, [], ◌∷◌, sym, ap, subst, ◌∙◌}
+use Rattle.std.proofs.Common.{◌<◌, [], ◌∷◌, sym, ap, subst, ◌∙◌}
 use Rattle.std.specs.Option.{is_some, option_copied}
 use Rattle.gas_outside.specs.Buffered.{outbox}
 use Rattle.check_run.proofs.Turning.{is_false, is_true, kept_names, none_ended, one_ended, polls_so, some_copied}

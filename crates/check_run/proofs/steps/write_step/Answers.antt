@@ -1,5 +1,5 @@
 -- The rank, a space, and the line of the thread and the answer.
-use Rattle.std.proofs.Common.{◌≡◌, ℕ, List, ◌∷◌, decimal, subst, ◌∙◌}
+use Rattle.std.proofs.Common.{ℕ, List, ◌∷◌, decimal, subst, ◌∙◌}
 use Rattle.gas_outside.specs.Buffered.{Gathers, GathersAll, GathersFront, outbox}
 use Rattle.node_script.specs.AnswersTold.{sight_at}
 use Rattle.node_script.specs.AnswerWords.{answer_words}
