@@ -7,13 +7,15 @@ ghost use Rattle.top_call.specs.Standard.{streams_seen, uncounted};
 ghost use Rattle.top_call.specs.Outsides.{call_of};
 ghost use Rattle.top_call.specs.TopCall.{IsComplete, StatusMeans};
 
+use crate::ending::{End, Given};
 use crate::outside::Outside;
 use crate::standard::{ReaderSource, WriterSink};
-use crate::top::gasnet;
-use gas_outside::{Clock, Gate, Link, Spawner};
-use std::alloc::Global;
+use crate::status::say;
+use crate::top::{flushed, gasnet};
+use gas_outside::{BufferedSink, Clock, Gate, Link, Spawner};
+use std::alloc::{AllocError, Global};
 use std::env;
-use std::io::{self, Input, Print, Read, Write};
+use std::io::{self, ErrorKind, Input, Print, Read, Write};
 use std::process::ExitCode;
 use std::rt::Env;
 use std::sync::Wait;
@@ -69,20 +71,29 @@ pub fn run_streams<
     (ExitCode::from(status.code), after)
 }
 
-/// The words of the command line without the program's name; none where they can't be had as text.
-fn words<R: Env + AllocGlobal>(rt: &R) -> Vec<String> {
-    let read = match env::args(rt) {
+/// The words of the command line without the program's name, none where they are no text.
+///
+/// # Errors
+///
+/// `AllocError` where memory ran out.
+fn words<R: Env + AllocGlobal>(rt: &R) -> Result<Vec<String>, AllocError> {
+    match env::args(rt) {
         Ok(args) => args.skip(1).collect(rt.alloc()),
-        Err(_) => return Vec::new(rt.alloc()),
-    };
-    match read {
-        Ok(words) => words,
-        Err(_) => Vec::new(rt.alloc()),
+        Err(error) if error.kind() == ErrorKind::OutOfMemory => Err(AllocError),
+        Err(_) => Ok(Vec::new(rt.alloc())),
     }
 }
 
+/// Says that memory ran out before the words were there.
+fn end_without_words<W: Write + Drop>(writer: W) -> ExitCode {
+    let mut sink = BufferedSink::new(WriterSink::new(writer));
+    let ended = say(&mut sink, End::NoMemory, Given::nothing());
+    ExitCode::from(flushed(&mut sink, ended).end.code())
+}
+
 /// The whole program but for what a node runs over and is started by: the words of the command line, standard input and
-/// standard output, and its exit status. Nothing is written to standard error.
+/// standard output, and its exit status; 8 also where memory for the words ran out. Nothing is written to standard
+/// error.
 pub fn program<
     H: Env + AllocGlobal + Input + Print + Threads + Wait + Sync,
     L: Link + Send + Drop,
@@ -90,7 +101,9 @@ pub fn program<
     C: Clock + Send + Drop,
     G: Gate + Sync + Drop,
 >(rt: &H, link: L, spawner: P, clock: C, gate: G) -> ExitCode {
-    let words = words(rt);
+    let Ok(words) = words(rt) else {
+        return end_without_words(io::writer(rt));
+    };
     let streams = Outside {
         source: rt.reader(),
         sink: io::writer(rt),

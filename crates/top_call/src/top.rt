@@ -31,7 +31,7 @@ pub struct Status {
 }
 
 /// Gives on what the sink still holds back; a fault of that is how the call ends. After a fault of the sink it is left.
-fn flushed<K: Sink>(sink: &mut BufferedSink<K>, ended: Ended) -> Ended
+pub(crate) fn flushed<K: Sink>(sink: &mut BufferedSink<K>, ended: Ended) -> Ended
     ensures { GivesOn (outbox K.taken K.faults sink.old) (outbox K.taken K.faults sink.new)
         ended result }
 {
