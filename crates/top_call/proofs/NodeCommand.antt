@@ -1,5 +1,5 @@
 -- The command `node`.
-use Rattle.std.proofs.Common.{◌≡◌, ℕ, ◌<◌, ◌≤◌, List, [], ◌∷◌, Bool, true, false, Option, Some, refl, sym}
+use Rattle.std.proofs.Common.{◌≡◌, ℕ, List, [], ◌∷◌, Bool, true, false, Option, Some, refl, sym}
 use Rattle.std.proofs.Common.{ap, subst, inl, inr, lit<, ◌∙◌, true≢false}
 use Rattle.std.specs.List.{Contains}
 use Rattle.gas_outside.specs.Buffered.{Outbox, GathersFront}
