@@ -1,5 +1,5 @@
 -- The command `check`.
-use Rattle.std.proofs.Common.{◌≡◌, ℕ, ◌+◌, ◌≤◌, ◌<◌, List, [], ◌∷◌, ◌++◌, length, Option, Some, None}
+use Rattle.std.proofs.Common.{◌≡◌, ℕ, ◌+◌, List, [], ◌∷◌, ◌++◌, length, Option, Some, None}
 use Rattle.std.proofs.Common.{refl, ap, subst, ◌∙◌, inl, inr, lit<, append-nil, length-append, arith}
 use Rattle.std.specs.List.{Contains}
 use Rattle.gas_outside.specs.Buffered.{Outbox, GathersAll}

@@ -1,18 +1,17 @@
 -- The command `launch`.
-use Rattle.std.proofs.Common.{◌≡◌, ◌⊎◌, ℕ, List, [], ◌∷◌, ◌++◌, Option, Some, None, true, false, true≢false, refl, sym}
-use Rattle.std.proofs.Common.{ap, subst, ◌∙◌, inl, inr, lit<, append-nil, Err}
+use Rattle.std.proofs.Common.{◌≡◌, ℕ, List, [], ◌∷◌, Option, false, true≢false, refl, sym, ap, subst, ◌∙◌}
+use Rattle.std.proofs.Common.{inl, inr, lit<, Err}
 use Rattle.std.specs.List.{Contains}
 use Rattle.gas_outside.specs.Buffered.{Outbox, GathersAll}
 use Rattle.gasnet_trace.specs.declared.output.Output.{Output}
 use Rattle.job_text.specs.declared.job.Job.{Job as JobState}
-use Rattle.job_text.specs.JobText.{JobText}
 use Rattle.check_run.specs.CheckInputs.{traces_in}
 use Rattle.launch_run.specs.LaunchEnds.{EndsLaunch, GivesOutputs, Launch}
 use Rattle.launch_run.specs.declared.fault.LaunchFault.{LaunchFault}
 use Rattle.launch_run.specs.declared.fault.LaunchFault.TheVariants as launches
 use Rattle.top_call.specs.Outsides.{Call, Input, Reading, Spawning, read_in, spawning_in, took_in}
 use Rattle.top_call.specs.Commands.{code_of}
-use Rattle.top_call.specs.HowEnds.{After, Means, gives, nothing, said_last, unasked}
+use Rattle.top_call.specs.HowEnds.{After, Means, gives, nothing, unasked}
 use Rattle.top_call.specs.JobReads.{GivesJob, ReadsJob}
 use Rattle.top_call.specs.LaunchCommand.{ChecksLaunch, HoldsLaunch, IsUnused, LaunchCompletes, LaunchEnds, LaunchMeans}
 use Rattle.top_call.specs.LaunchCommand.{ReadsLaunch, launch_of}

@@ -1,6 +1,6 @@
 -- The command `node`.
-use Rattle.std.proofs.Common.{◌≡◌, ℕ, ◌<◌, ◌≤◌, List, [], ◌∷◌, ◌++◌, Bool, true, false, Option, Some, None, refl, sym}
-use Rattle.std.proofs.Common.{ap, subst, inl, inr, lit<, ◌∙◌, append-nil, true≢false}
+use Rattle.std.proofs.Common.{◌≡◌, ℕ, List, [], ◌∷◌, Bool, true, false, Option, Some, refl, sym}
+use Rattle.std.proofs.Common.{ap, subst, inl, inr, lit<, ◌∙◌, true≢false}
 use Rattle.std.specs.List.{Contains}
 use Rattle.gas_outside.specs.Buffered.{Outbox, GathersFront}
 use Rattle.gas_outside.specs.Faults.{Rose}
@@ -8,7 +8,6 @@ use Rattle.gas_outside.proofs.Outboxes.{gathers_first, rose_later}
 use Rattle.node_script.specs.Lines.{spell, line_text}
 use Rattle.gas_endpoint.specs.EndpointState.{EndpointState}
 use Rattle.job_text.specs.declared.job.Job.{Job as JobState}
-use Rattle.job_text.specs.JobText.{JobText}
 use Rattle.endpoint_lock.specs.declared.ends.End.{End as StationEnd}
 use Rattle.endpoint_lock.specs.declared.ends.End.TheVariants as stations
 use Rattle.node_call.specs.NodeLeaves.{has_noted, node_lines, post_of, record_after}
