@@ -22,6 +22,8 @@ shorts      the same with Shorts, which have no payload.
 puts        node 0 puts 1 MiB of its segment to the same place of that of node 1, in 128 chunks by 8 credits: 128 rounds of `settle` bring them there
             and their replies back, and then the put is synchronised; at most 32 puts, since a schedule has at most 4,096 rounds. LINES is a multiple of 3.
 segments    the nodes of `puts`, and no schedule: LINES is 0.
+crowd       node 0 begins LINES - 2 puts at once, which have the 4,096 chunks of `puts` together: as many rounds of `settle` bring them there and
+            back, and then all are synchronised; LINES - 2 divides 4,096, and is at most 256.
 barriers    64 nodes notify a phase of the barrier, 6 rounds of `settle` bring its notes to their nodes, and each node ends it; again and again.
             LINES is a multiple of 129.
 notes       as many Shorts from each node to each other one as `barriers` has notes: 64 of them and a round of `settle`, six times for each phase.
@@ -47,6 +49,7 @@ CHUNK_CREDITS = 8
 PUTS = 4096 // CHUNKS  # a schedule has at most 4,096 rounds
 BARRIER_NODES = 64
 ROUNDS = 6  # 2^6 nodes
+RECORDS = 256  # of operations of a node that aren't synchronised
 STEPS = 4096  # of a script
 THREADS = 16
 
@@ -192,6 +195,20 @@ def puts(lines):
     return Job(CHUNK_CREDITS, events, [0, 1], [1, 1], count * CHUNKS, PUTS * PUT)
 
 
+def crowd(lines):
+    """Puts that begin one after the other before the first chunk goes, each from a place of its own to the same place of the other segment."""
+    count = lines - 2
+    if not 1 <= count <= RECORDS or PUTS * CHUNKS % count:
+        sys.exit(f"{lines} is no divisor of {PUTS * CHUNKS} up to {RECORDS}, and 2")
+    size = PUTS * PUT // count
+    events = [
+        (f"{number} call 0 0 put-nbi-bulk 1 {(number - 1) * size} {(number - 1) * size} {size}", f"started {number}")
+        for number in range(1, count + 1)
+    ]
+    events += [(f"{lines} settle {PUTS * CHUNKS}", "settled"), (f"{lines} call 0 0 try-nbi all", "ok")]
+    return Job(CHUNK_CREDITS, events, [0, 1], [1, 1], PUTS * CHUNKS, PUTS * PUT)
+
+
 def segments(lines):
     """The nodes of `puts` without a schedule."""
     if lines:
@@ -283,6 +300,7 @@ KINDS = {
     "shorts": lambda lines: answered(lines, lambda number: "short 1 128"),
     "puts": puts,
     "segments": segments,
+    "crowd": crowd,
     "barriers": barriers,
     "notes": notes,
     "steps": in_scripts,

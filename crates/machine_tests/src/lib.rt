@@ -1,5 +1,5 @@
-//! Tests of the machine of a node: what its turns end, send and leave, each step that waits, and a ring of four machines
-//! that pass a token.
+//! Tests of the machine of a node: what its turns end, send and leave, each step that waits, and a ring of four
+//! machines that pass a token.
 //!
 //! Each takes a job's text and takes turns; the answers that it expects come from what the steps are said to do.
 //! `network` has what carries the datagrams of several machines.

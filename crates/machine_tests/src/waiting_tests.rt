@@ -30,6 +30,9 @@ const OK: Option<Answer> = Some(Answer::Synced(Synced::Ok));
 
 const BAD_HANDLE: Option<Answer> = Some(Answer::Synced(Synced::BadHandle));
 
+/// A call of the library by a thread that holds a lock.
+const UNDER_LOCK: Option<Answer> = Some(Answer::Forbidden(Forbidden::UnderLock));
+
 const NOT_YOURS: Option<Answer> = Some(Answer::Synced(Synced::NotYours));
 
 const WORN_OUT: Option<Answer> = Some(Answer::Synced(Synced::WornOut(1)));
@@ -38,6 +41,15 @@ const WORN_OUT: Option<Answer> = Some(Answer::Synced(Synced::WornOut(1)));
 const BEGUN: Option<Answer> = Some(Answer::Begun(Begun::Handle(Handle { serial: 1 })));
 
 const STARTED: Option<Answer> = Some(Answer::Started(Begun::Handle(Handle { serial: 1 })));
+
+/// No operation can begin.
+const TOO_MANY: Option<Answer> = Some(Answer::Begun(Begun::TooMany));
+
+const RAN: Option<Answer> = Some(Answer::Asked(Asked::Ran));
+
+const NO_NODE: Option<Answer> = Some(Answer::Asked(Asked::BadArg(Which::Node)));
+
+const NO_NUMBER: Option<Answer> = Some(Answer::Asked(Asked::WornOut));
 
 /// Node 0 asks node 1.
 const ACCEPTED: Option<Answer> = Some(Answer::Asked(Asked::Accepted {
@@ -77,7 +89,7 @@ const FREED: Option<Answer> = Some(Answer::Unlock(UnlockAnswer::Freed));
 const NOTIFIED: Option<Answer> = Some(Answer::Notified(Notified::Ok));
 
 /// Steps of one thread that end in the turn in which they are tried.
-const AT_ONCE: [Case; 7] = [
+const AT_ONCE: [Case; 8] = [
     Case {
         name: "transfers of the own node",
         last: 9,
@@ -125,14 +137,23 @@ const AT_ONCE: [Case; 7] = [
     Case {
         name: "under a lock",
         last: 9,
-        scripts: "script 0 0\nlock 0\nput 1 8 4 2\nput-nb 0 1 8 4 2\nwait 3\nbarrier-wait 5 0\nshort 1 128\nlock 0\nend\n",
+        scripts: "script 0 0\nlock 0\nput 1 8 4 2\nget 1 8 4 2\nmemset 1 8 2 7\nput-nb 0 1 8 4 2\nput-nbi 1 8 4 2\nwait 3\nwait-all 3\nwait-some 3\nwait-nbi all\nbarrier-wait 5 0\nshort 1 128\nmedium 1 128 x01\nlong 1 128 x01 0\nasync 1 128 x01 0\nlock 0\nend\n",
         turns: &[
             (0, 0, TAKEN),
-            (0, 0, Some(Answer::Forbidden(Forbidden::UnderLock))),
-            (0, 0, Some(Answer::Forbidden(Forbidden::UnderLock))),
-            (0, 0, Some(Answer::Forbidden(Forbidden::UnderLock))),
-            (0, 0, Some(Answer::Forbidden(Forbidden::UnderLock))),
-            (0, 0, Some(Answer::Forbidden(Forbidden::UnderLock))),
+            (0, 0, UNDER_LOCK),
+            (0, 0, UNDER_LOCK),
+            (0, 0, UNDER_LOCK),
+            (0, 0, UNDER_LOCK),
+            (0, 0, UNDER_LOCK),
+            (0, 0, UNDER_LOCK),
+            (0, 0, UNDER_LOCK),
+            (0, 0, UNDER_LOCK),
+            (0, 0, UNDER_LOCK),
+            (0, 0, UNDER_LOCK),
+            (0, 0, UNDER_LOCK),
+            (0, 0, UNDER_LOCK),
+            (0, 0, UNDER_LOCK),
+            (0, 0, UNDER_LOCK),
             (
                 0,
                 0,
@@ -145,11 +166,28 @@ const AT_ONCE: [Case; 7] = [
         last: 1,
         scripts: "script 0 0\nshort 2 128\nshort 0 128 5\nuntil 0 5\nshort 1 128 5\nshort 1 128 5\nend\n",
         turns: &[
-            (0, 0, Some(Answer::Asked(Asked::BadArg(Which::Node)))),
-            (0, 0, Some(Answer::Asked(Asked::Ran))),
+            (0, 0, NO_NODE),
+            (0, 0, RAN),
             (0, 0, Some(Answer::Local(Local::Done))),
             (0, 0, ACCEPTED),
-            (0, 0, Some(Answer::Asked(Asked::WornOut))),
+            (0, 0, NO_NUMBER),
+        ],
+    },
+    Case {
+        name: "requests with a payload",
+        last: 1,
+        scripts: "script 0 0\nmedium 2 128 x01\nlong 2 128 x01 0\nasync 2 128 x01 0\nmedium 0 128 x01\nlong 0 128 x01 0\nasync 0 128 x01 0\nmedium 1 128 x01\nmedium 1 128 x01\nlong 1 128 x01 0\nasync 1 128 x01 0\nend\n",
+        turns: &[
+            (0, 0, NO_NODE),
+            (0, 0, NO_NODE),
+            (0, 0, NO_NODE),
+            (0, 0, RAN),
+            (0, 0, RAN),
+            (0, 0, RAN),
+            (0, 0, ACCEPTED),
+            (0, 0, NO_NUMBER),
+            (0, 0, NO_NUMBER),
+            (0, 0, NO_NUMBER),
         ],
     },
     Case {
@@ -189,13 +227,15 @@ const TRANSFERS: [Case; 5] = [
     Case {
         name: "a put until it is issued",
         last: 9,
-        scripts: "script 0 0\nput-nb 3 1 8 4 2\nwait 3\nwait 3\nend\n",
+        scripts: "script 0 0\nput-nb 3 1 8 4 2\nwait 3\nwait 3\nwait-all 3\nwait-some 3\nend\n",
         turns: &[
             (0, 0, None),
             (0, 0, BEGUN),
             (0, 0, None),
             (1, 0, None),
             (0, 0, OK),
+            (0, 0, BAD_HANDLE),
+            (0, 0, BAD_HANDLE),
             (0, 0, BAD_HANDLE),
         ],
     },
@@ -314,18 +354,36 @@ const WORN: [Case; 4] = [
 ];
 
 /// Numbers that are worn out, and locks.
-const OTHERS: [Case; 5] = [
+const OTHERS: [Case; 9] = [
     Case {
         name: "a put of a node whose numbers are worn out",
         last: 1,
         scripts: "script 0 0\nshort 1 128 5\nput 1 8 4 2\nend\n",
         turns: &[(0, 0, ACCEPTED), (0, 0, None), (0, 0, WORN_OUT)],
     },
-    // It goes on waiting.
+    Case {
+        name: "a get of a node whose numbers are worn out",
+        last: 1,
+        scripts: "script 0 0\nshort 1 128 5\nget 1 8 4 2\nend\n",
+        turns: &[(0, 0, ACCEPTED), (0, 0, None), (0, 0, WORN_OUT)],
+    },
+    Case {
+        name: "a memset of a node whose numbers are worn out",
+        last: 1,
+        scripts: "script 0 0\nshort 1 128 5\nmemset 1 8 2 7\nend\n",
+        turns: &[(0, 0, ACCEPTED), (0, 0, None), (0, 0, WORN_OUT)],
+    },
+    // Such a step goes on waiting.
     Case {
         name: "a put that is never issued",
         last: 1,
         scripts: "script 0 0\nshort 1 128 5\nput-nb 3 1 8 4 2\nend\n",
+        turns: &[(0, 0, ACCEPTED), (0, 0, None), (0, 0, None), (0, 0, None)],
+    },
+    Case {
+        name: "an implicit put that is never issued",
+        last: 1,
+        scripts: "script 0 0\nshort 1 128 5\nput-nbi 1 8 4 2\nend\n",
         turns: &[(0, 0, ACCEPTED), (0, 0, None), (0, 0, None), (0, 0, None)],
     },
     Case {
@@ -344,22 +402,36 @@ const OTHERS: [Case; 5] = [
         name: "a handler whose lock another thread holds",
         last: 9,
         scripts: "script 0 0\nlock 3\nunlock 3\nend\nscript 0 1\nshort 0 133\nend\n",
+        turns: &[(0, 0, TAKEN), (0, 1, None), (0, 0, FREED), (0, 1, RAN)],
+    },
+    Case {
+        name: "a handler of a payload whose lock another thread holds",
+        last: 9,
+        scripts: "script 0 0\nlock 3\nunlock 3\nlock 3\nunlock 3\nlock 3\nunlock 3\nend\nscript 0 1\nmedium 0 133 x01\nlong 0 133 x01 0\nasync 0 133 x01 0\nend\n",
         turns: &[
             (0, 0, TAKEN),
             (0, 1, None),
             (0, 0, FREED),
-            (0, 1, Some(Answer::Asked(Asked::Ran))),
+            (0, 1, RAN),
+            (0, 0, TAKEN),
+            (0, 1, None),
+            (0, 0, FREED),
+            (0, 1, RAN),
+            (0, 0, TAKEN),
+            (0, 1, None),
+            (0, 0, FREED),
+            (0, 1, RAN),
         ],
     },
 ];
 
 /// The text of a job of two nodes with two threads each, with these scripts.
-fn job_of(alloc: Global, case: &Case) -> Result<String, Fail> {
+fn job_of(alloc: Global, last: u64, scripts: &str) -> Result<String, Fail> {
     let mut text = String::from_str(alloc, "gasnet 1\njob 7\nnodes 2\ncredits 1\nthreads 2\n")?;
-    write!(&mut text, "segment 4096\nlast {}\nresend 10\n", case.last)?;
+    write!(&mut text, "segment 4096\nlast {last}\nresend 10\n")?;
     text.push_str("patience 100\nsieve 0 0 0\nhandler 128 request\nset-cell 0 a0\nend\n")?;
     text.push_str("handler 133 request 3\nend\n")?;
-    text.push_str(case.scripts)?;
+    text.push_str(scripts)?;
     text.push_str("done\n")?;
     Ok(text)
 }
@@ -383,7 +455,10 @@ fn ended(
 
 /// Checks what each turn of a case ends.
 fn check(rt: &(impl Abort + AllocGlobal), case: &Case) -> Result<(), Fail> {
-    let script = script_from(rt.alloc(), job_of(rt.alloc(), case)?.as_str())?;
+    let script = script_from(
+        rt.alloc(),
+        job_of(rt.alloc(), case.last, case.scripts)?.as_str(),
+    )?;
     let mut ring = machines(rt.alloc(), &script)?;
     let mut network = Network::new(rt.alloc());
     for (row, (node, thread, want)) in case.turns.iter().enumerate() {
@@ -424,4 +499,44 @@ fn waits_end_where_numbers_are_worn_out(rt: HostRuntime) -> Result<(), Fail> {
 #[test]
 fn worn_out_numbers_and_locks(rt: HostRuntime) -> Result<(), Fail> {
     check_all(&rt, &OTHERS)
+}
+
+/// The operations of a node that aren't synchronised, at most.
+const RECORDS: u64 = 256;
+
+/// A script that begins as many operations as it can, and then tries to begin some more.
+fn crowded_script(alloc: Global) -> Result<String, Fail> {
+    let mut text = String::from_str(alloc, "script 0 0\n")?;
+    for _ in 0..RECORDS {
+        text.push_str("put-nbi-bulk 1 8 4 2\n")?;
+    }
+    text.push_str("put 1 8 4 2\nget 1 8 4 2\nmemset 1 8 2 7\n")?;
+    text.push_str("put-nb 3 1 8 4 2\nput-nbi 1 8 4 2\nend\n")?;
+    Ok(text)
+}
+
+#[test]
+fn no_more_operations_than_records(rt: HostRuntime) -> Result<(), Fail> {
+    let scripts = crowded_script(rt.alloc())?;
+    let script = script_from(
+        rt.alloc(),
+        job_of(rt.alloc(), 9, scripts.as_str())?.as_str(),
+    )?;
+    let mut ring = machines(rt.alloc(), &script)?;
+    let mut network = Network::new(rt.alloc());
+    for number in 1..=RECORDS {
+        let answer = ended(&mut ring, &mut network, 0, 0)?;
+        let begun = Begun::Handle(Handle { serial: number });
+        assert_eq!(&rt; answer, Some(Answer::Started(begun)), "operation {number}");
+    }
+    for want in [
+        TOO_MANY,
+        TOO_MANY,
+        TOO_MANY,
+        TOO_MANY,
+        Some(Answer::Started(Begun::TooMany)),
+    ] {
+        assert_eq!(&rt; ended(&mut ring, &mut network, 0, 0)?, want);
+    }
+    Ok(())
 }

@@ -7,12 +7,14 @@ use std::test::Fail;
 use std::thread::Threads;
 use top_call::{Outside, gasnet};
 
-/// What a call of `gasnet` gave: the exit status, whether there is a node, and what the sink took.
+/// What a call of `gasnet` gave: the exit status, whether there is a node, what the sink took, and what the link was
+/// sent.
 #[derive(Drop)]
 struct Said {
     code: u8,
     has_node: bool,
     written: Vec<u8>,
+    sent: Vec<(u16, Vec<u8>)>,
 }
 
 /// A call of `gasnet` with the words `node RANK PORT` for this job.
@@ -50,8 +52,18 @@ fn call<R: Threads + Wait + Sync + AllocGlobal, G: Gate + Sync + Drop>(
         code: status.code,
         has_node: status.node.is_some(),
         written: Vec::from_slice(alloc, after.sink.taken())?,
+        sent: sent_by(alloc, &after.link)?,
     };
     Ok((said, after.gate))
+}
+
+/// The datagrams that a link was sent.
+fn sent_by(alloc: Global, link: &MemoryLink) -> Result<Vec<(u16, Vec<u8>)>, Fail> {
+    let mut all = Vec::new(alloc);
+    for (to, bytes) in link.sent() {
+        all.push((*to, Vec::from_slice(alloc, bytes)?))?;
+    }
+    Ok(all)
 }
 
 /// A link in memory on which these datagrams wait, and which fails at a call; at none for 0.
@@ -134,7 +146,20 @@ const REQUEST: [u8; 44] = [
     0, 0, 0, 0, 1, 0, 0, 0, 0, 0, 0, 0, 0, 0, 0, 0, 5,
 ];
 
-/// A call for the two nodes: the words, what waits, the call of the link that fails, the exit status, and what is written.
+/// The reply of node 1, an Ack.
+const ACK: [u8; 40] = [
+    0x47, 0x41, 0x4d, 0x31, 6, 0, 0, 0, 0, 0, 0, 0, 0, 0, 0, 7, 0, 1, 0, 0, 0, 0, 0, 0, 0, 0, 0, 0,
+    0, 0, 0, 1, 0, 0, 0, 0, 0, 0, 0, 0,
+];
+
+/// A datagram that is sent.
+struct Sent {
+    to: u16,
+    bytes: &'static [u8],
+}
+
+/// A call for the two nodes: the words, what waits, the call of the link that fails and the write that does, the exit
+/// status, what is written, and what is sent.
 struct Row {
     words: &'static str,
     waiting: &'static [&'static [u8]],
@@ -142,10 +167,11 @@ struct Row {
     write_fails: u64,
     code: u8,
     written: &'static str,
+    sent: &'static [Sent],
 }
 
 /// The rows.
-const ROWS: [Row; 13] = [
+const ROWS: [Row; 14] = [
     Row {
         words: "node 0 20000",
         waiting: &[],
@@ -153,6 +179,7 @@ const ROWS: [Row; 13] = [
         write_fails: 0,
         code: 6,
         written: "trace 1\njob 7\nrank 0\nend\nstatus 6 link-fault\n",
+        sent: &[],
     },
     Row {
         words: "node 0 20000",
@@ -161,6 +188,7 @@ const ROWS: [Row; 13] = [
         write_fails: 0,
         code: 6,
         written: "trace 1\njob 7\nrank 0\nend\nstatus 6 link-fault\n",
+        sent: &[],
     },
     Row {
         words: "node 0 20000",
@@ -169,6 +197,7 @@ const ROWS: [Row; 13] = [
         write_fails: 0,
         code: 6,
         written: "trace 1\njob 7\nrank 0\nturn 0 0 -\nend\nstatus 6 link-fault\n",
+        sent: &[],
     },
     Row {
         words: "node 0 20000",
@@ -177,6 +206,10 @@ const ROWS: [Row; 13] = [
         write_fails: 0,
         code: 0,
         written: "trace 1\njob 7\nrank 0\nturn 0 0 -\nend\nstatus 0 ok\n",
+        sent: &[Sent {
+            to: 1,
+            bytes: &REQUEST,
+        }],
     },
     Row {
         words: "node 0 20000",
@@ -185,6 +218,10 @@ const ROWS: [Row; 13] = [
         write_fails: 1,
         code: 5,
         written: "",
+        sent: &[Sent {
+            to: 1,
+            bytes: &REQUEST,
+        }],
     },
     Row {
         words: "node 1 20000",
@@ -193,6 +230,7 @@ const ROWS: [Row; 13] = [
         write_fails: 0,
         code: 9,
         written: "trace 1\njob 7\nrank 1\nend\nstatus 9 stuck\n",
+        sent: &[],
     },
     Row {
         words: "node 1 20000",
@@ -201,6 +239,7 @@ const ROWS: [Row; 13] = [
         write_fails: 0,
         code: 0,
         written: "trace 1\njob 7\nrank 1\nturn 0 0 x47414d3100800100000000000000000700000001000000000000000000000001000000000000000000000005\nend\nstatus 0 ok\n",
+        sent: &[Sent { to: 0, bytes: &ACK }],
     },
     Row {
         words: "node 2 20000",
@@ -209,6 +248,7 @@ const ROWS: [Row; 13] = [
         write_fails: 0,
         code: 2,
         written: "status 2 usage\n",
+        sent: &[],
     },
     Row {
         words: "node 64 20000",
@@ -217,6 +257,16 @@ const ROWS: [Row; 13] = [
         write_fails: 0,
         code: 2,
         written: "status 2 usage\n",
+        sent: &[],
+    },
+    Row {
+        words: "node 256 20000",
+        waiting: &[],
+        link_fails: 0,
+        write_fails: 0,
+        code: 2,
+        written: "status 2 usage\n",
+        sent: &[],
     },
     Row {
         words: "node 0 1023",
@@ -225,6 +275,7 @@ const ROWS: [Row; 13] = [
         write_fails: 0,
         code: 2,
         written: "status 2 usage\n",
+        sent: &[],
     },
     Row {
         words: "node 0 65473",
@@ -233,6 +284,7 @@ const ROWS: [Row; 13] = [
         write_fails: 0,
         code: 2,
         written: "status 2 usage\n",
+        sent: &[],
     },
     Row {
         words: "node 00 20000",
@@ -241,6 +293,7 @@ const ROWS: [Row; 13] = [
         write_fails: 0,
         code: 2,
         written: "status 2 usage\n",
+        sent: &[],
     },
     Row {
         words: "node 0 20000 0",
@@ -249,6 +302,7 @@ const ROWS: [Row; 13] = [
         write_fails: 0,
         code: 2,
         written: "status 2 usage\n",
+        sent: &[],
     },
 ];
 
@@ -269,7 +323,17 @@ fn check<R: Threads + Wait + Sync + Abort + AllocGlobal>(rt: &R, row: &Row) -> R
         row.words
     );
     assert_eq!(rt; said.has_node, !matches!(row.code, 2 | 5), "{}", row.words);
+    check_sent(rt, row, &said.sent);
     Ok(())
+}
+
+/// Checks what a row's link was sent.
+fn check_sent(rt: &impl Abort, row: &Row, sent: &[(u16, Vec<u8>)]) {
+    assert_eq!(rt; sent.len(), row.sent.len(), "{}", row.words);
+    for (one, want) in sent.iter().zip(row.sent) {
+        assert_eq!(rt; one.0, want.to, "{}", row.words);
+        assert_eq!(rt; one.1.as_slice(), want.bytes, "{}", row.words);
+    }
 }
 
 #[test]
@@ -277,5 +341,88 @@ fn the_rows_end_and_say_as_they_should(rt: HostRuntime) -> Result<(), Fail> {
     for row in &ROWS {
         check(&rt, row)?;
     }
+    Ok(())
+}
+
+/// A job of two nodes whose sieve sends each datagram twice: node 0 asks node 1.
+const REPEATING: &str = "\
+gasnet 1
+job 7
+nodes 2
+credits 1
+threads 1
+segment 4096
+last 100
+resend 10
+patience 3
+sieve 0 1 0
+handler 128 request
+add 0 a0
+end
+script 0 0
+short 1 128 5
+end
+done
+";
+
+#[test]
+fn a_node_sends_by_its_sieve(rt: HostRuntime) -> Result<(), Fail> {
+    let node = NodeCall {
+        words: "node 0 20000",
+        job: REPEATING,
+        link: link_with(rt.alloc(), &[], 0)?,
+        write_fails: 0,
+    };
+    let (said, _) = call(&rt, node, OpenGate)?;
+    assert_eq!(rt; said.code, 0);
+    assert_eq!(rt; said.sent.len(), 2);
+    for one in said.sent.iter() {
+        assert_eq!(rt; one.0, 1);
+        assert_eq!(rt; one.1.as_slice(), REQUEST.as_slice());
+    }
+    Ok(())
+}
+
+/// A job of 100 nodes without a script.
+const MANY_NODES: &str = "\
+gasnet 2
+job 7
+nodes 100
+credits 1
+threads 1
+segment 4096
+last 100
+resend 10
+patience 3
+sieve 0 0 0
+done
+";
+
+/// What a node of the many says, where rank 0 has this port: the exit status, and what is written.
+fn say_of_many<R: Threads + Wait + Sync + AllocGlobal>(
+    rt: &R,
+    words: &str,
+) -> Result<(u8, Vec<u8>), Fail> {
+    let node = NodeCall {
+        words,
+        job: MANY_NODES,
+        link: link_with(rt.alloc(), &[], 0)?,
+        write_fails: 0,
+    };
+    let (said, _) = call(rt, node, OpenGate)?;
+    Ok((said.code, said.written))
+}
+
+#[test]
+fn each_node_has_its_port(rt: HostRuntime) -> Result<(), Fail> {
+    let (code, written) = say_of_many(&rt, "node 99 65436")?;
+    assert_eq!(rt; code, 0);
+    assert_eq!(rt;
+        written.as_slice(),
+        b"trace 2\njob 7\nrank 99\nend\nstatus 0 ok\n".as_slice()
+    );
+    let (code, written) = say_of_many(&rt, "node 99 65437")?;
+    assert_eq!(rt; code, 2);
+    assert_eq!(rt; written.as_slice(), b"status 2 usage\n".as_slice());
     Ok(())
 }

@@ -1,4 +1,4 @@
-//! Tests of stations and their threads, with a small machine of their own.
+//! Tests of stations and their threads, with a small machine of their own, and of a link that loses datagrams.
 #![tactic(auto)]
 
 ghost use Rattle.std.specs.Prelude.{◌≡◌, ◌≤◌, false};
@@ -98,5 +98,7 @@ impl Machine for TwoThreads {
 
 #[cfg(test)]
 mod node_tests;
+#[cfg(test)]
+mod sieve_tests;
 #[cfg(test)]
 mod tests;

@@ -14,7 +14,8 @@ pub struct Said {
     pub bytes: Vec<u8>,
 }
 
-/// An outside that reads and writes here; with a link in memory, a clock that stands, and an open gate, for commands that run no node.
+/// An outside that reads and writes here; with a link in memory, a clock that stands, and an open gate, for commands
+/// that run no node.
 pub fn outside_of<S: Drop, K: Drop>(
     alloc: Global,
     source: S,

@@ -7,8 +7,9 @@ use job_text::{
 use std::alloc::Global;
 use std::test::*;
 
-/// The lines of a job with each form, and what is told where a word of the line is another one: one letter for each word, one for a
-/// word more at the end, and one for the last word less. `f` is for the form, `v` for a value, `t` for the text, and `-` for nothing.
+/// The lines of a job with each form, and what is told where a word of the line is another one: one letter for each
+/// word, one for a word more at the end, and one for the last word less. `f` is for the form, `v` for a value, `t` for
+/// the text, and `-` for nothing.
 const LINES: [(&str, &str); 51] = [
     ("gasnet 1\n", "fvff"),
     ("job 18446744073709551615\n", "fvff"),

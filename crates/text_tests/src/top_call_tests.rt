@@ -353,7 +353,8 @@ fn the_rows_end_and_say_as_they_should(rt: HostRuntime) -> Result<(), Fail> {
     Ok(())
 }
 
-/// A job whose text is refused: what stands in place of `count` of the lines of a good one from `first` on, and what is said.
+/// A job whose text is refused: what stands in place of `count` of the lines of a good one from `first` on, and what is
+/// said.
 #[derive(Clone, Copy)]
 struct Refused {
     first: usize,
@@ -549,6 +550,38 @@ fn an_upgraded_job_is_the_same_in_version_2(rt: HostRuntime) -> Result<(), Fail>
     let (_, wanted) = job.split_at(job.len().min(9));
     assert_eq!(rt; first, b"gasnet 2\n".as_slice());
     assert_eq!(rt; others, wanted);
+    Ok(())
+}
+
+/// A job of one request, as it is written with the second layout.
+const UPGRADED: &str = "\
+gasnet 2
+job 7
+nodes 2
+credits 1
+threads 1
+segment 4096
+last 100
+resend 10
+patience 100
+sieve 0 0 0
+handler 128 request
+end
+schedule
+0 call 0 0 short 1 128 5
+0 request 0 1 1
+0 reply 0 1 1
+end
+done
+";
+
+#[test]
+fn a_job_of_one_request_upgraded(rt: HostRuntime) -> Result<(), Fail> {
+    let mut job = Vec::from_slice(rt.alloc(), UPGRADED.as_bytes())?;
+    job[7] = b'1';
+    let said = call(&rt, &["upgrade"], job)?;
+    assert_eq!(rt; said.code, 0);
+    assert_eq!(rt; said.bytes.as_slice(), UPGRADED.as_bytes());
     Ok(())
 }
 

@@ -53,7 +53,7 @@ pub no_seed : (name word : Word) → ((seed : ℕ) → seed < 2 ^ 64 → word �
 no_seed name word none command = no_seed_by name word command none
 
 -- three words
-pub asks_node : (rank_word port_word : Word) (rank port : ℕ) → rank ≤ 63 → 1024 ≤ port → port ≤ 65472
+pub asks_node : (rank_word port_word : Word) (rank port : ℕ) → rank ≤ 255 → 1024 ≤ port → port ≤ 65472
     → rank_word ≡ decimal rank → port_word ≡ decimal port
     → Asks (codes "node" ∷ rank_word ∷ port_word ∷ []) (commands.Node rank port)
 asks_node rank_word port_word rank port few low high r p = record {
@@ -64,7 +64,7 @@ asks_node rank_word port_word rank port few low high r p = record {
 
 -- these words are none where one of the numbers is none of its range
 no_numbers_by : (name rank_word port_word : Word) (command : Command)
-    → ((rank port : ℕ) → rank ≤ 63 → 1024 ≤ port → port ≤ 65472 → rank_word ≡ decimal rank
+    → ((rank port : ℕ) → rank ≤ 255 → 1024 ≤ port → port ≤ 65472 → rank_word ≡ decimal rank
     → port_word ≡ decimal port → ⊥)
     → Asks (name ∷ rank_word ∷ port_word ∷ []) command → ⊥
 no_numbers_by name rank_word port_word commands.World none asks = let same = asks.words_are in absurd (cc)
@@ -74,7 +74,7 @@ no_numbers_by name rank_word port_word (commands.Node rank port) none asks =
     let same = asks.words_are in none rank port asks.in_range.0 asks.in_range.1 asks.in_range.2 (cc) (cc)
 
 pub no_numbers : (name rank_word port_word : Word)
-    → ((rank port : ℕ) → rank ≤ 63 → 1024 ≤ port → port ≤ 65472 → rank_word ≡ decimal rank
+    → ((rank port : ℕ) → rank ≤ 255 → 1024 ≤ port → port ≤ 65472 → rank_word ≡ decimal rank
     → port_word ≡ decimal port → ⊥)
     → AsksNothing (name ∷ rank_word ∷ port_word ∷ [])
 no_numbers name rank_word port_word none command = no_numbers_by name rank_word port_word command none

@@ -58,7 +58,8 @@ reads_bad left left' bytes seen (faults.Bad n why) line reason same is h (inr ba
     }
 
 -- more bytes than a job's text has were read
-pub reads_long : (left left' : Option (List ℕ)) → ((bytes : List ℕ) × (limit < length bytes) × Consumes left left' bytes)
+pub reads_long : (left left' : Option (List ℕ))
+    → ((bytes : List ℕ) × (limit < length bytes) × Consumes left left' bytes)
     → ReadsNoJob left left' 0 Size
 reads_long left left' h = record { bytes = h.0; read = h.2; none = inl (h.1, refl, refl) }
 
@@ -98,7 +99,8 @@ weak_none reading ends.JournalFull given said h = h
 
 -- it is one of the ends of a command that reads a job
 abbrev pub MayReadNone : EndsHow → Reading → Type 1
-MayReadNone Ends reading = (end : End) (after : After) (said : List ℕ) → ReadsNone reading end after said → Ends end after said
+MayReadNone Ends reading = (end : End) (after : After) (said : List ℕ) → ReadsNone reading end after said
+    → Ends end after said
 
 unread_said : (reading : Reading) (end : End) → IsUnread reading end → IsSaid end
 unread_said reading (ends.BadJob line reason) h = tt

@@ -1,6 +1,6 @@
 -- The command `node`.
-use Rattle.std.proofs.Common.{◌≡◌, ℕ, ◌<◌, ◌≤◌, List, [], ◌∷◌, ◌++◌, Bool, true, false, Option, Some, None, refl, sym, ap}
-use Rattle.std.proofs.Common.{subst, inl, inr, lit<, ◌∙◌, arith, append-nil}
+use Rattle.std.proofs.Common.{◌≡◌, ℕ, ◌<◌, ◌≤◌, List, [], ◌∷◌, ◌++◌, Bool, true, false, Option, Some, None, refl, sym}
+use Rattle.std.proofs.Common.{ap, subst, inl, inr, lit<, ◌∙◌, append-nil, true≢false}
 use Rattle.std.specs.List.{Contains}
 use Rattle.gas_outside.specs.Buffered.{Outbox, GathersFront}
 use Rattle.gas_outside.specs.Faults.{Rose}
@@ -21,7 +21,7 @@ use Rattle.top_call.specs.Outsides.{Call, Course, Input, course_in, took_in}
 use Rattle.top_call.specs.Commands.{code_of, end_of, status_line}
 use Rattle.top_call.specs.HowEnds.{After, Means, gives, node_given, nothing, said_last, unasked}
 use Rattle.top_call.specs.JobReads.{GivesJob, ReadsJob}
-use Rattle.top_call.specs.NodeCommand.{HoldsNode, LosesLink, NodeCompletes, NodeEnds, NodeMeans}
+use Rattle.top_call.specs.NodeCommand.{HoldsNode, LosesLink, NodeCompletes, NodeEnds, NodeMeans, has_place}
 use Rattle.top_call.specs.NodeCommand.{RunsNode}
 use Rattle.top_call.specs.TopParts.{EndsBy, Says, SaysNode, cut}
 use Rattle.top_call.specs.declared.ending.End.{End}
@@ -38,7 +38,7 @@ abbrev weak_runs : (rank port : ℕ) (course : Course) (station : StationEnd) (e
 weak_runs rank port course station end given said h = record {
   job = h.job;
   read = h.read;
-  is_node = h.is_node;
+  place = h.place;
   run = h.run;
   said_is = h.said_is;
   node_after = tt;
@@ -56,7 +56,7 @@ weak_node rank port course ends.Violations given said h = record {
 weak_node rank port course ends.Usage given said h = record {
   job = h.job;
   read = h.read;
-  too_great = h.too_great;
+  no_place = h.no_place;
   alone = weak_alone ends.Usage given said h.alone;
 }
 weak_node rank port course (ends.BadJob line reason) given said h =
@@ -91,15 +91,17 @@ node_none rank port course ends.JournalFull after said h = absurd h
 -- ---- a node ran
 
 module _ (rank port : ℕ) (course : Course) (job : JobState) (read : GivesJob course.reading job)
-    (is_node : rank < job.settings.nodes) where
+    (place : has_place rank port job.settings.nodes ≡ true) where
   -- its lines, and its run, as the command says them
-  abbrev ran : (station : StationEnd) (end : End) (after : After) (run : RunsTo (post_of job rank port) course.before course.after station)
+  abbrev ran : (station : StationEnd) (end : End) (after : After)
+      (run : RunsTo (post_of job rank port) course.before course.after station)
       → after.left run.left.machine.endpoint
-      → RunsNode rank port course station end after (said_last (node_lines (post_of job rank port) run.left.journal) end)
+      → RunsNode rank port course station end after
+      (said_last (node_lines (post_of job rank port) run.left.journal) end)
   ran station end after run left = record {
     job = job;
     read = read;
-    is_node = is_node;
+    place = place;
     run = run;
     said_is = refl;
     node_after = left;
@@ -211,11 +213,12 @@ module _ (rank port : ℕ) (course : Course) (job : JobState) (read : GivesJob c
 
 -- no node of the job is asked for
 pub no_node_told : (rank port : ℕ) (course : Course) (job : JobState) (old new : Outbox) (ended : Ended)
-    → GivesJob course.reading job → job.settings.nodes ≤ rank → Says ends.Usage nothing old new ended
+    → GivesJob course.reading job → has_place rank port job.settings.nodes ≡ false
+    → Says ends.Usage nothing old new ended
     → EndsBy (NodeEnds rank port course) old new ended
-no_node_told rank port course job old new ended read great says =
+no_node_told rank port course job old new ended read none says =
     says_alone (NodeEnds rank port course) old new ends.Usage ended (weak_node rank port course) tt
-    (record { job = job; read = read; too_great = great; alone = alone ends.Usage }) says
+    (record { job = job; read = read; no_place = none; alone = alone ends.Usage }) says
 
 -- ---- exit statuses
 
@@ -247,18 +250,17 @@ one_job bytes (Some rest) job other text r =
     let same : bytes ≡ r.bytes = r.read ∙ ap (λ z. r.bytes ++ z) r.ended ∙ append-nil r.bytes in
     r.one job (subst (JobText job) same text)
 
-is_no_node : (source : Input) (left : Option (List ℕ)) (rank : ℕ) (job : JobState) → HoldsNode rank source
-    → ReadsJob source.left left job → job.settings.nodes ≤ rank → ⊥
-is_no_node source left rank job holds read great =
+is_no_node : (source : Input) (left : Option (List ℕ)) (rank port : ℕ) (job : JobState)
+    → HoldsNode rank port source
+    → ReadsJob source.left left job → has_place rank port job.settings.nodes ≡ false → ⊥
+is_no_node source left rank port job holds read none =
     let same = one_job holds.holds.bytes left holds.holds.job job holds.holds.text
     (subst (λ (before : Option (List ℕ)). ReadsJob before left job) holds.holds.told read) in
-    let nodes = ap (λ (j : JobState). j.settings.nodes) same in
-    let less = holds.is_node in
-    absurd (omega (arith, great, less, nodes))
+    absurd (true≢false (sym holds.place ∙ (ap (λ (j : JobState). has_place rank port j.settings.nodes) same ∙ none)))
 
 pub node_completes : (call : Call) (rank port : ℕ) (end : End)
     → Means (NodeEnds rank port (course_in call)) (took_in call) call.given end
-    → NodeCompletes call rank (code_of end)
+    → NodeCompletes call rank port (code_of end)
 node_completes call rank port ends.Done h holds faultless linked = (0, lit< tt, refl)
 node_completes call rank port ends.Violations h holds faultless linked = (1, lit< tt, refl)
 node_completes call rank port ends.NoMemory h holds faultless linked = (2, lit< tt, refl)
@@ -270,4 +272,4 @@ node_completes call rank port ends.WriteFault h holds faultless linked = absurd 
 node_completes call rank port (ends.BadJob line reason) h holds faultless linked =
     absurd (was_no_job call.before.source call.after.source.left line reason holds.holds h.ends.read)
 node_completes call rank port ends.Usage h holds faultless linked =
-    absurd (is_no_node call.before.source call.after.source.left rank h.ends.job holds h.ends.read h.ends.too_great)
+    absurd (is_no_node call.before.source call.after.source.left rank port h.ends.job holds h.ends.read h.ends.no_place)

@@ -96,7 +96,8 @@ length_same : (job : JobState) → is_version job.settings.version ≡ true
 length_same job known =
     let version = decimal job.settings.version in
     ap length (text_is (in_version job 2))
-    ∙ (begun_length (decimal 2) version (others (in_version job 2)) (one_digit 2 refl ∙ sym (one_digit job.settings.version known))
+    ∙ (begun_length (decimal 2) version (others (in_version job 2))
+    (one_digit 2 refl ∙ sym (one_digit job.settings.version known))
     ∙ (ap (λ (rest : List ℕ). length (begun version rest)) (others_same job) ∙ sym (ap length (text_is job))))
 
 -- ---- the text

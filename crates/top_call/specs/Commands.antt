@@ -1,5 +1,6 @@
 -- The commands, and the words of their ends.
-use Rattle.std.specs.Prelude.{◌≡◌, ℕ, ◌<◌, ◌≤◌, ◌^◌, List, [], ◌∷◌, Bool, if◌then◌else◌, Option, Some, None, codes, decimal}
+use Rattle.std.specs.Prelude.{◌≡◌, ℕ, ◌<◌, ◌≤◌, ◌^◌, List, [], ◌∷◌, Bool, if◌then◌else◌, Option, Some, None, codes}
+use Rattle.std.specs.Prelude.{decimal}
 use Rattle.job_text.specs.declared.fault.JobWhy.{JobWhy}
 use Rattle.job_text.specs.declared.fault.JobWhy.TheVariants as why
 use Rattle.node_script.specs.Lines.{Word, Line}
@@ -21,7 +22,7 @@ command_words (commands.Drill seed) = codes "drill" ∷ decimal seed ∷ []
 abbrev pub IsCommand : Command → Type 0
 IsCommand commands.World = Unit {0}
 IsCommand commands.Upgrade = Unit {0}
-IsCommand (commands.Node rank port) = (rank ≤ 63) × (1024 ≤ port) × (port ≤ 65472)
+IsCommand (commands.Node rank port) = (rank ≤ 255) × (1024 ≤ port) × (port ≤ 65472)
 IsCommand (commands.Drill seed) = seed < 2 ^ 64
 
 -- the words are those of the command

@@ -1,5 +1,5 @@
 -- The command `node`: a job is read, one of its nodes is run, and its trace is written.
-use Rattle.std.specs.Prelude.{◌≡◌, ℕ, ◌<◌, ◌≤◌, List, [], ◌∷◌, Bool, true, false}
+use Rattle.std.specs.Prelude.{◌≡◌, ℕ, ◌+◌, nat_le, nat_lt, List, [], ◌∷◌, Bool, ◌&&◌, true, false}
 use Rattle.std.specs.List.{Contains}
 use Rattle.gas_outside.specs.Faults.{Rose}
 use Rattle.job_text.specs.declared.job.Job.{Job as JobState}
@@ -15,11 +15,15 @@ use Rattle.top_call.specs.Statuses.{CodeMeans}
 use Rattle.top_call.specs.declared.ending.End.{End}
 use Rattle.top_call.specs.declared.ending.End.TheVariants as ends
 
--- a job was read, and it has no node of this rank: the status line alone
-pub record HasNoNode (rank : ℕ) (course : Course) (after : After) (said : List ℕ) : Type 0 where
+-- among so many nodes there is one of this rank, and each has its port where rank 0 has this one
+abbrev pub has_place : (rank port nodes : ℕ) → Bool
+has_place rank port nodes = nat_lt rank nodes && nat_le (port + nodes) 65536
+
+-- a job was read, and it has no place for this node: the status line alone
+pub record HasNoPlace (rank port : ℕ) (course : Course) (after : After) (said : List ℕ) : Type 0 where
   pub job : JobState
   pub read : GivesJob course.reading job
-  pub too_great : job.settings.nodes ≤ rank
+  pub no_place : has_place rank port job.settings.nodes ≡ false
   pub alone : SaysAlone ends.Usage after said
 
 -- a job was read, and its node of this rank ran until this end of its station: the trace of its journal, and the status
@@ -28,7 +32,7 @@ pub record RunsNode (rank port : ℕ) (course : Course) (station : StationEnd) (
     (said : List ℕ) : Type 0 where
   pub job : JobState
   pub read : GivesJob course.reading job
-  pub is_node : rank < job.settings.nodes
+  pub place : has_place rank port job.settings.nodes ≡ true
   pub run : RunsTo (post_of job rank port) course.before course.after station
   pub said_is : said ≡ said_last (node_lines (post_of job rank port) run.left.journal) end
   pub node_after : after.left run.left.machine.endpoint
@@ -47,7 +51,7 @@ pub record LosesLink (rank port : ℕ) (course : Course) (after : After) (said :
 abbrev pub NodeEnds : (rank port : ℕ) → Course → EndsHow
 NodeEnds rank port course ends.Done after said = EndsNode rank port course false after said
 NodeEnds rank port course ends.Violations after said = EndsNode rank port course true after said
-NodeEnds rank port course ends.Usage after said = HasNoNode rank course after said
+NodeEnds rank port course ends.Usage after said = HasNoPlace rank port course after said
 NodeEnds rank port course (ends.BadJob line reason) after said = RefusesJob course.reading line reason after said
 NodeEnds rank port course ends.ReadFault after said = FailsToRead course.reading after said
 NodeEnds rank port course ends.WriteFault after said = ⊥
@@ -62,15 +66,15 @@ abbrev pub NodeMeans : Call → (rank port code : ℕ) → Type 0
 NodeMeans call rank port code =
     CodeMeans call (NodeEnds rank port (course_in call)) (0 ∷ 1 ∷ 2 ∷ 3 ∷ 4 ∷ 5 ∷ 6 ∷ 8 ∷ 9 ∷ 10 ∷ []) code
 
--- the bytes that are left are told, and they are the text of some job with a node of this rank
-pub record HoldsNode (rank : ℕ) (source : Input) : Type 0 where
+-- the bytes that are left are told, and they are the text of some job with a place for this node
+pub record HoldsNode (rank port : ℕ) (source : Input) : Type 0 where
   pub holds : HoldsJob source
-  pub is_node : rank < holds.job.settings.nodes
+  pub place : has_place rank port holds.job.settings.nodes ≡ true
 
 -- where no count of faults rose, the node of a job that could be read came to its end, got stuck, or filled its
 -- journal, or memory ran out
-abbrev pub NodeCompletes : Call → (rank code : ℕ) → Type 0
-NodeCompletes call rank code =
-    HoldsNode rank call.before.source → IsFaultless call
+abbrev pub NodeCompletes : Call → (rank port code : ℕ) → Type 0
+NodeCompletes call rank port code =
+    HoldsNode rank port call.before.source → IsFaultless call
     → (Rose call.before.devices.link.faults call.after.devices.link.faults → ⊥)
     → Contains (0 ∷ 1 ∷ 8 ∷ 9 ∷ 10 ∷ []) code

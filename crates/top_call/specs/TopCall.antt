@@ -21,5 +21,5 @@ pub record StatusMeans (call : Call) (code : ℕ) : Type 0 where
 pub record IsComplete (call : Call) (code : ℕ) : Type 0 where
   pub world : Asks call.words commands.World → WorldCompletes call code
   pub upgrade : Asks call.words commands.Upgrade → UpgradeCompletes call code
-  pub node : (rank port : ℕ) → Asks call.words (commands.Node rank port) → NodeCompletes call rank code
+  pub node : (rank port : ℕ) → Asks call.words (commands.Node rank port) → NodeCompletes call rank port code
   pub drill : (seed : ℕ) → Asks call.words (commands.Drill seed) → DrillCompletes call code

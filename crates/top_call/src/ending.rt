@@ -71,7 +71,8 @@ impl End {
 pub struct Given {
     /// The world after a run in a world; there is one after `Done` and `Violations` alone.
     pub world: Option<World>,
-    /// The node after a run as a process; there is one after `Done`, `Violations`, `LinkFault`, `Stuck` and `JournalFull` alone.
+    /// The node after a run as a process; there is one after `Done`, `Violations`, `LinkFault`, `Stuck` and
+    /// `JournalFull` alone.
     pub node: Option<Endpoint>,
 }
 

@@ -5,7 +5,7 @@ ghost use Rattle.gas_outside.specs.Buffered.{outbox};
 ghost use Rattle.job_text.specs.JobText.{IsJob};
 ghost use Rattle.node_call.specs.Seen.{devices_seen};
 ghost use Rattle.top_call.specs.JobReads.{GivesJob};
-ghost use Rattle.top_call.specs.NodeCommand.{NodeEnds};
+ghost use Rattle.top_call.specs.NodeCommand.{NodeEnds, has_place};
 ghost use Rattle.top_call.specs.Outsides.{Reading, course_of, course_with, input};
 ghost use Rattle.top_call.specs.HowEnds.{nothing};
 ghost use Rattle.top_call.specs.TopParts.{EndsBy, Says, SaysNode};
@@ -30,6 +30,15 @@ pub struct AskedNode {
     pub rank: u16,
     /// The port of rank 0.
     pub port: u16,
+}
+
+impl AskedNode {
+    /// Whether it is among so many nodes, and each of them has its port.
+    fn has_place(&self, nodes: u16) -> bool
+        ensures { result ≡ has_place self.now.rank self.now.port nodes }
+    {
+        self.rank < nodes && u32::from(self.port) + u32::from(nodes) <= 65_536
+    }
 }
 
 /// How a node's command ended, and the devices that it ran over.
@@ -86,7 +95,7 @@ fn say_unrun<K: Sink, L, C, G>(
     }
 }
 
-/// Runs a node of a job that was read, if it is one.
+/// Runs a node of a job that was read, if there is a place for it.
 fn run_read<R: Threads + Wait + Sync, L: Link + Send, C: Clock + Send, G: Gate + Sync, K: Sink>(
     rt: &R,
     alloc: Global,
@@ -102,7 +111,7 @@ fn run_read<R: Threads + Wait + Sync, L: Link + Send, C: Clock + Send, G: Gate +
         (outbox K.taken K.faults sink.old) (outbox K.taken K.faults sink.new) result.ended }
 {
     let ReadNode { job, asked } = read;
-    if asked.rank >= job.settings.nodes() {
+    if !asked.has_place(job.settings.nodes()) {
         return say_unrun(sink, End::Usage, devices);
     }
     match Script::new(alloc, job) {
@@ -130,8 +139,9 @@ fn run_read<R: Threads + Wait + Sync, L: Link + Send, C: Clock + Send, G: Gate +
 
 /// The command `node`: reads a job, runs one of its nodes over the outside's link, and says its trace.
 ///
-/// The status line is told by the first of these steps that gives one: reading the job; the rank, which has to be a node of it; the
-/// run, which begins by binding the link.
+/// The status line is told by the first of these steps that gives one: reading the job; the rank, which has to be a
+/// node of it, and the port, behind which there has to be one for each node; the run, which begins by binding the
+/// link.
 pub fn node_command<
     R: Threads + Wait + Sync,
     S: Source,

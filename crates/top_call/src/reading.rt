@@ -11,8 +11,8 @@ use std::alloc::Global;
 /// The most bytes of a job's text.
 const LIMIT: usize = 4_194_304;
 
-/// Reads all, and the job whose text it is. Else how the command ends: the bytes are no job's text or too many, the source
-/// failed, or memory ran out.
+/// Reads all, and the job whose text it is. Else how the command ends: the bytes are no job's text or too many, the
+/// source failed, or memory ran out.
 pub fn job_from<S: Source>(alloc: Global, source: &mut S) -> Result<Job, End>
     ensures { ReadsOrNot (reading_of (input S.left S.faults source.old)
         (input S.left S.faults source.new)) result }

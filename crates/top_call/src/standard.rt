@@ -7,8 +7,8 @@ use gas_outside::{Got, Put, Sink, Source};
 use std::io::{Read, Write};
 use std::marker::Model;
 
-/// A reader as a source. It tells as left what the reader tells as remaining: nothing of standard input, all of a reader in
-/// memory.
+/// A reader as a source. It tells as left what the reader tells as remaining: nothing of standard input, all of a
+/// reader in memory.
 #[derive(Drop)]
 pub struct ReaderSource<R> {
     reader: R,
@@ -49,8 +49,8 @@ impl<R: Read> Source for ReaderSource<R> {
     }
 }
 
-/// A writer as a sink. It tells as taken what the writer tells as its contents: nothing of standard output, all of a writer
-/// in memory.
+/// A writer as a sink. It tells as taken what the writer tells as its contents: nothing of standard output, all of a
+/// writer in memory.
 #[derive(Drop)]
 pub struct WriterSink<W> {
     writer: W,

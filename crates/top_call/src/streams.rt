@@ -21,8 +21,8 @@ use std::thread::Threads;
 
 /// The top call over a reader and a writer of std, with the exit status that the program ends with.
 ///
-/// Where the reader tells what remains and the writer what it holds, as those in memory do, `means` says which bytes were
-/// read and written; standard input and output tell nothing.
+/// Where the reader tells what remains and the writer what it holds, as those in memory do, `means` says which bytes
+/// were read and written; standard input and output tell nothing.
 pub fn run_streams<
     P: Threads + Wait + Sync,
     R: Read,
@@ -75,8 +75,8 @@ fn words<R: Env + AllocGlobal>(rt: &R) -> Vec<String> {
     }
 }
 
-/// The whole program but for what a node runs over: the words of the command line, standard input and standard output, and its exit
-/// status. Nothing is written to standard error.
+/// The whole program but for what a node runs over: the words of the command line, standard input and standard output,
+/// and its exit status. Nothing is written to standard error.
 pub fn program<
     P: Env + AllocGlobal + Input + Print + Threads + Wait + Sync,
     L: Link + Send + Drop,

@@ -43,21 +43,22 @@ fn flushed<K: Sink>(sink: &mut BufferedSink<K>, ended: Ended) -> Ended
 
 /// The top call: does what the words say (the program's own name is none of them), and gives the outside back.
 ///
-/// The word `world` alone reads a job and runs it; `upgrade` alone reads a job and writes the same job with datagrams of version 2;
-/// `drill SEED` runs the drill of that number, and reads nothing; `node RANK PORT` reads a job, runs the scripts of its node RANK in
-/// threads over the outside's link, bound to that place, and writes the trace of what they did. The last line written is
-/// `status CODE NAME`, but with code 5, and with 0 of `upgrade`:
+/// The word `world` alone reads a job and runs it; `upgrade` alone reads a job and writes the same job with datagrams
+/// of version 2; `drill SEED` runs the drill of that number, and reads nothing; `node RANK PORT` reads a job, runs the
+/// scripts of its node RANK in threads over the outside's link, bound to that place, and writes the trace of what they
+/// did. The last line written is `status CODE NAME`, but with code 5, and with 0 of `upgrade`:
 ///
-/// - 0 `ok`: the job or the drill was run, the lines of its run were written before, and no node noted a violation; or the text of
-///   the job was written; or the node's scripts came to their ends, and it was quiet for as many turns as the job's patience says;
+/// - 0 `ok`: the job or the drill was run, the lines of its run were written before, and no node noted a violation; or
+///   the text of the job was written; or the node's scripts came to their ends, and it was quiet for as many turns as
+///   the job's patience says;
 /// - 1 `violations`: the job or the node was run so, and a node noted a violation;
 /// - 2 `usage`: the words are those of no command, or the rank is no node of the job;
 /// - 3 `bad-job LINE WHY`: the bytes read are no job's text; the first bad line, and the first reason that applies to
 ///   it. Of more than 4,194,304 bytes they are `0 size`;
 /// - 4 `read-fault`, only where the source's count of faults rose, or stands at its last value;
-/// - 5, only where the sink's count of faults rose, or stands at its last value: a front of the text was written;
-/// - 6 `link-fault`, of `node`, only where the link's count of faults rose, or stands at its last value; the trace was written before,
-///   without turns where the link couldn't be bound;
+/// - 5, only where the sink's count of faults rose, or stands at its last value: a prefix of the text was written;
+/// - 6 `link-fault`, of `node`, only where the link's count of faults rose, or stands at its last value; the trace was
+///   written before, without turns where the link couldn't be bound;
 /// - 8 `no-memory`: memory ran out; whole lines of the run were written before, or none; of `upgrade` and `node` none;
 /// - 9 `stuck`, of `node`: it was quiet for so many turns, and some script isn't over; the trace was written before;
 /// - 10 `journal-full`, of `node`: its journal is full; the trace was written before.

@@ -30,8 +30,8 @@ fn write_upgraded<K: Sink>(job: Job, sink: &mut BufferedSink<K>) -> Ended
     }
 }
 
-/// The command `upgrade`: reads a job, and writes it with datagrams of version 2. All memory is taken by the time that it
-/// writes.
+/// The command `upgrade`: reads a job, and writes it with datagrams of version 2. All memory is taken by the time that
+/// it writes.
 pub fn upgrade_command<S: Source, K: Sink>(
     alloc: Global,
     source: &mut S,

@@ -14,7 +14,7 @@ pub enum Command {
     Upgrade,
     /// A job is read, and one of its nodes is run.
     Node {
-        /// The number of the node, 0 to 63.
+        /// The number of the node, 0 to 255.
         rank: u16,
         /// The port of rank 0, 1,024 to 65,472.
         port: u16,
@@ -104,7 +104,7 @@ fn of_two(name: &str, word: &str) -> Option<Command>
 fn of_numbers(rank: &str, port: &str) -> Option<Command>
     ensures { IsAsked (codes "node" ∷ rank.now ∷ port.now ∷ []) result }
 {
-    let Some(rank) = number_in(rank, 0, 63) else {
+    let Some(rank) = number_in(rank, 0, 255) else {
         return None;
     };
     match number_in(port, 1_024, 65_472) {

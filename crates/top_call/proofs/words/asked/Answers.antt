@@ -35,7 +35,8 @@ returns-in-len1 c =
 
 pub returns-in-len2 : goal.returns-in-len2
 returns-in-len2 c =
-    let two = two_words string_bytes c.args.words.now c.name-item.result c.word-item-then-words-lt3.result (omega arith) in
+    let two = two_words string_bytes c.args.words.now c.name-item.result c.word-item-then-words-lt3.result
+    (omega arith) in
     let name = c.deref-in-len2.ensures ∙ ap string_bytes c.name-item.is in
     let word = c.deref-in-len2-2.ensures ∙ ap string_bytes c.word-item-then-words-lt3.is in
     subst (λ (words : List Word). IsAsked words c.of_two.result)
