@@ -1,14 +1,29 @@
 -- A line is cut at its first space.
-use Rattle.std.proofs.Common.{◌≡◌, ℕ, ◌+◌, List, [], ◌∷◌, take, drop, Option, Some, None, Bool, true, false, cond, eqb}
+use Rattle.std.proofs.Common.{◌≡◌, ℕ, ◌+◌, ◌<◌, List, [], ◌∷◌, length, take, drop, Option, Some, None, Bool, true, false, cond, eqb}
 use Rattle.std.proofs.Common.{Err, not, is_some, IfSome, IfNone, Bor, refl, sym, ap, ◌∙◌, arith}
 use Rattle.std.specs.List.{slice_split, onto_first, position}
 use Rattle.std.proofs.lemmas.Option.{cond_some}
-use Rattle.std.proofs.lemmas.Bool.{ltb-true, ltb-false}
-use Rattle.std.proofs.lemmas.List.Sums.{fails_before_first}
+use Rattle.std.proofs.lemmas.Bool.{ltb-true, ltb-false, lt-ltb, false_from_ne_true}
+use Rattle.std.proofs.lemmas.List.Sums.{fails_before_first, position_or_len_is}
 use Rattle.std.proofs.lemmas.List.Splits.{slice_split_none, slice_split_first}
+use Rattle.memchr.specs.Find.{IsFirstByte, is_byte}
 use Rattle.gasnet_trace.specs.declared.fault.TraceWhy.TheVariants.{Form}
 use Rattle.gasnet_trace.specs.Lines.{Word, Line}
-use Rattle.gasnet_trace.specs.TraceReading.{words_of, is_one, second_of, is_end, turn_of}
+use Rattle.gasnet_trace.specs.TraceReading.{words_of, is_one, second_of, turn_of}
+use Rattle.gasnet_trace.proofs.Numbers.{cond_no, cond_yes}
+
+-- the first place of a byte
+pub place_is : (byte : ℕ) (bytes : List ℕ) (r : Option ℕ) → IsFirstByte (is_byte byte) bytes r → r
+    ≡ position (λ b. eqb b byte) bytes
+place_is byte bytes None h =
+    let all = position_or_len_is (λ b. eqb b byte) bytes (length bytes) 0 (omega arith)
+    (λ k d. false_from_ne_true _ (h k (omega arith) d)) (λ d. absurd (omega arith)) in
+    sym (cond_no _ _ _ (λ t. let d = ltb-true _ _ t in omega arith))
+place_is byte bytes (Some k) h =
+    let high = h.0.high in
+    let here = position_or_len_is (λ b. eqb b byte) bytes k 0 (omega arith)
+    (λ j d. false_from_ne_true _ (h.0.before j (omega arith) d)) (λ d. h.1) in
+    sym (cond_yes _ _ _ (lt-ltb _ _ (omega arith)) ∙ ap Some here)
 
 none_is : (b : Bool) (x : ℕ) → cond b (Some x) None ≡ None → b ≡ false
 none_is true x h = absurd (cc)
@@ -55,12 +70,6 @@ unfolding second_of
 second_many name w [] h = refl
 second_many name w (v ∷ []) h = absurd (cc)
 second_many name w (v ∷ u ∷ ws) h = refl
-
-pub end_many : (ws : Line) → is_one ws ≡ false → is_end ws ≡ false
-unfolding is_end
-end_many [] h = refl
-end_many (v ∷ []) h = absurd (cc)
-end_many (v ∷ u ∷ ws) h = refl
 
 pub turn_many : (a b c : Word) (ws : Line) → is_one ws ≡ false → turn_of (a ∷ b ∷ c ∷ ws) ≡ Err Form
 unfolding turn_of

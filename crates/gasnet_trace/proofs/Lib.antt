@@ -8,6 +8,8 @@ pub mod StartLemmas
 pub mod Ending
 pub mod Numbers
 pub mod Cutting
+pub mod Digits
+pub mod Refusing
 pub mod EntryRuns
 pub mod LineLaws
 pub mod WordLaws

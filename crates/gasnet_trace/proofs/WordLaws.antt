@@ -1,13 +1,14 @@
 -- Reading the words of a line is the inverse of writing them.
 use Rattle.std.proofs.Common.{◌≡◌, ℕ, suc, ◌-◌, ◌/◌, ◌%◌, ◌^◌, ◌<◌, ◌≤◌, List, [], ◌∷◌, length, drop, slice_index}
 use Rattle.std.proofs.Common.{Option, Some, None, Bool, true, false, ◌&&◌, cond, eqb, ltb, leb, Result, Ok, Err, refl}
-use Rattle.std.proofs.Common.{ap, subst, ◌∙◌, arith, decimal, codes}
+use Rattle.std.proofs.Common.{sym, ap, subst, ◌∙◌, arith, decimal, codes}
 use Rattle.std.specs.List.{AllByRecursion}
 use Rattle.std.specs.Option.{ForSome}
 use Rattle.std.specs.Str.{bytes_eq}
 use Rattle.std.specs.Str.Parse.{AllDigits}
 use Rattle.std.proofs.lemmas.Str.Parse.{numerals_by_value, tells_digits, digit_from_value}
 use Rattle.std.proofs.lemmas.Fmt.{digits_decimal, decimal_nonempty}
+use Rattle.std.proofs.lemmas.List.Splits.{join_with_byte-slice_split}
 use Rattle.std.proofs.lemmas.Slice.Eq.{bytes_eq-Decides}
 use Rattle.std.proofs.lemmas.Bool.{and_parts, and_from, leb-true, le-leb, ltb-true, lt-ltb, eqb-true}
 use Rattle.hex.specs.Hex.{encode_lower, encode_with, lower_digits, decode_of, hex_digit_value, IsBytes}
@@ -15,13 +16,13 @@ use Rattle.hex.specs.declared.error.FromHexError.{FromHexError}
 use Rattle.hex.proofs.HexLemmas.{decode_of-encode_lower, decode_of-ok, IsDigits-lower_digits}
 use Rattle.machine.specs.declared.entry.Entry.{Entry}
 use Rattle.gasnet_trace.specs.declared.fault.TraceWhy.TheVariants.{Form, Value}
-use Rattle.gasnet_trace.specs.Lines.{Word, Line, IsPlain, IsWord, IsLine}
+use Rattle.gasnet_trace.specs.Lines.{Word, Line, IsPlain, IsWord, IsLine, joined}
 use Rattle.gasnet_trace.specs.TraceText.{got_word, entry_line, end_line, number_line, IsEntry}
 use Rattle.gasnet_trace.specs.TraceReading.{◌>>=◌, number_of, within, number_in, thread_of, spelled_by, bytes_of}
 use Rattle.gasnet_trace.specs.TraceReading.{got_of, second_of, setting_of, is_end, TurnWords, turn_of, entry_of}
-use Rattle.gasnet_trace.specs.TraceReading.{next_of}
+use Rattle.gasnet_trace.specs.TraceReading.{next_of, words_of}
 use Rattle.gasnet_trace.proofs.Numbers.{cond_yes, number_of-decimal, decimal_of_number}
-use Rattle.gasnet_trace.proofs.LineLaws.{ok_is, bind_ok, guard_ok, cond_not}
+use Rattle.gasnet_trace.proofs.LineLaws.{ok_is, bind_ok, guard_ok, cond_not, joined-join}
 
 -- ---- words that are written
 
@@ -215,6 +216,19 @@ unfolding is_end
 end_takes [] e = absurd (cc)
 end_takes (w ∷ []) e = ap (λ (x : Word). x ∷ []) (same_word w (codes "end") e)
 end_takes (w ∷ v ∷ ws) e = absurd (cc)
+
+end_by : (a b : Bool) → (a ≡ true → b ≡ true) → (b ≡ true → a ≡ true) → a ≡ b
+end_by true b there back = sym (there refl)
+end_by false true there back = back refl
+end_by false false there back = refl
+
+-- the line `end` is that text
+pub end_text : (line : List ℕ) → bytes_eq line (codes "end") ≡ is_end (words_of line)
+unfolding is_end
+end_text line = end_by (bytes_eq line (codes "end")) (is_end (words_of line))
+    (λ h. ap (λ z. is_end (words_of z)) (same_word line (codes "end") h))
+    (λ h. ap (λ z. bytes_eq z (codes "end")) (sym (joined-join (words_of line) ∙ join_with_byte-slice_split 32 line)
+    ∙ ap joined (end_takes (words_of line) h)))
 
 pub turn_takes : (words : Line) (t : TurnWords) → turn_of words ≡ Ok t → words ≡ codes "turn" ∷ t.thread ∷ t.time
     ∷ t.got ∷ []

@@ -14,7 +14,7 @@ ghost use Rattle.gasnet_trace.specs.TraceRead.{Gives, GivesAt, GivesTrace, Reads
 
 use crate::fault::{Miss, TraceFault, TraceWhy};
 use crate::trace::Trace;
-use crate::words::{cut_word, got_of, line_of, number_in, thread_of};
+use crate::words::{cut_line, cut_word, got_of, line_of, number_in, refusal_of, thread_of};
 use machine::{Entry, Journal};
 use std::alloc::Global;
 
@@ -90,9 +90,6 @@ pub(crate) fn setting_at<'a>(
 fn is_end(line: &[u8]) -> bool
     ensures { result ≡ is_end (words_of line.now) }
 {
-    if !is_one(line) {
-        return false;
-    }
     is_name(line, b"end")
 }
 
@@ -167,14 +164,17 @@ fn next_at(
         (read_line line (next_of threads) bytes.now) }
     ensures shorter { IfOk result (λ x. length x.1.now < length bytes.now) }
 {
-    let (text, rest) = match line_of(bytes) {
+    let (text, rest) = match cut_line(bytes) {
         Ok(read) => read,
         Err(why) => return Err(TraceFault::Bad { line, why }),
     };
     match next_of(alloc, threads, text) {
         Ok(next) => Ok((next, rest)),
         Err(Miss::NoMemory) => Err(TraceFault::NoMemory),
-        Err(Miss::Unlike(why)) => Err(TraceFault::Bad { line, why }),
+        Err(Miss::Unlike(why)) => Err(TraceFault::Bad {
+            line,
+            why: refusal_of(text, why),
+        }),
     }
 }
 

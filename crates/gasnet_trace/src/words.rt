@@ -11,6 +11,7 @@ use crate::fault::{Miss, TraceWhy};
 use hex::FromHexError;
 use itoa::Buffer;
 use machine::Bytes;
+use memchr::memchr;
 use std::alloc::Global;
 use std::str::from_utf8;
 
@@ -43,13 +44,15 @@ fn place_of(bytes: &[u8], byte: u8) -> Option<usize>
     ensures value { result ≡ position (λ b. b == byte) bytes.now }
     ensures within { IfSome result (λ n. n < length bytes.now) }
 {
-    bytes.iter().position(|b| *b == byte)
+    memchr(byte, bytes)
 }
 
-/// The first line, and the bytes after it.
+/// The first line, and the bytes after it, whatever the line has.
 #[tactic(auto, unfolding(crate::specs::TraceReading::line_at))]
-pub fn line_of(bytes: &[u8]) -> Result<(&[u8], &[u8]), TraceWhy>
-    ensures value { Tells (λ x. (x.0.now, x.1.now)) result (line_at bytes.now) }
+pub fn cut_line(bytes: &[u8]) -> Result<(&[u8], &[u8]), TraceWhy>
+    ensures cut { IfOk result (λ x. line_at bytes.now
+        ≡ (if list_all is_word (words_of x.0.now) then Ok (x.0.now, x.1.now) else Err Text)) }
+    ensures none { IfErr result (λ why. line_at bytes.now ≡ Err why) }
     ensures shorter { IfOk result (λ x. length x.1.now < length bytes.now) }
 {
     if bytes.is_empty() {
@@ -60,10 +63,30 @@ pub fn line_of(bytes: &[u8]) -> Result<(&[u8], &[u8]), TraceWhy>
     };
     let (line, _) = bytes.split_at(end);
     let (_, rest) = bytes.split_at(end + 1);
+    Ok((line, rest))
+}
+
+/// The first line, which has words only, and the bytes after it.
+pub fn line_of(bytes: &[u8]) -> Result<(&[u8], &[u8]), TraceWhy>
+    ensures value { Tells (λ x. (x.0.now, x.1.now)) result (line_at bytes.now) }
+    ensures shorter { IfOk result (λ x. length x.1.now < length bytes.now) }
+{
+    let (line, rest) = cut_line(bytes)?;
     if !is_text(line) {
         return Err(TraceWhy::Text);
     }
     Ok((line, rest))
+}
+
+/// Why a line is refused that was refused by its words: its text comes first.
+pub fn refusal_of(line: &[u8], why: TraceWhy) -> TraceWhy
+    ensures { result ≡ (if list_all is_word (words_of line.now) then why else Text) }
+{
+    if is_text(line) {
+        why
+    } else {
+        TraceWhy::Text
+    }
 }
 
 /// The first word of a line, and the words after it, where there are some.
@@ -121,20 +144,30 @@ pub fn thread_of(word: &[u8], threads: u16) -> Result<u16, TraceWhy>
     }
 }
 
+/// Whether a word has an uppercase letter.
+fn has_uppercase(word: &[u8]) -> bool
+    ensures { result ≡ list_any is_ascii_uppercase word.now }
+{
+    let mut found = false;
+    for byte in word {
+        found |= byte.is_ascii_uppercase();
+    }
+    found
+}
+
 /// The bytes whose lowercase digits a word is.
 #[tactic(auto, unfolding(crate::specs::TraceReading::bytes_of))]
 fn bytes_of(alloc: Global, word: &[u8]) -> Result<Bytes, Miss>
     ensures { Gives (λ b. b) result (bytes_of word.now) }
 {
+    if has_uppercase(word) {
+        return Err(Miss::Unlike(TraceWhy::Value));
+    }
     let bytes = match hex::decode(alloc, word) {
         Ok(bytes) => bytes,
         Err(FromHexError::OutOfMemory) => return Err(Miss::NoMemory),
         Err(_) => return Err(Miss::Unlike(TraceWhy::Value)),
     };
-    let text = hex::encode(alloc, bytes.as_slice())?;
-    if text.as_bytes() != word {
-        return Err(Miss::Unlike(TraceWhy::Value));
-    }
     if bytes.len() > MOST {
         return Err(Miss::Unlike(TraceWhy::Value));
     }
