@@ -1,7 +1,7 @@
 -- A line is cut at its first space.
-use Rattle.std.proofs.Common.{◌≡◌, ℕ, ◌+◌, ◌<◌, List, [], ◌∷◌, length, take, drop, Option, Some, None, Bool, true, false, cond, eqb}
+use Rattle.std.proofs.Common.{◌≡◌, ℕ, ◌+◌, ◌<◌, List, [], ◌∷◌, length, take, drop, Option, Some, None, Bool, true, false, cond, eqb, ltb}
 use Rattle.std.proofs.Common.{Err, not, is_some, IfSome, IfNone, Bor, refl, sym, ap, ◌∙◌, arith}
-use Rattle.std.specs.List.{slice_split, onto_first, position}
+use Rattle.std.specs.List.{slice_split, onto_first, position, position_or_len}
 use Rattle.std.proofs.lemmas.Option.{cond_some}
 use Rattle.std.proofs.lemmas.Bool.{ltb-true, ltb-false, lt-ltb, false_from_ne_true}
 use Rattle.std.proofs.lemmas.List.Sums.{fails_before_first, position_or_len_is}
@@ -16,14 +16,17 @@ use Rattle.gasnet_trace.proofs.Numbers.{cond_no, cond_yes}
 pub place_is : (byte : ℕ) (bytes : List ℕ) (r : Option ℕ) → IsFirstByte (is_byte byte) bytes r → r
     ≡ position (λ b. eqb b byte) bytes
 place_is byte bytes None h =
-    let all = position_or_len_is (λ b. eqb b byte) bytes (length bytes) 0 (omega arith)
+    let at = position_or_len (λ b. eqb b byte) bytes in
+    let none : at ≡ length bytes = position_or_len_is (λ b. eqb b byte) bytes (length bytes) 0 (omega arith)
     (λ k d. false_from_ne_true _ (h k (omega arith) d)) (λ d. absurd (omega arith)) in
-    sym (cond_no _ _ _ (λ t. let d = ltb-true _ _ t in omega arith))
+    sym (cond_no (ltb at (length bytes)) (Some at) None (λ t. let d : at < length bytes = ltb-true at (length bytes) t in
+    omega arith))
 place_is byte bytes (Some k) h =
-    let high = h.0.high in
-    let here = position_or_len_is (λ b. eqb b byte) bytes k 0 (omega arith)
+    let at = position_or_len (λ b. eqb b byte) bytes in
+    let high : k < length bytes = h.0.high in
+    let here : at ≡ k = position_or_len_is (λ b. eqb b byte) bytes k 0 (omega arith)
     (λ j d. false_from_ne_true _ (h.0.before j (omega arith) d)) (λ d. h.1) in
-    sym (cond_yes _ _ _ (lt-ltb _ _ (omega arith)) ∙ ap Some here)
+    sym (cond_yes (ltb at (length bytes)) (Some at) None (lt-ltb at (length bytes) (omega arith)) ∙ ap Some here)
 
 none_is : (b : Bool) (x : ℕ) → cond b (Some x) None ≡ None → b ≡ false
 none_is true x h = absurd (cc)
@@ -51,17 +54,17 @@ pub not_one : (w : Word) (line : List ℕ) → is_one (w ∷ words_of line) ≡ 
 not_one w [] = refl
 not_one w (b ∷ line) = many_by (eqb b 32) b w (words_of line)
 
--- a line that isn't cut is one word
-pub one_by : (line : List ℕ) (cut : Option (Bor (List ℕ) × Bor (List ℕ))) (b : Bool) → is_some cut ≡ not b
-    → IfSome cut (λ x. words_of line ≡ x.0.now ∷ words_of x.1.now) → IfNone cut (words_of line ≡ line ∷ [])
+-- a line without a space is one word
+pub one_by : (line : List ℕ) (at : Option ℕ) (b : Bool) → is_some at ≡ not b
+    → at ≡ position (λ c. eqb c 32) line
     → (b ≡ is_one (words_of line)) × (b ≡ true → words_of line ≡ line ∷ [])
-one_by line None true e some none = (sym (ap is_one none), λ _. none)
-one_by line None false e some none = absurd (cc)
-one_by line (Some x) true e some none = absurd (cc)
-one_by line (Some x) false e some none = (
-  sym (ap is_one some ∙ not_one x.0.now x.1.now),
-  λ is. absurd (let f : false
-      ≡ true = is in cc),
+one_by line None true e is = let none = cut_none line (sym is) in (sym (ap is_one none), λ _. none)
+one_by line None false e is = absurd (cc)
+one_by line (Some n) true e is = absurd (cc)
+one_by line (Some n) false e is = (
+  sym (ap is_one (cut_some line n (sym is)) ∙ not_one (take n line) (drop (n + 1) line)),
+  λ t. absurd (let f : false
+      ≡ true = t in cc),
 )
 
 -- lines of more words than their form has

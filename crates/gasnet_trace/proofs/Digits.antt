@@ -103,8 +103,10 @@ word_again word bytes h low =
 spelled_no : (word : Word) (read : Result (List ℕ) FromHexError) → decode_of word ≡ read
     → list_any is_ascii_uppercase word ≡ true → spelled_by word read ≡ Err Value
 spelled_no word (Err e) is h = refl
-spelled_no word (Ok bytes) is h = cond_no _ _ _ (λ t.
-    let same = (bytes_eq-Decides word (encode_lower bytes)).0 (and_parts _ _ t).0 in
+spelled_no word (Ok bytes) is h =
+    let few = leb (length bytes) 8297 in
+    cond_no (bytes_eq word (encode_lower bytes) && few) (Ok bytes) (Err Value) (λ t.
+    let same = (bytes_eq-Decides word (encode_lower bytes)).0 (and_parts (bytes_eq word (encode_lower bytes)) few t).0 in
     both_ways (list_any is_ascii_uppercase word)
     (ap (list_any is_ascii_uppercase) same ∙ no_uppercase bytes (decode_of-ok word bytes is).3) h)
 

@@ -9,10 +9,10 @@ pub mod Ending
 pub mod Numbers
 pub mod Cutting
 pub mod Digits
-pub mod Refusing
 pub mod EntryRuns
 pub mod LineLaws
 pub mod WordLaws
+pub mod LineTests
 pub mod TraceLaws
 pub mod OutputLaws
 pub mod Writing

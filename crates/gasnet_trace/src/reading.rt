@@ -14,7 +14,7 @@ ghost use Rattle.gasnet_trace.specs.TraceRead.{Gives, GivesAt, GivesTrace, Reads
 
 use crate::fault::{Miss, TraceFault, TraceWhy};
 use crate::trace::Trace;
-use crate::words::{cut_line, cut_word, got_of, line_of, number_in, refusal_of, thread_of};
+use crate::words::{cut_line, cut_word, got_of, is_one, line_of, number_in, refusal_of, thread_of};
 use machine::{Entry, Journal};
 use std::alloc::Global;
 
@@ -23,14 +23,6 @@ fn is_name(word: &[u8], name: &[u8]) -> bool
     ensures { result ≡ bytes_eq word.now name.now }
 {
     word == name
-}
-
-/// Whether a line is one word.
-fn is_one(line: &[u8]) -> bool
-    ensures value { result ≡ is_one (words_of line.now) }
-    ensures word { result ≡ true → words_of line.now ≡ line.now ∷ [] }
-{
-    cut_word(line).is_none()
 }
 
 /// The second word of a line of a name and another word.

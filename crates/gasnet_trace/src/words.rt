@@ -1,9 +1,11 @@
 //! Lines, and the words of a line.
 
-ghost use Rattle.std.specs.Prelude.{◌≡◌, ◌≤◌, ◌<◌, ◌∷◌, ◌==◌, [], length, position};
-ghost use Rattle.std.specs.Prelude.{IfOk, IfSome, IfNone};
-ghost use Rattle.std.specs.List.{list_all};
-ghost use Rattle.gasnet_trace.specs.TraceReading.{bytes_of, got_of, is_plain, is_word, line_at};
+ghost use Rattle.std.specs.Prelude.{◌≡◌, ◌≤◌, ◌<◌, ◌∷◌, ◌==◌, [], length, position, true};
+ghost use Rattle.std.specs.Prelude.{if◌then◌else◌, IfOk, IfErr, IfSome, IfNone};
+ghost use Rattle.std.specs.Char.{is_ascii_uppercase};
+ghost use Rattle.std.specs.List.{list_all, list_any};
+ghost use Rattle.gasnet_trace.specs.declared.fault.TraceWhy.TheVariants.{Text};
+ghost use Rattle.gasnet_trace.specs.TraceReading.{bytes_of, got_of, is_one, is_plain, is_word, line_at};
 ghost use Rattle.gasnet_trace.specs.TraceReading.{number_in, number_of, thread_of, words_of};
 ghost use Rattle.gasnet_trace.specs.TraceRead.{Gives, Tells};
 
@@ -39,8 +41,16 @@ fn is_text(line: &[u8]) -> bool
     line.split(|byte| *byte == b' ').all(|word| is_word(word))
 }
 
-/// Where a byte first stands.
+/// Where a byte first stands, which is near.
 fn place_of(bytes: &[u8], byte: u8) -> Option<usize>
+    ensures value { result ≡ position (λ b. b == byte) bytes.now }
+    ensures within { IfSome result (λ n. n < length bytes.now) }
+{
+    bytes.iter().position(|b| *b == byte)
+}
+
+/// Where a byte first stands, which may be far.
+fn far_place_of(bytes: &[u8], byte: u8) -> Option<usize>
     ensures value { result ≡ position (λ b. b == byte) bytes.now }
     ensures within { IfSome result (λ n. n < length bytes.now) }
 {
@@ -58,7 +68,7 @@ pub fn cut_line(bytes: &[u8]) -> Result<(&[u8], &[u8]), TraceWhy>
     if bytes.is_empty() {
         return Err(TraceWhy::Early);
     }
-    let Some(end) = place_of(bytes, b'\n') else {
+    let Some(end) = far_place_of(bytes, b'\n') else {
         return Err(TraceWhy::Text);
     };
     let (line, _) = bytes.split_at(end);
@@ -98,6 +108,14 @@ pub fn cut_word(line: &[u8]) -> Option<(&[u8], &[u8])>
     let (word, _) = line.split_at(end);
     let (_, rest) = line.split_at(end + 1);
     Some((word, rest))
+}
+
+/// Whether a line is one word.
+pub fn is_one(line: &[u8]) -> bool
+    ensures value { result ≡ is_one (words_of line.now) }
+    ensures word { result ≡ true → words_of line.now ≡ line.now ∷ [] }
+{
+    far_place_of(line, b' ').is_none()
 }
 
 /// The number that a word is the decimal text of.
