@@ -1,6 +1,6 @@
 -- A line is cut at its first space.
-use Rattle.std.proofs.Common.{◌≡◌, ℕ, ◌+◌, ◌<◌, List, [], ◌∷◌, length, take, drop, Option, Some, None, Bool, true, false, cond, eqb, ltb}
-use Rattle.std.proofs.Common.{Err, not, is_some, IfSome, IfNone, Bor, refl, sym, ap, ◌∙◌, arith}
+use Rattle.std.proofs.Common.{◌≡◌, ℕ, ◌+◌, ◌<◌, List, [], ◌∷◌, length, take, drop, Option, Some, None, Bool, true, false}
+use Rattle.std.proofs.Common.{cond, eqb, ltb, Err, not, is_some, refl, sym, ap, ◌∙◌, arith}
 use Rattle.std.specs.List.{slice_split, onto_first, position, position_or_len}
 use Rattle.std.proofs.lemmas.Option.{cond_some}
 use Rattle.std.proofs.lemmas.Bool.{ltb-true, ltb-false, lt-ltb, false_from_ne_true}
@@ -19,7 +19,8 @@ place_is byte bytes None h =
     let at = position_or_len (λ b. eqb b byte) bytes in
     let none : at ≡ length bytes = position_or_len_is (λ b. eqb b byte) bytes (length bytes) 0 (omega arith)
     (λ k d. false_from_ne_true _ (h k (omega arith) d)) (λ d. absurd (omega arith)) in
-    sym (cond_no (ltb at (length bytes)) (Some at) None (λ t. let d : at < length bytes = ltb-true at (length bytes) t in
+    sym (cond_no (ltb at (length bytes)) (Some at) None (λ t.
+    let d : at < length bytes = ltb-true at (length bytes) t in
     omega arith))
 place_is byte bytes (Some k) h =
     let at = position_or_len (λ b. eqb b byte) bytes in

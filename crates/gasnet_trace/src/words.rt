@@ -5,8 +5,9 @@ ghost use Rattle.std.specs.Prelude.{if◌then◌else◌, IfOk, IfErr, IfSome, If
 ghost use Rattle.std.specs.Char.{is_ascii_uppercase};
 ghost use Rattle.std.specs.List.{list_all, list_any};
 ghost use Rattle.gasnet_trace.specs.declared.fault.TraceWhy.TheVariants.{Text};
-ghost use Rattle.gasnet_trace.specs.TraceReading.{bytes_of, got_of, is_one, is_plain, is_word, line_at};
-ghost use Rattle.gasnet_trace.specs.TraceReading.{number_in, number_of, thread_of, words_of};
+ghost use Rattle.gasnet_trace.specs.TraceReading.{bytes_of, got_of, is_one, is_plain, is_word};
+ghost use Rattle.gasnet_trace.specs.TraceReading.{line_at, number_in, number_of, thread_of};
+ghost use Rattle.gasnet_trace.specs.TraceReading.{words_of};
 ghost use Rattle.gasnet_trace.specs.TraceRead.{Gives, Tells};
 
 use crate::fault::{Miss, TraceWhy};
