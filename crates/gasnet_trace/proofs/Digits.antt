@@ -1,7 +1,7 @@
 -- Digits with no uppercase letter are the one text of what they decode to.
 use Rattle.std.proofs.Common.{◌≡◌, ℕ, suc, ◌+◌, ◌*◌, ◌/◌, ◌%◌, ◌<◌, List, [], ◌∷◌, length, slice_index, Some, None}
-use Rattle.std.proofs.Common.{Option, Bool, true, false, ◌&&◌, ◌||◌, cond, ltb, leb, Result, Ok, Err, refl, sym, ap, ◌∙◌}
-use Rattle.std.proofs.Common.{arith}
+use Rattle.std.proofs.Common.{Option, Bool, true, false, ◌&&◌, ◌||◌, cond, ltb, leb, Result, Ok, Err, refl, sym, ap}
+use Rattle.std.proofs.Common.{◌∙◌, arith}
 use Rattle.std.specs.Char.{is_ascii_uppercase}
 use Rattle.std.specs.List.{list_any}
 use Rattle.std.specs.Result.{result_unwrap_or}
@@ -106,7 +106,8 @@ spelled_no word (Err e) is h = refl
 spelled_no word (Ok bytes) is h =
     let few = leb (length bytes) 8297 in
     cond_no (bytes_eq word (encode_lower bytes) && few) (Ok bytes) (Err Value) (λ t.
-    let same = (bytes_eq-Decides word (encode_lower bytes)).0 (and_parts (bytes_eq word (encode_lower bytes)) few t).0 in
+    let both = and_parts (bytes_eq word (encode_lower bytes)) few t in
+    let same = (bytes_eq-Decides word (encode_lower bytes)).0 both.0 in
     both_ways (list_any is_ascii_uppercase word)
     (ap (list_any is_ascii_uppercase) same ∙ no_uppercase bytes (decode_of-ok word bytes is).3) h)
 
