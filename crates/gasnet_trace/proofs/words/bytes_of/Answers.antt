@@ -1,15 +1,25 @@
-use Rattle.std.proofs.Common.{◌≤◌, sym, ap, ◌∙◌, length, arith, Ok}
-use Rattle.std.proofs.lemmas.Bool.{le-leb}
-use Rattle.gasnet_trace.proofs.Numbers.{cond_yes}
-use Rattle.gasnet_trace.proofs.Digits.{uppercase_refused, lowercase_read}
+use Rattle.std.proofs.Common.{◌≡◌, ◌*◌, sym, ap, ◌∙◌, length, arith, Ok}
+use Rattle.std.specs.List.{list_all}
+use Rattle.std.proofs.lemmas.Bool.{both_ways}
+use Rattle.hex.specs.Hex.{lower_digits}
+use Rattle.hex.proofs.HexLemmas.{length-encode_with}
+use Rattle.gasnet_trace.specs.Digits.{is_digit}
+use Rattle.gasnet_trace.proofs.Digits.{all_digits, digits_read, no_bytes}
 use Rattle.gasnet_trace.proofs.words.bytes_of.Goals as goal
 
-pub returns-then-has_uppercase : goal.returns-then-has_uppercase
-returns-then-has_uppercase c =
-    uppercase_refused c.args.word.now (sym c.has_uppercase.ensures ∙ c.if-has_uppercase.true)
+pub returns-then-not-are_digits : goal.returns-then-not-are_digits
+returns-then-not-are_digits c = no_bytes c.args.word.now (λ bytes are few same.
+    both_ways (list_all is_digit c.args.word.now) (sym c.are_digits.ensures ∙ c.if-not-are_digits.true)
+    (ap (list_all is_digit) same ∙ all_digits bytes are))
+
+pub returns-then-word-gt-MOST : goal.returns-then-word-gt-MOST
+returns-then-word-gt-MOST c = no_bytes c.args.word.now (λ bytes are few same.
+    let size : length c.args.word.now ≡ 2 * length bytes = ap length same ∙ length-encode_with lower_digits bytes in
+    let many = c.if-word-gt-MOST.true in
+    omega arith)
 
 pub returns : goal.returns
 returns c =
-    let few : length c.in-Ok.bytes.items ≤ 8297 = omega (arith, c.in-Ok.bytes.ok.0) in
-    lowercase_read c.args.word.now c.in-Ok.bytes.items (sym c.has_uppercase.ensures ∙ c.if-has_uppercase.false)
-    c.in-Ok.ensures.ok ∙ cond_yes _ _ _ (le-leb (length c.in-Ok.bytes.items) 8297 few) ∙ sym (ap Ok c.of.ensures)
+    digits_read c.args.word.now c.decode.new.bytes (omega arith) (omega arith)
+    (sym c.are_digits.ensures ∙ c.if-not-are_digits.false) c.decode.ensures
+    ∙ ap Ok (sym ?)
