@@ -1,55 +1,68 @@
--- Digits with no uppercase letter are the one text of what they decode to.
-use Rattle.std.proofs.Common.{◌≡◌, ℕ, suc, ◌+◌, ◌*◌, ◌/◌, ◌%◌, ◌<◌, List, [], ◌∷◌, length, slice_index, Some, None}
-use Rattle.std.proofs.Common.{Option, Bool, true, false, ◌&&◌, ◌||◌, cond, ltb, leb, Result, Ok, Err, refl, sym, ap}
-use Rattle.std.proofs.Common.{◌∙◌, arith}
-use Rattle.std.specs.Char.{is_ascii_uppercase}
-use Rattle.std.specs.List.{list_any}
+-- Lowercase digits are the one text of what they decode to.
+use Rattle.std.proofs.Common.{◌≡◌, ℕ, suc, ◌+◌, ◌*◌, ◌/◌, ◌%◌, ◌<◌, ◌≤◌, List, [], ◌∷◌, length, slice_index, Some, None}
+use Rattle.std.proofs.Common.{Option, true, ◌&&◌, cond, ltb, leb, Result, Ok, Err, refl, sym, ap, ◌∙◌, arith}
+use Rattle.std.specs.List.{list_all}
 use Rattle.std.specs.Result.{result_unwrap_or}
 use Rattle.std.specs.Str.{bytes_eq}
-use Rattle.std.proofs.lemmas.Bool.{and_parts, both_ways, false_from_ne_true}
+use Rattle.std.proofs.lemmas.Bool.{and_from, and_parts, both_ways, le-leb, leb-true, true_from_ne_false}
 use Rattle.std.proofs.lemmas.Bool.Decides.{nat_tests}
-use Rattle.std.proofs.lemmas.List.Folds.{list_any_at}
+use Rattle.std.proofs.lemmas.List.Folds.{list_all_at}
 use Rattle.std.proofs.lemmas.Slice.Eq.{bytes_eq-Decides}
 use Rattle.hex.specs.Hex.{◌>>=◌, IsBytes, decode_of, decode_pairs, digit_or_error, encode_lower, encode_with}
 use Rattle.hex.specs.Hex.{hex_digit_value, lower_digits, pair_value, value_at}
 use Rattle.hex.specs.declared.error.FromHexError.{FromHexError}
-use Rattle.hex.proofs.HexLemmas.{IsDigits-lower_digits, decode_of-even, decode_of-ok}
+use Rattle.hex.proofs.HexLemmas.{IsDigits-lower_digits, decode_of-even, decode_of-ok, decode_pairs-ok}
 use Rattle.gasnet_trace.specs.declared.fault.TraceWhy.TheVariants.{Value}
 use Rattle.gasnet_trace.specs.Lines.{Word}
 use Rattle.gasnet_trace.specs.TraceReading.{bytes_of, spelled_by}
-use Rattle.gasnet_trace.proofs.Numbers.{cond_no}
+use Rattle.gasnet_trace.specs.Digits.{is_digit}
+use Rattle.gasnet_trace.proofs.Numbers.{cond_no, cond_yes}
 
 -- ---- digits
 
--- a digit that is no uppercase letter, by its value
-digit_is : (c v : ℕ) → hex_digit_value c ≡ Some v → is_ascii_uppercase c ≡ false → c
-    ≡ cond (ltb v 10) (v + 48) (v + 87)
+-- a lowercase digit, by its value
+digit_is : (c v : ℕ) → hex_digit_value c ≡ Some v → is_digit c ≡ true → c ≡ cond (ltb v 10) (v + 48) (v + 87)
 digit_is c v h low = grind (arith, nat_tests)
 
 value_below : (c v : ℕ) → hex_digit_value c ≡ Some v → v < 16
 value_below c v h = grind (arith)
 
--- no digit that is written is an uppercase letter
-written_low : (v : ℕ) → v < 16 → is_ascii_uppercase (slice_index lower_digits v) ≡ false
-written_low v h = false_from_ne_true _ (λ e. both_ways (list_any is_ascii_uppercase lower_digits) refl
-    (list_any_at is_ascii_uppercase lower_digits v 0 h e))
+-- what is written is a lowercase digit
+written_digit : (v : ℕ) → v < 16 → is_digit (slice_index lower_digits v) ≡ true
+written_digit v h = true_from_ne_false _ (λ e. both_ways (list_all is_digit lower_digits)
+    (list_all_at is_digit lower_digits v 0 h e) refl)
 
--- a digit that is no uppercase letter is written for its value
-written_again : (c v : ℕ) → hex_digit_value c ≡ Some v → is_ascii_uppercase c ≡ false → c ≡ slice_index lower_digits v
+-- a lowercase digit is written for its value
+written_again : (c v : ℕ) → hex_digit_value c ≡ Some v → is_digit c ≡ true → c ≡ slice_index lower_digits v
 written_again c v h low =
     let few = value_below c v h in
-    digit_is c v h low ∙ sym (digit_is (slice_index lower_digits v) v (IsDigits-lower_digits v few) (written_low v few))
+    digit_is c v h low
+    ∙ sym (digit_is (slice_index lower_digits v) v (IsDigits-lower_digits v few) (written_digit v few))
+
+-- the byte of two digits, wherever they stand
+pub pair_is : (high low a b : ℕ) → hex_digit_value high ≡ Some a → hex_digit_value low ≡ Some b → (i : ℕ)
+    → pair_value high low i ≡ Ok (a * 16 + b)
+pair_is high low a b of_high of_low i =
+    let first : value_at high i ≡ Ok a = ap (digit_or_error high i) of_high in
+    let second : value_at low (i + 1) ≡ Ok b = ap (digit_or_error low (i + 1)) of_low in
+    rw (first, second) refl
+
+-- a digit of a word of digits
+pub digit_at : (word : Word) (i : ℕ) → list_all is_digit word ≡ true → i < length word
+    → is_digit (slice_index word i) ≡ true
+digit_at word i h few = true_from_ne_false _ (λ e. both_ways (list_all is_digit word)
+    (list_all_at is_digit word i 0 few e) h)
 
 -- ---- words
 
-no_uppercase : (bytes : List ℕ) → IsBytes bytes → list_any is_ascii_uppercase (encode_lower bytes) ≡ false
+pub all_digits : (bytes : List ℕ) → IsBytes bytes → list_all is_digit (encode_lower bytes) ≡ true
 unfolding encode_with
-no_uppercase [] h = refl
-no_uppercase (b ∷ bytes) h =
+all_digits [] h = refl
+all_digits (b ∷ bytes) h =
     let fits : b < 256 = h 0 in
     let high : b / 16 < 16 = omega arith in
     let low : b % 16 < 16 = omega arith in
-    rw (written_low (b / 16) high, written_low (b % 16) low, no_uppercase bytes (λ k. h (suc k))) refl
+    rw (written_digit (b / 16) high, written_digit (b % 16) low, all_digits bytes (λ k. h (suc k))) refl
 
 read_ok : {A B : Type 0} (r : Result A FromHexError) (f : A → Result B FromHexError) (y : B) → (r >>= f) ≡ Ok y
     → (x : A) × (r ≡ Ok x) × (f x ≡ Ok y)
@@ -60,12 +73,8 @@ value_read : (c i : ℕ) (o : Option ℕ) (v : ℕ) → digit_or_error c i o ≡
 value_read c i (Some w) v h = ap Some (ap (λ (r : Result ℕ FromHexError). result_unwrap_or r 0) h)
 value_read c i None v h = absurd (cc)
 
-neither : (x y : Bool) → (x || y) ≡ false → (x ≡ false) × (y ≡ false)
-neither true y h = absurd (cc)
-neither false y h = (refl, h)
-
-pairs_again : (i : ℕ) (word bytes : List ℕ) → decode_pairs i word ≡ Ok bytes
-    → list_any is_ascii_uppercase word ≡ false → word ≡ encode_lower bytes
+pairs_again : (i : ℕ) (word bytes : List ℕ) → decode_pairs i word ≡ Ok bytes → list_all is_digit word ≡ true → word
+    ≡ encode_lower bytes
 unfolding decode_pairs encode_with
 pairs_again i [] bytes h low =
     let e : [] ≡ bytes = ap (λ (r : Result (List ℕ) FromHexError). result_unwrap_or r []) h in
@@ -84,42 +93,43 @@ pairs_again i (a ∷ b ∷ rest) bytes h low =
     let below_b = value_below b second.0 of_b in
     let high : first.0 ≡ pair.0 / 16 = omega arith in
     let low_part : second.0 ≡ pair.0 % 16 = omega arith in
-    let not_a = neither (is_ascii_uppercase a) _ low in
-    let not_b = neither (is_ascii_uppercase b) _ not_a.1 in
+    let at_a = and_parts (is_digit a) (is_digit b && list_all is_digit rest) low in
+    let at_b = and_parts (is_digit b) (list_all is_digit rest) at_a.1 in
     let same_a : a ≡ slice_index lower_digits (pair.0 / 16) =
-    written_again a first.0 of_a not_a.0 ∙ ap (slice_index lower_digits) high in
+    written_again a first.0 of_a at_a.0 ∙ ap (slice_index lower_digits) high in
     let same_b : b ≡ slice_index lower_digits (pair.0 % 16) =
-    written_again b second.0 of_b not_b.0 ∙ ap (slice_index lower_digits) low_part in
-    let same_rest : rest ≡ encode_lower more.0 = pairs_again (i + 2) rest more.0 more.1 not_b.1 in
+    written_again b second.0 of_b at_b.0 ∙ ap (slice_index lower_digits) low_part in
+    let same_rest : rest ≡ encode_lower more.0 = pairs_again (i + 2) rest more.0 more.1 at_b.1 in
     ap (λ c. c ∷ b ∷ rest) same_a ∙ ap (λ c. slice_index lower_digits (pair.0 / 16) ∷ c ∷ rest) same_b
     ∙ ap (λ z. slice_index lower_digits (pair.0 / 16) ∷ slice_index lower_digits (pair.0 % 16) ∷ z) same_rest
     ∙ ap encode_lower whole
 
-word_again : (word bytes : List ℕ) → decode_of word ≡ Ok bytes → list_any is_ascii_uppercase word ≡ false → word
-    ≡ encode_lower bytes
-word_again word bytes h low =
-    pairs_again 0 word bytes (sym (decode_of-even word (decode_of-ok word bytes h).0) ∙ h) low
-
 spelled_no : (word : Word) (read : Result (List ℕ) FromHexError) → decode_of word ≡ read
-    → list_any is_ascii_uppercase word ≡ true → spelled_by word read ≡ Err Value
-spelled_no word (Err e) is h = refl
-spelled_no word (Ok bytes) is h =
+    → ((bytes : List ℕ) → IsBytes bytes → length bytes ≤ 8297 → word ≡ encode_lower bytes → ⊥)
+    → spelled_by word read ≡ Err Value
+spelled_no word (Err e) is never = refl
+spelled_no word (Ok bytes) is never =
     let few = leb (length bytes) 8297 in
     cond_no (bytes_eq word (encode_lower bytes) && few) (Ok bytes) (Err Value) (λ t.
     let both = and_parts (bytes_eq word (encode_lower bytes)) few t in
-    let same = (bytes_eq-Decides word (encode_lower bytes)).0 both.0 in
-    both_ways (list_any is_ascii_uppercase word)
-    (ap (list_any is_ascii_uppercase) same ∙ no_uppercase bytes (decode_of-ok word bytes is).3) h)
+    never bytes (decode_of-ok word bytes is).3 (leb-true (length bytes) 8297 both.1)
+    ((bytes_eq-Decides word (encode_lower bytes)).0 both.0))
 
--- a word with an uppercase letter is refused
-pub uppercase_refused : (word : Word) → list_any is_ascii_uppercase word ≡ true → bytes_of word ≡ Err Value
+-- a word that is the text of no bytes, or of too many, is refused
+pub no_bytes : (word : Word)
+    → ((bytes : List ℕ) → IsBytes bytes → length bytes ≤ 8297 → word ≡ encode_lower bytes → ⊥)
+    → bytes_of word ≡ Err Value
 unfolding bytes_of
-uppercase_refused word h = spelled_no word (decode_of word) refl h
+no_bytes word never = spelled_no word (decode_of word) refl never
 
--- another that decodes is the text of its bytes, which are few or too many
-pub lowercase_read : (word : Word) (bytes : List ℕ) → list_any is_ascii_uppercase word ≡ false
-    → decode_of word ≡ Ok bytes → bytes_of word ≡ cond (leb (length bytes) 8297) (Ok bytes) (Err Value)
+-- lowercase digits are the text of the bytes that they decode to
+pub digits_read : (word : Word) (bytes : List ℕ) → length word % 2 ≡ 0 → length word / 2 ≤ 8297
+    → list_all is_digit word ≡ true → decode_pairs 0 word ≡ Ok bytes → bytes_of word ≡ Ok bytes
 unfolding bytes_of
-lowercase_read word bytes low h =
-    ap (spelled_by word) h ∙ ap (λ t. cond (t && leb (length bytes) 8297) (Ok bytes) (Err Value))
-    ((bytes_eq-Decides word (encode_lower bytes)).1 (word_again word bytes h low))
+digits_read word bytes even few low h =
+    let size : length word ≡ 2 * length bytes = (decode_pairs-ok 0 word bytes h).1 in
+    let short : length bytes ≤ 8297 = omega arith in
+    ap (spelled_by word) (decode_of-even word even ∙ h)
+    ∙ cond_yes (bytes_eq word (encode_lower bytes) && leb (length bytes) 8297) (Ok bytes) (Err Value)
+    (and_from _ _ ((bytes_eq-Decides word (encode_lower bytes)).1 (pairs_again 0 word bytes h low))
+    (le-leb (length bytes) 8297 short))

@@ -1,9 +1,10 @@
 //! Lines, and the words of a line.
 
-ghost use Rattle.std.specs.Prelude.{◌≡◌, ◌≤◌, ◌<◌, ◌∷◌, ◌==◌, [], length, position, true};
+ghost use Rattle.std.specs.Prelude.{◌≡◌, ℕ, ◌*◌, ◌≤◌, ◌<◌, ◌∷◌, ◌==◌, [], length, position, true};
 ghost use Rattle.std.specs.Prelude.{if◌then◌else◌, IfOk, IfErr, IfSome, IfNone};
-ghost use Rattle.std.specs.Char.{is_ascii_uppercase};
-ghost use Rattle.std.specs.List.{list_all, list_any};
+ghost use Rattle.std.specs.List.{list_all};
+ghost use Rattle.hex.specs.Hex.{decode_pairs, hex_digit_value, pair_value};
+ghost use Rattle.gasnet_trace.specs.Digits.{is_digit};
 ghost use Rattle.gasnet_trace.specs.declared.fault.TraceWhy.TheVariants.{Text};
 ghost use Rattle.gasnet_trace.specs.TraceReading.{bytes_of, got_of, is_one, is_plain, is_word};
 ghost use Rattle.gasnet_trace.specs.TraceReading.{line_at, number_in, number_of, thread_of};
@@ -11,7 +12,6 @@ ghost use Rattle.gasnet_trace.specs.TraceReading.{words_of};
 ghost use Rattle.gasnet_trace.specs.TraceRead.{Gives, Tells};
 
 use crate::fault::{Miss, TraceWhy};
-use hex::FromHexError;
 use itoa::Buffer;
 use machine::Bytes;
 use memchr::memchr;
@@ -163,15 +163,53 @@ pub fn thread_of(word: &[u8], threads: u16) -> Result<u16, TraceWhy>
     }
 }
 
-/// Whether a word has an uppercase letter.
-fn has_uppercase(word: &[u8]) -> bool
-    ensures { result ≡ list_any is_ascii_uppercase word.now }
+/// Whether a byte is a lowercase digit.
+fn is_digit(byte: u8) -> bool
+    ensures { result ≡ is_digit byte }
 {
-    let mut found = false;
+    matches!(byte, b'0'..=b'9' | b'a'..=b'f')
+}
+
+/// Whether a word has lowercase digits only. It has no early exit, so that many bytes are tested together.
+fn are_digits(word: &[u8]) -> bool
+    ensures { result ≡ list_all is_digit word.now }
+{
+    let mut all = true;
     for byte in word {
-        found |= byte.is_ascii_uppercase();
+        all &= is_digit(*byte);
     }
-    found
+    all
+}
+
+/// The value of a digit.
+fn value_of(digit: u8) -> u8
+    requires { is_digit digit ≡ true }
+    ensures { hex_digit_value digit ≡ Some result }
+{
+    if digit < b'a' {
+        digit - b'0'
+    } else {
+        digit - b'a' + 10
+    }
+}
+
+/// The byte of two digits.
+fn byte_of(high: u8, low: u8) -> u8
+    requires { (is_digit high ≡ true) × (is_digit low ≡ true) }
+    ensures { (i : ℕ) → pair_value high low i ≡ Ok result }
+{
+    value_of(high) * 16 + value_of(low)
+}
+
+/// Writes the bytes whose digits these are.
+fn decode(digits: &[u8], bytes: &mut [u8])
+    requires digits { list_all is_digit digits.now ≡ true }
+    requires room { length digits.now ≡ 2 * length bytes.old }
+    ensures { decode_pairs 0 digits.now ≡ Ok bytes.new }
+{
+    'bytes: for i in 0..bytes.len() {
+        bytes[i] = byte_of(digits[2 * i], digits[2 * i + 1]);
+    }
 }
 
 /// The bytes whose lowercase digits a word is.
@@ -179,17 +217,17 @@ fn has_uppercase(word: &[u8]) -> bool
 fn bytes_of(alloc: Global, word: &[u8]) -> Result<Bytes, Miss>
     ensures { Gives (λ b. b) result (bytes_of word.now) }
 {
-    if has_uppercase(word) {
+    if word.len() % 2 != 0 {
         return Err(Miss::Unlike(TraceWhy::Value));
     }
-    let bytes = match hex::decode(alloc, word) {
-        Ok(bytes) => bytes,
-        Err(FromHexError::OutOfMemory) => return Err(Miss::NoMemory),
-        Err(_) => return Err(Miss::Unlike(TraceWhy::Value)),
-    };
-    if bytes.len() > MOST {
+    if !are_digits(word) {
         return Err(Miss::Unlike(TraceWhy::Value));
     }
+    if word.len() / 2 > MOST {
+        return Err(Miss::Unlike(TraceWhy::Value));
+    }
+    let mut bytes = vec![in alloc; 0u8; word.len() / 2]?;
+    decode(word, bytes.as_mut_slice());
     Ok(Bytes::of(bytes))
 }
 
