@@ -394,8 +394,10 @@ is_input job size bytes outputs end front one within read all = record {
 
 -- an output is bad
 pub bad_output : (job : JobState) (size : ℕ) (bytes : List ℕ) (line : ℕ) (reason : JobWhy) → BeginsWith job size bytes
-    → IsOneFront job size bytes → AreUnread (place_of job bytes size) line reason → IsBadInput bytes line reason
-bad_output job size bytes line reason front one unread = record {
+    → IsOneFront job size bytes → length bytes ≤ input_limit → AreUnread (place_of job bytes size) line reason
+    → IsBadInput bytes line reason
+bad_output job size bytes line reason front one short unread = record {
+  within = short;
   line_is = inr (record {
     job = job;
     size = size;
@@ -407,9 +409,11 @@ bad_output job size bytes line reason front one unread = record {
 
 -- something stands behind them
 pub bad_behind_all : (job : JobState) (size : ℕ) (bytes : List ℕ) (outputs : List Output) (end : ℕ)
-    → BeginsWith job size bytes → IsOneFront job size bytes → AreRead (place_of job bytes size) outputs end
-    → end < length bytes → IsBadInput bytes (lines_in (take end bytes) + 1) why.After
-bad_behind_all job size bytes outputs end front one read more = record {
+    → BeginsWith job size bytes → IsOneFront job size bytes → length bytes ≤ input_limit
+    → AreRead (place_of job bytes size) outputs end → end < length bytes
+    → IsBadInput bytes (lines_in (take end bytes) + 1) why.After
+bad_behind_all job size bytes outputs end front one short read more = record {
+  within = short;
   line_is = inr (record {
     job = job;
     size = size;
@@ -425,10 +429,11 @@ bad_behind_all job size bytes outputs end front one read more = record {
 }
 
 -- the job's text is bad
-pub bad_front : (bytes : List ℕ) (line : ℕ) (reason : JobWhy)
+pub bad_front : (bytes : List ℕ) (line : ℕ) (reason : JobWhy) → length bytes ≤ input_limit
     → front_of bytes ≡ Err (record { line = line; why = reason }) → FrontMeans bytes line reason
     → ((job : JobState) (size : ℕ) → BeginsWith job size bytes → ⊥) → IsBadInput bytes line reason
-bad_front bytes line reason read means none = record {
+bad_front bytes line reason short read means none = record {
+  within = short;
   line_is = inl (record { read = read; means = means });
   none = λ job outputs text. none job (length (job_text job)) (input_front job outputs bytes text);
 }
@@ -444,24 +449,26 @@ begins_within job size bytes front =
     subst (λ (n : ℕ). n ≤ length bytes) (sym front.long) (front_within (job_text job) front.rest bytes front.text)
 
 -- the reader of the front refused it
-pub front_refused : (bytes : List ℕ) (fault : JobFault) (line : ℕ) (reason : JobWhy) → fault ≡ jobfaults.Bad line reason
+pub front_refused : (bytes : List ℕ) (fault : JobFault) (line : ℕ) (reason : JobWhy) → length bytes ≤ input_limit
+    → fault ≡ jobfaults.Bad line reason
     → IsNoMemory fault ⊎ refusals.IsBadFront bytes fault → IsFrontMeant bytes fault
     → IsNoMemory fault ⊎ ((job : JobState) (size : ℕ) → BeginsWith job size bytes → ⊥) → IsBadInput bytes line reason
-front_refused bytes jobfaults.NoMemory line reason is bad meant none = absurd (cc)
-front_refused bytes (jobfaults.Bad n why) line reason is (inl memory) meant none = absurd memory
-front_refused bytes (jobfaults.Bad n why) line reason is (inr bad) meant (inl memory) = absurd memory
-front_refused bytes (jobfaults.Bad n why) line reason is (inr bad) meant (inr none) =
+front_refused bytes jobfaults.NoMemory line reason short is bad meant none = absurd (cc)
+front_refused bytes (jobfaults.Bad n why) line reason short is (inl memory) meant none = absurd memory
+front_refused bytes (jobfaults.Bad n why) line reason short is (inr bad) meant (inl memory) = absurd memory
+front_refused bytes (jobfaults.Bad n why) line reason short is (inr bad) meant (inr none) =
     let told : refusals.IsBadFront bytes (jobfaults.Bad line reason) = subst (refusals.IsBadFront bytes) is bad in
     let means : IsFrontMeant bytes (jobfaults.Bad line reason) = subst (IsFrontMeant bytes) is meant in
-    bad_front bytes line reason told means none
+    bad_front bytes line reason short told means none
 
 -- the reader of the outputs behind it refused one
 pub behind_refused : (job : JobState) (size : ℕ) (bytes : List ℕ) (fault : InputFault) → BeginsWith job size bytes
-    → IsOneFront job size bytes → ReadsOutputs (place_of job bytes size) (Err fault) → IsRefused bytes fault
-behind_refused job size bytes (faults.Bad line reason) front one unread =
-    bad_output job size bytes line reason front one unread
-behind_refused job size bytes faults.ReadFault front one unread = unread
-behind_refused job size bytes faults.NoMemory front one unread = tt
+    → IsOneFront job size bytes → length bytes ≤ input_limit → ReadsOutputs (place_of job bytes size) (Err fault)
+    → IsRefused bytes fault
+behind_refused job size bytes (faults.Bad line reason) front one short unread =
+    bad_output job size bytes line reason front one short unread
+behind_refused job size bytes faults.ReadFault front one short unread = unread
+behind_refused job size bytes faults.NoMemory front one short unread = tt
 
 -- a source was read to its end
 took_all : (old new : Option (List ℕ)) (before after : ℕ) (bytes : List ℕ) (told : Result CheckInput InputFault)

@@ -1,10 +1,8 @@
 pub mod Names
-pub mod Polling
-pub mod Pushed
-pub mod Greater
-pub mod StepText
-pub mod Going
+pub mod Fronts
 pub mod Replays
+pub mod Pushed
+pub mod StepText
 pub mod Merged
 pub mod Inputs
 pub mod Turning

@@ -1,4 +1,4 @@
--- What a merge of the machines of a job's nodes says of their traces.
+-- What a merge of the recorders of a job's nodes says of their traces.
 use Rattle.std.proofs.Common.{◌≡◌, ℕ, zero, suc, ◌+◌, ◌<◌, ◌≤◌, List, [], ◌∷◌, ◌++◌, length, map, take, drop, Option}
 use Rattle.std.proofs.Common.{Some, None}
 use Rattle.std.proofs.Common.{refl, sym, ap, subst, ◌∙◌, arith, slice_get, slice_index, IsSomeAnd, take_all}
@@ -7,255 +7,306 @@ use Rattle.std.specs.Global.{Global}
 use Rattle.std.specs.Result.{IsErrOf}
 use Rattle.std.specs.Option.{option_map}
 use Rattle.std.proofs.lemmas.List.{append-nil, drop_all, length-map}
-use Rattle.std.proofs.lemmas.Option.{same_Some, slice_get-map}
+use Rattle.std.proofs.lemmas.Option.{get_or_from_slice_get, same_Some, slice_get-map, slice_get_within}
 use Rattle.gas_endpoint.specs.EndpointState.{EndpointState, IsNodeOf}
-use Rattle.gasnet_trace.specs.Merged.{AreReplays, HaveThreads, IsOrder, Merges, StandFor, nodes_of}
+use Rattle.gasnet_trace.specs.Merged.{AreReplays, HaveThreads, IsFirstLeft, IsOrder, Merges, StandFor, nodes_of}
 use Rattle.gasnet_trace.specs.declared.merging.MergeFault.{MergeFault}
 use Rattle.gasnet_trace.specs.declared.merging.MergeFault.TheVariants as faults
 use Rattle.gasnet_trace.specs.declared.trace.Placed.{Placed}
 use Rattle.gasnet_trace.specs.declared.trace.Trace.{Trace}
 use Rattle.job_text.specs.JobText.{IsJob}
 use Rattle.job_text.specs.declared.job.Job.{Job as JobState}
-use Rattle.machine.specs.declared.entry.Entry.{Entry}
 use Rattle.machine.specs.declared.turns.Machine.{Ghosts}
-use Rattle.machine.specs.Fronts.{Node, IsRun, Reaches, full, replay}
+use Rattle.machine.specs.Fronts.{Node, IsRun, IsStuck, Reaches, full, replay}
 use Rattle.machine.specs.Replay.{replayed}
-use Rattle.node_machine.specs.Kept.{MachineKept, are_done, polls_at}
-use Rattle.node_machine.specs.Laws.{AreTracesARun, NodesOpen, opening_node}
-use Rattle.node_machine.specs.NodeState.{NodeState, NodeStands, after_turn, opening_state, polls_in, script_job}
-use Rattle.node_machine.specs.NodeState.{scripts_at, sent, state_of, state_steps, turned}
+use Rattle.node_machine.specs.Kept.{are_done, polls_at}
+use Rattle.node_machine.specs.Laws.{AreTracesARun}
+use Rattle.node_machine.specs.NodeState.{NodeState, polls_in, scripts_at, sent, state_of, state_steps, turned}
 use Rattle.node_runs.specs.Merged.{carried, nodes_from}
-use Rattle.node_runs.specs.Order.{replay as replay_of}
+use Rattle.node_runs.proofs.Carrying.{full_same}
 use Rattle.node_runs.specs.WorldRun.{opening_machines}
 use Rattle.node_script.specs.Registration.{registered}
 use Rattle.check_run.specs.CheckInputs.{IsTraceOf}
-use Rattle.check_run.specs.Merging.{AreEndpointsOf, AreFirstMachines, IsMerged, IsOfItsJob, MergesTraces}
-use Rattle.check_run.specs.Replaying.{ScriptedNode, node_state}
-use Rattle.check_run.specs.StepLines.{after_entry}
-use Rattle.check_run.specs.TracesRun.{AreNoRun, AreNodesAfter, IsNodeAfter, RunOfTraces, entries_of, first_machine}
-use Rattle.check_run.specs.TracesRun.{first_nodes}
-use Rattle.check_run.proofs.Polling.{All-at, full_at, run_may}
+use Rattle.check_run.specs.Merging.{AreFirstRecorders, AreReports, ClosesAll, IsMerged, IsReportOf, MergesTraces}
+use Rattle.check_run.specs.Recording.{RecordedState, RecorderKept, RecorderStands, opening_record, record_after}
+use Rattle.check_run.specs.Recording.{record_steps}
+use Rattle.check_run.specs.TracesRun.{AreNoRun, AreNodesAfter, IsNodeAfter, RunOfTraces, entries_of, first_nodes}
+use Rattle.check_run.specs.declared.machines.RunReport.{RunReport}
+use Rattle.check_run.specs.declared.recorder.NodeReport.{NodeReport}
+use Rattle.check_run.proofs.Fronts.{full_at, is_first_left, is_run_back, is_stuck, node_in, nodes_in, reaches, some_same}
+use Rattle.check_run.proofs.Replays.{last_state, replays_first}
 
--- the machines of nodes: their states are those of `node_machine`
-abbrev pub node_machines : Ghosts MachineKept
-node_machines = record {
-  State = NodeState;
-  stands = NodeStands;
-  thread_count = λ machine. machine.job.settings.threads;
-  polls_at = polls_at;
-  is_over = λ machine. are_done machine.scripts;
-  polls_in = polls_in;
-  after = after_turn;
-  turned = turned;
-  sent = sent;
+-- recorders, as machines
+abbrev pub recorders : Ghosts RecorderKept
+recorders = record {
+  State = RecordedState;
+  stands = RecorderStands;
+  thread_count = λ kept. kept.node.job.settings.threads;
+  polls_at = λ kept. polls_at kept.node;
+  is_over = λ kept. are_done kept.node.scripts;
+  polls_in = λ state. polls_in state.node;
+  after = record_after;
+  turned = λ state. turned state.node;
+  sent = λ state. sent state.node;
 }
+
+pub All-at : {A : Type 0} (P : A → Type 0) (xs : List A) (k : ℕ) (x : A) → All P xs → slice_get xs k ≡ Some x → P x
+All-at P xs k x all there =
+    subst P (get_or_from_slice_get xs k x x there) (all k x (slice_get_within xs k x there))
 
 -- ---- before the merge
 
 -- the states of the nodes from this rank on before all turns
-abbrev pub states_from : JobState → (rank count : ℕ) → List NodeState
+abbrev pub states_from : JobState → (rank count : ℕ) → List RecordedState
 states_from job rank zero = []
-states_from job rank (suc count) = opening_state job rank ∷ states_from job (rank + 1) count
+states_from job rank (suc count) = opening_record job rank ∷ states_from job (rank + 1) count
 
--- the machines stand for them
-stand_from : (job : JobState) (rank : ℕ) (machines : List MachineKept)
-    → ((place : ℕ) (machine : MachineKept) → slice_get machines place ≡ Some machine
-    → NodeStands machine (opening_state job (rank + place)))
-    → StandFor node_machines machines (states_from job rank (length machines))
+-- the nodes before all turns, each with its trace
+abbrev pub nodes_before : JobState → (rank : ℕ) → List Trace → List (Node RecordedState)
+nodes_before job rank traces = nodes_of (states_from job rank (length traces)) traces
+
+-- the recorders stand for them
+stand_from : (job : JobState) (rank : ℕ) (all : List RecorderKept)
+    → ((place : ℕ) (one : RecorderKept) → slice_get all place ≡ Some one
+    → RecorderStands one (opening_record job (rank + place)))
+    → StandFor recorders all (states_from job rank (length all))
 stand_from job rank [] stand = tt
-stand_from job rank (machine ∷ machines) stand =
+stand_from job rank (one ∷ all) stand =
     let here : rank + 0 ≡ rank = omega arith in (
-      subst (λ n. NodeStands machine (opening_state job n)) here (stand 0 machine refl),
-      stand_from job (rank + 1) machines (λ place other there.
+      subst (λ n. RecorderStands one (opening_record job n)) here (stand 0 one refl),
+      stand_from job (rank + 1) all (λ place other there.
           let same : rank + suc place ≡ (rank + 1) + place = omega arith in
-          subst (λ n. NodeStands other (opening_state job n)) same (stand (suc place) other there)),
+          subst (λ n. RecorderStands other (opening_record job n)) same (stand (suc place) other there)),
     )
 
-pub first_stand : (job : JobState) (machines : List MachineKept) → AreFirstMachines job machines
-    → StandFor node_machines machines (states_from job 0 (length machines))
-first_stand job machines first =
-    stand_from job 0 machines (λ place machine there.
+pub first_stand : (job : JobState) (traces : List Trace) (all : List RecorderKept) → AreFirstRecorders job all
+    → length traces ≡ length all → StandFor recorders all (states_from job 0 (length traces))
+first_stand job traces all first count =
+    subst (λ n. StandFor recorders all (states_from job 0 n)) (sym count)
+    (stand_from job 0 all (λ place one there.
     let same : place ≡ 0 + place = omega arith in
-    subst (λ n. NodeStands machine (opening_state job n)) same (first.each place machine there))
+    subst (λ n. RecorderStands one (opening_record job n)) same (first.each place one there)))
 
 -- each entry is of a thread of its machine
-pub first_threads : (job : JobState) (machines : List MachineKept) (traces : List Trace)
-    → AreFirstMachines job machines → All (IsTraceOf job) traces → HaveThreads node_machines machines traces
-first_threads job machines traces first are place machine there trace at =
+pub first_threads : (job : JobState) (all : List RecorderKept) (traces : List Trace)
+    → AreFirstRecorders job all → All (IsTraceOf job) traces → HaveThreads recorders all traces
+first_threads job all traces first are place one there trace at =
     let is : IsTraceOf job trace = All-at (IsTraceOf job) traces place trace are at in
-    let own : job ≡ machine.job = (first.each place machine there).job_is in
-    subst (λ (one : JobState). All (λ entry. entry.thread < one.settings.threads) trace.entries) own is.threads
+    let own : job ≡ one.node.job = (first.each place one there).node.job_is in
+    subst (λ (its : JobState). All (λ entry. entry.thread < its.settings.threads) trace.entries) own is.threads
 
--- the nodes of the merge are those of the job
+-- the nodes that they record are those of the job
 nodes_same : (job : JobState) (rank : ℕ) (traces : List Trace)
-    → nodes_of (states_from job rank (length traces)) traces
+    → nodes_in (nodes_before job rank traces)
     ≡ map (carried (state_of job))
     (nodes_from (opening_machines job.settings (scripts_at job)) rank (entries_of traces))
 nodes_same job rank [] = refl
 nodes_same job rank (trace ∷ traces) =
-    ap (λ rest. opening_node job rank trace.entries ∷ rest) (nodes_same job (rank + 1) traces)
+    ap (λ rest. carried node_in (record { state = opening_record job rank; entries = trace.entries }) ∷ rest)
+    (nodes_same job (rank + 1) traces)
 
-pub first_same : (job : JobState) (machines : List MachineKept) (traces : List Trace) → length traces ≡ length machines
-    → nodes_of (states_from job 0 (length machines)) traces ≡ first_nodes job traces
-first_same job machines traces same =
-    ap (λ count. nodes_of (states_from job 0 count) traces) (sym same) ∙ nodes_same job 0 traces
+pub first_same : (job : JobState) (traces : List Trace) → nodes_in (nodes_before job 0 traces) ≡ first_nodes job traces
+first_same job traces = nodes_same job 0 traces
 
--- what a merge that came to a front answers, where the code's machines stand for these nodes
-abbrev pub Fronts : (machines : List MachineKept) (traces : List Trace) → (then_ : List MachineKept)
+-- the node of a rank
+before_at : (job : JobState) (rank : ℕ) (traces : List Trace) (place : ℕ) (trace : Trace)
+    → slice_get traces place ≡ Some trace
+    → slice_get (nodes_before job rank traces) place
+    ≡ Some (record { state = opening_record job (rank + place); entries = trace.entries })
+before_at job rank [] place trace there = absurd (cc)
+before_at job rank (first ∷ traces) zero trace there =
+    let here : rank ≡ rank + 0 = omega arith in
+    ap (λ (it : Trace). Some (record { state = opening_record job rank; entries = it.entries }))
+    (same_Some first trace there)
+    ∙ ap (λ n. Some (record { state = opening_record job n; entries = trace.entries })) here
+before_at job rank (first ∷ traces) (suc place) trace there =
+    let same : (rank + 1) + place ≡ rank + suc place = omega arith in
+    before_at job (rank + 1) traces place trace there
+    ∙ ap (λ n. Some (record { state = opening_record job n; entries = trace.entries })) same
+
+-- there is none past the traces
+before_none : (job : JobState) (rank : ℕ) (traces : List Trace) (place : ℕ) → slice_get traces place ≡ None
+    → slice_get (nodes_before job rank traces) place ≡ None
+before_none job rank [] place there = refl
+before_none job rank (first ∷ traces) zero there = absurd (cc)
+before_none job rank (first ∷ traces) (suc place) there = before_none job (rank + 1) traces place there
+
+-- what a merge that came to a front answers, where the code's recorders stand for these nodes
+abbrev pub Fronts : (all : List RecorderKept) (traces : List Trace) → (then_ : List RecorderKept)
     → Result (Vec Placed Global) MergeFault → Type 0
-Fronts machines traces then_ answer =
-    (front : List ℕ) × ((states : List NodeState) → StandFor node_machines machines states
-    → Merges node_machines (nodes_of states traces) front answer then_)
+Fronts all traces then_ answer =
+    (front : List ℕ) × ((states : List RecordedState) → StandFor recorders all states
+    → Merges recorders (nodes_of states traces) front answer then_)
 
 -- what holds where it answers that there is no run
-abbrev pub HasNoRun : (machines : List MachineKept) (traces : List Trace) → Result (Vec Placed Global) MergeFault
+abbrev pub HasNoRun : (all : List RecorderKept) (traces : List Trace) → Result (Vec Placed Global) MergeFault
     → Type 0
-HasNoRun machines traces answer =
-    (states : List NodeState) → StandFor node_machines machines states → (node entry : ℕ)
-    → IsErrOf answer (faults.NotARun node entry) → IsRun state_steps (nodes_of states traces) → ⊥
+HasNoRun all traces answer =
+    (states : List RecordedState) → StandFor recorders all states → (node entry : ℕ)
+    → IsErrOf answer (faults.NotARun node entry) → IsRun record_steps (nodes_of states traces) → ⊥
 
--- so it is of the nodes of the job
-merged_first : (job : JobState) (traces : List Trace) (machines then_ : List MachineKept)
-    (answer : Result (Vec Placed Global) MergeFault) → AreFirstMachines job machines → length traces ≡ length machines
-    → (front : Fronts machines traces then_ answer)
-    → Merges node_machines (first_nodes job traces) front.0 answer then_
-merged_first job traces machines then_ answer first same front =
-    subst (λ (nodes : List (Node NodeState)). Merges node_machines nodes front.0 answer then_)
-    (first_same job machines traces same)
-    (front.1 (states_from job 0 (length machines)) (first_stand job machines first))
+-- what is made of the one list is what is made of the other
+mapped : {A B C : Type 0} (f : A → C) (g : B → C) (xs : List A) (ys : List B) (k : ℕ) (x : A) → map f xs ≡ map g ys
+    → slice_get xs k ≡ Some x → Some (f x) ≡ option_map g (slice_get ys k)
+mapped f g xs ys k x same there =
+    sym (slice_get-map f xs k ∙ ap (option_map f) there) ∙ ap (λ all. slice_get all k) same ∙ slice_get-map g ys k
 
 -- ---- after it
-
--- the state after the turns of entries
-replay_is : (job : JobState) (rank : ℕ) (machine : ScriptedNode) (entries : List Entry)
-    → replayed state_steps (node_state job rank machine) entries
-    ≡ node_state job rank (replay_of (script_job job) rank machine entries)
-replay_is job rank machine [] = refl
-replay_is job rank machine (entry ∷ entries) = replay_is job rank (after_entry job rank machine entry) entries
 
 -- an order of the entries is a run
 pub order_run : AreTracesARun → (job : JobState) (traces : List Trace) (front : List ℕ) (placed : List Placed)
     → IsJob job → length traces ≤ job.settings.nodes
-    → IsOrder state_steps (first_nodes job traces) front placed → RunOfTraces job traces
+    → IsOrder record_steps (nodes_before job 0 traces) front placed → RunOfTraces job traces
 order_run law job traces front placed is few order =
-    let reached = subst (Reaches state_steps (first_nodes job traces) order.nodes) order.all order.reached in
+    let before = nodes_before job 0 traces in
+    let all : Reaches record_steps before order.nodes (full before) =
+    subst (Reaches record_steps before order.nodes) order.all order.reached in
+    let reached : Reaches state_steps (nodes_in before) order.nodes (full (nodes_in before)) =
+    subst (Reaches state_steps (nodes_in before) order.nodes) (sym (full_same node_in before))
+    (reaches before order.nodes (full before) all) in
+    let own : Reaches state_steps (first_nodes job traces) order.nodes (full (first_nodes job traces)) =
+    subst (λ (nodes : List (Node _)). Reaches state_steps nodes order.nodes (full nodes)) (first_same job traces)
+    reached in
     let count = length-map traces (λ (trace : Trace). trace.entries) in
-    let run = law job (entries_of traces) order.nodes is (omega (arith, count)) reached in
-    record { ranks = order.nodes; reached = reached; turns = run.0; run = run.1; own = run.2 }
+    let run = law job (entries_of traces) order.nodes is (omega (arith, count)) own in
+    record { ranks = order.nodes; reached = own; turns = run.0; run = run.1; own = run.2 }
 
--- the node of a rank
-node_after : NodesOpen → (job : JobState) (traces : List Trace) (machines : List MachineKept) (rank : ℕ)
-    (machine : MachineKept) → AreReplays node_machines (first_nodes job traces) (full (first_nodes job traces)) machines
-    → IsOfItsJob machine → slice_get machines rank ≡ Some machine
-    → IsSomeAnd (slice_get traces rank) (λ trace. IsNodeAfter job rank trace machine.endpoint)
-node_after opens job traces machines rank machine replays own there =
-    by_trace (slice_get traces rank)
-    (opens job (entries_of traces) rank
-    ∙ ap (option_map (opening_node job rank)) (slice_get-map (λ (trace : Trace). trace.entries) traces rank))
+-- what the recorder of a rank stands for, by its trace
+stands_after : (job : JobState) (traces : List Trace) (then_ : List RecorderKept) (rank : ℕ) (kept : RecorderKept)
+    → AreReplays recorders (nodes_before job 0 traces) (full (nodes_before job 0 traces)) then_
+    → slice_get then_ rank ≡ Some kept
+    → IsSomeAnd (slice_get traces rank) (λ trace. RecorderStands kept (last_state job rank trace.entries))
+stands_after job traces then_ rank kept replays there = by_trace (slice_get traces rank) refl
   where
-    nodes : List (Node NodeState)
-    nodes = first_nodes job traces
+    before : List (Node RecordedState)
+    before = nodes_before job 0 traces
 
-    Stands : Option (Node NodeState) → Type 0
+    Stands : Option (Node RecordedState) → Type 0
     Stands found =
-        IsSomeAnd found (λ one. NodeStands machine (replay state_steps one (slice_index (full nodes) rank)))
+        IsSomeAnd found (λ one. RecorderStands kept (replay record_steps one (slice_index (full before) rank)))
 
-    by_trace : (found : Option Trace)
-        → slice_get nodes rank ≡ option_map (opening_node job rank)
-        (option_map (λ (trace : Trace). trace.entries) found)
-        → IsSomeAnd found (λ trace. IsNodeAfter job rank trace machine.endpoint)
-    by_trace None none = subst Stands none (replays rank machine there)
+    by_trace : (found : Option Trace) → slice_get traces rank ≡ found
+        → IsSomeAnd found (λ trace. RecorderStands kept (last_state job rank trace.entries))
+    by_trace None none = subst Stands (before_none job 0 traces rank none) (replays rank kept there)
     by_trace (Some trace) some =
-        let node = opening_node job rank trace.entries in
-        let stands = subst Stands some (replays rank machine there) in
-        let last = full_at nodes rank node some in
-        let all : take (slice_index (full nodes) rank) trace.entries ≡ trace.entries =
-        take_all (slice_index (full nodes) rank) trace.entries (omega arith) in
-        let final = subst (NodeStands machine)
-        (ap (replayed state_steps (opening_state job rank)) all
-        ∙ replay_is job rank (first_machine job rank) trace.entries) stands in
-        record {
-          node = subst (λ (me : ℕ). IsNodeOf job.settings (registered job.handlers).table me machine.endpoint)
-              (sym final.me_is)
-              (subst (λ (one : JobState). IsNodeOf one.settings (registered one.handlers).table
-              machine.endpoint.core.me machine.endpoint) (sym final.job_is) own);
-          stands = final.node;
-        }
+        let own = before_at job 0 traces rank trace some in
+        let last = full_at before rank _ own in
+        let all : take (slice_index (full before) rank) trace.entries ≡ trace.entries =
+        take_all (slice_index (full before) rank) trace.entries (omega arith) in
+        let same : 0 + rank ≡ rank = omega arith in
+        subst (RecorderStands kept)
+        (ap (replayed record_steps (opening_record job (0 + rank))) all
+        ∙ ap (λ n. replayed record_steps (opening_record job n) trace.entries) same
+        ∙ replays_first job rank trace.entries) (subst Stands own (replays rank kept there))
 
--- all of them
-pub nodes_after : NodesOpen → (job : JobState) (traces : List Trace) (machines : List MachineKept)
-    (endpoints : List EndpointState) → length machines ≡ length traces
-    → AreReplays node_machines (first_nodes job traces) (full (first_nodes job traces)) machines
-    → AreEndpointsOf machines endpoints → AreNodesAfter job traces endpoints
-nodes_after opens job traces machines endpoints count replays are = record {
-  count = ap length are.are ∙ length-map machines (λ (machine : MachineKept). machine.endpoint) ∙ count;
-  each = λ rank endpoint there.
-      from_machine rank endpoint (slice_get machines rank) refl
-      (sym (slice_get-map (λ (machine : MachineKept). machine.endpoint) machines rank)
-      ∙ ap (λ (all : List EndpointState). slice_get all rank) (sym are.are) ∙ there);
-}
-  where
-    from_machine : (rank : ℕ) (endpoint : EndpointState) (found : Option MachineKept)
-        → slice_get machines rank ≡ found
-        → option_map (λ (machine : MachineKept). machine.endpoint) found ≡ Some endpoint
-        → IsSomeAnd (slice_get traces rank) (λ trace. IsNodeAfter job rank trace endpoint)
-    from_machine rank endpoint None at same = absurd (cc)
-    from_machine rank endpoint (Some machine) at same =
-        subst (λ (one : EndpointState). IsSomeAnd (slice_get traces rank) (λ trace. IsNodeAfter job rank trace one))
-        (same_Some machine.endpoint endpoint same)
-        (node_after opens job traces machines rank machine replays (are.nodes rank machine at) at)
+module _ (job : JobState) (traces : List Trace) (then_ : List RecorderKept) (all : RunReport)
+    (replays : AreReplays recorders (nodes_before job 0 traces) (full (nodes_before job 0 traces)) then_)
+    (count : length then_ ≡ length traces) (closes : ClosesAll then_ all) where
+  -- the node of a rank
+  node_after : (rank : ℕ) (endpoint : EndpointState) (found : Option RecorderKept) → slice_get then_ rank ≡ found
+      → option_map (λ (kept : RecorderKept). kept.node.endpoint) found ≡ Some endpoint
+      → IsSomeAnd (slice_get traces rank) (λ trace. IsNodeAfter job rank trace endpoint)
+  node_after rank endpoint None at same = absurd (cc)
+  node_after rank endpoint (Some kept) at same =
+      some_same _ _ (slice_get traces rank) (λ trace stands.
+      subst (IsNodeAfter job rank trace) (same_Some kept.node.endpoint endpoint same) (record {
+        node = subst (λ (me : ℕ). IsNodeOf job.settings (registered job.handlers).table me kept.node.endpoint)
+            (sym stands.node.me_is)
+            (subst (λ (one : JobState). IsNodeOf one.settings (registered one.handlers).table
+            kept.node.endpoint.core.me kept.node.endpoint) (sym stands.node.job_is) (closes.each rank kept at).own);
+        stands = stands.node.node;
+      })) (stands_after job traces then_ rank kept replays at)
 
--- the list of the machines, after all of its slice was written
-pub refilled_all : (len : ℕ) (old new : List MachineKept) → len ≡ length old → length new ≡ length old
+  -- all of them
+  nodes_after : AreNodesAfter job traces all.nodes.items
+  nodes_after = record {
+    count = ap length closes.nodes ∙ length-map then_ (λ (kept : RecorderKept). kept.node.endpoint) ∙ count;
+    each = λ rank endpoint there.
+        node_after rank endpoint (slice_get then_ rank) refl
+        (sym (slice_get-map (λ (kept : RecorderKept). kept.node.endpoint) then_ rank)
+        ∙ ap (λ (nodes : List EndpointState). slice_get nodes rank) (sym closes.nodes) ∙ there);
+  }
+
+  -- what was recorded of the node of a rank
+  report_after : (rank : ℕ) (report : NodeReport) (found : Option RecorderKept) → slice_get then_ rank ≡ found
+      → Some report.text.taken ≡ option_map (λ (kept : RecorderKept). kept.text) found
+      → Some report.most ≡ option_map (λ (kept : RecorderKept). kept.most) found
+      → IsSomeAnd (slice_get traces rank) (λ trace. IsReportOf job rank trace report)
+  report_after rank report None at text most = absurd (cc)
+  report_after rank report (Some kept) at text most =
+      some_same _ _ (slice_get traces rank) (λ trace stands. record {
+        text_is = same_Some report.text.taken kept.text text ∙ stands.text_is (closes.each rank kept at).whole;
+        most_is = same_Some report.most kept.most most ∙ stands.most_is;
+      }) (stands_after job traces then_ rank kept replays at)
+
+  -- of each of them
+  reports_after : AreReports job traces all.reports.items
+  reports_after = record {
+    count = sym (length-map all.reports.items (λ (report : NodeReport). report.most)) ∙ ap length closes.most
+        ∙ length-map then_ (λ (kept : RecorderKept). kept.most) ∙ count;
+    each = λ rank report there.
+        report_after rank report (slice_get then_ rank) refl
+        (mapped (λ (one : NodeReport). one.text.taken) (λ (kept : RecorderKept). kept.text) all.reports.items then_ rank
+        report closes.texts there)
+        (mapped (λ (one : NodeReport). one.most) (λ (kept : RecorderKept). kept.most) all.reports.items then_ rank
+        report closes.most there);
+  }
+
+-- the list of the recorders, after all of its slice was written
+pub refilled_all : (len : ℕ) (old new : List RecorderKept) → len ≡ length old → length new ≡ length old
     → take len (new ++ drop (length new) old) ≡ new
 refilled_all len old new same as_many =
-    ap (λ (rest : List MachineKept). take len (new ++ rest)) (drop_all (length new) old (omega arith))
+    ap (λ (rest : List RecorderKept). take len (new ++ rest)) (drop_all (length new) old (omega arith))
     ∙ ap (take len) (append-nil new) ∙ take_all len new (omega arith)
 
 -- ---- what is answered
 
 -- they are a run
-pub merged_run : AreTracesARun → NodesOpen → (job : JobState) (traces : List Trace) (machines then_ : List MachineKept)
-    (placed : Vec Placed Global) (endpoints : List EndpointState) → IsJob job → length traces ≡ job.settings.nodes
-    → All (IsTraceOf job) traces → AreFirstMachines job machines → Fronts machines traces then_ (Ok placed)
-    → length then_ ≡ length machines → AreEndpointsOf then_ endpoints → IsMerged job traces endpoints
-merged_run law opens job traces machines then_ placed endpoints is count are first front kept ends =
-    let same : length traces ≡ length machines = omega (arith, count, first.count) in
-    let merges = merged_first job traces machines then_ (Ok placed) first same front in
-    let run = order_run law job traces front.0 placed.items is (omega (arith, count)) merges.answers in
-    let replays = subst (λ (at : List ℕ). AreReplays node_machines (first_nodes job traces) at then_) merges.answers.all
+pub merged_run : AreTracesARun → (job : JobState) (traces : List Trace) (first then_ : List RecorderKept)
+    (placed : Vec Placed Global) (all : RunReport) → IsJob job → length traces ≡ job.settings.nodes
+    → AreFirstRecorders job first → Fronts first traces then_ (Ok placed) → length then_ ≡ length first
+    → ClosesAll then_ all → IsMerged job traces all
+merged_run law job traces first then_ placed all is count are front kept closes =
+    let same : length traces ≡ length first = omega (arith, count, are.count) in
+    let merges = front.1 (states_from job 0 (length traces)) (first_stand job traces first are same) in
+    let replays = subst (λ (at : List ℕ). AreReplays recorders (nodes_before job 0 traces) at then_) merges.answers.all
     merges.replays in
     let as_many : length then_ ≡ length traces = omega (arith, kept, same) in
     record {
-      run = run;
-      nodes_after = nodes_after opens job traces then_ endpoints as_many replays ends;
-      may = run_may opens job traces are run;
+      run = order_run law job traces front.0 placed.items is (omega (arith, count)) merges.answers;
+      nodes_after = nodes_after job traces then_ all replays as_many closes;
+      reports = reports_after job traces then_ all replays as_many closes;
     }
 
 -- they are none
-pub merged_none : (job : JobState) (traces : List Trace) (machines then_ : List MachineKept) (node entry : ℕ)
-    → length traces ≡ job.settings.nodes → AreFirstMachines job machines
-    → Fronts machines traces then_ (Err (faults.NotARun node entry))
-    → ((states : List NodeState) → StandFor node_machines machines states
-    → IsRun state_steps (nodes_of states traces) → ⊥)
+merged_none : (job : JobState) (traces : List Trace) (first then_ : List RecorderKept) (node entry : ℕ)
+    → length traces ≡ job.settings.nodes → AreFirstRecorders job first
+    → Fronts first traces then_ (Err (faults.NotARun node entry))
+    → ((states : List RecordedState) → StandFor recorders first states
+    → IsRun record_steps (nodes_of states traces) → ⊥)
     → AreNoRun job traces node entry
-merged_none job traces machines then_ node entry count first front none =
-    let same : length traces ≡ length machines = omega (arith, count, first.count) in
-    let answers = (merged_first job traces machines then_ (Err (faults.NotARun node entry)) first same front).answers in
+merged_none job traces first then_ node entry count are front none =
+    let same : length traces ≡ length first = omega (arith, count, are.count) in
+    let before = nodes_before job 0 traces in
+    let stand = first_stand job traces first are same in
+    let answers = (front.1 (states_from job 0 (length traces)) stand).answers in
+    let own = first_same job traces in
     record {
       front = front.0;
-      stuck = answers.0;
-      first = answers.1;
+      stuck = subst (λ (nodes : List (Node NodeState)). IsStuck state_steps nodes front.0) own
+          (is_stuck before front.0 answers.0);
+      first = subst (λ (nodes : List (Node NodeState)). IsFirstLeft nodes front.0 node) own
+          (is_first_left before front.0 node answers.1);
       entry_is = answers.2;
-      none = λ run. none (states_from job 0 (length machines)) (first_stand job machines first)
-          (subst (IsRun state_steps) (sym (first_same job machines traces same)) run);
+      none = λ run. none (states_from job 0 (length traces)) stand
+          (is_run_back before (subst (IsRun state_steps) (sym own) run));
     }
 
 -- so of either
-pub merged_err : (job : JobState) (traces : List Trace) (machines then_ : List MachineKept) (fault : MergeFault)
-    → length traces ≡ job.settings.nodes → AreFirstMachines job machines → Fronts machines traces then_ (Err fault)
-    → HasNoRun machines traces (Err fault) → MergesTraces job traces (Err fault)
-merged_err job traces machines then_ (faults.NotARun node entry) count first front none =
-    merged_none job traces machines then_ node entry count first front
+pub merged_err : (job : JobState) (traces : List Trace) (first then_ : List RecorderKept) (fault : MergeFault)
+    → length traces ≡ job.settings.nodes → AreFirstRecorders job first → Fronts first traces then_ (Err fault)
+    → HasNoRun first traces (Err fault) → MergesTraces job traces (Err fault)
+merged_err job traces first then_ (faults.NotARun node entry) count are front none =
+    merged_none job traces first then_ node entry count are front
     (λ states stand run. none states stand node entry refl run)
-merged_err job traces machines then_ faults.NoMemory count first front none = tt
+merged_err job traces first then_ faults.NoMemory count are front none = tt

@@ -49,7 +49,7 @@ use Rattle.script_steps.specs.Forms.{as_synced, begun_handle, is_issued, step_fo
 use Rattle.script_steps.specs.Forms.{waiting_form, waits_of}
 use Rattle.world_run.proofs.ToldAnswers.{asked_names, barrier_names, judged_names, range_names, show_names}
 use Rattle.world_run.proofs.ToldAnswers.{transfer_names, unless_names, word_names}
-use Rattle.check_run.specs.Replaying.{HasHandles, ScriptedNode}
+use Rattle.check_run.specs.Recording.{HasHandles, ScriptedNode}
 use Rattle.check_run.specs.StepLines.{after_entry, answer_of_step}
 use Rattle.check_run.specs.TracesRun.{first_machine}
 
@@ -78,6 +78,11 @@ range_shown endpoint settings table meaning me thread now node offset len stands
       inside = rw same (subst (λ (writes : List Write). offset + len ≤ length (image settings.segment writes)) (sym all)
           inside);
     }
+
+-- a thread of the node, as it calls
+abbrev caller_at : Parameters → (me thread : ℕ) → Node EndpointLocal → Caller
+caller_at settings me thread node =
+    record { settings = settings; me = me; thread = thread; worn = is_worn_out settings node }
 
 -- a call that makes no request
 call_names : (endpoint : EndpointState) (settings : Parameters) (table : List (Option TableEntry)) (meaning : Meaning)
@@ -110,24 +115,12 @@ call_names endpoint settings table meaning me thread now node (OnCore (OnSegment
     word_names endpoint (nat_lt (length (segment_of settings node.local.core)) (offset + 8)) (offset % 8 == 0) _ tt
 call_names endpoint settings table meaning me thread now node (OnTransfers call) stands same =
     let own = endpoint_rules settings table meaning in
-    let caller : Caller = record {
-      settings = settings;
-      me = me;
-      thread = thread;
-      worn = is_worn_out settings node;
-    } in
     unless_names endpoint own thread (own.judges thread (transfer_kind call) node.local) node.local _
-    (transfer_names endpoint caller call node.local)
+    (transfer_names endpoint (caller_at settings me thread node) call node.local)
 call_names endpoint settings table meaning me thread now node (OnBarrier call) stands same =
     let own = endpoint_rules settings table meaning in
-    let caller : Caller = record {
-      settings = settings;
-      me = me;
-      thread = thread;
-      worn = is_worn_out settings node;
-    } in
     unless_names endpoint own thread (own.judges thread kind.Barrier node.local) node.local _
-    (barrier_names endpoint caller call node.local.barrier)
+    (barrier_names endpoint (caller_at settings me thread node) call node.local.barrier)
 
 -- a call of a thread
 thread_names : (endpoint : EndpointState) (settings : Parameters) (table : List (Option TableEntry)) (meaning : Meaning)

@@ -3,8 +3,7 @@ use Rattle.std.proofs.Common.{List, refl}
 use Rattle.gas_outside.specs.Buffered.{Outbox, GathersFront}
 use Rattle.gasnet_trace.specs.declared.trace.Trace.{Trace}
 use Rattle.job_text.specs.declared.job.Job.{Job as JobState}
-use Rattle.node_script.specs.Lines.{Line, spell}
-use Rattle.world_run.specs.LinesWritten.{LinesUpTo}
+use Rattle.node_script.specs.Lines.{spell}
 use Rattle.world_run.specs.declared.said.Said.TheVariants as said
 use Rattle.world_run.proofs.LinesWritten.{lines_said, no_lines_yet}
 use Rattle.check_run.specs.StepLines.{ends_from, run_lines, steps_from}
@@ -15,11 +14,3 @@ pub fault_before_ends : (job : JobState) (traces : List Trace) (old new : Outbox
 fault_before_ends job traces old new front =
     lines_said old old new (run_lines job traces) (run_lines job traces) (steps_from job 0 traces)
     (ends_from job 0 traces) said.Fault (λ same. absurd (cc)) refl (no_lines_yet old (run_lines job traces)) front
-
--- memory ran out before the last of them
-pub halfway_before_ends : (job : JobState) (traces : List Trace) (old new : Outbox)
-    → (rest : List Line) × LinesUpTo old new (steps_from job 0 traces) rest
-    → (rest : List Line) × LinesUpTo old new (run_lines job traces) rest
-halfway_before_ends job traces old new some =
-    lines_said old old new (run_lines job traces) (run_lines job traces) (steps_from job 0 traces)
-    (ends_from job 0 traces) said.NoMemory (λ same. absurd (cc)) refl (no_lines_yet old (run_lines job traces)) some

@@ -182,8 +182,9 @@ pub record IsInput (bytes : List ℕ) (job : JobState) (outputs : List Output) :
       → (other ≡ job) × (others ≡ outputs)
   pub traces : HaveTraces job outputs
 
--- the bytes are none, by this line, for this reason
+-- the bytes are none, by this line, for this reason, and aren't too many
 pub record IsBadInput (bytes : List ℕ) (line : ℕ) (reason : JobWhy) : Type 0 where
+  pub within : length bytes ≤ input_limit
   pub line_is : IsBadFront bytes line reason ⊎ IsBadBehind bytes line reason
   pub none : IsNoInput bytes
 

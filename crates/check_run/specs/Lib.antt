@@ -1,7 +1,8 @@
 pub mod CheckInputs
 pub mod Statuses
 pub mod TracesRun
-pub mod Merging
 pub mod StepLines
-pub mod Replaying
+pub mod Recording
+pub mod StepsWritten
+pub mod Merging
 pub mod TracesEnds

@@ -1,7 +1,7 @@
--- The machines of a job's nodes before all turns, and what their merge leaves.
+-- The recorders of a job's nodes before all turns, and what their merge leaves.
 -- Origin: this project's profile.
-use Rattle.std.specs.Prelude.{◌≡◌, ℕ, List, length, map, slice_get, Result, Ok, Err, Vec}
-use Rattle.std.specs.Global.{Global}
+use Rattle.std.specs.Prelude.{◌≡◌, ◌≤◌, ◌^◌, ℕ, true, List, length, map, slice_get, IsSomeAnd, Result, Ok, Err}
+use Rattle.std.specs.List.{flat_map}
 use Rattle.std.specs.Option.{ForSome}
 use Rattle.gas_endpoint.specs.EndpointState.{EndpointState, IsNodeOf}
 use Rattle.gasnet_trace.specs.declared.merging.MergeFault.{MergeFault}
@@ -9,34 +9,77 @@ use Rattle.gasnet_trace.specs.declared.merging.MergeFault.TheVariants as faults
 use Rattle.gasnet_trace.specs.declared.trace.Trace.{Trace}
 use Rattle.job_text.specs.declared.job.Job.{Job as JobState}
 use Rattle.node_machine.specs.Kept.{MachineKept}
-use Rattle.node_machine.specs.NodeState.{NodeStands, opening_state}
+use Rattle.node_script.specs.Lines.{spell}
 use Rattle.node_script.specs.Registration.{registered}
-use Rattle.check_run.specs.Replaying.{MayReplay}
-use Rattle.check_run.specs.TracesRun.{AreNodesAfter, AreNoRun, RunOfTraces}
+use Rattle.check_run.specs.Recording.{RecorderKept, RecorderStands, opening_record}
+use Rattle.check_run.specs.StepLines.{most_held, step_lines}
+use Rattle.check_run.specs.TracesRun.{AreNodesAfter, AreNoRun, AreRanked, RunOfTraces, first_machine}
+use Rattle.check_run.specs.declared.machines.RunReport.{RunReport}
+use Rattle.check_run.specs.declared.recorder.NodeReport.{NodeReport}
 
--- the machine of each node of the job, before all turns
-pub record AreFirstMachines (job : JobState) (machines : List MachineKept) : Type 0 where
-  pub count : length machines ≡ job.settings.nodes
-  pub each : (rank : ℕ) → ForSome (slice_get machines rank) (λ machine. NodeStands machine (opening_state job rank))
+-- ---- recorders
+
+-- the recorder of each node of the job, before all turns
+pub record AreFirstRecorders (job : JobState) (recorders : List RecorderKept) : Type 0 where
+  pub count : length recorders ≡ job.settings.nodes
+  pub each : (rank : ℕ) → ForSome (slice_get recorders rank) (λ one. RecorderStands one (opening_record job rank))
 
 -- the endpoint of a machine is that of a node of its job
 abbrev pub IsOfItsJob : MachineKept → Type 0
 IsOfItsJob machine =
     IsNodeOf machine.job.settings (registered machine.job.handlers).table machine.endpoint.core.me machine.endpoint
 
--- the endpoints of these machines, each of a node of its machine's job
-pub record AreEndpointsOf (machines : List MachineKept) (endpoints : List EndpointState) : Type 0 where
-  pub are : endpoints ≡ map (λ machine. machine.endpoint) machines
-  pub nodes : (rank : ℕ) → ForSome (slice_get machines rank) IsOfItsJob
+-- these are the endpoint of a recorder whose text is whole, and what was recorded
+pub record ClosesRecorder (kept : RecorderKept) (endpoint : EndpointState) (report : NodeReport) : Type 0 where
+  pub whole : kept.whole ≡ true
+  pub endpoint_is : endpoint ≡ kept.node.endpoint
+  pub own : IsOfItsJob kept.node
+  pub text_is : report.text.taken ≡ kept.text
+  pub most_is : report.most ≡ kept.most
 
--- they are a run, which leaves these nodes, and whose entries may be taken node by node
-pub record IsMerged (job : JobState) (traces : List Trace) (nodes : List EndpointState) : Type 0 where
+-- the text of a recorder is whole, and its node is one of its job
+pub record IsWhole (kept : RecorderKept) : Type 0 where
+  pub whole : kept.whole ≡ true
+  pub own : IsOfItsJob kept.node
+
+-- these are the endpoints of recorders whose texts are whole, and what was recorded, in their order
+pub record ClosesAll (recorders : List RecorderKept) (all : RunReport) : Type 0 where
+  pub nodes : all.nodes.items ≡ map (λ kept. kept.node.endpoint) recorders
+  pub texts : map (λ report. report.text.taken) all.reports.items ≡ map (λ kept. kept.text) recorders
+  pub most : map (λ report. report.most) all.reports.items ≡ map (λ kept. kept.most) recorders
+  pub each : (rank : ℕ) → ForSome (slice_get recorders rank) IsWhole
+
+-- ---- what was recorded of the nodes of a run
+
+-- of the node of this rank, with this trace: the text of the lines of its steps, and the most that it held
+pub record IsReportOf (job : JobState) (rank : ℕ) (trace : Trace) (report : NodeReport) : Type 0 where
+  pub text_is : report.text.taken ≡ spell (step_lines job rank (first_machine job rank) trace.entries)
+  pub most_is : report.most ≡ most_held job rank trace.entries
+
+-- of each node, in rising order of ranks
+pub record AreReports (job : JobState) (traces : List Trace) (reports : List NodeReport) : Type 0 where
+  pub count : length reports ≡ length traces
+  pub each : (rank : ℕ) → ForSome (slice_get reports rank) (λ report.
+      IsSomeAnd (slice_get traces rank) (λ trace. IsReportOf job rank trace report))
+
+-- the texts, one after the other
+abbrev pub texts_of : List NodeReport → List ℕ
+texts_of reports = flat_map (λ report. report.text.taken) reports
+
+-- there is one of each node, and each node is that of its place
+pub record CanBeWritten (all : RunReport) : Type 0 where
+  pub few : length all.nodes.items ≤ 2 ^ 16
+  pub count : length all.reports.items ≡ length all.nodes.items
+  pub ranks : AreRanked all.nodes.items
+
+-- the traces are a run, which leaves these nodes, and this was recorded of them
+pub record IsMerged (job : JobState) (traces : List Trace) (all : RunReport) : Type 0 where
   pub run : RunOfTraces job traces
-  pub nodes_after : AreNodesAfter job traces nodes
-  pub may : MayReplay job 0 traces
+  pub nodes_after : AreNodesAfter job traces all.nodes.items
+  pub reports : AreReports job traces all.reports.items
 
 -- traces are a run; or they are none; or memory ran out before that is known
-abbrev pub MergesTraces : JobState → List Trace → Result (Vec EndpointState Global) MergeFault → Type 0
-MergesTraces job traces (Ok nodes) = IsMerged job traces nodes.items
+abbrev pub MergesTraces : JobState → List Trace → Result RunReport MergeFault → Type 0
+MergesTraces job traces (Ok all) = IsMerged job traces all
 MergesTraces job traces (Err (faults.NotARun node entry)) = AreNoRun job traces node entry
 MergesTraces job traces (Err faults.NoMemory) = Unit {0}

@@ -1,4 +1,4 @@
-//! The lines of the nodes at the end of a run of traces.
+//! What is written of the nodes of a run of traces: the lines of their steps, and those at the end.
 
 ghost use Rattle.std.specs.Prelude.{◌≡◌, ◌≤◌, ◌^◌, List, length, slice_get};
 ghost use Rattle.std.specs.Option.{ForSome};
@@ -8,10 +8,11 @@ ghost use Rattle.gasnet_trace.specs.declared.trace.Trace.{Trace as TraceState};
 ghost use Rattle.job_text.specs.declared.job.Job.{Job as JobState};
 ghost use Rattle.node_script.specs.Lines.{spell};
 ghost use Rattle.world_run.specs.RunText.{lines_of_node};
-ghost use Rattle.check_run.specs.Replaying.{AreMost};
+ghost use Rattle.check_run.specs.Merging.{AreReports, texts_of};
 ghost use Rattle.check_run.specs.StepLines.{ends_from, is_violated};
 ghost use Rattle.check_run.specs.TracesRun.{AreNodesAfter, AreRanked};
 
+use crate::recorder::NodeReport;
 use gas_endpoint::Endpoint;
 use gas_outside::{BufferedSink, Sink, Wrote};
 use world_run::{write_node_line, write_violations};
@@ -36,22 +37,35 @@ fn write_end<K: Sink>(
     write_violations(log, rank, sink)
 }
 
-/// Writes the lines of all nodes.
+/// Writes the lines of the steps of all nodes.
+pub fn write_texts<K: Sink>(reports: &[NodeReport], sink: &mut BufferedSink<K>) -> Wrote
+    ensures { GathersAll (outbox K.taken K.faults sink.old) (outbox K.taken K.faults sink.new)
+        (texts_of reports.now) result }
+{
+    for report in reports {
+        if let Wrote::Fault = sink.write_all(report.text.taken()) {
+            return Wrote::Fault;
+        }
+    }
+    Wrote::Done
+}
+
+/// Writes the lines of all nodes at the end.
 pub fn write_ends<K: Sink>(
     endpoints: &[Endpoint],
-    most: &[usize],
+    reports: &[NodeReport],
     sink: &mut BufferedSink<K>,
 ) -> Wrote
     requires few { length endpoints.now ≤ 2 ^ 16 }
-    requires count { length most.now ≡ length endpoints.now }
+    requires count { length reports.now ≡ length endpoints.now }
     requires ranks { AreRanked endpoints.now }
     ensures { (job : JobState) (traces : List TraceState) → AreNodesAfter job traces endpoints.now
-        → AreMost job 0 traces most.now
+        → AreReports job traces reports.now
         → GathersAll (outbox K.taken K.faults sink.old) (outbox K.taken K.faults sink.new)
         (spell (ends_from job 0 traces)) result }
 {
     for (rank, endpoint) in endpoints.iter().enumerate() {
-        if let Wrote::Fault = write_end(endpoint, rank as u16, most[rank], sink) {
+        if let Wrote::Fault = write_end(endpoint, rank as u16, reports[rank].most, sink) {
             return Wrote::Fault;
         }
     }

@@ -15,15 +15,15 @@
 //!   `IsWorldRun` of `node_runs` says: the headline, the laws of transfers and of the barrier), and the endpoints that
 //!   are given stand for the records that this run leaves its nodes (`AreNodesAfter`).
 //!
-//! Each node's trace is replayed twice: in the merge, where entries of all nodes go as they can, and alone, where its
-//! lines are written.
+//! Each node's trace is replayed once, in the merge, where entries of all nodes go as they can: its machine records the
+//! lines of its steps (`Recorder`), which are written once the traces are known to be a run.
 #![tactic(auto)]
 
 mod checks;
 mod ending;
 mod input;
 mod machines;
-mod replaying;
+mod recorder;
 mod run;
 mod steps;
 

@@ -1,62 +1,70 @@
-//! The machines of a job's nodes, and the merge of their traces.
+//! The recorders of a job's nodes, and the merge of their traces.
 
 ghost use Rattle.std.specs.Prelude.{◌≡◌, All, IfOk, length};
 ghost use Rattle.job_text.specs.JobText.{IsJob};
 ghost use Rattle.check_run.specs.CheckInputs.{IsTraceOf};
-ghost use Rattle.check_run.specs.Merging.{AreEndpointsOf, AreFirstMachines, MergesTraces};
+ghost use Rattle.check_run.specs.Merging.{AreFirstRecorders, ClosesAll, MergesTraces};
 
+use crate::recorder::{NodeReport, Recorder};
 use gas_endpoint::Endpoint;
 use gasnet_trace::{MergeFault, Trace, merge};
-use node_machine::{NodeMachine, traces_law};
+use node_machine::traces_law;
 use node_script::Script;
 use std::alloc::{AllocError, Global};
 
-/// The machine of each node, before all turns.
-fn new_machines(alloc: Global, job: &Script) -> Result<Vec<NodeMachine<'_>>, AllocError>
-    requires { IsJob job.now }
-    ensures { IfOk result (λ machines. AreFirstMachines job.now machines.items) }
-{
-    let nodes = job.settings().nodes();
-    let mut machines = Vec::with_capacity(alloc, usize::from(nodes))?;
-    for rank in 0..nodes {
-        machines.push(NodeMachine::new(alloc, job, rank)?)?;
-    }
-    Ok(machines)
+/// The nodes of a job after their traces, in rising order of ranks.
+#[derive(Drop)]
+pub struct RunReport {
+    /// Their endpoints.
+    pub nodes: Vec<Endpoint>,
+    /// What was recorded of each.
+    pub reports: Vec<NodeReport>,
 }
 
-/// The endpoints of machines.
-fn endpoints_of(alloc: Global, machines: Vec<NodeMachine<'_>>) -> Result<Vec<Endpoint>, AllocError>
-    ensures { IfOk result (λ endpoints.
-        AreEndpointsOf machines.entry.items endpoints.items) }
+/// The recorder of each node, before all turns.
+fn new_recorders(alloc: Global, job: &Script) -> Result<Vec<Recorder<'_>>, AllocError>
+    requires { IsJob job.now }
+    ensures { IfOk result (λ recorders. AreFirstRecorders job.now recorders.items) }
 {
-    let mut endpoints = Vec::with_capacity(alloc, machines.len())?;
-    for machine in machines {
-        endpoints.push(machine.into_endpoint())?;
+    let nodes = job.settings().nodes();
+    let mut recorders = Vec::with_capacity(alloc, usize::from(nodes))?;
+    for rank in 0..nodes {
+        recorders.push(Recorder::new(alloc, job, rank)?)?;
     }
-    Ok(endpoints)
+    Ok(recorders)
+}
+
+/// The nodes of recorders, and what these recorded.
+fn close_all(alloc: Global, recorders: Vec<Recorder<'_>>) -> Result<RunReport, AllocError>
+    ensures { IfOk result (λ report. ClosesAll recorders.entry.items report) }
+{
+    let mut nodes = Vec::with_capacity(alloc, recorders.len())?;
+    let mut reports = Vec::with_capacity(alloc, recorders.len())?;
+    for recorder in recorders {
+        let (endpoint, report) = recorder.close()?;
+        nodes.push(endpoint)?;
+        reports.push(report)?;
+    }
+    Ok(RunReport { nodes, reports })
 }
 
 /// The nodes of a job after their traces, where these are a run.
-pub fn merge_traces(
-    alloc: Global,
-    job: &Script,
-    traces: &[Trace],
-) -> Result<Vec<Endpoint>, MergeFault>
+pub fn merge_traces(alloc: Global, job: &Script, traces: &[Trace]) -> Result<RunReport, MergeFault>
     requires job { IsJob job.now }
     requires count { length traces.now ≡ job.now.settings.nodes }
     requires traces { All (IsTraceOf job.now) traces.now }
     ensures { MergesTraces job.now traces.now result }
 {
     traces_law();
-    let Ok(mut machines) = new_machines(alloc, job) else {
+    let Ok(mut recorders) = new_recorders(alloc, job) else {
         return Err(MergeFault::NoMemory);
     };
-    match merge(alloc, machines.as_mut_slice(), traces) {
+    match merge(alloc, recorders.as_mut_slice(), traces) {
         Ok(_) => {}
         Err(fault) => return Err(fault),
     }
-    match endpoints_of(alloc, machines) {
-        Ok(endpoints) => Ok(endpoints),
+    match close_all(alloc, recorders) {
+        Ok(report) => Ok(report),
         Err(AllocError) => Err(MergeFault::NoMemory),
     }
 }

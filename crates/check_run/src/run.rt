@@ -1,15 +1,16 @@
 //! The check of the traces of a job's nodes.
 
-ghost use Rattle.std.specs.Prelude.{◌≡◌, All, length};
+ghost use Rattle.std.specs.Prelude.{◌≡◌, All, List, length};
 ghost use Rattle.gas_outside.specs.Buffered.{outbox};
+ghost use Rattle.gasnet_trace.specs.declared.trace.Trace.{Trace as TraceState};
 ghost use Rattle.job_text.specs.JobText.{IsJob};
+ghost use Rattle.job_text.specs.declared.job.Job.{Job as JobState};
 ghost use Rattle.check_run.specs.CheckInputs.{IsTraceOf};
-ghost use Rattle.check_run.specs.Merging.{IsMerged};
+ghost use Rattle.check_run.specs.Merging.{CanBeWritten, IsMerged};
 ghost use Rattle.check_run.specs.TracesEnds.{EndsTraces};
 
-use crate::ending::{any_violation, write_ends};
-use crate::machines::merge_traces;
-use crate::replaying::{Replayed, replay_all};
+use crate::ending::{any_violation, write_ends, write_texts};
+use crate::machines::{RunReport, merge_traces};
 use gas_endpoint::Endpoint;
 use gas_outside::{BufferedSink, Sink, Wrote};
 use gasnet_trace::{MergeFault, Trace};
@@ -40,26 +41,17 @@ pub enum TracesEnd {
 }
 
 /// Writes the lines of traces that are a run, which left these nodes.
-fn tell_run<K: Sink>(
-    alloc: Global,
-    job: &Script,
-    traces: &[Trace],
-    nodes: Vec<Endpoint>,
-    sink: &mut BufferedSink<K>,
-) -> TracesEnd
-    requires job { IsJob job.now }
-    requires count { length traces.now ≡ job.now.settings.nodes }
-    requires traces { All (IsTraceOf job.now) traces.now }
-    requires merged { IsMerged job.now traces.now nodes.items }
-    ensures { EndsTraces job.now traces.now
-        (outbox K.taken K.faults sink.old) (outbox K.taken K.faults sink.new) result }
+fn tell_run<K: Sink>(report: RunReport, sink: &mut BufferedSink<K>) -> TracesEnd
+    requires { CanBeWritten report }
+    ensures { (job : JobState) (traces : List TraceState) → IsMerged job traces report
+        → EndsTraces job traces (outbox K.taken K.faults sink.old)
+        (outbox K.taken K.faults sink.new) result }
 {
-    let most = match replay_all(alloc, job, traces, sink) {
-        Replayed::Done(most) => most,
-        Replayed::Fault => return TracesEnd::Fault,
-        Replayed::NoMemory => return TracesEnd::NoMemory,
-    };
-    match write_ends(&nodes, &most, sink) {
+    let RunReport { nodes, reports } = report;
+    if let Wrote::Fault = write_texts(&reports, sink) {
+        return TracesEnd::Fault;
+    }
+    match write_ends(&nodes, &reports, sink) {
         Wrote::Done => {
             let violated = any_violation(&nodes);
             TracesEnd::Done { violated, nodes }
@@ -84,7 +76,7 @@ pub fn run_traces<K: Sink>(
         (outbox K.taken K.faults sink.old) (outbox K.taken K.faults sink.new) result }
 {
     match merge_traces(alloc, job, traces) {
-        Ok(nodes) => tell_run(alloc, job, traces, nodes, sink),
+        Ok(report) => tell_run(report, sink),
         Err(MergeFault::NotARun { node, entry }) => TracesEnd::NotARun { node, entry },
         Err(MergeFault::NoMemory) => TracesEnd::NoMemory,
     }

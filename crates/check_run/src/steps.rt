@@ -1,18 +1,18 @@
-//! The turns of the entries of a trace, and the lines of the steps that end in them.
+//! The lines of the steps that end in turns.
 
-ghost use Rattle.std.specs.Prelude.{◌≡◌, ◌∷◌, [], decimal, option_copied};
+ghost use Rattle.std.specs.Prelude.{◌≡◌, ◌∷◌, decimal};
 ghost use Rattle.gas_endpoint.specs.EndpointState.{ForItsRecord};
 ghost use Rattle.gas_outside.specs.Buffered.{GathersAll, outbox};
 ghost use Rattle.node_script.specs.AnswersTold.{NamesWhatIs, sight_at};
 ghost use Rattle.node_script.specs.AnswerWords.{answer_words};
 ghost use Rattle.node_script.specs.Lines.{line_text};
-ghost use Rattle.check_run.specs.Replaying.{CanTake, TakesEntry};
+ghost use Rattle.check_run.specs.Recording.{text_of};
+ghost use Rattle.check_run.specs.StepsWritten.{CanTellStep, TellsStep};
 
 use endpoint_rules::Answer;
 use gas_endpoint::Endpoint;
-use gas_outside::{BufferedSink, Sink, Wrote};
+use gas_outside::{BufferedSink, MemorySink, Sink, Wrote};
 use itoa::Buffer;
-use machine::{Entry, Machine};
 use node_machine::NodeMachine;
 use node_script::write_answer;
 
@@ -48,32 +48,23 @@ fn write_step<K: Sink>(
     write_answer(u64::from(at.thread), answer, endpoint, sink)
 }
 
-/// The datagram that an entry got, if it got one.
-fn got_of(entry: &Entry) -> Option<&[u8]>
-    ensures { option_copied result ≡ entry.entry.now.got }
+/// Writes the line of the step that ended in the last turn of the node, if one did, and answers whether all of it went
+/// in: memory didn't run out.
+pub fn tell_step(
+    at: StepAt,
+    stepped: bool,
+    node: &NodeMachine<'_>,
+    text: &mut BufferedSink<MemorySink>,
+) -> bool
+    requires { CanTellStep stepped node.now }
+    ensures { TellsStep at stepped node.now (text_of text.old) (text_of text.new) result }
 {
-    match &entry.got {
-        None => None,
-        Some(bytes) => Some(bytes.as_slice()),
+    if !stepped {
+        return true;
     }
-}
-
-/// Takes the turn of an entry of the node's trace, and writes the line of the step that ended in it, if one did.
-pub fn take_entry<K: Sink>(
-    machine: &mut NodeMachine<'_>,
-    rank: u16,
-    entry: &Entry,
-    sink: &mut BufferedSink<K>,
-) -> Wrote
-    requires { CanTake rank machine.old (entry.now ∷ []) }
-    ensures { TakesEntry rank entry.entry.now machine.old machine.new
-        (outbox K.taken K.faults sink.old) (outbox K.taken K.faults sink.new) result }
-{
-    let turned = machine.turn(entry.thread, entry.now, got_of(entry));
-    if !turned.stepped {
-        return Wrote::Done;
+    let answer = node.answer().unwrap();
+    match write_step(at, &answer, node.endpoint(), text) {
+        Wrote::Done => true,
+        Wrote::Fault => false,
     }
-    let answer = machine.answer().unwrap();
-    let thread = entry.thread;
-    write_step(StepAt { rank, thread }, &answer, machine.endpoint(), sink)
 }

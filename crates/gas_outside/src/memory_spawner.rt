@@ -23,7 +23,8 @@ use std::marker::Model;
 ///
 /// It numbers its calls from 1, whatever their kind, up to 2^64 - 1, and fails at those whose numbers it was given. The
 /// rank of a child is its place. A start of a rank past the children, or of one that was started before, is a fault,
-/// and so are want of memory in a start and a finish of a child that wasn't started or was finished before.
+/// and so are want of memory in a start, and a finish of a child that wasn't started, was finished before, or has an
+/// output over `MAX_OUTPUT`.
 #[derive(Debug, Drop)]
 pub struct MemorySpawner {
     alloc: Global,

@@ -8,7 +8,8 @@
 //! reads a job with what its nodes wrote, checks whether their traces are one run, and writes that run's lines. Nothing
 //! is written to standard error.
 //!
-//! What is proved of it stands on the call that it makes (`top_call`: `program`).
+//! What is proved of it stands on `run_streams` of `top_call`, which `program` calls with the words of the command line and
+//! the two streams; `program` itself promises nothing.
 #![tactic(auto)]
 
 use real_outside::{LinkSocket, ProcessSpawner, SocketGate, SystemClock, UdpLink};

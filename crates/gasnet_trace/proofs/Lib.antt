@@ -5,12 +5,15 @@ pub mod Walking
 pub mod PlaceLemmas
 pub mod MarkLemmas
 pub mod StartLemmas
+pub mod Asking
 pub mod Ending
 pub mod Numbers
 pub mod Cutting
+pub mod Digits
 pub mod EntryRuns
 pub mod LineLaws
 pub mod WordLaws
+pub mod LineTests
 pub mod TraceLaws
 pub mod OutputLaws
 pub mod Writing

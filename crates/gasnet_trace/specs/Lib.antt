@@ -1,3 +1,5 @@
+pub mod Datagrams
+pub mod Digits
 pub mod Going
 pub mod Lines
 pub mod Merged

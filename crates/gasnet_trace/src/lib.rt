@@ -21,11 +21,12 @@
 //!   one.
 //!
 //! The search goes in rounds over the nodes; in each, a node's entries go while they may. Whether a datagram was sent
-//! is one look-up: for each node a map from each datagram that its trace got to a place, and a mark at each place. So
-//! memory is linear in the entries, and no bytes are copied. There are as many rounds as entries at worst: where each
-//! round lets one go.
+//! is one look-up at most: for each node a map from each datagram that its trace got to a place, and a mark at each
+//! place. Where the mark at an entry's own place is set, no look-up is needed. So memory is linear in the entries, and
+//! no bytes are copied. There are as many rounds as entries at worst: where each round lets one go.
 #![tactic(auto)]
 
+mod datagram;
 mod fault;
 mod laws;
 mod merging;

@@ -68,17 +68,15 @@ finishes_more started port input ends end old middle new before after =
 
 -- ---- children
 
-plain_none : (started port : ℕ) (input : List ℕ) (told : SpawnTold) → told.calls ≡ []
+plain_none : (started port : ℕ) (input : List ℕ) (told : SpawnTold)
     → with_starts started port input told ≡ all_told started port input [] told
-plain_none started port input told none =
-    ap (λ (calls : List ToldCall). record { calls = calls; ended = told.ended }) starts
-    ∙ ap (λ (ended : List ChildEnd). record { calls = starts_below started port input ++ []; ended = ended })
-    (sym (append-nil told.ended))
-  where
-    starts : told.calls ++ starts_below started port input ≡ starts_below started port input ++ []
-    starts =
-        ap (λ (calls : List ToldCall). calls ++ starts_below started port input) none
-        ∙ sym (append-nil (starts_below started port input))
+plain_none started port input told =
+    ap (λ (calls : List ToldCall). record { calls = calls; ended = told.ended })
+    (sym (append-nil (told.calls ++ starts_below started port input)))
+    ∙ ap (λ (ended : List ChildEnd). record {
+      calls = told.calls ++ starts_below started port input ++ [];
+      ended = ended;
+    }) (sym (append-nil told.ended))
 
 -- so many were started, and none was finished yet
 pub spawns_none : (nodes port : ℕ) (input : List ℕ) (before after : SpawnerSeen) (started : ℕ) → started ≤ nodes
@@ -89,7 +87,7 @@ spawns_none nodes port input before after started few told later unstarted = rec
   told = told;
   plain = λ first at none.
       told ∙ (ap (option_map (with_starts started port input)) at
-      ∙ ap (λ (told : SpawnTold). Some told) (plain_none started port input first none));
+      ∙ ap (λ (told : SpawnTold). Some told) (plain_none started port input first));
   ranks = λ rank end at.
       let past = slice_get_past {X = ChildEnd} [] rank (omega arith) in absurd (none_some (sym past ∙ at));
   within = λ place default inside. absurd (omega arith);
@@ -109,7 +107,7 @@ spawns_more nodes port input before middle after started ends end spawns rank le
   told = finishes_more started port input ends end before.told middle.told after.told spawns.told told;
   plain = λ first at none.
       told ∙ (ap (option_map (told_end end)) (spawns.plain first at none)
-      ∙ ap (λ (told : SpawnTold). Some told) (plain_more started port input ends end first rank less));
+      ∙ ap (λ (told : SpawnTold). Some told) (plain_more started port input ends end first none rank less));
   ranks = pushed_at (λ (place : ℕ) (it : ChildEnd). it.rank ≡ place) ends end spawns.ranks rank;
   within = All-push IsWithin ends end spawns.within within;
   later = (let first = spawns.later in omega arith);

@@ -1,10 +1,11 @@
 -- The children of a launch: their starts and their ends, and what a spawner tells of these.
 -- Origin: this project's profile.
 use Rattle.std.specs.Prelude.{◌≡◌, ◌<◌, ◌≤◌, ℕ, zero, suc, List, [], ◌∷◌, ◌++◌, length, map, All}
-use Rattle.std.specs.Prelude.{Option, Some, option_map, slice_get}
+use Rattle.std.specs.Prelude.{Option, Some, option_map, slice_get, false}
+use Rattle.std.specs.List.{list_any}
 use Rattle.std.specs.Option.{ForSome}
 use Rattle.gas_outside.specs.Faults.{Rose}
-use Rattle.gas_outside.specs.Spawner.{ChildEnd, IsFinishFailed, SpawnTold, ToldCall, told_end}
+use Rattle.gas_outside.specs.Spawner.{ChildEnd, IsFinishFailed, SpawnTold, ToldCall, is_finish_of, told_end}
 use Rattle.gas_outside.specs.Spawner.ToldCall.{Finish, Start}
 use Rattle.gas_outside.specs.declared.spawner.Spawner.{Ghosts as SpawnerGhosts}
 use Rattle.launch_run.specs.declared.children.Child.{Child}
@@ -60,20 +61,26 @@ IsWithin end = length end.output ≤ 67108864
 
 -- ---- both
 
--- what is told of both, where no call was told before
+-- no finish of a child of the ranks below this one was told
+abbrev pub NoneFinished : (rank : ℕ) → SpawnTold → Type 0
+NoneFinished rank told = (other : ℕ) → other < rank → list_any (is_finish_of other) told.calls ≡ false
+
+-- what is told after both, where each end is told: the calls and the ends behind those that were told before
 abbrev pub all_told : (started port : ℕ) (input : List ℕ) → List ChildEnd → SpawnTold → SpawnTold
 all_told started port input ends told = record {
-  calls = starts_below started port input ++ finishes_below (length ends);
+  calls = told.calls ++ starts_below started port input ++ finishes_below (length ends);
   ended = told.ended ++ ends;
 }
 
 -- of this many nodes so many children were started, from rank 0 on, and then these were finished, in order, with these
--- ends: all were started, and no finish failed, unless the spawner's count of faults rose
+-- ends: all were started, and no finish failed, unless the spawner's count of faults rose. `told` is what a spawner
+-- tells that tells its calls, of which a finish that isn't the first of its child is none; `plain` says the same
+-- without cases where it had told no finish of the ranks that were started
 pub record Spawns (nodes port : ℕ) (input : List ℕ) (before after : SpawnerSeen) (started : ℕ) (ends : List ChildEnd)
     : Type 0 where
   pub few : started ≤ nodes
   pub told : after.told ≡ option_map (λ told. with_ends ends (with_starts started port input told)) before.told
-  pub plain : ForSome before.told (λ told. told.calls ≡ []
+  pub plain : ForSome before.told (λ told. NoneFinished started told
       → after.told ≡ Some (all_told started port input ends told))
   pub ranks : AreRanked ends
   pub within : All IsWithin ends

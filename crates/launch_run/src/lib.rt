@@ -2,10 +2,13 @@
 //!
 //! What is proved, by the names of clauses (in `src/`) and definitions (in `specs/`):
 //!
-//! - `launch_nodes` [`EndsLaunch`]: where the spawner tells its calls, it started the children of the ranks from 0 on,
-//!   in order, each with the port and the bytes, all of them unless a start failed, and then finished each that it
-//!   started, in order, also after a fault (`Spawns`). It gives the outputs of all nodes exactly where each child gave
-//!   the text of an output of its node and ended with the status in it, 0 or 1 (`GivesOutput`). `Child` names the
+//! - `launch_nodes` [`EndsLaunch`]: where the spawner tells its calls, and told no finish of the ranks that are started
+//!   before, it tells, behind what it told before, the starts of the ranks from 0 on, in order, each with the port and
+//!   the bytes, all of them unless a start failed; then the finish of each that was started, in order, also where a
+//!   start or a finish before it failed; and the ends that these finishes had (`plain` of `Spawns`). Where it told
+//!   such finishes before, it tells the same but these ranks' finishes and ends (`told`). Where memory ran out before
+//!   the first start, what is seen of it stands as it did. The outputs of all nodes are given only where each child
+//!   gave the text of an output of its node and ended with the status in it, 0 or 1 (`GivesOutput`). `Child` names the
 //!   smallest rank of a child that didn't, with its exit status, and comes only where no start and no finish failed;
 //!   `SpawnFault` comes only where the spawner's count of faults rose, or stands at its last value.
 //!

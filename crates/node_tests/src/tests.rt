@@ -156,6 +156,7 @@ const ACK: [u8; 40] = [
 ];
 
 /// A datagram that is sent.
+#[derive(Drop)]
 struct Sent {
     to: u16,
     bytes: &'static [u8],
@@ -163,6 +164,7 @@ struct Sent {
 
 /// A call for the two nodes: the words, what waits, the call of the link that fails and the write that does, the exit
 /// status, what is written, and what is sent.
+#[derive(Drop)]
 struct Row {
     words: &'static str,
     waiting: &'static [&'static [u8]],
@@ -174,140 +176,142 @@ struct Row {
 }
 
 /// The rows.
-const ROWS: [Row; 14] = [
-    Row {
-        words: "node 0 20000",
-        waiting: &[],
-        link_fails: 1,
-        write_fails: 0,
-        code: 6,
-        written: "trace 1\njob 7\nrank 0\nend\nstatus 6 link-fault\n",
-        sent: &[],
-    },
-    Row {
-        words: "node 0 20000",
-        waiting: &[],
-        link_fails: 2,
-        write_fails: 0,
-        code: 6,
-        written: "trace 1\njob 7\nrank 0\nend\nstatus 6 link-fault\n",
-        sent: &[],
-    },
-    Row {
-        words: "node 0 20000",
-        waiting: &[],
-        link_fails: 3,
-        write_fails: 0,
-        code: 6,
-        written: "trace 1\njob 7\nrank 0\nturn 0 0 -\nend\nstatus 6 link-fault\n",
-        sent: &[],
-    },
-    Row {
-        words: "node 0 20000",
-        waiting: &[],
-        link_fails: 0,
-        write_fails: 0,
-        code: 0,
-        written: "trace 1\njob 7\nrank 0\nturn 0 0 -\nend\nstatus 0 ok\n",
-        sent: &[Sent {
-            to: 1,
-            bytes: &REQUEST,
-        }],
-    },
-    Row {
-        words: "node 0 20000",
-        waiting: &[],
-        link_fails: 0,
-        write_fails: 1,
-        code: 5,
-        written: "",
-        sent: &[Sent {
-            to: 1,
-            bytes: &REQUEST,
-        }],
-    },
-    Row {
-        words: "node 1 20000",
-        waiting: &[],
-        link_fails: 0,
-        write_fails: 0,
-        code: 9,
-        written: "trace 1\njob 7\nrank 1\nend\nstatus 9 stuck\n",
-        sent: &[],
-    },
-    Row {
-        words: "node 1 20000",
-        waiting: &[&REQUEST],
-        link_fails: 0,
-        write_fails: 0,
-        code: 0,
-        written: "trace 1\njob 7\nrank 1\nturn 0 0 x47414d3100800100000000000000000700000001000000000000000000000001000000000000000000000005\nend\nstatus 0 ok\n",
-        sent: &[Sent { to: 0, bytes: &ACK }],
-    },
-    Row {
-        words: "node 2 20000",
-        waiting: &[],
-        link_fails: 0,
-        write_fails: 0,
-        code: 2,
-        written: "status 2 usage\n",
-        sent: &[],
-    },
-    Row {
-        words: "node 64 20000",
-        waiting: &[],
-        link_fails: 0,
-        write_fails: 0,
-        code: 2,
-        written: "status 2 usage\n",
-        sent: &[],
-    },
-    Row {
-        words: "node 256 20000",
-        waiting: &[],
-        link_fails: 0,
-        write_fails: 0,
-        code: 2,
-        written: "status 2 usage\n",
-        sent: &[],
-    },
-    Row {
-        words: "node 0 1023",
-        waiting: &[],
-        link_fails: 0,
-        write_fails: 0,
-        code: 2,
-        written: "status 2 usage\n",
-        sent: &[],
-    },
-    Row {
-        words: "node 0 65473",
-        waiting: &[],
-        link_fails: 0,
-        write_fails: 0,
-        code: 2,
-        written: "status 2 usage\n",
-        sent: &[],
-    },
-    Row {
-        words: "node 00 20000",
-        waiting: &[],
-        link_fails: 0,
-        write_fails: 0,
-        code: 2,
-        written: "status 2 usage\n",
-        sent: &[],
-    },
-    Row {
-        words: "node 0 20000 0",
-        waiting: &[],
-        link_fails: 0,
-        write_fails: 0,
-        code: 2,
-        written: "status 2 usage\n",
-        sent: &[],
-    },
-];
+fn rows() -> [Row; 14] {
+    [
+        Row {
+            words: "node 0 20000",
+            waiting: &[],
+            link_fails: 1,
+            write_fails: 0,
+            code: 6,
+            written: "trace 1\njob 7\nrank 0\nend\nstatus 6 link-fault\n",
+            sent: &[],
+        },
+        Row {
+            words: "node 0 20000",
+            waiting: &[],
+            link_fails: 2,
+            write_fails: 0,
+            code: 6,
+            written: "trace 1\njob 7\nrank 0\nend\nstatus 6 link-fault\n",
+            sent: &[],
+        },
+        Row {
+            words: "node 0 20000",
+            waiting: &[],
+            link_fails: 3,
+            write_fails: 0,
+            code: 6,
+            written: "trace 1\njob 7\nrank 0\nturn 0 0 -\nend\nstatus 6 link-fault\n",
+            sent: &[],
+        },
+        Row {
+            words: "node 0 20000",
+            waiting: &[],
+            link_fails: 0,
+            write_fails: 0,
+            code: 0,
+            written: "trace 1\njob 7\nrank 0\nturn 0 0 -\nend\nstatus 0 ok\n",
+            sent: &[Sent {
+                to: 1,
+                bytes: &REQUEST,
+            }],
+        },
+        Row {
+            words: "node 0 20000",
+            waiting: &[],
+            link_fails: 0,
+            write_fails: 1,
+            code: 5,
+            written: "",
+            sent: &[Sent {
+                to: 1,
+                bytes: &REQUEST,
+            }],
+        },
+        Row {
+            words: "node 1 20000",
+            waiting: &[],
+            link_fails: 0,
+            write_fails: 0,
+            code: 9,
+            written: "trace 1\njob 7\nrank 1\nend\nstatus 9 stuck\n",
+            sent: &[],
+        },
+        Row {
+            words: "node 1 20000",
+            waiting: &[&REQUEST],
+            link_fails: 0,
+            write_fails: 0,
+            code: 0,
+            written: "trace 1\njob 7\nrank 1\nturn 0 0 x47414d3100800100000000000000000700000001000000000000000000000001000000000000000000000005\nend\nstatus 0 ok\n",
+            sent: &[Sent { to: 0, bytes: &ACK }],
+        },
+        Row {
+            words: "node 2 20000",
+            waiting: &[],
+            link_fails: 0,
+            write_fails: 0,
+            code: 2,
+            written: "status 2 usage\n",
+            sent: &[],
+        },
+        Row {
+            words: "node 64 20000",
+            waiting: &[],
+            link_fails: 0,
+            write_fails: 0,
+            code: 2,
+            written: "status 2 usage\n",
+            sent: &[],
+        },
+        Row {
+            words: "node 256 20000",
+            waiting: &[],
+            link_fails: 0,
+            write_fails: 0,
+            code: 2,
+            written: "status 2 usage\n",
+            sent: &[],
+        },
+        Row {
+            words: "node 0 1023",
+            waiting: &[],
+            link_fails: 0,
+            write_fails: 0,
+            code: 2,
+            written: "status 2 usage\n",
+            sent: &[],
+        },
+        Row {
+            words: "node 0 65473",
+            waiting: &[],
+            link_fails: 0,
+            write_fails: 0,
+            code: 2,
+            written: "status 2 usage\n",
+            sent: &[],
+        },
+        Row {
+            words: "node 00 20000",
+            waiting: &[],
+            link_fails: 0,
+            write_fails: 0,
+            code: 2,
+            written: "status 2 usage\n",
+            sent: &[],
+        },
+        Row {
+            words: "node 0 20000 0",
+            waiting: &[],
+            link_fails: 0,
+            write_fails: 0,
+            code: 2,
+            written: "status 2 usage\n",
+            sent: &[],
+        },
+    ]
+}
 
 /// Checks a row.
 fn check<R: Threads + Wait + Sync + Abort + AllocGlobal>(rt: &R, row: &Row) -> Result<(), Fail> {
@@ -341,7 +345,8 @@ fn check_sent(rt: &impl Abort, row: &Row, sent: &[(u16, Vec<u8>)]) {
 
 #[test]
 fn the_rows_end_and_say_as_they_should(rt: HostRuntime) -> Result<(), Fail> {
-    for row in &ROWS {
+    let rows = rows();
+    for row in &rows {
         check(&rt, row)?;
     }
     Ok(())

@@ -8,8 +8,9 @@
 //!   falls, and a call fails only where that count rose, or stands at its last value.
 //! - `SystemClock` meets `Clock` [`asked`, `said`]: it counts how often it was asked, and tells what it said last.
 //! - `SocketGate` meets `Gate`, which promises nothing.
-//! - `ProcessSpawner` meets `Spawner` [`output`, `later`, `cause`]: where a child ended, its output was appended and is
-//!   within the limit; after another answer nothing was appended; faults as the link's.
+//! - `ProcessSpawner` meets `Spawner` [`output`, `later`, `cause`]: where a child ended, bytes within the limit were
+//!   appended; after another answer nothing was; its count of faults never falls, and `Failed` comes only where that
+//!   count rose, or stands at its last value.
 //!
 //! What each does with the system is tested in `real_tests`.
 #![tactic(auto)]

@@ -176,7 +176,8 @@ impl<R: Processes> Spawner for ProcessSpawner<R> {
 
     ghost faults = { λ s. s.faults };
 
-    /// Starts the program with the words `node RANK PORT`, and waits until it has read its input or has ended.
+    /// Starts the program with the words `node RANK PORT`, and gives its input to its pipe: it waits until the pipe took
+    /// all of it, or the child ended before.
     fn start(&mut self, rank: u16, port: u16, input: &[u8]) -> Started {
         if self.try_start(rank, port, input).is_err() {
             self.faults = self.faults.saturating_add(1);
@@ -185,7 +186,8 @@ impl<R: Processes> Spawner for ProcessSpawner<R> {
         Started::Started
     }
 
-    /// Reads the child's output to its end, and waits for its exit status. Where that fails the child is ended.
+    /// Reads the child's output to its end, and waits for its exit status. Where that fails the child is ended, if the
+    /// system does so.
     fn finish(&mut self, rank: u16, into: &mut Vec<u8>) -> Finished {
         let end = match self.place(rank) {
             Some(place) => end(self.alloc, &mut self.children.swap_remove(place).1, into),

@@ -54,32 +54,33 @@ struct Row {
 }
 
 /// The rows.
-const ROWS: [Row; 11] = [
-    Row {
-        name: "one node runs its own requests",
-        nodes: 1,
-        credits: 1,
-        last: 100,
-        handlers: HANDLERS,
-        schedule: "0 call 0 0 short 0 128 9\n0 call 0 0 cell 0\n",
-        code: 0,
-        said: "1 ran\n2 cell 9\nnode 0 held 0 most 0 violations 0\nstatus 0 ok\n",
-    },
-    Row {
-        name: "a credit is waited for",
-        nodes: 2,
-        credits: 1,
-        last: 100,
-        handlers: HANDLERS,
-        schedule: "\
+fn rows_1() -> [Row; 2] {
+    [
+        Row {
+            name: "one node runs its own requests",
+            nodes: 1,
+            credits: 1,
+            last: 100,
+            handlers: HANDLERS,
+            schedule: "0 call 0 0 short 0 128 9\n0 call 0 0 cell 0\n",
+            code: 0,
+            said: "1 ran\n2 cell 9\nnode 0 held 0 most 0 violations 0\nstatus 0 ok\n",
+        },
+        Row {
+            name: "a credit is waited for",
+            nodes: 2,
+            credits: 1,
+            last: 100,
+            handlers: HANDLERS,
+            schedule: "\
 0 call 0 0 short 1 128 5
 0 call 0 0 short 1 128 6
 0 request 0 1 1
 0 reply 0 1 1
 0 call 0 0 short 1 128 6
 ",
-        code: 0,
-        said: "\
+            code: 0,
+            said: "\
 1 accepted 1 0 1
 2 not-yet
 3 ran
@@ -89,14 +90,20 @@ node 0 held 1 most 1 violations 0
 node 1 held 1 most 1 violations 0
 status 0 ok
 ",
-    },
-    Row {
-        name: "an earlier request is stale",
-        nodes: 2,
-        credits: 1,
-        last: 100,
-        handlers: HANDLERS,
-        schedule: "\
+        },
+    ]
+}
+
+/// More of them.
+fn rows_2() -> [Row; 2] {
+    [
+        Row {
+            name: "an earlier request is stale",
+            nodes: 2,
+            credits: 1,
+            last: 100,
+            handlers: HANDLERS,
+            schedule: "\
 0 call 0 0 short 1 128 5
 0 call 0 0 short 1 128 6
 0 request 0 1 1
@@ -106,8 +113,8 @@ status 0 ok
 0 request 0 1 1
 0 call 1 0 cell 0
 ",
-        code: 0,
-        said: "\
+            code: 0,
+            said: "\
 1 accepted 1 0 1
 2 not-yet
 3 ran
@@ -120,14 +127,14 @@ node 0 held 1 most 1 violations 0
 node 1 held 1 most 1 violations 0
 status 0 ok
 ",
-    },
-    Row {
-        name: "repeats run nothing",
-        nodes: 2,
-        credits: 1,
-        last: 100,
-        handlers: HANDLERS,
-        schedule: "\
+        },
+        Row {
+            name: "repeats run nothing",
+            nodes: 2,
+            credits: 1,
+            last: 100,
+            handlers: HANDLERS,
+            schedule: "\
 0 call 0 0 short 1 129 4
 0 request 0 1 1
 0 request 0 1 1
@@ -137,8 +144,8 @@ status 0 ok
 0 call 1 0 cell 0
 0 call 0 0 cell 1
 ",
-        code: 0,
-        said: "\
+            code: 0,
+            said: "\
 1 accepted 1 0 1
 2 ran
 3 again
@@ -151,14 +158,20 @@ node 0 held 0 most 1 violations 0
 node 1 held 1 most 1 violations 0
 status 0 ok
 ",
-    },
-    Row {
-        name: "late and unsent are told",
-        nodes: 2,
-        credits: 1,
-        last: 100,
-        handlers: HANDLERS,
-        schedule: "\
+        },
+    ]
+}
+
+/// More of them.
+fn rows_3() -> [Row; 2] {
+    [
+        Row {
+            name: "late and unsent are told",
+            nodes: 2,
+            credits: 1,
+            last: 100,
+            handlers: HANDLERS,
+            schedule: "\
 0 call 0 0 short 1 128 5
 0 call 0 0 short 1 128 6
 0 request 0 1 1
@@ -168,8 +181,8 @@ status 0 ok
 0 call 0 0 short 1 128 7
 0 reply 0 1 2
 ",
-        code: 0,
-        said: "\
+            code: 0,
+            said: "\
 1 accepted 1 0 1
 2 not-yet
 3 ran
@@ -182,20 +195,20 @@ node 0 held 1 most 1 violations 0
 node 1 held 1 most 1 violations 0
 status 0 ok
 ",
-    },
-    Row {
-        name: "numbers wear out",
-        nodes: 2,
-        credits: 4,
-        last: 2,
-        handlers: HANDLERS,
-        schedule: "\
+        },
+        Row {
+            name: "numbers wear out",
+            nodes: 2,
+            credits: 4,
+            last: 2,
+            handlers: HANDLERS,
+            schedule: "\
 0 call 0 0 short 1 128 1
 0 call 0 0 short 1 128 1
 0 call 0 0 short 1 128 1
 ",
-        code: 0,
-        said: "\
+            code: 0,
+            said: "\
 1 accepted 1 0 1
 2 accepted 1 1 2
 3 worn-out
@@ -203,21 +216,27 @@ node 0 held 2 most 2 violations 0
 node 1 held 0 most 0 violations 0
 status 0 ok
 ",
-    },
-    Row {
-        name: "forbidden calls are noted",
-        nodes: 2,
-        credits: 1,
-        last: 100,
-        handlers: HANDLERS,
-        schedule: "\
+        },
+    ]
+}
+
+/// More of them.
+fn rows_4() -> [Row; 2] {
+    [
+        Row {
+            name: "forbidden calls are noted",
+            nodes: 2,
+            credits: 1,
+            last: 100,
+            handlers: HANDLERS,
+            schedule: "\
 0 call 0 0 short 1 133
 0 request 0 1 1
 0 reply 0 1 1
 0 call 0 0 cell 1
 ",
-        code: 1,
-        said: "\
+            code: 1,
+            said: "\
 1 accepted 1 0 1
 2 ran
 3 returned
@@ -231,21 +250,21 @@ violation 1 request in-handler
 violation 1 request in-handler
 status 1 violations
 ",
-    },
-    Row {
-        name: "a request is sent again",
-        nodes: 2,
-        credits: 1,
-        last: 100,
-        handlers: HANDLERS,
-        schedule: "\
+        },
+        Row {
+            name: "a request is sent again",
+            nodes: 2,
+            credits: 1,
+            last: 100,
+            handlers: HANDLERS,
+            schedule: "\
 0 call 0 0 short 1 128 1
 9 tick 0
 10 tick 0
 10 tick 0
 ",
-        code: 0,
-        said: "\
+            code: 0,
+            said: "\
 1 accepted 1 0 1
 2 nothing
 3 resend 1 0 1
@@ -254,24 +273,30 @@ node 0 held 1 most 1 violations 0
 node 1 held 0 most 0 violations 0
 status 0 ok
 ",
-    },
-    Row {
-        name: "an index may be left to the table",
-        nodes: 1,
-        credits: 1,
-        last: 100,
-        handlers: "handler 0 request\nadd 9 1\nend\nhandler 128 request\nadd 8 1\nend\n",
-        schedule: "0 call 0 0 short 0 129\n0 call 0 0 cell 9\n0 call 0 0 short 0 130\n",
-        code: 0,
-        said: "1 ran\n2 cell 1\n3 bad-arg handler\nnode 0 held 0 most 0 violations 0\nstatus 0 ok\n",
-    },
-    Row {
-        name: "calls of a thread are told",
-        nodes: 1,
-        credits: 1,
-        last: 100,
-        handlers: HANDLERS,
-        schedule: "\
+        },
+    ]
+}
+
+/// More of them.
+fn rows_5() -> [Row; 2] {
+    [
+        Row {
+            name: "an index may be left to the table",
+            nodes: 1,
+            credits: 1,
+            last: 100,
+            handlers: "handler 0 request\nadd 9 1\nend\nhandler 128 request\nadd 8 1\nend\n",
+            schedule: "0 call 0 0 short 0 129\n0 call 0 0 cell 9\n0 call 0 0 short 0 130\n",
+            code: 0,
+            said: "1 ran\n2 cell 1\n3 bad-arg handler\nnode 0 held 0 most 0 violations 0\nstatus 0 ok\n",
+        },
+        Row {
+            name: "calls of a thread are told",
+            nodes: 1,
+            credits: 1,
+            last: 100,
+            handlers: HANDLERS,
+            schedule: "\
 0 call 0 0 poll
 0 call 0 0 attempt transfer
 0 call 0 0 attempt reply
@@ -279,8 +304,8 @@ status 0 ok
 0 call 0 0 set-cell 4 c3
 0 call 0 0 cell 4
 ",
-        code: 1,
-        said: "\
+            code: 1,
+            said: "\
 1 ok
 2 allowed
 3 forbidden no-token
@@ -291,8 +316,13 @@ node 0 held 0 most 0 violations 1
 violation 0 thread 0 no-token
 status 1 violations
 ",
-    },
-    Row {
+        },
+    ]
+}
+
+/// More of them.
+fn rows_6() -> [Row; 1] {
+    [Row {
         name: "rounds bring all back",
         nodes: 2,
         credits: 3,
@@ -326,8 +356,8 @@ node 0 held 1 most 2 violations 0
 node 1 held 2 most 3 violations 0
 status 0 ok
 ",
-    },
-];
+    }]
+}
 
 /// Checks that a row ends and says as it should.
 fn check(rt: &(impl Abort + AllocGlobal + Threads + Wait + Sync), row: &Row) -> Result<(), Fail> {
@@ -345,11 +375,25 @@ fn check(rt: &(impl Abort + AllocGlobal + Threads + Wait + Sync), row: &Row) -> 
     Ok(())
 }
 
+/// Checks these rows.
+fn check_all(
+    rt: &(impl Abort + AllocGlobal + Threads + Wait + Sync),
+    rows: &[Row],
+) -> Result<(), Fail> {
+    for row in rows {
+        check(rt, row)?;
+    }
+    Ok(())
+}
+
 #[test]
 fn the_rows_end_and_say_as_they_should(rt: HostRuntime) -> Result<(), Fail> {
-    for row in &ROWS {
-        check(&rt, row)?;
-    }
+    check_all(&rt, &rows_1())?;
+    check_all(&rt, &rows_2())?;
+    check_all(&rt, &rows_3())?;
+    check_all(&rt, &rows_4())?;
+    check_all(&rt, &rows_5())?;
+    check_all(&rt, &rows_6())?;
     Ok(())
 }
 
@@ -386,50 +430,52 @@ const LINES: [&str; 18] = [
 ];
 
 /// The refusals, each with the first bad line and the first reason that applies to it.
-const REFUSED: [Refused; 7] = [
-    Refused {
-        first: 0,
-        count: 18,
-        text: "",
-        said: "status 3 bad-job 1 early\n",
-    },
-    Refused {
-        first: 3,
-        count: 1,
-        text: "credits 33\n",
-        said: "status 3 bad-job 4 value\n",
-    },
-    Refused {
-        first: 2,
-        count: 1,
-        text: "nodes  2\n",
-        said: "status 3 bad-job 3 text\n",
-    },
-    Refused {
-        first: 18,
-        count: 0,
-        text: "0\n",
-        said: "status 3 bad-job 19 after\n",
-    },
-    Refused {
-        first: 9,
-        count: 1,
-        text: "sieve 0 0\n",
-        said: "status 3 bad-job 10 form\n",
-    },
-    Refused {
-        first: 12,
-        count: 0,
-        text: "handler 128 reply\nend\n",
-        said: "status 3 bad-job 13 entry\n",
-    },
-    Refused {
-        first: 16,
-        count: 0,
-        text: "0 settle 4096\n0 settle 1\n",
-        said: "status 3 bad-job 18 count\n",
-    },
-];
+fn refusals() -> [Refused; 7] {
+    [
+        Refused {
+            first: 0,
+            count: 18,
+            text: "",
+            said: "status 3 bad-job 1 early\n",
+        },
+        Refused {
+            first: 3,
+            count: 1,
+            text: "credits 33\n",
+            said: "status 3 bad-job 4 value\n",
+        },
+        Refused {
+            first: 2,
+            count: 1,
+            text: "nodes  2\n",
+            said: "status 3 bad-job 3 text\n",
+        },
+        Refused {
+            first: 18,
+            count: 0,
+            text: "0\n",
+            said: "status 3 bad-job 19 after\n",
+        },
+        Refused {
+            first: 9,
+            count: 1,
+            text: "sieve 0 0\n",
+            said: "status 3 bad-job 10 form\n",
+        },
+        Refused {
+            first: 12,
+            count: 0,
+            text: "handler 128 reply\nend\n",
+            said: "status 3 bad-job 13 entry\n",
+        },
+        Refused {
+            first: 16,
+            count: 0,
+            text: "0 settle 4096\n0 settle 1\n",
+            said: "status 3 bad-job 18 count\n",
+        },
+    ]
+}
 
 /// The bytes of a row of the table of refusals.
 fn refused_bytes(alloc: Global, row: &Refused) -> Result<Vec<u8>, Fail> {
@@ -448,13 +494,22 @@ fn refused_bytes(alloc: Global, row: &Refused) -> Result<Vec<u8>, Fail> {
     Ok(bytes)
 }
 
+/// Checks that a row's bytes are refused as they should be.
+fn check_refusal(
+    rt: &(impl Abort + AllocGlobal + Threads + Wait + Sync),
+    row: &Refused,
+) -> Result<(), Fail> {
+    let said = call(rt, &["world"], refused_bytes(rt.alloc(), row)?)?;
+    assert_eq!(rt; said.code, 3, "{}", row.text);
+    assert_eq!(rt; said.bytes.as_slice(), row.said.as_bytes(), "{}", row.text);
+    Ok(())
+}
+
 #[test]
 fn the_first_bad_line_is_told(rt: HostRuntime) -> Result<(), Fail> {
-    for row in &REFUSED {
-        let bytes = refused_bytes(rt.alloc(), row)?;
-        let said = call(&rt, &["world"], bytes)?;
-        assert_eq!(rt; said.code, 3, "{}", row.text);
-        assert_eq!(rt; said.bytes.as_slice(), row.said.as_bytes(), "{}", row.text);
+    let rows = refusals();
+    for row in &rows {
+        check_refusal(&rt, row)?;
     }
     Ok(())
 }

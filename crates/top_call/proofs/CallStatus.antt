@@ -1,4 +1,4 @@
--- What the exit status of a call says, by its words.
+-- What the exit status of a call says, by its words, and what the call leaves alone.
 use Rattle.std.proofs.Common.{◌≡◌, ℕ, ◌<◌, ◌^◌, List, [], Option, Some, None, refl, sym, ap, subst, ◌∙◌, arith, codes}
 use Rattle.std.proofs.Common.{get_or}
 use Rattle.std.specs.Prelude.{if◌then◌else◌, bytes_eq, decimal}
@@ -8,8 +8,8 @@ use Rattle.node_script.specs.Lines.{Word}
 use Rattle.top_call.specs.Outsides.{Call, Course, Spawning, course_in, spawning_in, took_in}
 use Rattle.top_call.specs.Commands.{Asks, AsksNothing, IsAsked, IsCommand, code_of, command_words}
 use Rattle.top_call.specs.HowEnds.{Means}
-use Rattle.top_call.specs.TopCall.{IsComplete, StatusMeans}
-use Rattle.top_call.specs.TopParts.{Ends}
+use Rattle.top_call.specs.TopCall.{IsComplete, LeavesAlone, StatusMeans}
+use Rattle.top_call.specs.TopParts.{Ends, Keeps}
 use Rattle.top_call.specs.declared.ending.End.{End}
 use Rattle.top_call.specs.declared.words.Command.{Command}
 use Rattle.top_call.specs.declared.words.Command.TheVariants as commands
@@ -110,4 +110,39 @@ completes call asked end is h = record {
   node = λ rank port asks.
       node_completes call rank port end (ended_as call asked end (commands.Node rank port) is h asks);
   drill = λ seed asks. drill_completes call seed end (ended_as call asked end (commands.Drill seed) is h asks);
+}
+
+-- ---- what is left alone
+
+-- what of the outside stands as it did after what was asked for
+abbrev KeptAs : Call → Option Command → Type 0
+KeptAs call asked = Keeps asked (course_in call) (spawning_in call)
+
+unlaunched : (call : Call) (asked : Option Command) → IsAsked call.words asked → KeptAs call asked
+    → ((port : ℕ) → Asks call.words (commands.Launch port) → ⊥) → call.after.spawner ≡ call.before.spawner
+unlaunched call None is kept none = kept.2
+unlaunched call (Some commands.World) is kept none = kept.1
+unlaunched call (Some commands.Upgrade) is kept none = kept.1
+unlaunched call (Some commands.Check) is kept none = kept.1
+unlaunched call (Some (commands.Launch port)) is kept none = absurd (none port is)
+unlaunched call (Some (commands.Node rank port)) is kept none = kept
+unlaunched call (Some (commands.Drill seed)) is kept none = kept.2
+
+no_node_ran : (call : Call) (asked : Option Command) → IsAsked call.words asked → KeptAs call asked
+    → ((rank port : ℕ) → Asks call.words (commands.Node rank port) → ⊥) → call.after.devices ≡ call.before.devices
+no_node_ran call None is kept none = kept.1
+no_node_ran call (Some commands.World) is kept none = kept.0
+no_node_ran call (Some commands.Upgrade) is kept none = kept.0
+no_node_ran call (Some commands.Check) is kept none = kept.0
+no_node_ran call (Some (commands.Launch port)) is kept none = kept
+no_node_ran call (Some (commands.Node rank port)) is kept none = absurd (none rank port is)
+no_node_ran call (Some (commands.Drill seed)) is kept none = kept.1
+
+pub leaves_alone : (call : Call) (asked : Option Command) → IsAsked call.words asked → KeptAs call asked
+    → LeavesAlone call
+leaves_alone call asked is kept = record {
+  spawner = unlaunched call asked is kept;
+  devices = no_node_ran call asked is kept;
+  drill = λ seed asks. (subst (KeptAs call) (is_asked call.words asked (commands.Drill seed) is asks) kept).0;
+  usage = λ nothing. (subst (KeptAs call) (none_asked call.words asked is nothing) kept).0;
 }

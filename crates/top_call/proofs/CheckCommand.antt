@@ -1,17 +1,21 @@
 -- The command `check`.
 use Rattle.std.proofs.Common.{◌≡◌, ℕ, ◌+◌, List, [], ◌∷◌, ◌++◌, length, Option, Some, None}
-use Rattle.std.proofs.Common.{refl, ap, subst, ◌∙◌, inl, inr, lit<, append-nil, length-append, arith}
+use Rattle.std.proofs.Common.{refl, sym, ap, subst, ◌∙◌, inl, inr, lit<, append-nil, length-append, arith, true}
+use Rattle.std.proofs.Common.{true≢false}
 use Rattle.std.specs.List.{Contains}
 use Rattle.gas_outside.specs.Buffered.{Outbox, GathersAll}
 use Rattle.gasnet_trace.specs.declared.output.Output.{Output}
 use Rattle.job_text.specs.declared.fault.JobWhy.{JobWhy}
 use Rattle.job_text.specs.declared.job.Job.{Job as JobState}
-use Rattle.check_run.specs.CheckInputs.{InputText, IsUnread, TakesNone, traces_in}
-use Rattle.check_run.specs.Statuses.{AreOver, IsFirstFailed}
+use Rattle.check_run.specs.CheckInputs.{InputText, IsUnread, TakesInput, TakesNone, traces_in}
+use Rattle.check_run.specs.Statuses.{AreOver, IsFirstFailed, is_over}
+use Rattle.check_run.specs.TracesRun.{AreARun}
 use Rattle.check_run.specs.declared.input.InputFault.{InputFault}
 use Rattle.check_run.specs.declared.input.InputFault.TheVariants as inputs
-use Rattle.top_call.specs.Outsides.{Call, Input, Reading, read_in, took_in}
+use Rattle.launch_run.proofs.Ends.{all_at}
+use Rattle.top_call.specs.Outsides.{Call, Input, IsFaultless, Reading, read_in, took_in}
 use Rattle.top_call.specs.CheckCommand.{CheckCompletes, CheckEnds, CheckMeans, ChecksInput, GivesInput, HoldsInput}
+use Rattle.top_call.specs.CheckCommand.{HoldsRun}
 use Rattle.top_call.specs.Commands.{code_of}
 use Rattle.top_call.specs.HowEnds.{After, Means, gives, nothing, unasked}
 use Rattle.top_call.specs.TopParts.{EndsBy, Says, end_unread}
@@ -160,19 +164,73 @@ was_no_input source left line reason holds none =
     not_no_input holds.bytes left holds.job holds.outputs line reason holds.text
     (subst (λ (before : Option (List ℕ)). TakesNone before left line reason) holds.told none)
 
+check_judges : (call : Call) (end : End) → Means (CheckEnds (read_in call)) (took_in call) call.given end
+    → HoldsInput call.before.source → IsFaultless call → Contains (0 ∷ 1 ∷ 8 ∷ 11 ∷ 12 ∷ []) (code_of end)
+check_judges call ends.Done h holds faultless = (0, lit< tt, refl)
+check_judges call ends.Violations h holds faultless = (1, lit< tt, refl)
+check_judges call ends.NoMemory h holds faultless = (2, lit< tt, refl)
+check_judges call (ends.NotARun node entry) h holds faultless = (3, lit< tt, refl)
+check_judges call (ends.Child rank code) h holds faultless = (4, lit< tt, refl)
+check_judges call ends.Usage h holds faultless = absurd h.ends
+check_judges call ends.LinkFault h holds faultless = absurd h.ends
+check_judges call ends.SpawnFault h holds faultless = absurd h.ends
+check_judges call ends.Stuck h holds faultless = absurd h.ends
+check_judges call ends.JournalFull h holds faultless = absurd h.ends
+check_judges call ends.ReadFault h holds faultless = absurd (faultless.source h.ends.rose)
+check_judges call ends.WriteFault h holds faultless = absurd (faultless.sink h.cut.0)
+check_judges call (ends.BadJob line reason) h holds faultless =
+    absurd (was_no_input call.before.source call.after.source.left line reason holds h.ends.read)
+
+-- ---- traces that are a run
+
+-- the input that is read from a source that told one is that one
+same_input : (bytes : List ℕ) (left : Option (List ℕ)) (job other : JobState) (outputs others : List Output)
+    → InputText job outputs bytes → TakesInput (Some bytes) left other others → (job ≡ other) × (outputs ≡ others)
+same_input bytes None job other outputs others text takes = absurd takes.read
+same_input bytes (Some rest) job other outputs others text takes =
+    let same : bytes ≡ takes.bytes =
+    takes.read ∙ ap (λ z. takes.bytes ++ z) takes.ended ∙ append-nil takes.bytes in
+    takes.is_input.one job outputs (subst (InputText job outputs) same text)
+
+-- so its nodes ended with status 0 or 1, and their traces are a run, where those of that one are
+read_run : (source : Input) (left : Option (List ℕ)) (job : JobState) (outputs : List Output) → HoldsRun source
+    → TakesInput source.left left job outputs → AreOver outputs × AreARun job (traces_in outputs)
+read_run source left job outputs run takes =
+    let holds = run.holds in
+    let same = same_input holds.bytes left holds.job job holds.outputs outputs holds.text
+    (subst (λ (before : Option (List ℕ)). TakesInput before left job outputs) holds.told takes) in (
+      subst AreOver same.1 run.over,
+      subst (λ (all : List Output). AreARun job (traces_in all)) same.1
+          (subst (λ (it : JobState). AreARun it (traces_in holds.outputs)) same.0 run.run),
+    )
+
+-- among nodes that all ended with status 0 or 1 none failed
+none_failed : (outputs : List Output) (rank code : ℕ) → AreOver outputs → IsFirstFailed outputs rank code → ⊥
+none_failed outputs rank code over failed =
+    let one = all_at (λ (output : Output). is_over output.status ≡ true) outputs rank failed.output over failed.at in
+    absurd (true≢false (sym one ∙ failed.failed))
+
+check_finds : (call : Call) (end : End) → Means (CheckEnds (read_in call)) (took_in call) call.given end
+    → HoldsRun call.before.source → IsFaultless call → Contains (0 ∷ 1 ∷ 8 ∷ []) (code_of end)
+check_finds call ends.Done h run faultless = (0, lit< tt, refl)
+check_finds call ends.Violations h run faultless = (1, lit< tt, refl)
+check_finds call ends.NoMemory h run faultless = (2, lit< tt, refl)
+check_finds call (ends.NotARun node entry) h run faultless =
+    let read = read_run call.before.source call.after.source.left h.ends.job h.ends.outputs run h.ends.read in
+    absurd (h.ends.checked.none.none read.1)
+check_finds call (ends.Child rank code) h run faultless =
+    let read = read_run call.before.source call.after.source.left h.ends.job h.ends.outputs run h.ends.read in
+    absurd (none_failed h.ends.outputs rank code read.0 h.ends.failed)
+check_finds call ends.Usage h run faultless = absurd h.ends
+check_finds call ends.LinkFault h run faultless = absurd h.ends
+check_finds call ends.SpawnFault h run faultless = absurd h.ends
+check_finds call ends.Stuck h run faultless = absurd h.ends
+check_finds call ends.JournalFull h run faultless = absurd h.ends
+check_finds call ends.ReadFault h run faultless = absurd (faultless.source h.ends.rose)
+check_finds call ends.WriteFault h run faultless = absurd (faultless.sink h.cut.0)
+check_finds call (ends.BadJob line reason) h run faultless =
+    absurd (was_no_input call.before.source call.after.source.left line reason run.holds h.ends.read)
+
 pub check_completes : (call : Call) (end : End) → Means (CheckEnds (read_in call)) (took_in call) call.given end
     → CheckCompletes call (code_of end)
-check_completes call ends.Done h holds faultless = (0, lit< tt, refl)
-check_completes call ends.Violations h holds faultless = (1, lit< tt, refl)
-check_completes call ends.NoMemory h holds faultless = (2, lit< tt, refl)
-check_completes call (ends.NotARun node entry) h holds faultless = (3, lit< tt, refl)
-check_completes call (ends.Child rank code) h holds faultless = (4, lit< tt, refl)
-check_completes call ends.Usage h holds faultless = absurd h.ends
-check_completes call ends.LinkFault h holds faultless = absurd h.ends
-check_completes call ends.SpawnFault h holds faultless = absurd h.ends
-check_completes call ends.Stuck h holds faultless = absurd h.ends
-check_completes call ends.JournalFull h holds faultless = absurd h.ends
-check_completes call ends.ReadFault h holds faultless = absurd (faultless.source h.ends.rose)
-check_completes call ends.WriteFault h holds faultless = absurd (faultless.sink h.cut.0)
-check_completes call (ends.BadJob line reason) h holds faultless =
-    absurd (was_no_input call.before.source call.after.source.left line reason holds h.ends.read)
+check_completes call end h = record { judged = check_judges call end h; is_run = check_finds call end h }

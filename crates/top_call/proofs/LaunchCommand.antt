@@ -3,18 +3,19 @@ use Rattle.std.proofs.Common.{◌≡◌, ℕ, List, [], ◌∷◌, Option, false
 use Rattle.std.proofs.Common.{inl, inr, lit<, Err}
 use Rattle.std.specs.List.{Contains}
 use Rattle.gas_outside.specs.Buffered.{Outbox, GathersAll}
+use Rattle.gas_outside.specs.Faults.{Rose}
 use Rattle.gasnet_trace.specs.declared.output.Output.{Output}
 use Rattle.job_text.specs.declared.job.Job.{Job as JobState}
 use Rattle.check_run.specs.CheckInputs.{traces_in}
 use Rattle.launch_run.specs.LaunchEnds.{EndsLaunch, GivesOutputs, Launch}
 use Rattle.launch_run.specs.declared.fault.LaunchFault.{LaunchFault}
 use Rattle.launch_run.specs.declared.fault.LaunchFault.TheVariants as launches
-use Rattle.top_call.specs.Outsides.{Call, Input, Reading, Spawning, read_in, spawning_in, took_in}
+use Rattle.top_call.specs.Outsides.{Call, Input, IsFaultless, Reading, Spawning, read_in, spawning_in, took_in}
 use Rattle.top_call.specs.Commands.{code_of}
 use Rattle.top_call.specs.HowEnds.{After, Means, gives, nothing, unasked}
 use Rattle.top_call.specs.JobReads.{GivesJob, ReadsJob}
 use Rattle.top_call.specs.LaunchCommand.{ChecksLaunch, HoldsLaunch, IsUnused, LaunchCompletes, LaunchEnds, LaunchMeans}
-use Rattle.top_call.specs.LaunchCommand.{ReadsLaunch, launch_of}
+use Rattle.top_call.specs.LaunchCommand.{ReadsLaunch, TellsRun, launch_of}
 use Rattle.top_call.specs.Ports.{has_ports}
 use Rattle.top_call.specs.TopParts.{EndsBy, Says, end_of_fault}
 use Rattle.top_call.specs.TracesReports.{TracesEnds}
@@ -24,6 +25,7 @@ use Rattle.top_call.specs.declared.ending.Ended.{Ended}
 use Rattle.top_call.specs.declared.ending.Given.{Given}
 use Rattle.top_call.proofs.LastLine.{Weakens, Widens, alone, says_alone, weak_alone, widened}
 use Rattle.top_call.proofs.JobRead.{MayReadNone, one_job, was_no_job}
+use Rattle.top_call.proofs.LaunchRun.{gave_run, none_lost}
 use Rattle.top_call.proofs.Statuses.{code_means}
 use Rattle.top_call.proofs.TracesTold.{weak_traces}
 
@@ -210,20 +212,62 @@ has_them source left port job holds read none =
     (subst (λ (before : Option (List ℕ)). ReadsJob before left job) holds.holds.told read) in
     absurd (true≢false (sym holds.ports ∙ (ap (λ (j : JobState). has_ports port j.settings.nodes) same ∙ none)))
 
+launch_judges : (call : Call) (port : ℕ) (end : End) → EndedSo call port end → HoldsLaunch port call.before.source
+    → IsFaultless call → (Rose call.before.spawner.faults call.after.spawner.faults → ⊥)
+    → Contains (0 ∷ 1 ∷ 8 ∷ 11 ∷ 12 ∷ []) (code_of end)
+launch_judges call port ends.Done h holds faultless spawned = (0, lit< tt, refl)
+launch_judges call port ends.Violations h holds faultless spawned = (1, lit< tt, refl)
+launch_judges call port ends.NoMemory h holds faultless spawned = (2, lit< tt, refl)
+launch_judges call port (ends.NotARun node entry) h holds faultless spawned = (3, lit< tt, refl)
+launch_judges call port (ends.Child rank code) h holds faultless spawned = (4, lit< tt, refl)
+launch_judges call port ends.LinkFault h holds faultless spawned = absurd h.ends
+launch_judges call port ends.Stuck h holds faultless spawned = absurd h.ends
+launch_judges call port ends.JournalFull h holds faultless spawned = absurd h.ends
+launch_judges call port ends.SpawnFault h holds faultless spawned = absurd (spawned h.ends.fails.rose)
+launch_judges call port ends.ReadFault h holds faultless spawned = absurd (faultless.source h.ends.0.rose)
+launch_judges call port ends.WriteFault h holds faultless spawned = absurd (faultless.sink h.cut.0)
+launch_judges call port (ends.BadJob line reason) h holds faultless spawned =
+    absurd (was_no_job call.before.source call.after.source.left line reason holds.holds h.ends.0.read)
+launch_judges call port ends.Usage h holds faultless spawned =
+    absurd (has_them call.before.source call.after.source.left port h.ends.job holds h.ends.read h.ends.no_ports)
+
+-- what the spawner tells is a run of the job that was read
+tells_read : (source : Input) (left : Option (List ℕ)) (port : ℕ) (job : JobState) (spawning : Spawning)
+    (holds : HoldsLaunch port source) → ReadsJob source.left left job → TellsRun holds.holds.job spawning
+    → TellsRun job spawning
+tells_read source left port job spawning holds read tells =
+    subst (λ (it : JobState). TellsRun it spawning) (one_job holds.holds.bytes left holds.holds.job job
+    holds.holds.text (subst (λ (before : Option (List ℕ)). ReadsJob before left job) holds.holds.told read)) tells
+
+launch_finds : (call : Call) (port : ℕ) (end : End) → EndedSo call port end
+    → (holds : HoldsLaunch port call.before.source) → TellsRun holds.holds.job (spawning_in call) → IsFaultless call
+    → (Rose call.before.spawner.faults call.after.spawner.faults → ⊥) → Contains (0 ∷ 1 ∷ 8 ∷ []) (code_of end)
+launch_finds call port ends.Done h holds tells faultless spawned = (0, lit< tt, refl)
+launch_finds call port ends.Violations h holds tells faultless spawned = (1, lit< tt, refl)
+launch_finds call port ends.NoMemory h holds tells faultless spawned = (2, lit< tt, refl)
+launch_finds call port (ends.NotARun node entry) h holds tells faultless spawned =
+    let reads = h.ends.reads in
+    let so = tells_read call.before.source call.after.source.left port reads.job (spawning_in call) holds reads.read
+    tells in
+    absurd (h.ends.checked.none.none (gave_run (launch_of port (read_in call) reads) (spawning_in call) h.ends.outputs
+    reads.read.text.is_job so h.ends.gives))
+launch_finds call port (ends.Child rank code) h holds tells faultless spawned =
+    let reads = h.ends.reads in
+    let so = tells_read call.before.source call.after.source.left port reads.job (spawning_in call) holds reads.read
+    tells in
+    absurd (none_lost (launch_of port (read_in call) reads) (spawning_in call) rank code so h.ends.loses)
+launch_finds call port ends.LinkFault h holds tells faultless spawned = absurd h.ends
+launch_finds call port ends.Stuck h holds tells faultless spawned = absurd h.ends
+launch_finds call port ends.JournalFull h holds tells faultless spawned = absurd h.ends
+launch_finds call port ends.SpawnFault h holds tells faultless spawned = absurd (spawned h.ends.fails.rose)
+launch_finds call port ends.ReadFault h holds tells faultless spawned = absurd (faultless.source h.ends.0.rose)
+launch_finds call port ends.WriteFault h holds tells faultless spawned = absurd (faultless.sink h.cut.0)
+launch_finds call port (ends.BadJob line reason) h holds tells faultless spawned =
+    absurd (was_no_job call.before.source call.after.source.left line reason holds.holds h.ends.0.read)
+launch_finds call port ends.Usage h holds tells faultless spawned =
+    absurd (has_them call.before.source call.after.source.left port h.ends.job holds h.ends.read h.ends.no_ports)
+
 pub launch_completes : (call : Call) (port : ℕ) (end : End) → EndedSo call port end
     → LaunchCompletes call port (code_of end)
-launch_completes call port ends.Done h holds faultless spawned = (0, lit< tt, refl)
-launch_completes call port ends.Violations h holds faultless spawned = (1, lit< tt, refl)
-launch_completes call port ends.NoMemory h holds faultless spawned = (2, lit< tt, refl)
-launch_completes call port (ends.NotARun node entry) h holds faultless spawned = (3, lit< tt, refl)
-launch_completes call port (ends.Child rank code) h holds faultless spawned = (4, lit< tt, refl)
-launch_completes call port ends.LinkFault h holds faultless spawned = absurd h.ends
-launch_completes call port ends.Stuck h holds faultless spawned = absurd h.ends
-launch_completes call port ends.JournalFull h holds faultless spawned = absurd h.ends
-launch_completes call port ends.SpawnFault h holds faultless spawned = absurd (spawned h.ends.fails.rose)
-launch_completes call port ends.ReadFault h holds faultless spawned = absurd (faultless.source h.ends.0.rose)
-launch_completes call port ends.WriteFault h holds faultless spawned = absurd (faultless.sink h.cut.0)
-launch_completes call port (ends.BadJob line reason) h holds faultless spawned =
-    absurd (was_no_job call.before.source call.after.source.left line reason holds.holds h.ends.0.read)
-launch_completes call port ends.Usage h holds faultless spawned =
-    absurd (has_them call.before.source call.after.source.left port h.ends.job holds h.ends.read h.ends.no_ports)
+launch_completes call port end h =
+    record { judged = launch_judges call port end h; is_run = launch_finds call port end h }

@@ -7,6 +7,7 @@ pub mod WorldCommand
 pub mod UpgradeText
 pub mod UpgradeCommand
 pub mod CheckCommand
+pub mod LaunchRun
 pub mod LaunchCommand
 pub mod NodeCommand
 pub mod DrillCommand

@@ -6,6 +6,7 @@ use Rattle.job_text.specs.declared.fault.JobWhy.{JobWhy}
 use Rattle.job_text.specs.declared.job.Job.{Job as JobState}
 use Rattle.check_run.specs.CheckInputs.{InputText, TakesInput, TakesNone, traces_in}
 use Rattle.check_run.specs.Statuses.{AreOver, IsFirstFailed}
+use Rattle.check_run.specs.TracesRun.{AreARun}
 use Rattle.top_call.specs.Outsides.{Call, Input, IsFaultless, Reading, read_in}
 use Rattle.top_call.specs.HowEnds.{After, EndsHow, SaysAlone}
 use Rattle.top_call.specs.JobReads.{FailsToRead}
@@ -68,7 +69,14 @@ pub record HoldsInput (source : Input) : Type 0 where
   pub told : source.left ≡ Some bytes
   pub text : InputText job outputs bytes
 
--- where no count of faults rose, such an input was judged, or memory ran out
-abbrev pub CheckCompletes : Call → (code : ℕ) → Type 0
-CheckCompletes call code =
-    HoldsInput call.before.source → IsFaultless call → Contains (0 ∷ 1 ∷ 8 ∷ 11 ∷ 12 ∷ []) code
+-- moreover each of its nodes ended with status 0 or 1, and their traces are a run
+pub record HoldsRun (source : Input) : Type 0 where
+  pub holds : HoldsInput source
+  pub over : AreOver holds.outputs
+  pub run : AreARun holds.job (traces_in holds.outputs)
+
+-- where no count of faults rose, such an input was judged, or memory ran out; one whose traces are a run was judged to
+-- be so, or memory ran out
+pub record CheckCompletes (call : Call) (code : ℕ) : Type 0 where
+  pub judged : HoldsInput call.before.source → IsFaultless call → Contains (0 ∷ 1 ∷ 8 ∷ 11 ∷ 12 ∷ []) code
+  pub is_run : HoldsRun call.before.source → IsFaultless call → Contains (0 ∷ 1 ∷ 8 ∷ []) code

@@ -1,12 +1,16 @@
 -- The command `launch`: a job is read, a child is started for each of its nodes, and the traces that they give are
 -- checked.
-use Rattle.std.specs.Prelude.{◌≡◌, ◌⊎◌, ℕ, List, [], ◌∷◌, true, false}
+use Rattle.std.specs.Prelude.{◌≡◌, ◌⊎◌, ℕ, List, [], ◌∷◌, ◌++◌, Some, true, false}
 use Rattle.std.specs.List.{Contains}
 use Rattle.gas_outside.specs.Faults.{Rose}
+use Rattle.gas_outside.specs.Spawner.{ChildEnd, SpawnTold}
 use Rattle.gasnet_trace.specs.declared.output.Output.{Output}
 use Rattle.job_text.specs.declared.job.Job.{Job as JobState}
 use Rattle.check_run.specs.CheckInputs.{traces_in}
+use Rattle.check_run.specs.TracesRun.{AreARun}
+use Rattle.launch_run.specs.Children.{NoneFinished}
 use Rattle.launch_run.specs.LaunchEnds.{FailsToSpawn, GivesOutputs, Launch, LosesChild, RunsShort}
+use Rattle.launch_run.specs.Outputs.{AreGiven}
 use Rattle.top_call.specs.Outsides.{Call, Input, IsFaultless, Reading, Spawning, read_in, spawning_in}
 use Rattle.top_call.specs.HowEnds.{After, EndsHow, SaysAlone}
 use Rattle.top_call.specs.JobReads.{FailsToRead, GivesJob, HoldsJob, RefusesJob}
@@ -101,9 +105,26 @@ pub record HoldsLaunch (port : ℕ) (source : Input) : Type 0 where
   pub holds : HoldsJob source
   pub ports : has_ports port holds.job.settings.nodes ≡ true
 
--- where no count of faults rose, the nodes of a job that could be read were judged, or memory ran out
-abbrev pub LaunchCompletes : Call → (port code : ℕ) → Type 0
-LaunchCompletes call port code =
-    HoldsLaunch port call.before.source → IsFaultless call
-    → (Rose call.before.spawner.faults call.after.spawner.faults → ⊥)
-    → Contains (0 ∷ 1 ∷ 8 ∷ 11 ∷ 12 ∷ []) code
+-- the spawner told no finish of the ranks of the job, and after the call it tells, behind the ends told before, those
+-- of children that each gave an output of its node, with status 0 or 1; and the traces in these are a run
+pub record TellsRun (job : JobState) (spawning : Spawning) : Type 0 where
+  pub before : SpawnTold
+  pub before_is : spawning.before.told ≡ Some before
+  pub unfinished : NoneFinished job.settings.nodes before
+  pub after : SpawnTold
+  pub after_is : spawning.after.told ≡ Some after
+  pub ends : List ChildEnd
+  pub ended : after.ended ≡ before.ended ++ ends
+  pub outputs : List Output
+  pub given : AreGiven job ends outputs
+  pub run : AreARun job (traces_in outputs)
+
+-- where no count of faults rose, the nodes of a job that could be read were judged, or memory ran out; those whose
+-- traces are a run were judged to be so, or memory ran out
+pub record LaunchCompletes (call : Call) (port code : ℕ) : Type 0 where
+  pub judged : HoldsLaunch port call.before.source → IsFaultless call
+      → (Rose call.before.spawner.faults call.after.spawner.faults → ⊥)
+      → Contains (0 ∷ 1 ∷ 8 ∷ 11 ∷ 12 ∷ []) code
+  pub is_run : (holds : HoldsLaunch port call.before.source) → TellsRun holds.holds.job (spawning_in call)
+      → IsFaultless call → (Rose call.before.spawner.faults call.after.spawner.faults → ⊥)
+      → Contains (0 ∷ 1 ∷ 8 ∷ []) code

@@ -115,7 +115,8 @@ Takes old new bytes wrote.Fault =
 abbrev pub took_in : Call → List ℕ → Wrote → Type 0
 took_in call = Takes call.before.sink call.after.sink
 
--- no count of faults rose in the call, or stands at its last value
+-- neither the source's count of faults nor the sink's rose in the call, or stands at its last value; of the link's and
+-- the spawner's it says nothing
 pub record IsFaultless (call : Call) : Type 0 where
   pub source : Rose call.before.source.faults call.after.source.faults → ⊥
   pub sink : Rose call.before.sink.faults call.after.sink.faults → ⊥

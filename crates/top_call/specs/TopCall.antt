@@ -1,5 +1,5 @@
--- What each exit status of the top call says, command by command.
-use Rattle.std.specs.Prelude.{ℕ}
+-- What each exit status of the top call says, command by command, and what a call leaves alone.
+use Rattle.std.specs.Prelude.{◌≡◌, ℕ}
 use Rattle.top_call.specs.Outsides.{Call}
 use Rattle.top_call.specs.Commands.{Asks, AsksNothing}
 use Rattle.top_call.specs.WorldCommand.{WorldCompletes, WorldMeans}
@@ -29,3 +29,14 @@ pub record IsComplete (call : Call) (code : ℕ) : Type 0 where
   pub launch : (port : ℕ) → Asks call.words (commands.Launch port) → LaunchCompletes call port code
   pub node : (rank port : ℕ) → Asks call.words (commands.Node rank port) → NodeCompletes call rank port code
   pub drill : (seed : ℕ) → Asks call.words (commands.Drill seed) → DrillCompletes call code
+
+-- what is seen of the outside and stands after the call as before it, by the words: of the spawner, unless they are
+-- those of `launch`; of link and clock, unless they are those of `node`; and of the source, where they are those of
+-- `drill`, or of no command
+pub record LeavesAlone (call : Call) : Type 0 where
+  pub spawner : ((port : ℕ) → Asks call.words (commands.Launch port) → ⊥)
+      → call.after.spawner ≡ call.before.spawner
+  pub devices : ((rank port : ℕ) → Asks call.words (commands.Node rank port) → ⊥)
+      → call.after.devices ≡ call.before.devices
+  pub drill : (seed : ℕ) → Asks call.words (commands.Drill seed) → call.after.source ≡ call.before.source
+  pub usage : AsksNothing call.words → call.after.source ≡ call.before.source

@@ -23,7 +23,7 @@ use Rattle.top_call.specs.JobReads.{GivesJob, ReadsNoJob}
 use Rattle.top_call.specs.WorldCommand.{WorldEnds}
 use Rattle.top_call.specs.UpgradeCommand.{UpgradeEnds}
 use Rattle.top_call.specs.CheckCommand.{CheckEnds}
-use Rattle.top_call.specs.LaunchCommand.{LaunchEnds}
+use Rattle.top_call.specs.LaunchCommand.{IsUnused, LaunchEnds}
 use Rattle.top_call.specs.NodeCommand.{NodeEnds}
 use Rattle.top_call.specs.DrillCommand.{DrillEnds}
 use Rattle.top_call.specs.NoCommand.{UsageEnds}
@@ -52,12 +52,32 @@ Ends (Some (commands.Drill seed)) course spawning = DrillEnds seed
 abbrev pub EndsBy : EndsHow → (old new : Outbox) → Ended → Type 0
 EndsBy Ends old new ended = Means Ends (GathersAll old new) ended.given ended.end
 
--- how the words' command ended
+-- what is seen of the source stands as it did
+abbrev pub KeepsSource : Course → Type 0
+KeepsSource course = course.reading.after ≡ course.reading.before
+
+-- so does what is seen of a node's link and clock
+abbrev pub KeepsDevices : Course → Type 0
+KeepsDevices course = course.after ≡ course.before
+
+-- what is seen of the outside and stands as it did, by what was asked for
+abbrev pub Keeps : Option Command → Course → Spawning → Type 0
+Keeps None course spawning = KeepsSource course × KeepsDevices course × IsUnused spawning
+Keeps (Some commands.World) course spawning = KeepsDevices course × IsUnused spawning
+Keeps (Some commands.Upgrade) course spawning = KeepsDevices course × IsUnused spawning
+Keeps (Some commands.Check) course spawning = KeepsDevices course × IsUnused spawning
+Keeps (Some (commands.Launch port)) course spawning = KeepsDevices course
+Keeps (Some (commands.Node rank port)) course spawning = IsUnused spawning
+Keeps (Some (commands.Drill seed)) course spawning =
+    KeepsSource course × KeepsDevices course × IsUnused spawning
+
+-- how the words' command ended, and what it left as it stood
 pub record EndsAsked (words : List Word) (course : Course) (spawning : Spawning) (old new : Outbox) (ended : Ended)
     : Type 0 where
   pub asked : Option Command
   pub asked_is : IsAsked words asked
   pub ends : EndsBy (Ends asked course spawning) old new ended
+  pub keeps : Keeps asked course spawning
 
 -- ---- reading
 

@@ -16,9 +16,10 @@ pub enum End {
     Done,
     /// The run came to its end, and a node noted a violation.
     Violations,
-    /// The words are no command; or the rank of `node` is no node of the job.
+    /// The words are those of no command; or, of `node`, the rank is no node of the job; or, of `node` and `launch`,
+    /// not each node has a port.
     Usage,
-    /// The bytes read are no job's text, or too many.
+    /// The bytes read are no job's text, or too many; of `check`, no job's text with an output of each node behind it.
     BadJob {
         /// The first bad line, counted from 1; 0 where there are too many bytes.
         line: u32,
@@ -46,11 +47,12 @@ pub enum End {
         /// That entry, counted from 1.
         entry: u32,
     },
-    /// A node ended with a status other than 0 and 1.
+    /// Of `check`, a node ended with a status other than 0 and 1; of `launch`, the child of a node ended so, or gave
+    /// something else than an output of its node with the status that it ended with.
     Child {
         /// The smallest rank of such a node.
         rank: u16,
-        /// Its status.
+        /// Of `check`, the status in its output; of `launch`, the exit status of its child, which may be 0 or 1 too.
         code: u8,
     },
 }

@@ -27,34 +27,47 @@
 //!     behind it (`InputText`), and of no others, each node ended with 0 or 1, their traces are a run of the world
 //!     (`RunOfTraces`: the headline, the laws of transfers and of the barrier hold of it), the bytes written are its
 //!     text (`run_lines` of `check_run`) and the status line, and the nodes that the call returns stand for its end.
-//!     It is 1 exactly where one of them noted a violation; with 11 they are no run (`AreNoRun`); 12 names the
-//!     smallest rank of a node that ended otherwise; 3 and 4 as above, over the whole input (`TakesNone`).
-//!   - `launch PORT` (`LaunchMeans`): the same of what children gave. Where the spawner tells its calls, one was
-//!     started for each node of the job whose text was read, in order, with the port and the bytes read, unless a
-//!     start failed, and then each that was started was finished, in order (`Spawns` of `launch_run`); with 2, 3 and 4
-//!     the spawner wasn't used. 7 comes only where the spawner's count of faults rose, or stands at its last value; 12
-//!     only where no start and no finish failed, and names the smallest rank of a child that didn't give an output of
-//!     its node and end with the status in it, 0 or 1 (`GivesOutput`). 2 comes also where not each node has a port.
-//!   - Of each: 5 comes only where the sink's count of faults rose, and then a prefix of the text of one of the
-//!     command's ends was written; with 8 whole lines of the run were written, or none (of `upgrade` and `node` none),
-//!     and then `status 8 no-memory`; with 2, 3, 4, 7, 11 and 12 the status line alone.
+//!     It is 1 exactly where one of them noted a violation; with 11 each node ended with 0 or 1, and their traces are
+//!     no run (`AreNoRun`); 12 names the smallest rank of a node that ended otherwise, and the status in its output.
+//!     3 comes only where no job with outputs has the bytes read as its text, and its line and word are the first bad
+//!     line and the first reason that applies to it, in the job's text with what that means, behind it by the reader
+//!     alone (`TakesNone`), or `0 size` for more than 67,108,864 bytes; 4 as above.
+//!   - `launch PORT` (`LaunchMeans`): with 0, 1 and 11 the bytes read are the text of a job, as of `world`, that has a
+//!     port for each node, and of the outputs that children gave all holds that `check` says of those it read. Where
+//!     the spawner tells its calls, and told no finish of these ranks before, it told, behind what it told before, a
+//!     start for each node, in order, with the port and the bytes read, all of them unless a start failed, and then a
+//!     finish for each that was started, in order (`Spawns` of `launch_run`). So it is with 7 and 12, and with 8 but
+//!     where memory ran out before the first start; then, and with 2, 3 and 4, what is seen of the spawner stands as
+//!     it did. 7 comes only where the spawner's count of faults rose, or stands at its last value; 12 only where no
+//!     start and no finish failed, and it names the smallest rank of a child that didn't give an output of its node
+//!     and end with the status in it, 0 or 1 (`GivesOutput`), and the status that the child ended with. 2 comes only
+//!     where not each node has a port; 3 and 4 as of `world`.
+//!   - Of each: 5 comes only where the sink's count of faults rose, or stands at its last value, and then a prefix of
+//!     the text of one of the command's ends was written; with 8 whole lines of the run were written, or none (of
+//!     `upgrade` and `node` none), and then `status 8 no-memory`; with 2, 3, 4, 7, 11 and 12 the status line alone.
 //! - **The laws of the run** (`RunLaws` of `world_run`) of the job or the drill, with status 0 or 1, and with 8 where
 //!   lines of the run were written.
-//! - **Completeness** [`complete`: `IsComplete`]. Where the bytes are a job's text and no count of faults rose,
-//!   `world` has status 0, 1 or 8; the drill has 0 or 8 where none rose; `upgrade` has 0 or 8 where `world` has 0, 1
-//!   or 8; `node` has 0, 1, 8, 9 or 10 where the job has a place for it, and the link's count of faults didn't rise
-//!   either; `check` has 0, 1, 8, 11 or 12 where the bytes are the text of a job with outputs, and so has `launch`
-//!   where the job has ports and the spawner's count of faults didn't rise either.
+//! - **Completeness** [`complete`: `IsComplete`], where neither the source's count of faults nor the sink's rose, or
+//!   stands at its last value. Where the bytes left are a job's text, `world` has status 0, 1 or 8, and `upgrade` 0 or
+//!   8; `node` has 0, 1, 8, 9 or 10 where that job has a place for it, and the link's count didn't rise either;
+//!   `launch` has 0, 1, 8, 11 or 12 where it has a port for each node, and the spawner's count didn't rise either. The
+//!   drill has 0 or 8. Where they are the text of a job with outputs, `check` has 0, 1, 8, 11 or 12; it has 0, 1 or 8
+//!   where moreover each of these nodes ended with 0 or 1, and their traces are a run (`AreARun`), and so has `launch`
+//!   where the spawner tells such outputs of its children, and told no finish of their ranks before (`TellsRun`).
+//! - **What a call leaves alone** [`leaves`: `LeavesAlone`]. What is seen of the spawner stands after the call as it
+//!   stood before, unless the words are those of `launch`; so does what is seen of link and clock, unless they are
+//!   those of `node`; and what is seen of the source, where they are those of `drill`, or of no command.
 //!
-//! `run_streams` says the same of the program as it is shipped, over a reader and a writer of std: `ReaderSource` tells
-//! as left what its reader tells as remaining, `WriterSink` as taken what its writer tells as its contents, and both
-//! count errors. Standard input and output tell neither. `program` makes the words and the two streams of a handle, and
-//! calls it.
+//! `run_streams` says the same of the exit status that the program ends with, over a reader and a writer of std:
+//! `ReaderSource` tells as left what its reader tells as remaining, `WriterSink` as taken what its writer tells as its
+//! contents, and both count errors. Standard input and output tell neither.
 //!
-//! What no clause says: what is done before the call, where the command line can't be read as text or memory for it
-//! runs out (the call has no words then, and ends with status 2); that a write of the system reached anything; that
-//! memory really ran out with status 8. That nothing is written after a fault of the sink is tested, and shown by the
-//! code alone: `flushed` leaves the sink then.
+//! What no clause says: what `program` does besides that call. It makes the words and the two streams of a handle, and
+//! calls `run_streams`, with no words where the command line can't be read as text, so that the status is 2, or 5.
+//! Where memory for the words runs out it makes no call, writes `status 8 no-memory`, and ends with 8, or with 5 where
+//! that write fails. No clause says that a write of the system reached anything, nor that memory really ran out with
+//! status 8. That nothing is written after a fault of the sink is tested, and shown by the code alone: `flushed` leaves
+//! the sink then.
 #![tactic(auto)]
 
 mod check;

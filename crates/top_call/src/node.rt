@@ -157,11 +157,12 @@ pub fn node_command<
     asked: AskedNode,
     outside: Outside<S, BufferedSink<K>, L, P, C, G>,
 ) -> (Ended, Outside<S, BufferedSink<K>, L, P, C, G>)
-    ensures { EndsBy (NodeEnds asked.rank asked.port
+    ensures ends { EndsBy (NodeEnds asked.rank asked.port
         (course_of (input S.left S.faults outside.source) (input S.left S.faults result.1.source)
         (devices_seen L.Link C.Clock outside.link outside.clock)
         (devices_seen L.Link C.Clock result.1.link result.1.clock)))
         (outbox K.taken K.faults outside.sink) (outbox K.taken K.faults result.1.sink) result.0 }
+    ensures spawner { result.1.spawner ≡ outside.spawner }
 {
     let Outside {
         source,

@@ -60,7 +60,7 @@ fn write_not_a_run<K: Sink>(sink: &mut BufferedSink<K>, node: u16, entry: u32) -
     )
 }
 
-/// Writes the status line of a node that ended badly: its rank, and its status.
+/// Writes the status line of a node that failed: its rank, and its status, or that of its child.
 fn write_child<K: Sink>(sink: &mut BufferedSink<K>, rank: u16, code: u8) -> Wrote
     ensures { GathersAll (outbox K.taken K.faults sink.old) (outbox K.taken K.faults sink.new)
         (line_text (codes "status" ∷ codes "12" ∷ codes "child" ∷ decimal rank

@@ -5,7 +5,7 @@ ghost use Rattle.std.specs.Process.{exit_status};
 ghost use Rattle.top_call.specs.declared.ending.Given.{Given};
 ghost use Rattle.top_call.specs.Standard.{streams_seen, uncounted};
 ghost use Rattle.top_call.specs.Outsides.{call_of};
-ghost use Rattle.top_call.specs.TopCall.{IsComplete, StatusMeans};
+ghost use Rattle.top_call.specs.TopCall.{IsComplete, LeavesAlone, StatusMeans};
 
 use crate::ending::{End, Given};
 use crate::outside::Outside;
@@ -50,6 +50,9 @@ pub fn run_streams<
         (streams_seen R.remaining W.contents L.Link P.Spawner C.Clock (uncounted streams))
         (streams_seen R.remaining W.contents L.Link P.Spawner C.Clock result.1) given)
         (exit_status result.0) }
+    ensures leaves { (given : Given) × LeavesAlone (call_of (map string_bytes words.now)
+        (streams_seen R.remaining W.contents L.Link P.Spawner C.Clock (uncounted streams))
+        (streams_seen R.remaining W.contents L.Link P.Spawner C.Clock result.1) given) }
 {
     let Outside {
         source,

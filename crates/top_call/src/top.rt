@@ -3,7 +3,7 @@
 ghost use Rattle.std.specs.Prelude.{map, string_bytes};
 ghost use Rattle.gas_outside.specs.Buffered.{outbox};
 ghost use Rattle.top_call.specs.Outsides.{call_of, given_by, seen};
-ghost use Rattle.top_call.specs.TopCall.{IsComplete, StatusMeans};
+ghost use Rattle.top_call.specs.TopCall.{IsComplete, LeavesAlone, StatusMeans};
 ghost use Rattle.top_call.specs.TopParts.{GivesOn};
 
 use crate::command::command;
@@ -73,8 +73,10 @@ pub(crate) fn flushed<K: Sink>(sink: &mut BufferedSink<K>, ended: Ended) -> Ende
 /// - 10 `journal-full`, of `node`: its journal is full; the trace was written before;
 /// - 11 `not-a-run NODE ENTRY`, of `check` and `launch`: the traces are no run; the smallest node with an entry that
 ///   can't ever go, and that entry;
-/// - 12 `child RANK CODE`, of `check` and `launch`: a node ended with a status other than 0 and 1, or, of `launch`, its
-///   child gave something else than an output of the node with that status; the smallest such rank, and its status.
+/// - 12 `child RANK CODE`, of `check`: a node ended with a status other than 0 and 1; the smallest such rank, and the
+///   status in its output; of `launch`: the child of a node ended so, or gave something else than an output of its node
+///   with the status that it ended with; the smallest such rank, and that exit status, which is 0 or 1 too where what
+///   the child gave is no such output.
 pub fn gasnet<
     R: Threads + Wait + Sync,
     S: Source,
@@ -99,6 +101,11 @@ pub fn gasnet<
         (seen S.Source K.Sink L.Link P.Spawner C.Clock outside)
         (seen S.Source K.Sink L.Link P.Spawner C.Clock result.1)
         (given_by result.0)) result.0.code }
+    // What the words don't ask for stands as it did.
+    ensures leaves { LeavesAlone (call_of (map string_bytes words.now)
+        (seen S.Source K.Sink L.Link P.Spawner C.Clock outside)
+        (seen S.Source K.Sink L.Link P.Spawner C.Clock result.1)
+        (given_by result.0)) }
 {
     let Outside {
         source,

@@ -4,15 +4,15 @@ use Rattle.gas_outside.specs.Buffered.{GathersUpTo, outbox}
 use Rattle.gasnet_trace.specs.declared.trace.Trace.{Trace}
 use Rattle.job_text.specs.declared.job.Job.{Job as JobState}
 use Rattle.node_script.specs.Lines.{spell}
-use Rattle.check_run.specs.Replaying.{AreMost}
+use Rattle.check_run.specs.Merging.{AreReports}
 use Rattle.check_run.specs.StepLines.{ends_from}
 use Rattle.check_run.specs.TracesRun.{AreNodesAfter}
 use Rattle.check_run.proofs.ending.write_ends.Given as goal
 
 abbrev pub invariant-loop-rank : goal.invariant-loop-rank
 invariant-loop-rank g l = record {
-  said : (job : JobState) (traces : List Trace) → AreNodesAfter job traces l.endpoints → AreMost job 0 traces l.most
-      → GathersUpTo (outbox g.K.Sink.taken g.K.Sink.faults l.initial.sink)
+  said : (job : JobState) (traces : List Trace) → AreNodesAfter job traces l.endpoints
+      → AreReports job traces l.reports → GathersUpTo (outbox g.K.Sink.taken g.K.Sink.faults l.initial.sink)
       (outbox g.K.Sink.taken g.K.Sink.faults l.sink) (spell (ends_from job 0 traces))
       (spell (ends_from job l.rank (drop l.rank traces)));
 }

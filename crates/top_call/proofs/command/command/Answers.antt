@@ -1,4 +1,5 @@
-use Rattle.std.proofs.Common.{Some, None, map, refl, string_bytes, subst}
+use Rattle.std.proofs.Common.{Some, None, ap, map, refl, string_bytes, subst}
+use Rattle.launch_run.specs.Children.{spawner_seen}
 use Rattle.top_call.specs.Commands.{Asks}
 use Rattle.top_call.specs.declared.ending.End.TheVariants as ends
 use Rattle.top_call.specs.declared.words.Command.TheVariants as commands
@@ -11,6 +12,7 @@ returns-in-Some-World g c = record {
   asked = Some commands.World;
   asked_is = subst (Asks (map string_bytes c.args.words.now)) c.in-Some-World.field-0-is c.in-Some-World.ensures;
   ends = c.world_command.ensures;
+  keeps = (refl, refl);
 }
 
 pub returns-in-Some-Upgrade : goal.returns-in-Some-Upgrade
@@ -18,6 +20,7 @@ returns-in-Some-Upgrade g c = record {
   asked = Some commands.Upgrade;
   asked_is = subst (Asks (map string_bytes c.args.words.now)) c.in-Some-Upgrade.field-0-is c.in-Some-Upgrade.ensures;
   ends = c.upgrade_command.ensures;
+  keeps = (refl, refl);
 }
 
 pub returns-in-Some-Check : goal.returns-in-Some-Check
@@ -25,6 +28,7 @@ returns-in-Some-Check g c = record {
   asked = Some commands.Check;
   asked_is = subst (Asks (map string_bytes c.args.words.now)) c.in-Some-Check.field-0-is c.in-Some-Check.ensures;
   ends = c.check_command.ensures;
+  keeps = (refl, refl);
 }
 
 pub returns-in-Some-Launch : goal.returns-in-Some-Launch
@@ -32,6 +36,7 @@ returns-in-Some-Launch g c = record {
   asked = Some (commands.Launch c.in-Some-Launch.port);
   asked_is = subst (Asks (map string_bytes c.args.words.now)) c.in-Some-Launch.field-0-is c.in-Some-Launch.ensures;
   ends = c.launch_command.ensures;
+  keeps = refl;
 }
 
 pub returns-in-Some-Drill : goal.returns-in-Some-Drill
@@ -39,13 +44,15 @@ returns-in-Some-Drill g c = record {
   asked = Some (commands.Drill c.in-Some-Drill.seed);
   asked_is = subst (Asks (map string_bytes c.args.words.now)) c.in-Some-Drill.field-0-is c.in-Some-Drill.ensures;
   ends = c.drill_command.ensures;
+  keeps = (refl, refl, refl);
 }
 
 pub returns-in-Some-Node : goal.returns-in-Some-Node
 returns-in-Some-Node g c = record {
   asked = Some (commands.Node c.in-Some-Node.rank c.in-Some-Node.port);
   asked_is = subst (Asks (map string_bytes c.args.words.now)) c.in-Some-Node.field-0-is c.in-Some-Node.ensures;
-  ends = c.node_command.ensures;
+  ends = c.node_command.ensures.ends;
+  keeps = ap (spawner_seen g.P.Spawner) c.node_command.ensures.spawner;
 }
 
 pub returns-in-None : goal.returns-in-None
@@ -55,4 +62,5 @@ returns-in-None g c = record {
   ends =
       let says = rw c.nothing.ensures at c.say.ensures in
       says_alone _ _ _ ends.Usage c.say.result weak_usage tt (refl, alone ends.Usage) says;
+  keeps = (refl, refl, refl);
 }

@@ -4,7 +4,7 @@ use Rattle.top_call.specs.Outsides.{call_of, course_in, seen, spawning_in, took_
 use Rattle.top_call.specs.HowEnds.{Means}
 use Rattle.top_call.specs.TopParts.{Ends}
 use Rattle.top_call.proofs.LastLine.{means}
-use Rattle.top_call.proofs.CallStatus.{completes, status_means, weak_ends}
+use Rattle.top_call.proofs.CallStatus.{completes, leaves_alone, status_means, weak_ends}
 use Rattle.top_call.proofs.top.gasnet.Goals as goal
 
 pub returns : goal.returns
@@ -33,4 +33,5 @@ returns g c =
     record {
       means = rw c.code.ensures (status_means call asked ended.end c.command-ended.ensures.asked_is m);
       complete = rw c.code.ensures (completes call asked ended.end c.command-ended.ensures.asked_is m);
+      leaves = leaves_alone call asked c.command-ended.ensures.asked_is c.command-ended.ensures.keeps;
     }

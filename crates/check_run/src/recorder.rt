@@ -1,0 +1,158 @@
+//! The machine of a node that records what is written of it: the lines of its steps, and the most that it held.
+
+ghost use Rattle.std.specs.Prelude.{◌≡◌, ◌<◌, IfOk};
+ghost use Rattle.job_text.specs.JobText.{IsJob};
+ghost use Rattle.check_run.specs.Merging.{ClosesRecorder};
+ghost use Rattle.check_run.specs.Recording.{RecorderStands, opening_record};
+
+use crate::steps::{StepAt, tell_step};
+use gas_endpoint::Endpoint;
+use gas_outside::{BufferedSink, MemorySink, Wrote};
+use machine::{Machine, Turned};
+use node_machine::NodeMachine;
+use node_script::Script;
+use std::alloc::{AllocError, Global};
+use std::marker::Model;
+
+/// What was recorded of a node.
+#[derive(Drop)]
+pub struct NodeReport {
+    /// The text of the lines of its steps.
+    pub text: MemorySink,
+    /// The most message buffers that it held.
+    pub most: usize,
+}
+
+/// The machine of a node, with the lines of the steps that ended in its turns, and the most message buffers that it
+/// held.
+#[derive(Drop)]
+pub struct Recorder<'a> {
+    node: NodeMachine<'a>,
+    rank: u16,
+    text: BufferedSink<MemorySink>,
+    /// Whether the text has all of the lines: memory didn't run out.
+    whole: bool,
+    most: usize,
+}
+
+impl<'a> Model for Recorder<'a> {
+    ghost use Rattle.check_run.specs.Recording.{HasState, RecorderKept, text_of};
+
+    ghost Value = { RecorderKept };
+
+    ghost view = { λ r. record {
+      node = r.node;
+      rank = r.rank;
+      text = text_of r.text;
+      whole = r.whole;
+      most = r.most;
+    } };
+
+    ghost invariant = { λ r. HasState (record {
+      node = r.node;
+      rank = r.rank;
+      text = text_of r.text;
+      whole = r.whole;
+      most = r.most;
+    }) };
+}
+
+impl<'a> Recorder<'a> {
+    /// That of node `rank` of the job before all turns.
+    ///
+    /// It is refused for want of memory alone.
+    pub fn new(alloc: Global, job: &'a Script, rank: u16) -> Result<Recorder<'a>, AllocError>
+        requires job { IsJob job.now }
+        requires rank { rank < job.now.settings.nodes }
+        ensures { IfOk result (λ recorder. RecorderStands recorder (opening_record job.now rank)) }
+    {
+        let node = NodeMachine::new(alloc, job, rank)?;
+        let sink = MemorySink::new(alloc, Vec::new(alloc))?;
+        Ok(Recorder {
+            node,
+            rank,
+            text: BufferedSink::new(sink),
+            whole: true,
+            most: 0,
+        })
+    }
+
+    /// The endpoint of the node, and what was recorded of it.
+    ///
+    /// It is refused where memory ran out, now or in an earlier turn.
+    pub fn close(self) -> Result<(Endpoint, NodeReport), AllocError>
+        ensures { IfOk result (λ closed. ClosesRecorder self.entry closed.0 closed.1) }
+    {
+        let Recorder {
+            node,
+            mut text,
+            whole,
+            most,
+            ..
+        } = self;
+        if !whole {
+            return Err(AllocError);
+        }
+        match text.flush() {
+            Wrote::Done => {
+                let text = text.into_inner();
+                Ok((node.into_endpoint(), NodeReport { text, most }))
+            }
+            Wrote::Fault => Err(AllocError),
+        }
+    }
+}
+
+impl<'a> Machine for Recorder<'a> {
+    ghost use Rattle.node_machine.specs.Kept.{are_done, polls_at};
+    ghost use Rattle.node_machine.specs.NodeState.{polls_in, sent, turned};
+    ghost use Rattle.check_run.specs.Recording.{RecordedState, RecorderStands, record_after};
+
+    ghost State = { RecordedState };
+
+    ghost stands = { RecorderStands };
+
+    ghost thread_count = { λ recorder. recorder.node.job.settings.threads };
+
+    ghost polls_at = { λ recorder. polls_at recorder.node };
+
+    ghost is_over = { λ recorder. are_done recorder.node.scripts };
+
+    ghost polls_in = { λ state. polls_in state.node };
+
+    ghost after = { record_after };
+
+    ghost turned = { λ state. turned state.node };
+
+    ghost sent = { λ state. sent state.node };
+
+    fn threads(&self) -> u16 {
+        self.node.threads()
+    }
+
+    fn polls(&self, thread: u16) -> bool {
+        self.node.polls(thread)
+    }
+
+    fn over(&self) -> bool {
+        self.node.over()
+    }
+
+    fn turn(&mut self, thread: u16, now: u64, got: Option<&[u8]>) -> Turned {
+        let turned = self.node.turn(thread, now, got);
+        self.most = self.most.max(self.node.endpoint().held());
+        let rank = self.rank;
+        let told = tell_step(
+            StepAt { rank, thread },
+            turned.stepped,
+            &self.node,
+            &mut self.text,
+        );
+        self.whole = self.whole && told;
+        turned
+    }
+
+    fn outgoing(&self, i: u8) -> Option<(u16, &[u8])> {
+        self.node.outgoing(i)
+    }
+}
