@@ -1,13 +1,14 @@
 use gas_outside::{
     FixedClock, Gate, MemoryLink, MemorySink, MemorySource, MemorySpawner, OpenGate,
 };
+use plain_call::gasnet;
 use station_tests::InStep;
 use std::alloc::Global;
 use std::process::Abort;
 use std::sync::Wait;
 use std::test::Fail;
 use std::thread::Threads;
-use top_call::{Outside, gasnet};
+use top_call::Outside;
 
 /// What a call of `gasnet` gave: the exit status, whether there is a node, what the sink took, and what the link was
 /// sent.

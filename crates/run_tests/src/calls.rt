@@ -1,11 +1,12 @@
 //! Calls of the program, with words and what it reads as they are given.
 
 use gas_outside::{FixedClock, MemoryLink, MemorySink, MemorySource, MemorySpawner, OpenGate};
+use plain_call::gasnet;
 use std::alloc::Global;
 use std::sync::Wait;
 use std::test::Fail;
 use std::thread::Threads;
-use top_call::{Outside, gasnet};
+use top_call::Outside;
 
 /// What the program says, and its code.
 #[derive(Drop)]

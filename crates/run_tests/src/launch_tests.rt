@@ -5,12 +5,13 @@ use crate::check_tests::{TWO_NODES, UNLOCKS};
 use gas_outside::{
     FixedClock, MemoryLink, MemorySink, MemorySource, MemorySpawner, OpenGate, SpawnCall,
 };
+use plain_call::gasnet;
 use std::alloc::Global;
 use std::process::Abort;
 use std::sync::Wait;
 use std::test::Fail;
 use std::thread::Threads;
-use top_call::{Outside, gasnet};
+use top_call::Outside;
 
 /// A job of two nodes without scripts.
 const NO_SCRIPTS: &str = "\

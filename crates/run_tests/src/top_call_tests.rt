@@ -1,13 +1,13 @@
 //! Tests of what no clause says: texts written out, and each public call once with ample memory.
 
 use crate::calls::{call, call_with_faults, outside_of};
+use plain_call::run_streams;
 use std::alloc::Global;
 use std::io::{self, Read};
 use std::process::{Abort, ExitCode};
 use std::sync::Wait;
 use std::test::Fail;
 use std::thread::Threads;
-use top_call::run_streams;
 
 /// The first ten lines of a job with this many nodes, credits and numbers.
 fn head(text: &mut String, nodes: u16, credits: u16, last: u64) -> Result<(), Fail> {
