@@ -67,6 +67,12 @@ name_longer bytes name count alike long some runs = unequal (front bytes) name (
     let equal : length (front bytes) ≡ length name = ap length same in
     absurd (omega (arith, more, equal, long)))
 
+-- a name that is longer than all the bytes
+pub name_short : (bytes name : List ℕ) → length bytes < length name → bytes_eq (front bytes) name ≡ false
+name_short bytes name short = unequal (front bytes) name (λ same.
+    let equal : length (front bytes) ≡ length name = ap length same in
+    let place = front_place bytes (length bytes) (omega (arith, short, equal)) in absurd (omega (arith, place.0)))
+
 -- part of the name, and then another byte, or the end of the word
 pub name_other : (bytes name : List ℕ) (count : ℕ) → count < length name → (GoesWith bytes name count → ⊥)
     → bytes_eq (front bytes) name ≡ false

@@ -14,6 +14,7 @@ use crate::words::{behind_name, is_name, name_of, spaced};
 use std::alloc::Global;
 
 /// A number below a count behind a space; 0 alone where there is none below it.
+#[inline(always)]
 fn index_at(bytes: &[u8], count: u16) -> Result<(u16, &[u8]), Other>
     ensures { Finds (λ x. (x.0, x.1.now)) result (part_at (Number 0 (count - 1)) bytes.now) }
 {

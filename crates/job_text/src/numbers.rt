@@ -1,4 +1,7 @@
 //! Numbers of a line, read digit by digit.
+//!
+//! What reads a number is inlined by a hint wherever one is read: then it isn't written to memory and read again, and
+//! the processor learns the digits of each number of a line apart from the others.
 
 ghost use Rattle.std.specs.Prelude.{◌≡◌, ◌≤◌, ◌<◌, ◌+◌, ◌-◌, ◌*◌, IfOk, IsTrue, ◌↔◌, length};
 ghost use Rattle.std.specs.Int.{IsInRange};
@@ -96,7 +99,7 @@ fn has_one_digit(bytes: &[u8]) -> bool
 }
 
 /// The number that the first word is, and the bytes after it.
-#[inline(never)]
+#[inline(always)]
 pub fn number_from(bytes: &[u8]) -> Result<(u64, &[u8]), Other>
     ensures { Finds (λ x. (x.0, x.1.now)) result (number_read bytes.now) }
 {
@@ -112,6 +115,7 @@ pub fn number_from(bytes: &[u8]) -> Result<(u64, &[u8]), Other>
 
 /// The number of the range that the first word is, and the bytes after it.
 #[tactic(auto, unfolding(crate::specs::Forms::word_at, crate::specs::Words::number_read, crate::specs::Words::number_in))]
+#[inline(always)]
 pub fn number_here(bytes: &[u8], low: u64, high: u64) -> Result<(u64, &[u8]), Other>
     ensures value { Finds (λ x. (x.0, x.1.now)) result (word_at (Number low high) bytes.now) }
     ensures range { IfOk result (λ x. (low ≤ x.0) × (x.0 ≤ high)) }
@@ -125,6 +129,7 @@ pub fn number_here(bytes: &[u8], low: u64, high: u64) -> Result<(u64, &[u8]), Ot
 
 /// The same behind a space.
 #[tactic(auto, unfolding(crate::specs::Forms::part_at))]
+#[inline(always)]
 pub fn number_at(bytes: &[u8], low: u64, high: u64) -> Result<(u64, &[u8]), Other>
     ensures value { Finds (λ x. (x.0, x.1.now)) result (part_at (Number low high) bytes.now) }
     ensures range { IfOk result (λ x. (low ≤ x.0) × (x.0 ≤ high)) }
@@ -134,6 +139,7 @@ pub fn number_at(bytes: &[u8], low: u64, high: u64) -> Result<(u64, &[u8]), Othe
 }
 
 /// A number of at most 8 bits behind a space.
+#[inline(always)]
 pub fn byte_at(bytes: &[u8], high: u8) -> Result<(u8, &[u8]), Other>
     ensures { Finds (λ x. (x.0, x.1.now)) result (part_at (Number 0 high) bytes.now) }
 {
@@ -142,6 +148,7 @@ pub fn byte_at(bytes: &[u8], high: u8) -> Result<(u8, &[u8]), Other>
 }
 
 /// A number of at most 16 bits behind a space.
+#[inline(always)]
 pub fn short_at(bytes: &[u8], high: u16) -> Result<(u16, &[u8]), Other>
     ensures { Finds (λ x. (x.0, x.1.now)) result (part_at (Number 0 high) bytes.now) }
 {

@@ -56,6 +56,9 @@ fn goes_with(bytes: &[u8], name: &[u8], i: usize) -> bool
 pub fn begins(name: &[u8], bytes: &[u8]) -> bool
     ensures { result ≡ bytes_eq (front bytes.now) name.now }
 {
+    if bytes.len() < name.len() {
+        return false;
+    }
     let mut end = 0;
     while goes_with(bytes, name, end) {
         end += 1;

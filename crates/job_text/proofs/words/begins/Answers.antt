@@ -1,7 +1,11 @@
 use Rattle.std.proofs.Common.{sym, arith}
 use Rattle.job_text.proofs.Fronts.{stops_from}
-use Rattle.job_text.proofs.Names.{name_found, name_longer, name_other, ends_by}
+use Rattle.job_text.proofs.Names.{name_found, name_longer, name_other, name_short, ends_by}
 use Rattle.job_text.proofs.words.begins.Goals as goal
+
+pub returns-then-bytes-name : goal.returns-then-bytes-name
+returns-then-bytes-name c =
+    sym (name_short c.args.bytes.now c.args.name.now (omega (arith, c.if-bytes-name.true)))
 
 pub returns-then-end-name : goal.returns-then-end-name
 returns-then-end-name c =
