@@ -51,10 +51,10 @@ fn call<R: Threads + Wait + Sync + AllocGlobal, G: Gate + Sync + Drop>(
         clock: FixedClock::new(0),
         gate,
     };
-    let (status, after) = gasnet(rt, alloc, &words, outside);
+    let (told, after) = gasnet(rt, alloc, &words, outside);
     let said = Said {
-        code: status.code,
-        has_node: status.node.is_some(),
+        code: told.code,
+        has_node: told.has_node,
         written: Vec::from_slice(alloc, after.sink.taken())?,
         sent: sent_by(alloc, &after.link)?,
     };

@@ -1,7 +1,8 @@
 //! The calls of `top_call` that tests make, without their clauses.
 //!
-//! Who calls a function gets all that it promises into each proof behind the call. A test asks for nothing but what it
-//! looks at itself, so it makes the same calls here, where nothing is promised.
+//! Who calls a function gets all that it promises into each proof behind the call, and who drops a world or an endpoint
+//! proves that it may be dropped. A test asks for nothing but what it looks at itself, so it makes the same calls here,
+//! where nothing is promised, and no endpoint is given.
 #![tactic(auto)]
 
 use gas_outside::{Clock, Gate, Link, Sink, Source, Spawner};
@@ -10,7 +11,16 @@ use std::io::{Read, Write};
 use std::process::ExitCode;
 use std::sync::Wait;
 use std::thread::Threads;
-use top_call::{Outside, ReaderSource, Status, WriterSink};
+use top_call::{Outside, ReaderSource, WriterSink};
+
+/// What a call said of its end, without the world and the nodes.
+#[derive(Debug, Drop)]
+pub struct Told {
+    /// The exit status.
+    pub code: u8,
+    /// Whether there is a node.
+    pub has_node: bool,
+}
 
 /// Calls `gasnet` of `top_call`.
 pub fn gasnet<
@@ -26,8 +36,14 @@ pub fn gasnet<
     alloc: Global,
     words: &[String],
     outside: Outside<S, K, L, P, C, G>,
-) -> (Status, Outside<S, K, L, P, C, G>) {
-    top_call::gasnet(rt, alloc, words, outside)
+) -> (Told, Outside<S, K, L, P, C, G>) {
+    let (status, after) = top_call::gasnet(rt, alloc, words, outside);
+    let has_node = status.node.is_some();
+    let told = Told {
+        code: status.into_code(),
+        has_node,
+    };
+    (told, after)
 }
 
 /// Calls `run_streams` of `top_call`.

@@ -46,9 +46,9 @@ pub fn call_with_faults<R: Threads + Wait + Sync + AllocGlobal>(
     }
     let source = MemorySource::new(input, Vec::from_slice(alloc, &[faults.0])?)?;
     let sink = MemorySink::new(alloc, Vec::from_slice(alloc, &[faults.1])?)?;
-    let (status, after) = gasnet(rt, alloc, &all, outside_of(alloc, source, sink)?);
+    let (told, after) = gasnet(rt, alloc, &all, outside_of(alloc, source, sink)?);
     Ok(Said {
-        code: status.code,
+        code: told.code,
         bytes: Vec::from_slice(alloc, after.sink.taken())?,
     })
 }

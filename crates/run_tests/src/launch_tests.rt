@@ -518,10 +518,10 @@ fn launch<R: Threads + Wait + Sync + AllocGlobal>(
         clock: FixedClock::new(0),
         gate: OpenGate,
     };
-    let (status, after) = gasnet(rt, alloc, &words, outside);
+    let (told, after) = gasnet(rt, alloc, &words, outside);
     Ok(Launched {
         said: Said {
-            code: status.code,
+            code: told.code,
             bytes: Vec::from_slice(alloc, after.sink.taken())?,
         },
         calls: calls_of(alloc, &after.spawner, row.job)?,

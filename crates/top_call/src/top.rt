@@ -30,6 +30,15 @@ pub struct Status {
     pub nodes: Option<Vec<Endpoint>>,
 }
 
+impl Status {
+    /// The exit status alone; the world and the nodes are dropped.
+    pub fn into_code(self) -> u8
+        ensures { result ≡ self.code }
+    {
+        self.code
+    }
+}
+
 /// Gives on what the sink still holds back; a fault of that is how the call ends. After a fault of the sink it is left.
 pub(crate) fn flushed<K: Sink>(sink: &mut BufferedSink<K>, ended: Ended) -> Ended
     ensures { GivesOn (outbox K.taken K.faults sink.old) (outbox K.taken K.faults sink.new)
