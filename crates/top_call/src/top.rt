@@ -1,6 +1,6 @@
 //! The top call.
 
-ghost use Rattle.std.specs.Prelude.{map, string_bytes};
+ghost use Rattle.std.specs.Prelude.{◌≡◌, map, string_bytes};
 ghost use Rattle.gas_outside.specs.Buffered.{outbox};
 ghost use Rattle.top_call.specs.Outsides.{call_of, given_by, seen};
 ghost use Rattle.top_call.specs.TopCall.{IsComplete, LeavesAlone, StatusMeans};
