@@ -1,9 +1,7 @@
 //! `gas_world`: schedules of one node, of two and of three, step by step, and phases of the barrier among many.
 
-ghost use Rattle.std.specs.Prelude.{◌≡◌, IfOk};
-
 use crate::handlers::{Adds, AddsAndReplies, Forbids, Looks, Notes};
-use crate::worlds::TestWorld;
+use crate::worlds::{Sight, TestWorld};
 use am_core::{Asked, Delivered, Payload, Side, SlotRef};
 use datagram_grammar::Settings;
 use endpoint_rules::{Answer, Call, Local, Ticked};
@@ -155,8 +153,8 @@ const ONE_NODE: [(WorldEvent<'static>, WorldAnswer); 2] = [
 fn one_node(rt: HostRuntime) -> Result<(), Fail> {
     let mut it = TestWorld::new(rt.alloc(), 1, 1, 1)?;
     it.check(&rt, &Adds, 0, &ONE_NODE);
-    assert_eq!(rt; (it.cell(0), it.most_held(0)), (Some(9), Some(0)));
-    assert_eq!(rt; it.pair(0, 0, 1), Some((0, false, 1)));
+    assert!(rt; it.has(Sight::Cell(0, 9)) && it.has(Sight::MostHeld(0, 0)));
+    assert!(rt; it.has(Sight::Pair(0, 0, 1, (0, false, 1))));
     Ok(())
 }
 
@@ -181,12 +179,12 @@ const AFTER_IT_IS_BACK: [(WorldEvent<'static>, WorldAnswer); 5] = [
 fn stale(rt: HostRuntime) -> Result<(), Fail> {
     let mut it = TestWorld::new(rt.alloc(), 1, 2, 1)?;
     it.check(&rt, &Adds, 0, &BEFORE_IT_IS_BACK);
-    assert_eq!(rt; it.pair(0, 1, 1), Some((1, false, 1)));
+    assert!(rt; it.has(Sight::Pair(0, 1, 1, (1, false, 1))));
     it.check(&rt, &Adds, 0, &AFTER_IT_IS_BACK);
-    assert_eq!(rt; it.pair(0, 1, 1), Some((2, true, 2)));
-    assert_eq!(rt; it.pair(0, 1, 2), Some((2, false, 2)));
-    assert_eq!(rt; (it.most_held(0), it.most_held(1)), (Some(1), Some(1)));
-    assert_eq!(rt; it.cell(1), Some(10));
+    assert!(rt; it.has(Sight::Pair(0, 1, 1, (2, true, 2))));
+    assert!(rt; it.has(Sight::Pair(0, 1, 2, (2, false, 2))));
+    assert!(rt; it.has(Sight::MostHeld(0, 1)) && it.has(Sight::MostHeld(1, 1)));
+    assert!(rt; it.has(Sight::Cell(1, 10)));
     Ok(())
 }
 
@@ -228,32 +226,28 @@ const SECOND_IS_BACK: [(WorldEvent<'static>, WorldAnswer); 2] = [
 #[test]
 fn the_first_that_is_out(rt: HostRuntime) -> Result<(), Fail> {
     let mut it = TestWorld::new(rt.alloc(), 1, 2, 2)?;
-    assert_eq!(rt; it.pair(0, 1, 1), Some((0, false, 1)));
+    assert!(rt; it.has(Sight::Pair(0, 1, 1, (0, false, 1))));
     it.check(&rt, &Adds, 0, &IS_ACCEPTED);
-    assert_eq!(rt; it.pair(0, 1, 1), Some((1, false, 1)));
-    assert_eq!(rt; it.pair(1, 0, 1), Some((0, false, 1)));
+    assert!(rt; it.has(Sight::Pair(0, 1, 1, (1, false, 1))));
+    assert!(rt; it.has(Sight::Pair(1, 0, 1, (0, false, 1))));
     it.check(&rt, &Adds, 0, &FIRST_IS_BACK);
-    assert_eq!(rt; it.pair(0, 1, 1), Some((1, true, 2)));
+    assert!(rt; it.has(Sight::Pair(0, 1, 1, (1, true, 2))));
     it.check(&rt, &Adds, 0, &LATER_ONES);
-    assert_eq!(rt; it.pair(0, 1, 3), Some((3, true, 2)));
+    assert!(rt; it.has(Sight::Pair(0, 1, 3, (3, true, 2))));
     it.check(&rt, &Adds, 0, &SECOND_IS_BACK);
-    assert_eq!(rt; it.pair(0, 1, 2), Some((3, true, 4)));
+    assert!(rt; it.has(Sight::Pair(0, 1, 2, (3, true, 4))));
     Ok(())
 }
 
 /// Three nodes with two credits for each pair, but one of node 0 towards node 1.
-fn with_a_narrow_pair(alloc: Global) -> Result<TestWorld, Fail>
-    ensures { IfOk result (λ it. it.settings.nodes ≡ 3) }
-{
+fn with_a_narrow_pair(alloc: Global) -> Result<TestWorld, Fail> {
     let wide = Settings::new(1, 7, 3, 2, 1, 4096, 100, 10).ok_or("the settings")?;
     let settings = wide.with_pair(0, 1, 1).ok_or("the pair")?;
     TestWorld::of_settings(alloc, &settings)
 }
 
 /// A node asks another one, and the request of that number comes there, if it was sent.
-fn ask_and_run(it: &mut TestWorld, from: u16, to: u16, number: u64)
-    ensures { it.new.settings ≡ it.old.settings }
-{
+fn ask_and_run(it: &mut TestWorld, from: u16, to: u16, number: u64) {
     let call = Call::Short {
         to,
         handler: 128,
@@ -280,10 +274,10 @@ fn most_buffers(rt: HostRuntime) -> Result<(), Fail> {
         ask_and_run(&mut it, from, to, 1);
         ask_and_run(&mut it, from, to, 2);
     }
-    assert_eq!(rt; it.pair(0, 1, 1), Some((1, false, 1)));
-    assert_eq!(rt; it.pair(1, 0, 1), Some((2, false, 1)));
+    assert!(rt; it.has(Sight::Pair(0, 1, 1, (1, false, 1))));
+    assert!(rt; it.has(Sight::Pair(1, 0, 1, (2, false, 1))));
     for (node, most) in [(0, 7), (1, 7), (2, 8)] {
-        assert_eq!(rt; it.most_held(node), Some(most));
+        assert!(rt; it.has(Sight::MostHeld(node, most)), "node {node}");
     }
     Ok(())
 }
@@ -334,8 +328,8 @@ fn settling(rt: HostRuntime) -> Result<(), Fail> {
     let _ = it.step(&Adds, 0, &ASKS);
     let _ = it.step(&Adds, 0, &ASKS);
     it.settle(1)?;
-    assert_eq!(rt; it.pair(0, 1, 1), Some((2, true, 3)));
-    assert_eq!(rt; it.cell(1), Some(10));
+    assert!(rt; it.has(Sight::Pair(0, 1, 1, (2, true, 3))));
+    assert!(rt; it.has(Sight::Cell(1, 10)));
     Ok(())
 }
 
@@ -352,7 +346,7 @@ const REPEATS: [(WorldEvent<'static>, WorldAnswer); 6] = [
 fn repeats(rt: HostRuntime) -> Result<(), Fail> {
     let mut it = TestWorld::new(rt.alloc(), 1, 2, 1)?;
     it.check(&rt, &AddsAndReplies, 0, &REPEATS);
-    assert_eq!(rt; (it.cell(0), it.cell(1)), (Some(5), Some(5)));
+    assert!(rt; it.has(Sight::Cell(0, 5)) && it.has(Sight::Cell(1, 5)));
     Ok(())
 }
 
@@ -416,7 +410,7 @@ fn forbidden_calls(rt: HostRuntime) -> Result<(), Fail> {
         context: Context::RequestHandler,
         fault: Fault::Rule(Forbidden::SecondReply),
     };
-    assert_eq!(rt; it.noted(1), Some((3, Some(first))));
+    assert!(rt; it.has(Sight::Noted(1, 3, first)));
     Ok(())
 }
 
@@ -457,7 +451,7 @@ const MEDIUM: [(WorldEvent<'static>, WorldAnswer); 3] = [
 fn a_medium_request(rt: HostRuntime) -> Result<(), Fail> {
     let mut it = TestWorld::new(rt.alloc(), 1, 2, 1)?;
     it.check(&rt, &Notes, 0, &MEDIUM);
-    assert_eq!(rt; it.cell(1), Some(10));
+    assert!(rt; it.has(Sight::Cell(1, 10)));
     Ok(())
 }
 
@@ -529,7 +523,7 @@ const LONG_FROM: [(WorldEvent<'static>, WorldAnswer); 5] = [
 fn a_long_request_out_of_the_own_segment(rt: HostRuntime) -> Result<(), Fail> {
     let mut it = TestWorld::new(rt.alloc(), 1, 2, 1)?;
     it.check(&rt, &Adds, 0, &LONG_FROM);
-    assert!(rt; it.shows(1, 7, &[0, 1, 2, 0]));
+    assert!(rt; it.has(Sight::Shows(1, 7, &[0, 1, 2, 0])));
     Ok(())
 }
 
@@ -557,8 +551,8 @@ const LONG_REQUEST: [(WorldEvent<'static>, WorldAnswer); 3] = [
 fn a_long_request(rt: HostRuntime) -> Result<(), Fail> {
     let mut it = TestWorld::new(rt.alloc(), 1, 2, 1)?;
     it.check(&rt, &Looks, 0, &LONG_REQUEST);
-    assert!(rt; it.shows(1, 7, &[0, 3, 4, 0]));
-    assert_eq!(rt; it.cell(1), Some(3));
+    assert!(rt; it.has(Sight::Shows(1, 7, &[0, 3, 4, 0])));
+    assert!(rt; it.has(Sight::Cell(1, 3)));
     Ok(())
 }
 
@@ -598,7 +592,7 @@ const DEFERRED: [(WorldEvent<'static>, WorldAnswer); 5] = [
 fn a_lock_defers(rt: HostRuntime) -> Result<(), Fail> {
     let mut it = TestWorld::new(rt.alloc(), 1, 2, 1)?;
     it.check(&rt, &Adds, 0, &LOCKED);
-    assert!(rt; !it.polls(1));
+    assert!(rt; it.has(Sight::Polls(1, false)));
     it.check(&rt, &Adds, 0, &DEFERRED);
     Ok(())
 }
