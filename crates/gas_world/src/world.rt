@@ -238,8 +238,15 @@ struct Aim {
 fn target_of(settings: &Settings, node: u16, call: &Call<'_>) -> u16
     ensures { IsTargetOf settings.now node call.now result }
 {
-    match call.asking(0) {
-        Some(asking) if asking.to < settings.nodes() => asking.to,
+    match *call {
+        Call::Short { to, .. }
+        | Call::Medium { to, .. }
+        | Call::Long { to, .. }
+        | Call::LongAsync { to, .. }
+            if to < settings.nodes() =>
+        {
+            to
+        }
         _ => node,
     }
 }
