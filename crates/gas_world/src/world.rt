@@ -243,10 +243,7 @@ fn target_of(settings: &Settings, node: u16, call: &Call<'_>) -> u16
         | Call::Medium { to, .. }
         | Call::Long { to, .. }
         | Call::LongAsync { to, .. }
-            if to < settings.nodes() =>
-        {
-            to
-        }
+            if to < settings.nodes() => { to }
         _ => node,
     }
 }
