@@ -162,6 +162,7 @@ fn later_call_at<'a>(
 
 /// The call that a line says, and the bytes after it.
 #[tactic(auto, unfolding(crate::specs::Calls::call_at, crate::specs::Calls::calls))]
+#[inline(always)]
 pub fn call_at(alloc: Global, bytes: &[u8]) -> Result<(ScheduledCall, &[u8]), Miss>
     ensures { Reads (λ x. (x.0, x.1.now)) result (call_at bytes.now) }
 {
