@@ -243,12 +243,16 @@ impl<'a> Call<'a> {
     }
 
     /// Whether it is a request of this node to another one.
+    #[inline(always)]
     pub fn is_to_other(&self, node: u16) -> bool
         ensures { result ≡ is_to_other node self.now }
     {
-        match self.asking(0) {
-            Some(asking) => asking.to != node,
-            None => false,
+        match *self {
+            Call::Short { to, .. }
+            | Call::Medium { to, .. }
+            | Call::Long { to, .. }
+            | Call::LongAsync { to, .. } => to != node,
+            _ => false,
         }
     }
 }
