@@ -1,9 +1,7 @@
 //! `gas_world`: schedules of one node, of two and of three, step by step, and phases of the barrier among many.
 
-ghost use Rattle.std.specs.Prelude.{◌≡◌, IfOk};
-
 use crate::handlers::{Adds, AddsAndReplies, Forbids, Looks, Notes};
-use crate::worlds::TestWorld;
+use crate::worlds::{Deed, Sight, TestWorld, check};
 use am_core::{Asked, Delivered, Payload, Side, SlotRef};
 use datagram_grammar::Settings;
 use endpoint_rules::{Answer, Call, Local, Ticked};
@@ -128,8 +126,8 @@ const RETURNED_2: WorldAnswer = WorldAnswer::Node(Answer::Delivered(Delivered::R
     number: 2,
 }));
 
-const ONE_NODE: [(WorldEvent<'static>, WorldAnswer); 2] = [
-    (
+const ONE_NODE: [Deed<'static>; 5] = [
+    Deed::Falls(
         WorldEvent::Call {
             node: 0,
             thread: 0,
@@ -141,7 +139,7 @@ const ONE_NODE: [(WorldEvent<'static>, WorldAnswer); 2] = [
         },
         WorldAnswer::Node(Answer::Asked(Asked::Ran)),
     ),
-    (
+    Deed::Falls(
         WorldEvent::Call {
             node: 0,
             thread: 0,
@@ -149,51 +147,50 @@ const ONE_NODE: [(WorldEvent<'static>, WorldAnswer); 2] = [
         },
         WorldAnswer::Node(Answer::Local(Local::Cell(9))),
     ),
+    Deed::Has(Sight::Cell(0, 9)),
+    Deed::Has(Sight::MostHeld(0, 0)),
+    Deed::Has(Sight::Pair(0, 0, 1, (0, false, 1))),
 ];
 
 #[test]
 fn one_node(rt: HostRuntime) -> Result<(), Fail> {
-    let mut it = TestWorld::new(rt.alloc(), 1, 1, 1)?;
-    it.check(&rt, &Adds, 0, &ONE_NODE);
-    assert_eq!(rt; (it.cell(0), it.most_held(0)), (Some(9), Some(0)));
-    assert_eq!(rt; it.pair(0, 0, 1), Some((0, false, 1)));
-    Ok(())
+    check(&rt, &Adds, 1, 1, &ONE_NODE)
 }
 
-const IS_ACCEPTED: [(WorldEvent<'static>, WorldAnswer); 1] = [(ASKS, ACCEPTED_1)];
-
-const BEFORE_IT_IS_BACK: [(WorldEvent<'static>, WorldAnswer); 4] = [
-    (BACK_1, WorldAnswer::Unsent),
-    (ASKS, ACCEPTED_1),
-    (ASKS, NOT_YET),
-    (COMES_1, RAN),
-];
-
-const AFTER_IT_IS_BACK: [(WorldEvent<'static>, WorldAnswer); 5] = [
-    (BACK_1, RETURNED_1),
-    (ASKS, ACCEPTED_2),
-    (COMES_2, RAN),
-    (COMES_1, STALE),
-    (COMES_3, WorldAnswer::Unsent),
+const ONE_IS_STALE: [Deed<'static>; 15] = [
+    Deed::Falls(BACK_1, WorldAnswer::Unsent),
+    Deed::Falls(ASKS, ACCEPTED_1),
+    Deed::Falls(ASKS, NOT_YET),
+    Deed::Falls(COMES_1, RAN),
+    Deed::Has(Sight::Pair(0, 1, 1, (1, false, 1))),
+    Deed::Falls(BACK_1, RETURNED_1),
+    Deed::Falls(ASKS, ACCEPTED_2),
+    Deed::Falls(COMES_2, RAN),
+    Deed::Falls(COMES_1, STALE),
+    Deed::Falls(COMES_3, WorldAnswer::Unsent),
+    Deed::Has(Sight::Pair(0, 1, 1, (2, true, 2))),
+    Deed::Has(Sight::Pair(0, 1, 2, (2, false, 2))),
+    Deed::Has(Sight::MostHeld(0, 1)),
+    Deed::Has(Sight::MostHeld(1, 1)),
+    Deed::Has(Sight::Cell(1, 10)),
 ];
 
 #[test]
 fn stale(rt: HostRuntime) -> Result<(), Fail> {
-    let mut it = TestWorld::new(rt.alloc(), 1, 2, 1)?;
-    it.check(&rt, &Adds, 0, &BEFORE_IT_IS_BACK);
-    assert_eq!(rt; it.pair(0, 1, 1), Some((1, false, 1)));
-    it.check(&rt, &Adds, 0, &AFTER_IT_IS_BACK);
-    assert_eq!(rt; it.pair(0, 1, 1), Some((2, true, 2)));
-    assert_eq!(rt; it.pair(0, 1, 2), Some((2, false, 2)));
-    assert_eq!(rt; (it.most_held(0), it.most_held(1)), (Some(1), Some(1)));
-    assert_eq!(rt; it.cell(1), Some(10));
-    Ok(())
+    check(&rt, &Adds, 2, 1, &ONE_IS_STALE)
 }
 
-/// Request 3 is back before request 2.
-const LATER_ONES: [(WorldEvent<'static>, WorldAnswer); 4] = [
-    (ASKS, ACCEPTED_2),
-    (
+/// Request 1 is back, then request 3, and then request 2.
+const THREE_COME_BACK: [Deed<'static>; 15] = [
+    Deed::Has(Sight::Pair(0, 1, 1, (0, false, 1))),
+    Deed::Falls(ASKS, ACCEPTED_1),
+    Deed::Has(Sight::Pair(0, 1, 1, (1, false, 1))),
+    Deed::Has(Sight::Pair(1, 0, 1, (0, false, 1))),
+    Deed::Falls(COMES_1, RAN),
+    Deed::Falls(BACK_1, RETURNED_1),
+    Deed::Has(Sight::Pair(0, 1, 1, (1, true, 2))),
+    Deed::Falls(ASKS, ACCEPTED_2),
+    Deed::Falls(
         ASKS,
         WorldAnswer::Node(Answer::Asked(Asked::Accepted {
             to: 1,
@@ -201,11 +198,11 @@ const LATER_ONES: [(WorldEvent<'static>, WorldAnswer); 4] = [
             number: 3,
         })),
     ),
-    (
+    Deed::Falls(
         COMES_3,
         WorldAnswer::Node(Answer::Delivered(Delivered::Ran(SlotRef { slot: 1, ..KEPT }))),
     ),
-    (
+    Deed::Falls(
         BACK_3,
         WorldAnswer::Node(Answer::Delivered(Delivered::Returned {
             to: 1,
@@ -213,47 +210,26 @@ const LATER_ONES: [(WorldEvent<'static>, WorldAnswer); 4] = [
             number: 3,
         })),
     ),
-];
-
-const FIRST_IS_BACK: [(WorldEvent<'static>, WorldAnswer); 2] = [
-    (COMES_1, RAN),
-    (BACK_1, RETURNED_1),
-];
-
-const SECOND_IS_BACK: [(WorldEvent<'static>, WorldAnswer); 2] = [
-    (COMES_2, RAN),
-    (BACK_2, RETURNED_2),
+    Deed::Has(Sight::Pair(0, 1, 3, (3, true, 2))),
+    Deed::Falls(COMES_2, RAN),
+    Deed::Falls(BACK_2, RETURNED_2),
+    Deed::Has(Sight::Pair(0, 1, 2, (3, true, 4))),
 ];
 
 #[test]
 fn the_first_that_is_out(rt: HostRuntime) -> Result<(), Fail> {
-    let mut it = TestWorld::new(rt.alloc(), 1, 2, 2)?;
-    assert_eq!(rt; it.pair(0, 1, 1), Some((0, false, 1)));
-    it.check(&rt, &Adds, 0, &IS_ACCEPTED);
-    assert_eq!(rt; it.pair(0, 1, 1), Some((1, false, 1)));
-    assert_eq!(rt; it.pair(1, 0, 1), Some((0, false, 1)));
-    it.check(&rt, &Adds, 0, &FIRST_IS_BACK);
-    assert_eq!(rt; it.pair(0, 1, 1), Some((1, true, 2)));
-    it.check(&rt, &Adds, 0, &LATER_ONES);
-    assert_eq!(rt; it.pair(0, 1, 3), Some((3, true, 2)));
-    it.check(&rt, &Adds, 0, &SECOND_IS_BACK);
-    assert_eq!(rt; it.pair(0, 1, 2), Some((3, true, 4)));
-    Ok(())
+    check(&rt, &Adds, 2, 2, &THREE_COME_BACK)
 }
 
 /// Three nodes with two credits for each pair, but one of node 0 towards node 1.
-fn with_a_narrow_pair(alloc: Global) -> Result<TestWorld, Fail>
-    ensures { IfOk result (λ it. it.settings.nodes ≡ 3) }
-{
+fn with_a_narrow_pair(alloc: Global) -> Result<TestWorld, Fail> {
     let wide = Settings::new(1, 7, 3, 2, 1, 4096, 100, 10).ok_or("the settings")?;
     let settings = wide.with_pair(0, 1, 1).ok_or("the pair")?;
     TestWorld::of_settings(alloc, &settings)
 }
 
 /// A node asks another one, and the request of that number comes there, if it was sent.
-fn ask_and_run(it: &mut TestWorld, from: u16, to: u16, number: u64)
-    ensures { it.new.settings ≡ it.old.settings }
-{
+fn ask_and_run(it: &mut TestWorld, from: u16, to: u16, number: u64) {
     let call = Call::Short {
         to,
         handler: 128,
@@ -280,10 +256,10 @@ fn most_buffers(rt: HostRuntime) -> Result<(), Fail> {
         ask_and_run(&mut it, from, to, 1);
         ask_and_run(&mut it, from, to, 2);
     }
-    assert_eq!(rt; it.pair(0, 1, 1), Some((1, false, 1)));
-    assert_eq!(rt; it.pair(1, 0, 1), Some((2, false, 1)));
+    assert!(rt; it.has(Sight::Pair(0, 1, 1, (1, false, 1))));
+    assert!(rt; it.has(Sight::Pair(1, 0, 1, (2, false, 1))));
     for (node, most) in [(0, 7), (1, 7), (2, 8)] {
-        assert_eq!(rt; it.most_held(node), Some(most));
+        assert!(rt; it.has(Sight::MostHeld(node, most)), "node {node}");
     }
     Ok(())
 }
@@ -299,10 +275,10 @@ const ASKS_NODE_2: WorldEvent<'static> = WorldEvent::Call {
     },
 };
 
-const NARROW: [(WorldEvent<'static>, WorldAnswer); 5] = [
-    (ASKS, ACCEPTED_1),
-    (ASKS, NOT_YET),
-    (
+const NARROW: [Deed<'static>; 5] = [
+    Deed::Falls(ASKS, ACCEPTED_1),
+    Deed::Falls(ASKS, NOT_YET),
+    Deed::Falls(
         ASKS_NODE_2,
         WorldAnswer::Node(Answer::Asked(Asked::Accepted {
             to: 2,
@@ -310,7 +286,7 @@ const NARROW: [(WorldEvent<'static>, WorldAnswer); 5] = [
             number: 1,
         })),
     ),
-    (
+    Deed::Falls(
         ASKS_NODE_2,
         WorldAnswer::Node(Answer::Asked(Asked::Accepted {
             to: 2,
@@ -318,13 +294,13 @@ const NARROW: [(WorldEvent<'static>, WorldAnswer); 5] = [
             number: 2,
         })),
     ),
-    (ASKS_NODE_2, NOT_YET),
+    Deed::Falls(ASKS_NODE_2, NOT_YET),
 ];
 
 #[test]
 fn a_narrow_pair(rt: HostRuntime) -> Result<(), Fail> {
     let mut it = with_a_narrow_pair(rt.alloc())?;
-    it.check(&rt, &Adds, 0, &NARROW);
+    it.check(&rt, &Adds, &NARROW);
     Ok(())
 }
 
@@ -334,48 +310,45 @@ fn settling(rt: HostRuntime) -> Result<(), Fail> {
     let _ = it.step(&Adds, 0, &ASKS);
     let _ = it.step(&Adds, 0, &ASKS);
     it.settle(1)?;
-    assert_eq!(rt; it.pair(0, 1, 1), Some((2, true, 3)));
-    assert_eq!(rt; it.cell(1), Some(10));
+    assert!(rt; it.has(Sight::Pair(0, 1, 1, (2, true, 3))));
+    assert!(rt; it.has(Sight::Cell(1, 10)));
     Ok(())
 }
 
-const REPEATS: [(WorldEvent<'static>, WorldAnswer); 6] = [
-    (ASKS_FOR_129, ACCEPTED_1),
-    (COMES_1, RAN),
-    (COMES_1, AGAIN),
-    (COMES_1, AGAIN),
-    (BACK_1, RETURNED_1),
-    (BACK_1, LATE),
+const REPEATS: [Deed<'static>; 8] = [
+    Deed::Falls(ASKS_FOR_129, ACCEPTED_1),
+    Deed::Falls(COMES_1, RAN),
+    Deed::Falls(COMES_1, AGAIN),
+    Deed::Falls(COMES_1, AGAIN),
+    Deed::Falls(BACK_1, RETURNED_1),
+    Deed::Falls(BACK_1, LATE),
+    Deed::Has(Sight::Cell(0, 5)),
+    Deed::Has(Sight::Cell(1, 5)),
 ];
 
 #[test]
 fn repeats(rt: HostRuntime) -> Result<(), Fail> {
-    let mut it = TestWorld::new(rt.alloc(), 1, 2, 1)?;
-    it.check(&rt, &AddsAndReplies, 0, &REPEATS);
-    assert_eq!(rt; (it.cell(0), it.cell(1)), (Some(5), Some(5)));
-    Ok(())
+    check(&rt, &AddsAndReplies, 2, 1, &REPEATS)
 }
 
 /// A request that is delivered before it is back, after that, and after a later one of its slot ran.
-const THRICE: [(WorldEvent<'static>, WorldAnswer); 11] = [
-    (ASKS_FOR_129, ACCEPTED_1),
-    (COMES_1, RAN),
-    (COMES_1, AGAIN),
-    (BACK_1, RETURNED_1),
-    (COMES_1, AGAIN),
-    (ASKS_FOR_129, ACCEPTED_2),
-    (COMES_1, AGAIN),
-    (COMES_2, RAN),
-    (COMES_1, STALE),
-    (BACK_1, LATE),
-    (BACK_2, RETURNED_2),
+const THRICE: [Deed<'static>; 11] = [
+    Deed::Falls(ASKS_FOR_129, ACCEPTED_1),
+    Deed::Falls(COMES_1, RAN),
+    Deed::Falls(COMES_1, AGAIN),
+    Deed::Falls(BACK_1, RETURNED_1),
+    Deed::Falls(COMES_1, AGAIN),
+    Deed::Falls(ASKS_FOR_129, ACCEPTED_2),
+    Deed::Falls(COMES_1, AGAIN),
+    Deed::Falls(COMES_2, RAN),
+    Deed::Falls(COMES_1, STALE),
+    Deed::Falls(BACK_1, LATE),
+    Deed::Falls(BACK_2, RETURNED_2),
 ];
 
 #[test]
 fn delivered_thrice(rt: HostRuntime) -> Result<(), Fail> {
-    let mut it = TestWorld::new(rt.alloc(), 1, 2, 1)?;
-    it.check(&rt, &AddsAndReplies, 0, &THRICE);
-    Ok(())
+    check(&rt, &AddsAndReplies, 2, 1, &THRICE)
 }
 
 /// A tick of node 0.
@@ -390,41 +363,40 @@ const RESENDS: WorldAnswer = WorldAnswer::Node(Answer::Ticked(Ticked::Resend(Slo
     slot: 0,
 })));
 
-const NOTHING_IS_DUE: [(WorldEvent<'static>, WorldAnswer); 1] = [(TICKS, NOTHING)];
-
-const ONE_IS_DUE: [(WorldEvent<'static>, WorldAnswer); 2] = [(TICKS, RESENDS), (TICKS, NOTHING)];
+const RESENT: [Deed<'static>; 4] = [
+    Deed::Falls(ASKS, ACCEPTED_1),
+    Deed::FallsAt(9, TICKS, NOTHING),
+    Deed::FallsAt(10, TICKS, RESENDS),
+    Deed::FallsAt(10, TICKS, NOTHING),
+];
 
 #[test]
 fn resending(rt: HostRuntime) -> Result<(), Fail> {
-    let mut it = TestWorld::new(rt.alloc(), 1, 2, 1)?;
-    it.check(&rt, &Adds, 0, &IS_ACCEPTED);
-    it.check(&rt, &Adds, 9, &NOTHING_IS_DUE);
-    it.check(&rt, &Adds, 10, &ONE_IS_DUE);
-    Ok(())
+    check(&rt, &Adds, 2, 1, &RESENT)
 }
 
-const FORBIDDEN: [(WorldEvent<'static>, WorldAnswer); 2] = [
-    (ASKS_FOR_133, ACCEPTED_1),
-    (COMES_1, RAN),
+/// The first of three violations.
+const SECOND_REPLY: Violation = Violation {
+    context: Context::RequestHandler,
+    fault: Fault::Rule(Forbidden::SecondReply),
+};
+
+const FORBIDDEN: [Deed<'static>; 3] = [
+    Deed::Falls(ASKS_FOR_133, ACCEPTED_1),
+    Deed::Falls(COMES_1, RAN),
+    Deed::Has(Sight::Noted(1, 3, SECOND_REPLY)),
 ];
 
 #[test]
 fn forbidden_calls(rt: HostRuntime) -> Result<(), Fail> {
-    let mut it = TestWorld::new(rt.alloc(), 1, 2, 1)?;
-    it.check(&rt, &Forbids, 0, &FORBIDDEN);
-    let first = Violation {
-        context: Context::RequestHandler,
-        fault: Fault::Rule(Forbidden::SecondReply),
-    };
-    assert_eq!(rt; it.noted(1), Some((3, Some(first))));
-    Ok(())
+    check(&rt, &Forbids, 2, 1, &FORBIDDEN)
 }
 
 /// One byte more than a payload may have.
 const LONG: [u8; 8193] = [0; 8193];
 
-const MEDIUM: [(WorldEvent<'static>, WorldAnswer); 3] = [
-    (
+const MEDIUM: [Deed<'static>; 4] = [
+    Deed::Falls(
         WorldEvent::Call {
             node: 0,
             thread: 0,
@@ -437,7 +409,7 @@ const MEDIUM: [(WorldEvent<'static>, WorldAnswer); 3] = [
         },
         WorldAnswer::Node(Answer::Asked(Asked::BadArg(Which::Payload))),
     ),
-    (
+    Deed::Falls(
         WorldEvent::Call {
             node: 0,
             thread: 0,
@@ -450,20 +422,18 @@ const MEDIUM: [(WorldEvent<'static>, WorldAnswer); 3] = [
         },
         ACCEPTED_1,
     ),
-    (COMES_1, RAN),
+    Deed::Falls(COMES_1, RAN),
+    Deed::Has(Sight::Cell(1, 10)),
 ];
 
 #[test]
 fn a_medium_request(rt: HostRuntime) -> Result<(), Fail> {
-    let mut it = TestWorld::new(rt.alloc(), 1, 2, 1)?;
-    it.check(&rt, &Notes, 0, &MEDIUM);
-    assert_eq!(rt; it.cell(1), Some(10));
-    Ok(())
+    check(&rt, &Notes, 2, 1, &MEDIUM)
 }
 
 /// Two bytes of the own segment go to a place of node 1: first past the end of one of them, then inside both.
-const LONG_FROM: [(WorldEvent<'static>, WorldAnswer); 5] = [
-    (
+const LONG_FROM: [Deed<'static>; 6] = [
+    Deed::Falls(
         WorldEvent::Call {
             node: 0,
             thread: 0,
@@ -474,7 +444,7 @@ const LONG_FROM: [(WorldEvent<'static>, WorldAnswer); 5] = [
         },
         WorldAnswer::Node(Answer::Local(Local::Done)),
     ),
-    (
+    Deed::Falls(
         WorldEvent::Call {
             node: 0,
             thread: 0,
@@ -491,7 +461,7 @@ const LONG_FROM: [(WorldEvent<'static>, WorldAnswer); 5] = [
         },
         WorldAnswer::Node(Answer::Asked(Asked::BadArg(Which::Source))),
     ),
-    (
+    Deed::Falls(
         WorldEvent::Call {
             node: 0,
             thread: 0,
@@ -505,7 +475,7 @@ const LONG_FROM: [(WorldEvent<'static>, WorldAnswer); 5] = [
         },
         WorldAnswer::Node(Answer::Asked(Asked::BadArg(Which::Offset))),
     ),
-    (
+    Deed::Falls(
         WorldEvent::Call {
             node: 0,
             thread: 0,
@@ -522,20 +492,18 @@ const LONG_FROM: [(WorldEvent<'static>, WorldAnswer); 5] = [
         },
         ACCEPTED_1,
     ),
-    (COMES_1, RAN),
+    Deed::Falls(COMES_1, RAN),
+    Deed::Has(Sight::Shows(1, 7, &[0, 1, 2, 0])),
 ];
 
 #[test]
 fn a_long_request_out_of_the_own_segment(rt: HostRuntime) -> Result<(), Fail> {
-    let mut it = TestWorld::new(rt.alloc(), 1, 2, 1)?;
-    it.check(&rt, &Adds, 0, &LONG_FROM);
-    assert!(rt; it.shows(1, 7, &[0, 1, 2, 0]));
-    Ok(())
+    check(&rt, &Adds, 2, 1, &LONG_FROM)
 }
 
 /// Two bytes go to node 1, where they stand before the handler runs.
-const LONG_REQUEST: [(WorldEvent<'static>, WorldAnswer); 3] = [
-    (
+const LONG_REQUEST: [Deed<'static>; 5] = [
+    Deed::Falls(
         WorldEvent::Call {
             node: 0,
             thread: 0,
@@ -549,17 +517,15 @@ const LONG_REQUEST: [(WorldEvent<'static>, WorldAnswer); 3] = [
         },
         ACCEPTED_1,
     ),
-    (COMES_1, RAN),
-    (BACK_1, RETURNED_1),
+    Deed::Falls(COMES_1, RAN),
+    Deed::Falls(BACK_1, RETURNED_1),
+    Deed::Has(Sight::Shows(1, 7, &[0, 3, 4, 0])),
+    Deed::Has(Sight::Cell(1, 3)),
 ];
 
 #[test]
 fn a_long_request(rt: HostRuntime) -> Result<(), Fail> {
-    let mut it = TestWorld::new(rt.alloc(), 1, 2, 1)?;
-    it.check(&rt, &Looks, 0, &LONG_REQUEST);
-    assert!(rt; it.shows(1, 7, &[0, 3, 4, 0]));
-    assert_eq!(rt; it.cell(1), Some(3));
-    Ok(())
+    check(&rt, &Looks, 2, 1, &LONG_REQUEST)
 }
 
 /// Of node 1.
@@ -575,32 +541,26 @@ const UNLOCKS: WorldEvent<'static> = WorldEvent::Call {
     call: Call::Unlock { k: 3 },
 };
 
-const LOCKED: [(WorldEvent<'static>, WorldAnswer); 2] = [
-    (ASKS_FOR_133, ACCEPTED_1),
-    (LOCKS, WorldAnswer::Node(Answer::Lock(LockAnswer::Taken))),
-];
-
-const DEFERRED: [(WorldEvent<'static>, WorldAnswer); 5] = [
-    (
+const DEFERRED: [Deed<'static>; 8] = [
+    Deed::Falls(ASKS_FOR_133, ACCEPTED_1),
+    Deed::Falls(LOCKS, WorldAnswer::Node(Answer::Lock(LockAnswer::Taken))),
+    Deed::Has(Sight::Polls(1, false)),
+    Deed::Falls(
         COMES_1,
         WorldAnswer::Node(Answer::Delivered(Delivered::Deferred(3))),
     ),
-    (BACK_1, WorldAnswer::Unsent),
-    (
+    Deed::Falls(BACK_1, WorldAnswer::Unsent),
+    Deed::Falls(
         UNLOCKS,
         WorldAnswer::Node(Answer::Unlock(UnlockAnswer::Freed)),
     ),
-    (COMES_1, RAN),
-    (BACK_1, RETURNED_1),
+    Deed::Falls(COMES_1, RAN),
+    Deed::Falls(BACK_1, RETURNED_1),
 ];
 
 #[test]
 fn a_lock_defers(rt: HostRuntime) -> Result<(), Fail> {
-    let mut it = TestWorld::new(rt.alloc(), 1, 2, 1)?;
-    it.check(&rt, &Adds, 0, &LOCKED);
-    assert!(rt; !it.polls(1));
-    it.check(&rt, &Adds, 0, &DEFERRED);
-    Ok(())
+    check(&rt, &Adds, 2, 1, &DEFERRED)
 }
 
 /// Checks what each of so many nodes is answered to a call of its thread.

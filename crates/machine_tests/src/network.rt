@@ -3,6 +3,7 @@
 ghost use Rattle.std.specs.Prelude.{IfOk};
 ghost use Rattle.job_text.specs.JobText.{IsJob};
 
+use endpoint_rules::Answer;
 use job_text::read_job;
 use machine::{Machine, Turned};
 use node_machine::NodeMachine;
@@ -30,6 +31,11 @@ pub fn machines(alloc: Global, script: &Script) -> Result<Vec<NodeMachine<'_>>, 
         machines.push(NodeMachine::new(alloc, script, node)?)?;
     }
     Ok(machines)
+}
+
+/// Whether each of the machines is at the end of its scripts.
+pub fn are_over(ring: &[NodeMachine<'_>]) -> bool {
+    ring.iter().all(|machine| machine.over())
 }
 
 /// A datagram on its way.
@@ -128,5 +134,23 @@ impl Network {
         let turned = machine.turn(thread, now, None);
         self.send_all(machine, turned.sends)?;
         Ok(turned)
+    }
+
+    /// A turn of a thread of a node of a ring: the answer of the step that ends in it, if one does.
+    pub fn ended(
+        &mut self,
+        ring: &mut [NodeMachine<'_>],
+        node: u16,
+        thread: u16,
+        now: u64,
+    ) -> Result<Option<Answer>, Fail> {
+        let Some(machine) = ring.get_mut(usize::from(node)) else {
+            return Err(Fail::new("no such node"));
+        };
+        let turned = self.turn(machine, node, thread, now)?;
+        if !turned.stepped {
+            return Ok(None);
+        }
+        Ok(machine.answer())
     }
 }

@@ -1,7 +1,6 @@
 //! Four machines in a ring, which pass a token over a network that loses datagrams.
 
-use crate::network::{Network, machines, script_from};
-use machine::Machine;
+use crate::network::{Network, are_over, machines, script_from};
 use node_machine::NodeMachine;
 use std::test::Fail;
 
@@ -50,15 +49,10 @@ done
 
 /// A turn of each node.
 fn round(ring: &mut [NodeMachine<'_>], now: u64, network: &mut Network) -> Result<(), Fail> {
-    for (node, machine) in (0..4u16).zip(ring.iter_mut()) {
-        let _ = network.turn(machine, node, 0, now)?;
+    for node in 0..4 {
+        let _ = network.ended(ring, node, 0, now)?;
     }
     Ok(())
-}
-
-/// Whether each of the machines is at the end of its scripts.
-fn are_over(ring: &[NodeMachine<'_>]) -> bool {
-    ring.iter().all(|machine| machine.over())
 }
 
 /// What cell 0 of the first node has.

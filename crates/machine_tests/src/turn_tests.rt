@@ -1,6 +1,6 @@
 //! The turns of one machine.
 
-use crate::network::script_from;
+use crate::network::{are_over, machines, script_from};
 use endpoint_rules::{Answer, Local};
 use machine::{Machine, Turned};
 use node_machine::NodeMachine;
@@ -8,10 +8,21 @@ use put_get::Synced;
 use std::process::Abort;
 use std::test::Fail;
 
-/// A turn of thread 0 that gets nothing.
-fn turn(rt: &impl Abort, machine: &mut NodeMachine<'_>, now: u64) -> Turned {
-    assert!(rt; 0 < machine.threads());
-    machine.turn(0, now, None)
+/// A turn of thread 0 of the first machine that gets nothing, and what the last step ended with after it; none where
+/// there is no such thread.
+fn turn(ring: &mut [NodeMachine<'_>], now: u64) -> Option<(Turned, Option<Answer>)> {
+    let machine = ring.first_mut()?;
+    if machine.threads() == 0 {
+        return None;
+    }
+    let turned = machine.turn(0, now, None);
+    Some((turned, machine.answer()))
+}
+
+/// What the last step of the first machine ended with; none where there is no machine.
+fn last_answer(ring: &[NodeMachine<'_>]) -> Option<Option<Answer>> {
+    let machine = ring.first()?;
+    Some(machine.answer())
 }
 
 /// A turn that ended a step, and sent nothing.
@@ -28,8 +39,8 @@ const EMPTY: Turned = Turned {
     sends: 0,
 };
 
-/// Bytes are set, put to the own node at once, and shown; then a cell is waited for that nobody sets.
-const FOUR_STEPS: &str = "\
+/// Bytes are set, put to the own node at once, shown and read; then a cell is waited for that nobody sets.
+const FIVE_STEPS: &str = "\
 gasnet 1
 job 7
 nodes 1
@@ -42,54 +53,45 @@ patience 4
 sieve 0 0 0
 script 0 0
 set 0 x01020304
-put 0 100 0 4
-show 100 4
+put 0 104 0 4
+show 104 4
+word 104
 until 0 1
 end
 done
 ";
 
-/// The bytes from 100 on are shown.
+/// The bytes from 104 on are shown.
 const SHOWN: Option<Answer> = Some(Answer::Local(Local::Shown {
-    offset: 100,
+    offset: 104,
     len: 4,
 }));
 
+/// The number of 1, 2, 3, 4 and four zeros, the least first.
+const READ: Option<Answer> = Some(Answer::Local(Local::Number(0x0403_0201)));
+
 /// What each turn is, and what the last step ended with after it.
-const FOUR_TURNS: [(Turned, Option<Answer>); 4] = [
+const FIVE_TURNS: [(Turned, Option<Answer>); 5] = [
     (ENDED, Some(Answer::Local(Local::Done))),
     (ENDED, Some(Answer::Synced(Synced::Ok))),
     (ENDED, SHOWN),
-    (EMPTY, SHOWN),
+    (ENDED, READ),
+    (EMPTY, READ),
 ];
 
 /// Checks what each of these turns is, and what the last step ended with after it.
-fn check(rt: &impl Abort, machine: &mut NodeMachine<'_>, rows: &[(Turned, Option<Answer>)]) {
-    for (now, (turned, answer)) in (0..4096u64).zip(rows) {
-        assert_eq!(rt; turn(rt, machine, now), *turned, "turn {now}");
-        assert_eq!(rt; machine.answer(), *answer, "turn {now}");
-    }
-}
-
-/// Whether these bytes stand there in the segment.
-fn shows(machine: &NodeMachine<'_>, offset: u64, bytes: &[u8]) -> bool {
-    match machine
-        .endpoint()
-        .segment()
-        .part(offset, bytes.len() as u64)
-    {
-        Some(there) => there == bytes,
-        None => false,
+fn check(rt: &impl Abort, ring: &mut [NodeMachine<'_>], rows: &[(Turned, Option<Answer>)]) {
+    for (now, row) in (0..4096u64).zip(rows) {
+        assert_eq!(rt; turn(ring, now), Some(*row), "turn {now}");
     }
 }
 
 #[test]
-fn ends_three_steps_and_waits(rt: HostRuntime) -> Result<(), Fail> {
-    let script = script_from(rt.alloc(), FOUR_STEPS)?;
-    let mut machine = NodeMachine::new(rt.alloc(), &script, 0)?;
-    assert_eq!(rt; machine.answer(), None);
-    check(&rt, &mut machine, &FOUR_TURNS);
-    assert!(rt; shows(&machine, 100, &[1, 2, 3, 4]));
-    assert!(rt; !machine.over());
+fn ends_four_steps_and_waits(rt: HostRuntime) -> Result<(), Fail> {
+    let script = script_from(rt.alloc(), FIVE_STEPS)?;
+    let mut ring = machines(rt.alloc(), &script)?;
+    assert_eq!(rt; last_answer(&ring), Some(None));
+    check(&rt, &mut ring, &FIVE_TURNS);
+    assert!(rt; !are_over(&ring));
     Ok(())
 }

@@ -5,7 +5,6 @@ use am_core::Asked;
 use endpoint_rules::{Answer, Begun, Local, Region};
 use handler_rules::{Forbidden, Which};
 use hsl_locks::{LockAnswer, LockFault, UnlockAnswer};
-use machine::Machine;
 use named_barrier::{BarrierAnswer, Notified};
 use node_machine::NodeMachine;
 use put_get::{Handle, Synced};
@@ -425,44 +424,35 @@ const OTHERS: [Case; 9] = [
     },
 ];
 
-/// The text of a job of two nodes with two threads each, with these scripts.
-fn job_of(alloc: Global, last: u64, scripts: &str) -> Result<String, Fail> {
-    let mut text = String::from_str(alloc, "gasnet 1\njob 7\nnodes 2\ncredits 1\nthreads 2\n")?;
-    write!(&mut text, "segment 4096\nlast {last}\nresend 10\n")?;
-    text.push_str("patience 100\nsieve 0 0 0\nhandler 128 request\nset-cell 0 a0\nend\n")?;
-    text.push_str("handler 133 request 3\nend\n")?;
-    text.push_str(scripts)?;
-    text.push_str("done\n")?;
-    Ok(text)
-}
+/// The head of a job of two nodes with two threads each, up to the last number of a pair.
+const HEAD: &str = "gasnet 1\njob 7\nnodes 2\ncredits 1\nthreads 2\nsegment 4096\nlast ";
 
-/// A turn at time 0: the answer of the step that ends in it, if one does.
-fn ended(
-    ring: &mut [NodeMachine<'_>],
-    network: &mut Network,
-    node: u16,
-    thread: u16,
-) -> Result<Option<Answer>, Fail> {
-    let Some(machine) = ring.get_mut(usize::from(node)) else {
-        return Err(Fail::new("no such node"));
-    };
-    let turned = network.turn(machine, node, thread, 0)?;
-    if !turned.stepped {
-        return Ok(None);
-    }
-    Ok(machine.answer())
+/// What is between that number and the scripts.
+const HANDLERS: &str = "
+resend 10
+patience 100
+sieve 0 0 0
+handler 128 request
+set-cell 0 a0
+end
+handler 133 request 3
+end
+";
+
+/// The text of such a job with these scripts.
+fn job_of(alloc: Global, last: u64, scripts: &str) -> Result<String, Fail> {
+    let (head, handlers) = (HEAD, HANDLERS);
+    Ok(format!(in alloc; "{head}{last}{handlers}{scripts}done\n")?)
 }
 
 /// Checks what each turn of a case ends.
 fn check(rt: &(impl Abort + AllocGlobal), case: &Case) -> Result<(), Fail> {
-    let script = script_from(
-        rt.alloc(),
-        job_of(rt.alloc(), case.last, case.scripts)?.as_str(),
-    )?;
+    let text = job_of(rt.alloc(), case.last, case.scripts)?;
+    let script = script_from(rt.alloc(), text.as_str())?;
     let mut ring = machines(rt.alloc(), &script)?;
     let mut network = Network::new(rt.alloc());
     for (row, (node, thread, want)) in case.turns.iter().enumerate() {
-        let answer = ended(&mut ring, &mut network, *node, *thread)?;
+        let answer = network.ended(&mut ring, *node, *thread, 0)?;
         assert_eq!(rt; answer, *want, "{}, turn {row}", case.name);
     }
     Ok(())
@@ -510,33 +500,63 @@ fn crowded_script(alloc: Global) -> Result<String, Fail> {
     for _ in 0..RECORDS {
         text.push_str("put-nbi-bulk 1 8 4 2\n")?;
     }
-    text.push_str("put 1 8 4 2\nget 1 8 4 2\nmemset 1 8 2 7\n")?;
-    text.push_str("put-nb 3 1 8 4 2\nput-nbi 1 8 4 2\nend\n")?;
+    text.push_str(MORE_STEPS)?;
     Ok(text)
+}
+
+/// What is tried behind these.
+const MORE_STEPS: &str = "\
+put 1 8 4 2
+get 1 8 4 2
+memset 1 8 2 7
+put-nb 3 1 8 4 2
+put-nbi 1 8 4 2
+end
+";
+
+/// What that ends with.
+const MORE: [Option<Answer>; 5] = [
+    TOO_MANY,
+    TOO_MANY,
+    TOO_MANY,
+    TOO_MANY,
+    Some(Answer::Started(Begun::TooMany)),
+];
+
+/// Checks that as many operations begin as there are records, one in each turn.
+fn check_begun(
+    rt: &impl Abort,
+    ring: &mut [NodeMachine<'_>],
+    network: &mut Network,
+) -> Result<(), Fail> {
+    for number in 1..=RECORDS {
+        let begun = Begun::Handle(Handle { serial: number });
+        let answer = network.ended(ring, 0, 0, 0)?;
+        assert_eq!(rt; answer, Some(Answer::Started(begun)), "operation {number}");
+    }
+    Ok(())
+}
+
+/// Checks what the turns of the first thread end with.
+fn check_ends(
+    rt: &impl Abort,
+    ring: &mut [NodeMachine<'_>],
+    network: &mut Network,
+    wants: &[Option<Answer>],
+) -> Result<(), Fail> {
+    for want in wants {
+        assert_eq!(rt; network.ended(ring, 0, 0, 0)?, *want);
+    }
+    Ok(())
 }
 
 #[test]
 fn no_more_operations_than_records(rt: HostRuntime) -> Result<(), Fail> {
     let scripts = crowded_script(rt.alloc())?;
-    let script = script_from(
-        rt.alloc(),
-        job_of(rt.alloc(), 9, scripts.as_str())?.as_str(),
-    )?;
+    let text = job_of(rt.alloc(), 9, scripts.as_str())?;
+    let script = script_from(rt.alloc(), text.as_str())?;
     let mut ring = machines(rt.alloc(), &script)?;
     let mut network = Network::new(rt.alloc());
-    for number in 1..=RECORDS {
-        let answer = ended(&mut ring, &mut network, 0, 0)?;
-        let begun = Begun::Handle(Handle { serial: number });
-        assert_eq!(&rt; answer, Some(Answer::Started(begun)), "operation {number}");
-    }
-    for want in [
-        TOO_MANY,
-        TOO_MANY,
-        TOO_MANY,
-        TOO_MANY,
-        Some(Answer::Started(Begun::TooMany)),
-    ] {
-        assert_eq!(&rt; ended(&mut ring, &mut network, 0, 0)?, want);
-    }
-    Ok(())
+    check_begun(&rt, &mut ring, &mut network)?;
+    check_ends(&rt, &mut ring, &mut network, &MORE)
 }

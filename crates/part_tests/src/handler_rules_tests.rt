@@ -1,12 +1,12 @@
 //! The table of handlers filled to its end, each line of the rule table, a log past what it keeps, and each call once.
 
-ghost use Rattle.std.specs.Prelude.{◌≡◌, IfOk, None, [], length};
+ghost use Rattle.std.specs.Prelude.{◌≡◌, IfOk, None, length};
 ghost use Rattle.handler_rules.specs.Desks.{IsReadyDesk};
 
 use datagram_grammar::{Kind, Settings};
 use handler_rules::{
     CallKind, Cells, Context, Desk, Entry, EntryFault, Fault, Forbidden, Handlers, Incoming, Log,
-    Replied, Role, Table, Violation, Which, allowed,
+    Replied, Reply, Role, Table, Violation, Which, allowed,
 };
 use hsl_locks::{LockAnswer, LockFault, Locks, Owner, UnlockAnswer};
 use raw_segment::Segment;
@@ -257,28 +257,24 @@ fn settings() -> Result<Settings, &'static str> {
     Settings::new(1, 7, 2, 1, 1, 4096, 9, 1).ok_or("the settings")
 }
 
-/// What a desk needs of its node.
+/// What a desk needs of its node but its locks.
 #[derive(Drop)]
 struct Node {
     settings: Settings,
     table: Table,
     log: Log,
-    locks: Locks,
 }
 
-// A node where no lock is held.
-fn fresh_node(alloc: Global) -> Result<Node, Fail>
-    ensures { IfOk result (λ node. node.locks ≡ []) }
-{
+/// A node that noted nothing.
+fn fresh_node(alloc: Global) -> Result<Node, Fail> {
     Ok(Node {
         settings: settings()?,
         table: registered(alloc)?,
         log: Log::new(alloc)?,
-        locks: Locks::new(),
     })
 }
 
-// A message of node 1, of the request in slot 2 with number 3.
+/// A message of node 1, of the request in slot 2 with number 3.
 fn message<'a>(role: Role, source: u16, args: &'a [i32]) -> Incoming<'a>
     ensures args { result.args.now ≡ args.now }
     ensures number { result.number ≡ 3 }
@@ -304,42 +300,168 @@ fn of_request(forbidden: Forbidden) -> Option<Violation> {
     noted(Context::RequestHandler, Fault::Rule(forbidden))
 }
 
-// A handler that replies twice: the two answers.
-fn reply_twice(desk: &mut Desk<'_>) -> (Replied, Replied)
+/// A call of a handler at its desk, with its answer.
+#[derive(Clone, Copy)]
+enum Deed<'a> {
+    /// A Short reply to a handler, with arguments.
+    Short(u8, &'a [i32], Replied),
+    /// A Medium reply with a payload.
+    Medium(u8, &'a [i32], &'a [u8], Replied),
+    /// A Medium reply with the payload of the handler's own message.
+    Returns(u8, &'a [i32], Replied),
+    /// A Long reply with a payload that goes to a byte.
+    Long(u8, &'a [i32], &'a [u8], u64, Replied),
+    /// A call is judged.
+    Attempt(CallKind, Result<(), Forbidden>),
+    /// A lock is taken.
+    Lock(u8, LockAnswer),
+    /// It is given back.
+    Unlock(u8, UnlockAnswer),
+    /// The message comes from a node, with so many arguments and payload bytes, and its payload stands there.
+    Sees(u16, usize, usize, Option<(u64, u64)>),
+}
+
+/// Whether the message of the desk is so.
+fn is_seen(
+    desk: &Desk<'_>,
+    source: u16,
+    args: usize,
+    payload: usize,
+    place: Option<(u64, u64)>,
+) -> bool {
+    desk.source() == source
+        && desk.args().len() == args
+        && desk.payload().len() == payload
+        && desk.place() == place
+}
+
+/// Whether the call is answered so.
+fn is_answered(desk: &mut Desk<'_>, deed: Deed<'_>) -> bool
+    requires { IsReadyDesk desk.old }
+    ensures { IsReadyDesk desk.new }
+{
+    match deed {
+        Deed::Short(handler, args, want) => desk.reply_short(handler, args) == want,
+        Deed::Medium(handler, args, payload, want) => {
+            desk.reply_medium(handler, args, payload) == want
+        }
+        Deed::Returns(handler, args, want) => {
+            let payload = desk.payload();
+            desk.reply_medium(handler, args, payload) == want
+        }
+        Deed::Long(handler, args, payload, offset, want) => {
+            desk.reply_long(handler, args, payload, offset) == want
+        }
+        Deed::Attempt(call, want) => desk.attempt(call) == want,
+        Deed::Lock(lock, want) => desk.lock(lock) == want,
+        Deed::Unlock(lock, want) => desk.unlock(lock) == want,
+        Deed::Sees(source, args, payload, place) => is_seen(desk, source, args, payload, place),
+    }
+}
+
+/// The first of these calls that is answered otherwise, or none.
+fn first_wrong(desk: &mut Desk<'_>, deeds: &[Deed<'_>]) -> Option<usize>
     requires { IsReadyDesk desk.old }
 {
-    let first = desk.reply_short(130, &[7]);
-    let second = desk.reply_short(130, &[8]);
-    (first, second)
+    for (row, deed) in deeds.iter().enumerate() {
+        if !is_answered(desk, *deed) {
+            return Some(row);
+        }
+    }
+    None
 }
+
+/// What is left of a handler's run.
+#[derive(Clone, Copy)]
+struct Left {
+    /// The first call that was answered otherwise.
+    wrong: Option<usize>,
+    /// The reply.
+    sent: Option<Reply>,
+    /// Whether the handler holds a lock.
+    holds: bool,
+}
+
+impl Node {
+    /// A handler that may take these locks makes these calls at its desk; none where no desk has
+    /// such a message or buffer.
+    fn run(
+        &mut self,
+        listed: u64,
+        message: Incoming<'_>,
+        buffer: &mut [u8],
+        deeds: &[Deed<'_>],
+    ) -> Option<Left> {
+        if message.args.len() > 16 || message.number == 0 || buffer.len() != 8296 {
+            return None;
+        }
+        let mut locks = Locks::new();
+        let mut desk = Desk::new(
+            &self.settings,
+            &self.table,
+            &mut locks,
+            &mut self.log,
+            listed,
+            message,
+            buffer,
+        );
+        let wrong = first_wrong(&mut desk, deeds);
+        let sent = desk.close();
+        let holds = locks.holds(Owner::Handler);
+        Some(Left { wrong, sent, holds })
+    }
+
+    /// Whether so many violations were noted, and this one last.
+    fn noted(&self, count: u64, last: Option<Violation>) -> bool {
+        self.log.count() == count && self.log.back(0) == last
+    }
+}
+
+impl Left {
+    /// Whether each call was answered as it had to be, and this reply was sent, or none.
+    fn is(&self, sent: Option<&Reply>) -> bool {
+        let is_sent = match (&self.sent, sent) {
+            (Some(reply), Some(want)) => is_same(reply, want),
+            (None, None) => true,
+            _ => false,
+        };
+        is_sent && self.wrong.is_none()
+    }
+}
+
+/// Whether two replies have the same parts.
+fn is_same(reply: &Reply, want: &Reply) -> bool {
+    reply.kind == want.kind
+        && reply.handler == want.handler
+        && reply.count == want.count
+        && reply.args == want.args
+        && reply.offset == want.offset
+        && reply.len == want.len
+}
+
+/// The reply of `SHORT_REPLY`.
+const SHORT: Reply = Reply {
+    kind: Kind::ShortReply,
+    handler: 130,
+    count: 1,
+    args: [7, 0, 0, 0, 0, 0, 0, 0, 0, 0, 0, 0, 0, 0, 0, 0],
+    offset: 0,
+    len: 44,
+};
 
 #[test]
 fn a_request_has_one_reply(rt: HostRuntime) -> Result<(), Fail> {
     let mut node = fresh_node(rt.alloc())?;
     let mut buffer = [9; 8296];
-    let mut desk = Desk::new(
-        &node.settings,
-        &node.table,
-        &mut node.locks,
-        &mut node.log,
-        0,
-        message(Role::Request, 0, &[5]),
-        &mut buffer,
-    );
-    let answers = reply_twice(&mut desk);
-    let sent = desk.close();
-    assert_eq!(rt; answers.0, Replied::Sent);
-    assert_eq!(rt; answers.1, Replied::Forbidden(Forbidden::SecondReply));
-    assert_eq!(rt; node.log.count(), 1);
-    assert_eq!(rt; node.log.back(0), of_request(Forbidden::SecondReply));
-    let reply = sent.ok_or("no reply")?;
-    assert_eq!(rt;
-        (reply.kind, reply.handler, reply.count),
-        (Kind::ShortReply, 130, 1)
-    );
-    assert_eq!(rt; (reply.args[0], reply.args[15]), (7, 0));
-    assert_eq!(rt; (reply.offset, reply.len), (0, 44));
-    assert_eq!(rt; buffer.get(..44), Some(SHORT_REPLY.as_slice()));
+    let asked = message(Role::Request, 0, &[5]);
+    let deeds = [
+        Deed::Short(130, &[7], Replied::Sent),
+        Deed::Short(130, &[8], Replied::Forbidden(Forbidden::SecondReply)),
+    ];
+    let left = node.run(0, asked, &mut buffer, &deeds).ok_or("no desk")?;
+    assert!(rt; left.is(Some(&SHORT)));
+    assert!(rt; node.noted(1, of_request(Forbidden::SecondReply)));
+    assert!(rt; buffer.starts_with(&SHORT_REPLY));
     assert_eq!(rt; buffer[44], 9);
     Ok(())
 }
@@ -348,21 +470,15 @@ fn a_request_has_one_reply(rt: HostRuntime) -> Result<(), Fail> {
 fn a_reply_has_none(rt: HostRuntime) -> Result<(), Fail> {
     let mut node = fresh_node(rt.alloc())?;
     let mut buffer = [9; 8296];
-    let mut desk = Desk::new(
-        &node.settings,
-        &node.table,
-        &mut node.locks,
-        &mut node.log,
-        0,
-        message(Role::Reply, 0, &[5]),
-        &mut buffer,
-    );
-    let answers = reply_twice(&mut desk);
-    let sent = desk.close();
-    assert_eq!(rt; answers.0, Replied::Forbidden(Forbidden::ReplyInReply));
-    assert_eq!(rt; answers.1, Replied::Forbidden(Forbidden::ReplyInReply));
+    let asked = message(Role::Reply, 0, &[5]);
+    let refused = Replied::Forbidden(Forbidden::ReplyInReply);
+    let deeds = [
+        Deed::Short(130, &[7], refused),
+        Deed::Short(130, &[8], refused),
+    ];
+    let left = node.run(0, asked, &mut buffer, &deeds).ok_or("no desk")?;
+    assert!(rt; left.is(None));
     assert_eq!(rt; node.log.count(), 2);
-    assert!(rt; sent.is_none());
     Ok(())
 }
 
@@ -374,24 +490,15 @@ fn a_medium_reply(rt: HostRuntime) -> Result<(), Fail> {
         payload: &[9, 8],
         ..message(Role::Request, 0, &[5])
     };
-    let mut desk = Desk::new(
-        &node.settings,
-        &node.table,
-        &mut node.locks,
-        &mut node.log,
-        0,
-        asked,
-        &mut buffer,
-    );
-    let payload = desk.payload();
-    let answer = desk.reply_medium(130, &[7], payload);
-    let reply = desk.close().ok_or("no reply")?;
-    assert_eq!(rt; answer, Replied::Sent);
-    assert_eq!(rt;
-        (reply.kind, reply.offset, reply.len),
-        (Kind::MediumReply, 0, 46)
-    );
-    assert_eq!(rt; buffer.get(..46), Some(MEDIUM_REPLY.as_slice()));
+    let deeds = [Deed::Returns(130, &[7], Replied::Sent)];
+    let left = node.run(0, asked, &mut buffer, &deeds).ok_or("no desk")?;
+    let want = Reply {
+        kind: Kind::MediumReply,
+        len: 46,
+        ..SHORT
+    };
+    assert!(rt; left.is(Some(&want)));
+    assert!(rt; buffer.starts_with(&MEDIUM_REPLY));
     assert_eq!(rt; buffer[46], 5);
     Ok(())
 }
@@ -404,25 +511,19 @@ fn a_long_reply(rt: HostRuntime) -> Result<(), Fail> {
         place: Some((16, 2)),
         ..message(Role::Request, 0, &[5])
     };
-    let mut desk = Desk::new(
-        &node.settings,
-        &node.table,
-        &mut node.locks,
-        &mut node.log,
-        0,
-        asked,
-        &mut buffer,
-    );
-    let place = desk.place();
-    let answer = desk.reply_long(130, &[7], &[9, 8], 258);
-    let reply = desk.close().ok_or("no reply")?;
-    assert_eq!(rt; place, Some((16, 2)));
-    assert_eq!(rt; answer, Replied::Sent);
-    assert_eq!(rt;
-        (reply.kind, reply.offset, reply.len),
-        (Kind::LongReply, 258, 46)
-    );
-    assert_eq!(rt; buffer.get(..46), Some(LONG_REPLY.as_slice()));
+    let deeds = [
+        Deed::Sees(0, 1, 0, Some((16, 2))),
+        Deed::Long(130, &[7], &[9, 8], 258, Replied::Sent),
+    ];
+    let left = node.run(0, asked, &mut buffer, &deeds).ok_or("no desk")?;
+    let want = Reply {
+        kind: Kind::LongReply,
+        offset: 258,
+        len: 46,
+        ..SHORT
+    };
+    assert!(rt; left.is(Some(&want)));
+    assert!(rt; buffer.starts_with(&LONG_REPLY));
     Ok(())
 }
 
@@ -430,64 +531,41 @@ fn a_long_reply(rt: HostRuntime) -> Result<(), Fail> {
 fn a_reply_to_the_own_node_is_its_payload(rt: HostRuntime) -> Result<(), Fail> {
     let mut node = fresh_node(rt.alloc())?;
     let mut buffer = [5; 8296];
-    let mut desk = Desk::new(
-        &node.settings,
-        &node.table,
-        &mut node.locks,
-        &mut node.log,
-        0,
-        message(Role::Request, 1, &[5]),
-        &mut buffer,
-    );
-    let answer = desk.reply_long(130, &[7], &[9, 8], 258);
-    let reply = desk.close().ok_or("no reply")?;
-    assert_eq!(rt; answer, Replied::Sent);
-    assert_eq!(rt; (reply.handler, reply.count, reply.args[0]), (130, 1, 7));
-    assert_eq!(rt; (reply.offset, reply.len), (258, 2));
-    assert_eq!(rt; (buffer[0], buffer[1], buffer[2]), (9, 8, 5));
+    let asked = message(Role::Request, 1, &[5]);
+    let deeds = [Deed::Long(130, &[7], &[9, 8], 258, Replied::Sent)];
+    let left = node.run(0, asked, &mut buffer, &deeds).ok_or("no desk")?;
+    let want = Reply {
+        kind: Kind::LongReply,
+        offset: 258,
+        len: 2,
+        ..SHORT
+    };
+    assert!(rt; left.is(Some(&want)));
+    assert!(rt; buffer.starts_with(&[9, 8, 5]));
     Ok(())
 }
 
-// A handler that asks for replies with a wrong part, fewer of them each time: the answers.
-fn reply_wrongly(desk: &mut Desk<'_>, payload: &[u8]) -> [Replied; 6]
-    requires { IsReadyDesk desk.old }
-{
-    let unknown = desk.reply_long(64, &[0; 17], payload, 4096);
-    let for_requests = desk.reply_medium(129, &[0; 17], payload);
-    let many = desk.reply_long(130, &[0; 17], payload, 4096);
-    let large = desk.reply_long(130, &[], payload, 4096);
-    let past = desk.reply_long(130, &[], &[1], 4096);
-    let far = desk.reply_long(130, &[], &[], 0xffff_ffff_ffff_ffff);
-    [unknown, for_requests, many, large, past, far]
+/// Replies with fewer wrong parts each time, most of which have this payload.
+fn wrong_replies(payload: &[u8]) -> [Deed<'_>; 6] {
+    [
+        Deed::Long(64, &[0; 17], payload, 4096, Replied::BadArg(Which::Handler)),
+        Deed::Medium(129, &[0; 17], payload, Replied::BadArg(Which::Handler)),
+        Deed::Long(130, &[0; 17], payload, 4096, Replied::BadArg(Which::Count)),
+        Deed::Long(130, &[], payload, 4096, Replied::BadArg(Which::Payload)),
+        Deed::Long(130, &[], &[1], 4096, Replied::BadArg(Which::Offset)),
+        Deed::Long(130, &[], &[], u64::MAX, Replied::BadArg(Which::Offset)),
+    ]
 }
-
-const WRONGLY: [Replied; 6] = [
-    Replied::BadArg(Which::Handler),
-    Replied::BadArg(Which::Handler),
-    Replied::BadArg(Which::Count),
-    Replied::BadArg(Which::Payload),
-    Replied::BadArg(Which::Offset),
-    Replied::BadArg(Which::Offset),
-];
 
 #[test]
 fn wrong_parts_of_a_reply(rt: HostRuntime) -> Result<(), Fail> {
     let mut node = fresh_node(rt.alloc())?;
     let mut buffer = [5; 8296];
     let payload = [3; 8193];
-    let mut desk = Desk::new(
-        &node.settings,
-        &node.table,
-        &mut node.locks,
-        &mut node.log,
-        0,
-        message(Role::Request, 0, &[5]),
-        &mut buffer,
-    );
-    let wrongly = reply_wrongly(&mut desk, &payload);
-    let sent = desk.close();
-    assert!(rt; wrongly == WRONGLY);
-    assert!(rt; sent.is_none());
+    let asked = message(Role::Request, 0, &[5]);
+    let deeds = wrong_replies(&payload);
+    let left = node.run(0, asked, &mut buffer, &deeds).ok_or("no desk")?;
+    assert!(rt; left.is(None));
     assert_eq!(rt; node.log.count(), 0);
     Ok(())
 }
@@ -497,19 +575,17 @@ fn the_longest_reply(rt: HostRuntime) -> Result<(), Fail> {
     let mut node = fresh_node(rt.alloc())?;
     let mut buffer = [5; 8296];
     let payload = [3; 8192];
-    let mut desk = Desk::new(
-        &node.settings,
-        &node.table,
-        &mut node.locks,
-        &mut node.log,
-        0,
-        message(Role::Request, 0, &[5]),
-        &mut buffer,
-    );
-    let longest = desk.reply_medium(130, &[0; 16], &payload);
-    let reply = desk.close().ok_or("no reply")?;
-    assert_eq!(rt; longest, Replied::Sent);
-    assert_eq!(rt; (reply.count, reply.len), (16, 8296));
+    let asked = message(Role::Request, 0, &[5]);
+    let deeds = [Deed::Medium(130, &[0; 16], &payload, Replied::Sent)];
+    let left = node.run(0, asked, &mut buffer, &deeds).ok_or("no desk")?;
+    let want = Reply {
+        kind: Kind::MediumReply,
+        count: 16,
+        args: [0; 16],
+        len: 8296,
+        ..SHORT
+    };
+    assert!(rt; left.is(Some(&want)));
     Ok(())
 }
 
@@ -517,111 +593,61 @@ fn the_longest_reply(rt: HostRuntime) -> Result<(), Fail> {
 fn a_desk_answers(rt: HostRuntime) -> Result<(), Fail> {
     let mut node = fresh_node(rt.alloc())?;
     let mut buffer = [9; 8296];
-    let mut desk = Desk::new(
-        &node.settings,
-        &node.table,
-        &mut node.locks,
-        &mut node.log,
-        0,
-        message(Role::Request, 0, &[5]),
-        &mut buffer,
-    );
-    let source = desk.source();
-    let count = desk.args().len();
-    let empty = desk.payload().is_empty();
-    let place = desk.place();
-    let polled = desk.attempt(CallKind::Poll);
-    let asked_for_source = desk.attempt(CallKind::Source);
-    let at_the_end = desk.reply_long(130, &[], &[], 4096);
-    let sent = desk.close();
-    assert_eq!(rt; (source, count, empty, place), (0, 1, true, None));
-    assert_eq!(rt; polled, Err(Forbidden::InHandler));
-    assert_eq!(rt; asked_for_source, Ok(()));
-    assert_eq!(rt; at_the_end, Replied::Sent);
-    assert!(rt; sent.is_some());
-    assert_eq!(rt; node.log.count(), 1);
-    assert_eq!(rt; node.log.back(0), of_request(Forbidden::InHandler));
+    let asked = message(Role::Request, 0, &[5]);
+    let deeds = [
+        Deed::Sees(0, 1, 0, None),
+        Deed::Attempt(CallKind::Poll, Err(Forbidden::InHandler)),
+        Deed::Attempt(CallKind::Source, Ok(())),
+        Deed::Long(130, &[], &[], 4096, Replied::Sent),
+    ];
+    let left = node.run(0, asked, &mut buffer, &deeds).ok_or("no desk")?;
+    assert_eq!(rt; left.wrong, None);
+    assert!(rt; left.sent.is_some());
+    assert!(rt; node.noted(1, of_request(Forbidden::InHandler)));
     Ok(())
 }
 
-// A handler that takes a lock that it doesn't list, and replies under one that it lists.
-fn reply_under_lock(desk: &mut Desk<'_>) -> (LockAnswer, LockAnswer, Replied, UnlockAnswer, Replied)
-    requires { IsReadyDesk desk.old }
-{
-    let unlisted = desk.lock(4);
-    let listed = desk.lock(3);
-    let early = desk.reply_short(130, &[]);
-    let freed = desk.unlock(3);
-    let late = desk.reply_short(130, &[]);
-    (unlisted, listed, early, freed, late)
-}
-
+/// A handler that may take lock 3 takes a lock that it doesn't list, and replies under one that it lists.
 #[test]
 fn a_reply_under_a_lock(rt: HostRuntime) -> Result<(), Fail> {
     let mut node = fresh_node(rt.alloc())?;
     let mut buffer = [9; 8296];
-    let mut desk = Desk::new(
-        &node.settings,
-        &node.table,
-        &mut node.locks,
-        &mut node.log,
-        8,
-        message(Role::Request, 0, &[]),
-        &mut buffer,
-    );
-    let (unlisted, listed, early, freed, late) = reply_under_lock(&mut desk);
-    let sent = desk.close();
-    assert_eq!(rt; unlisted, LockAnswer::Refused(LockFault::NotListed));
-    assert_eq!(rt; listed, LockAnswer::Taken);
-    assert_eq!(rt; early, Replied::Forbidden(Forbidden::ReplyUnderLock));
-    assert_eq!(rt; freed, UnlockAnswer::Freed);
-    assert_eq!(rt; late, Replied::Sent);
-    assert!(rt; sent.is_some());
-    assert_eq!(rt; node.log.count(), 2);
-    assert_eq!(rt; node.log.back(0), of_request(Forbidden::ReplyUnderLock));
-    assert_eq!(rt;
-        node.log.back(1),
-        noted(Context::RequestHandler, Fault::Lock(LockFault::NotListed))
-    );
+    let asked = message(Role::Request, 0, &[]);
+    let deeds = [
+        Deed::Lock(4, LockAnswer::Refused(LockFault::NotListed)),
+        Deed::Lock(3, LockAnswer::Taken),
+        Deed::Short(130, &[], Replied::Forbidden(Forbidden::ReplyUnderLock)),
+        Deed::Unlock(3, UnlockAnswer::Freed),
+        Deed::Short(130, &[], Replied::Sent),
+    ];
+    let left = node.run(8, asked, &mut buffer, &deeds).ok_or("no desk")?;
+    assert_eq!(rt; left.wrong, None);
+    assert!(rt; left.sent.is_some());
+    assert!(rt; node.noted(2, of_request(Forbidden::ReplyUnderLock)));
+    let unlisted = noted(Context::RequestHandler, Fault::Lock(LockFault::NotListed));
+    assert!(rt; node.log.back(1) == unlisted);
     Ok(())
 }
 
-// A handler that returns with two locks, after it tried to give them back in the order of locking.
-fn keep_locks(desk: &mut Desk<'_>) -> UnlockAnswer
-    requires { IsReadyDesk desk.old }
-{
-    let _ = desk.lock(0);
-    let _ = desk.lock(63);
-    desk.unlock(0)
-}
-
+/// A handler returns with two locks, after it tried to give them back in the order of locking.
 #[test]
 fn a_return_under_a_lock(rt: HostRuntime) -> Result<(), Fail> {
     let mut node = fresh_node(rt.alloc())?;
     let mut buffer = [9; 8296];
     let asked = message(Role::Reply, 0, &[]);
-    let mut desk = Desk::new(
-        &node.settings,
-        &node.table,
-        &mut node.locks,
-        &mut node.log,
-        0x8000_0000_0000_0001,
-        asked,
-        &mut buffer,
-    );
-    let early = keep_locks(&mut desk);
-    let sent = desk.close();
-    assert_eq!(rt; early, UnlockAnswer::Refused(LockFault::OutOfOrder));
-    assert!(rt; sent.is_none());
-    assert!(rt; !node.locks.holds(Owner::Handler));
-    assert_eq!(rt; node.log.count(), 2);
-    assert_eq!(rt;
-        node.log.back(0),
-        noted(
-            Context::ReplyHandler,
-            Fault::Rule(Forbidden::LockHeldAtReturn)
-        )
-    );
+    let deeds = [
+        Deed::Lock(0, LockAnswer::Taken),
+        Deed::Lock(63, LockAnswer::Taken),
+        Deed::Unlock(0, UnlockAnswer::Refused(LockFault::OutOfOrder)),
+    ];
+    let listed = 0x8000_0000_0000_0001;
+    let left = node
+        .run(listed, asked, &mut buffer, &deeds)
+        .ok_or("no desk")?;
+    assert!(rt; left.is(None));
+    assert!(rt; !left.holds);
+    let held = Fault::Rule(Forbidden::LockHeldAtReturn);
+    assert!(rt; node.noted(2, noted(Context::ReplyHandler, held)));
     Ok(())
 }
 
@@ -654,11 +680,12 @@ fn a_handler_that_does_nothing(rt: HostRuntime) -> Result<(), Fail> {
     let mut segment = segment_of(rt.alloc(), &node.settings)?;
     let mut cells = Cells::new();
     cells.set(3, 4);
+    let mut locks = Locks::new();
     let mut buffer = [9; 8296];
     let mut desk = Desk::new(
         &node.settings,
         &node.table,
-        &mut node.locks,
+        &mut locks,
         &mut node.log,
         0,
         message(Role::Request, 0, &[]),

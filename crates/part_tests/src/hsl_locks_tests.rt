@@ -1,96 +1,118 @@
 //! What no clause says: the words in their plain meaning, call by call.
 
 use hsl_locks::{LOCKS, LockAnswer, LockFault, Locks, Owner, UnlockAnswer};
-use std::test::Fail;
+use std::process::Abort;
 
 const FIRST: Owner = Owner::Thread(0);
 
 const SECOND: Owner = Owner::Thread(1);
 
-#[test]
-fn refuses_in_order(rt: HostRuntime) -> Result<(), Fail> {
+/// A call of the locks, with its answer.
+#[derive(Clone, Copy)]
+enum Deed {
+    /// An owner takes a lock, where a handler lists these.
+    Lock(Owner, u8, u64, LockAnswer),
+    /// It gives it back.
+    Unlock(Owner, u8, UnlockAnswer),
+    /// It gives back all that it holds: so many.
+    ReleaseAll(Owner, usize),
+    /// How many it holds.
+    HeldBy(Owner, usize),
+    /// Whether it holds one.
+    Holds(Owner, bool),
+    /// The smallest lock of these that a thread holds, or none.
+    Blocked(u64, Option<u8>),
+}
+
+/// Whether the call is answered so.
+fn is_answered(locks: &mut Locks, deed: Deed) -> bool {
+    match deed {
+        Deed::Lock(owner, lock, listed, want) => locks.lock(owner, lock, listed) == want,
+        Deed::Unlock(owner, lock, want) => locks.unlock(owner, lock) == want,
+        Deed::ReleaseAll(owner, want) => locks.release_all(owner) == want,
+        Deed::HeldBy(owner, want) => locks.held_by(owner) == want,
+        Deed::Holds(owner, want) => locks.holds(owner) == want,
+        Deed::Blocked(listed, want) => locks.blocked(listed) == want,
+    }
+}
+
+/// Checks that each of these calls is answered so, where no lock is held before.
+fn check(rt: &impl Abort, deeds: &[Deed]) {
     let mut locks = Locks::new();
-    assert_eq!(rt;
-        locks.lock(FIRST, 64, 0),
-        LockAnswer::Refused(LockFault::BadIndex)
-    );
-    assert_eq!(rt;
-        locks.lock(Owner::Handler, 64, 0),
-        LockAnswer::Refused(LockFault::BadIndex)
-    );
-    assert_eq!(rt; locks.lock(FIRST, 1, 0), LockAnswer::Taken);
-    // the handler doesn't list lock 1; where it does, a thread holds it
-    assert_eq!(rt;
-        locks.lock(Owner::Handler, 1, 4),
-        LockAnswer::Refused(LockFault::NotListed)
-    );
-    assert_eq!(rt; locks.lock(Owner::Handler, 1, 2), LockAnswer::Held);
-    assert_eq!(rt; locks.lock(SECOND, 1, 0), LockAnswer::Held);
-    assert_eq!(rt;
-        locks.lock(FIRST, 1, 0),
-        LockAnswer::Refused(LockFault::Recursive)
-    );
-    assert_eq!(rt;
-        locks.unlock(FIRST, 64),
-        UnlockAnswer::Refused(LockFault::BadIndex)
-    );
-    assert_eq!(rt;
-        locks.unlock(SECOND, 1),
-        UnlockAnswer::Refused(LockFault::NotHeld)
-    );
-    assert_eq!(rt; locks.unlock(FIRST, 1), UnlockAnswer::Freed);
-    assert_eq!(rt;
-        locks.unlock(FIRST, 1),
-        UnlockAnswer::Refused(LockFault::NotHeld)
-    );
-    Ok(())
+    for (row, deed) in deeds.iter().enumerate() {
+        assert!(rt; is_answered(&mut locks, *deed), "row {row}");
+    }
 }
 
 #[test]
-fn gives_back_in_reverse(rt: HostRuntime) -> Result<(), Fail> {
-    let mut locks = Locks::new();
-    assert_eq!(rt; locks.lock(FIRST, 5, 0), LockAnswer::Taken);
-    assert_eq!(rt; locks.lock(SECOND, 9, 0), LockAnswer::Taken);
-    assert_eq!(rt; locks.lock(FIRST, 2, 0), LockAnswer::Taken);
-    assert_eq!(rt;
-        locks.unlock(FIRST, 5),
-        UnlockAnswer::Refused(LockFault::OutOfOrder)
-    );
-    // another owner's locks don't count
-    assert_eq!(rt; locks.unlock(SECOND, 9), UnlockAnswer::Freed);
-    assert_eq!(rt; locks.unlock(FIRST, 2), UnlockAnswer::Freed);
-    assert_eq!(rt; locks.unlock(FIRST, 5), UnlockAnswer::Freed);
-    assert_eq!(rt; locks.held_by(FIRST), 0);
-    Ok(())
+fn refuses_in_order(rt: HostRuntime) {
+    let deeds = [
+        Deed::Lock(FIRST, 64, 0, LockAnswer::Refused(LockFault::BadIndex)),
+        Deed::Lock(
+            Owner::Handler,
+            64,
+            0,
+            LockAnswer::Refused(LockFault::BadIndex),
+        ),
+        Deed::Lock(FIRST, 1, 0, LockAnswer::Taken),
+        // the handler doesn't list lock 1; where it does, a thread holds it
+        Deed::Lock(
+            Owner::Handler,
+            1,
+            4,
+            LockAnswer::Refused(LockFault::NotListed),
+        ),
+        Deed::Lock(Owner::Handler, 1, 2, LockAnswer::Held),
+        Deed::Lock(SECOND, 1, 0, LockAnswer::Held),
+        Deed::Lock(FIRST, 1, 0, LockAnswer::Refused(LockFault::Recursive)),
+        Deed::Unlock(FIRST, 64, UnlockAnswer::Refused(LockFault::BadIndex)),
+        Deed::Unlock(SECOND, 1, UnlockAnswer::Refused(LockFault::NotHeld)),
+        Deed::Unlock(FIRST, 1, UnlockAnswer::Freed),
+        Deed::Unlock(FIRST, 1, UnlockAnswer::Refused(LockFault::NotHeld)),
+    ];
+    check(&rt, &deeds);
 }
 
 #[test]
-fn blocks_by_threads_alone(rt: HostRuntime) -> Result<(), Fail> {
-    let mut locks = Locks::new();
-    assert_eq!(rt; locks.lock(Owner::Handler, 0, 1), LockAnswer::Taken);
-    assert_eq!(rt; locks.lock(SECOND, 63, 0), LockAnswer::Taken);
-    assert_eq!(rt; locks.lock(FIRST, 7, 0), LockAnswer::Taken);
-    assert_eq!(rt; locks.blocked(u64::MAX), Some(7));
-    assert_eq!(rt; locks.blocked(1 << 63), Some(63));
-    assert_eq!(rt; locks.blocked(1), None);
-    assert_eq!(rt;
-        (locks.held_by(FIRST), locks.holds(Owner::Handler)),
-        (1, true)
-    );
-    assert_eq!(rt; locks.release_all(Owner::Handler), 1);
-    assert_eq!(rt;
-        (locks.holds(Owner::Handler), locks.holds(SECOND)),
-        (false, true)
-    );
-    Ok(())
+fn gives_back_in_reverse(rt: HostRuntime) {
+    let deeds = [
+        Deed::Lock(FIRST, 5, 0, LockAnswer::Taken),
+        Deed::Lock(SECOND, 9, 0, LockAnswer::Taken),
+        Deed::Lock(FIRST, 2, 0, LockAnswer::Taken),
+        Deed::Unlock(FIRST, 5, UnlockAnswer::Refused(LockFault::OutOfOrder)),
+        // another owner's locks don't count
+        Deed::Unlock(SECOND, 9, UnlockAnswer::Freed),
+        Deed::Unlock(FIRST, 2, UnlockAnswer::Freed),
+        Deed::Unlock(FIRST, 5, UnlockAnswer::Freed),
+        Deed::HeldBy(FIRST, 0),
+    ];
+    check(&rt, &deeds);
 }
 
 #[test]
-fn holds_all_locks(rt: HostRuntime) -> Result<(), Fail> {
+fn blocks_by_threads_alone(rt: HostRuntime) {
+    let deeds = [
+        Deed::Lock(Owner::Handler, 0, 1, LockAnswer::Taken),
+        Deed::Lock(SECOND, 63, 0, LockAnswer::Taken),
+        Deed::Lock(FIRST, 7, 0, LockAnswer::Taken),
+        Deed::Blocked(u64::MAX, Some(7)),
+        Deed::Blocked(1 << 63, Some(63)),
+        Deed::Blocked(1, None),
+        Deed::HeldBy(FIRST, 1),
+        Deed::Holds(Owner::Handler, true),
+        Deed::ReleaseAll(Owner::Handler, 1),
+        Deed::Holds(Owner::Handler, false),
+        Deed::Holds(SECOND, true),
+    ];
+    check(&rt, &deeds);
+}
+
+#[test]
+fn holds_all_locks(rt: HostRuntime) {
     let mut locks = Locks::new();
     for lock in 0..64u8 {
-        assert_eq!(rt; locks.lock(FIRST, lock, 0), LockAnswer::Taken);
+        let taken = Deed::Lock(FIRST, lock, 0, LockAnswer::Taken);
+        assert!(rt; is_answered(&mut locks, taken), "lock {lock}");
     }
-    assert_eq!(rt; locks.release_all(FIRST), LOCKS);
-    Ok(())
+    assert!(rt; is_answered(&mut locks, Deed::ReleaseAll(FIRST, LOCKS)));
 }

@@ -3,6 +3,7 @@ ghost use Rattle.reply_slots.specs.RepliesState.{slot_count, with_reply, JudgesA
 ghost use Rattle.reply_slots.specs.declared.Judged.TheVariants.{New as new_number};
 
 use reply_slots::{BUFFER_BYTES, Judged, ReplySlots};
+use std::process::Abort;
 use std::test::Fail;
 
 fn write_front(message: &[u8], buffer: &mut [u8])
@@ -42,24 +43,68 @@ fn run(table: &mut ReplySlots, slot: u16, number: u64, sealed: bool) -> Judged
     judged
 }
 
+/// A call of a table with two slots of node 1, with its answer.
+#[derive(Clone, Copy)]
+enum Deed<'a> {
+    /// A request of a slot, 0 or 1, with this number is judged; a new one is run, with a sealed reply or none.
+    Runs(u16, u64, bool, Judged),
+    /// A slot, 0 or 1, has this reply, or none.
+    Has(u16, Option<&'a [u8]>),
+    /// It is of the request with this number, or there is none.
+    IsOf(u16, Option<u64>),
+    /// So many buffers are in use.
+    Holds(usize),
+}
+
+/// Whether the call is answered so.
+fn is_answered(table: &mut ReplySlots, deed: Deed<'_>) -> bool
+    requires peer { slot_count table.old 1 ≡ 2 }
+    ensures peer { slot_count table.new 1 ≡ 2 }
+{
+    match deed {
+        Deed::Runs(slot, number, sealed, want) => {
+            slot < 2 && run(table, slot, number, sealed) == want
+        }
+        Deed::Has(slot, want) => slot < 2 && table.bytes(1, slot) == want,
+        Deed::IsOf(slot, want) => slot < 2 && table.number(1, slot) == want,
+        Deed::Holds(want) => table.held() == want,
+    }
+}
+
+/// Checks that each of these calls is answered so.
+fn check(rt: &impl Abort, table: &mut ReplySlots, deeds: &[Deed<'_>])
+    requires peer { slot_count table.old 1 ≡ 2 }
+    ensures peer { slot_count table.new 1 ≡ 2 }
+{
+    for (row, deed) in deeds.iter().enumerate() {
+        assert!(rt; is_answered(table, *deed), "row {row}");
+    }
+}
+
 #[test]
 fn keeps_the_last_reply(rt: HostRuntime) -> Result<(), Fail> {
     let mut table = ReplySlots::new(rt.alloc(), &[2, 2], 0)?;
-    assert_eq!(rt; table.held(), 0);
-    assert!(rt; matches!(run(&mut table, 0, 0, true), Judged::Again));
-    assert_eq!(rt; table.bytes(1, 0), None);
-    assert!(rt; matches!(run(&mut table, 0, 3, true), Judged::New));
-    assert_eq!(rt; table.bytes(1, 0), Some([3].as_slice()));
-    assert!(rt; matches!(run(&mut table, 0, 3, true), Judged::Again));
-    assert!(rt; matches!(run(&mut table, 0, 2, true), Judged::Stale));
-    assert!(rt; matches!(run(&mut table, 1, 2, true), Judged::New));
-    assert_eq!(rt; table.bytes(1, 0), Some([3].as_slice()));
-    assert_eq!(rt; table.held(), 2);
-    assert!(rt; matches!(run(&mut table, 0, 4, false), Judged::New));
-    assert_eq!(rt; table.bytes(1, 0), None);
-    assert_eq!(rt; table.number(1, 0), None);
-    assert_eq!(rt; table.number(1, 1), Some(2));
-    assert_eq!(rt; table.held(), 2);
+    let deeds = [
+        Deed::Holds(0),
+        Deed::Runs(0, 0, true, Judged::Again),
+        Deed::Has(0, None),
+        Deed::Runs(0, 3, true, Judged::New),
+        Deed::Has(0, Some(&[3])),
+        Deed::Runs(0, 3, true, Judged::Again),
+        Deed::Runs(0, 2, true, Judged::Stale),
+        Deed::Runs(1, 2, true, Judged::New),
+        Deed::Has(0, Some(&[3])),
+        Deed::Holds(2),
+    ];
+    check(&rt, &mut table, &deeds);
+    let unsealed = [
+        Deed::Runs(0, 4, false, Judged::New),
+        Deed::Has(0, None),
+        Deed::IsOf(0, None),
+        Deed::IsOf(1, Some(2)),
+        Deed::Holds(2),
+    ];
+    check(&rt, &mut table, &unsealed);
     Ok(())
 }
 

@@ -1,5 +1,8 @@
 //! `node_script`: jobs as they are run, each with the lines that its world says.
 
+ghost use Rattle.std.specs.Prelude.{IfOk};
+ghost use Rattle.job_text.specs.JobText.{IsJob};
+
 use gas_outside::{BufferedSink, MemorySink, Wrote};
 use job_text::read_job;
 use node_script::Script;
@@ -404,30 +407,45 @@ violation 1 request lock-held-at-return
     }]
 }
 
+/// The text of the job of a row.
+fn text_of(alloc: Global, row: &Row) -> Result<String, Fail> {
+    let (head, handlers, schedule) = (HEAD, row.handlers, row.schedule);
+    Ok(format!(in alloc; "{head}{handlers}schedule\n{schedule}end\ndone\n")?)
+}
+
+/// The job of a text.
+fn script_from(alloc: Global, text: &str) -> Result<Script, Fail>
+    ensures { IfOk result IsJob }
+{
+    match read_job(alloc, text.as_bytes()) {
+        Ok(job) => Ok(Script::new(alloc, job)?),
+        Err(_) => Err(Fail::new("the text is no job's")),
+    }
+}
+
+/// Whether the lines of a run are written.
+fn is_written(alloc: Global, script: &Script, sink: &mut BufferedSink<MemorySink>) -> bool
+    requires { IsJob script.now }
+{
+    matches!(run_job(alloc, script, sink), RunEnd::Done { .. })
+}
+
 /// What the run of a job says, without its last line.
-fn said(alloc: Global, row: &Row) -> Result<Vec<u8>, Fail> {
-    let mut text = String::from_str(alloc, HEAD)?;
-    text.push_str(row.handlers)?;
-    text.push_str("schedule\n")?;
-    text.push_str(row.schedule)?;
-    text.push_str("end\ndone\n")?;
-    let Ok(job) = read_job(alloc, text.as_bytes()) else {
-        return Err(Fail::new(row.name));
-    };
-    let script = Script::new(alloc, job)?;
+fn said(alloc: Global, script: &Script) -> Result<Vec<u8>, Fail>
+    requires { IsJob script.now }
+{
     let mut sink = BufferedSink::new(MemorySink::new(alloc, Vec::from_slice(alloc, &[0])?)?);
-    let RunEnd::Done { .. } = run_job(alloc, &script, &mut sink) else {
-        return Err(Fail::new(row.name));
-    };
-    if let Wrote::Fault = sink.flush() {
-        return Err(Fail::new(row.name));
+    if !is_written(alloc, script, &mut sink) || sink.flush() == Wrote::Fault {
+        return Err(Fail::new("a line isn't written"));
     }
     Ok(Vec::from_slice(alloc, sink.into_inner().taken())?)
 }
 
 /// Runs a row, and compares.
 fn check(rt: &(impl Abort + AllocGlobal), row: &Row) -> Result<(), Fail> {
-    let said = said(rt.alloc(), row)?;
+    let text = text_of(rt.alloc(), row)?;
+    let script = script_from(rt.alloc(), text.as_str())?;
+    let said = said(rt.alloc(), &script)?;
     assert_eq!(rt; said.as_slice(), row.said.as_bytes(), "{}", row.name);
     Ok(())
 }
