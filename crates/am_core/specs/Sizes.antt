@@ -1,10 +1,11 @@
 -- How many slots the tables of a core have.
 use Rattle.std.specs.Prelude.{ℕ, ◌≡◌, ◌≢◌, ◌<◌, List, length, Some, slice_get}
 use Rattle.datagram_grammar.specs.Parameters.{Parameters, AreInRange, credits_of}
-use Rattle.credit_slots.specs.SlotsState.{SlotsState, slot_count}
-use Rattle.reply_slots.specs.RepliesState.{RepliesState}
+use Rattle.credit_slots.specs.SlotsState.{SlotsState, slot_count, IsNew}
+use Rattle.reply_slots.specs.RepliesState.{RepliesState, IsNew as IsNewReplies}
 use Rattle.reply_slots.specs.RepliesState.{slot_count as reply_count}
 use Rattle.node_record.specs.declared.answer.Side.{Side}
+use Rattle.node_record.specs.declared.answer.Side.TheVariants as side
 use Rattle.node_record.specs.SlotMessages.{slots_of}
 use Rattle.am_core.specs.CoreState.{CoreState}
 
@@ -29,3 +30,17 @@ pub record AreSlots (settings : Parameters) (me : ℕ) (which : Side) (counts : 
   pub nodes : length counts ≡ settings.nodes
   pub others : (peer : ℕ) → peer < settings.nodes → peer ≢ me
       → slice_get counts peer ≡ Some (slots_of settings me which peer)
+
+-- a table of requests as a core begins with it: as many free slots for each other node as its pair has credits
+pub record AreFreeRequests (settings : Parameters) (me : ℕ) (requests : SlotsState) : Type 0 where
+  pub range : AreInRange settings
+  pub counts : List ℕ
+  pub slots : AreSlots settings me side.Request counts
+  pub new : IsNew counts me settings.last requests
+
+-- a table of replies as a core begins with it: it keeps none, and has a slot for each credit of the pairs to the node
+pub record AreFreeReplies (settings : Parameters) (me : ℕ) (replies : RepliesState) : Type 0 where
+  pub range : AreInRange settings
+  pub counts : List ℕ
+  pub slots : AreSlots settings me side.Reply counts
+  pub new : IsNewReplies counts me replies

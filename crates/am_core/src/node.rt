@@ -26,7 +26,7 @@ ghost use Rattle.am_core.specs.CoreContracts.{AsksOwn, ForItsRecord, resends};
 use crate::answer::{Asked, Delivered, Side, SlotRef, Why};
 use crate::asking::{Asking, Category, Payload};
 use crate::library::Library;
-use crate::slots::{slots_by_peer, slots_of};
+use crate::slots::{free_replies, free_requests, slots_of};
 use credit_slots::CreditSlots;
 use datagram_grammar::{Settings, view};
 use handler_rules::{CallKind, Cells, Context, Fault, Forbidden, Handlers, Log, Table, Violation};
@@ -101,21 +101,25 @@ impl Core {
         ensures segment { IfOk result (λ core. HasSegment core) }
         ensures stands { IfOk result (λ core. Stands core (opening_node nothing_done)) }
     {
-        let nodes = settings.nodes() as usize;
-        let asked = slots_by_peer(settings, me, Side::Request);
-        let ran = slots_by_peer(settings, me, Side::Reply);
+        let lent = Block::new(alloc, 1)?;
+        let desk = Block::new(alloc, 1)?;
+        let log = Log::new(alloc)?;
+        let segment = Segment::new(alloc, settings.segment() as usize)?;
+        let table = table.copy()?;
+        let replies = free_replies(alloc, settings, me)?;
+        let requests = free_requests(alloc, settings, me)?;
         Ok(Core {
             settings: *settings,
             me,
-            table: table.copy()?,
-            requests: CreditSlots::new(alloc, &asked[..nodes], me, settings.last())?,
-            replies: ReplySlots::new(alloc, &ran[..nodes], me)?,
-            segment: Segment::new(alloc, settings.segment() as usize)?,
+            table,
+            requests,
+            replies,
+            segment,
             locks: Locks::new(),
             cells: Cells::new(),
-            log: Log::new(alloc)?,
-            lent: Block::new(alloc, 1)?,
-            desk: Block::new(alloc, 1)?,
+            log,
+            lent,
+            desk,
         })
     }
 

@@ -1,11 +1,14 @@
-//! How many slots a node has for its peers.
+//! The slots that a node has for its peers.
 
-ghost use Rattle.std.specs.Prelude.{◌≡◌, ◌≢◌, ◌<◌, length, take};
+ghost use Rattle.std.specs.Prelude.{◌≡◌, ◌≢◌, ◌<◌, IfOk, length, take};
 ghost use Rattle.node_record.specs.SlotMessages.{slots_of};
-ghost use Rattle.am_core.specs.Sizes.{AreSlots};
+ghost use Rattle.am_core.specs.Sizes.{AreSlots, AreFreeRequests, AreFreeReplies};
 
 use crate::answer::Side;
+use credit_slots::CreditSlots;
 use datagram_grammar::Settings;
+use reply_slots::ReplySlots;
+use std::alloc::{AllocError, Global};
 
 /// The greatest number of nodes.
 const NODES: usize = 256;
@@ -22,7 +25,7 @@ pub(crate) fn slots_of(settings: &Settings, me: u16, side: Side, peer: u16) -> u
 }
 
 /// Those for each other node, by its number; 0 for the node itself, and behind the last node.
-pub(crate) fn slots_by_peer(settings: &Settings, me: u16, side: Side) -> [u16; NODES]
+fn slots_by_peer(settings: &Settings, me: u16, side: Side) -> [u16; NODES]
     ensures { AreSlots settings.now me side (take settings.now.nodes result) }
 {
     let mut counts = [0; NODES];
@@ -32,4 +35,36 @@ pub(crate) fn slots_by_peer(settings: &Settings, me: u16, side: Side) -> [u16; N
         }
     }
     counts
+}
+
+/// The slots of requests to each other node, all free.
+///
+/// It is refused for want of memory alone.
+pub(crate) fn free_requests(
+    alloc: Global,
+    settings: &Settings,
+    me: u16,
+) -> Result<CreditSlots, AllocError>
+    requires { me < settings.now.nodes }
+    ensures { IfOk result (λ requests. AreFreeRequests settings.now me requests) }
+{
+    let nodes = settings.nodes() as usize;
+    let counts = slots_by_peer(settings, me, Side::Request);
+    CreditSlots::new(alloc, &counts[..nodes], me, settings.last())
+}
+
+/// The slots of replies to each other node, which keep none.
+///
+/// It is refused for want of memory alone.
+pub(crate) fn free_replies(
+    alloc: Global,
+    settings: &Settings,
+    me: u16,
+) -> Result<ReplySlots, AllocError>
+    requires { me < settings.now.nodes }
+    ensures { IfOk result (λ replies. AreFreeReplies settings.now me replies) }
+{
+    let nodes = settings.nodes() as usize;
+    let counts = slots_by_peer(settings, me, Side::Reply);
+    ReplySlots::new(alloc, &counts[..nodes], me)
 }

@@ -1,9 +1,9 @@
 //! The machine of a node that records what is written of it: the lines of its steps, and the most that it held.
 
-ghost use Rattle.std.specs.Prelude.{◌≡◌, ◌<◌, IfOk};
+ghost use Rattle.std.specs.Prelude.{◌≡◌, ◌<◌, IfOk, true};
 ghost use Rattle.job_text.specs.JobText.{IsJob};
 ghost use Rattle.check_run.specs.Merging.{ClosesRecorder};
-ghost use Rattle.check_run.specs.Recording.{RecorderStands, opening_record};
+ghost use Rattle.check_run.specs.Recording.{RecorderStands, opening_record, text_of};
 
 use crate::steps::{StepAt, tell_step};
 use gas_endpoint::Endpoint;
@@ -57,6 +57,19 @@ impl<'a> Model for Recorder<'a> {
     }) };
 }
 
+/// The sink in memory behind, with all that went in, where this is the whole text.
+///
+/// It is refused where memory ran out, now or before.
+fn whole_text(mut text: BufferedSink<MemorySink>, whole: bool) -> Result<MemorySink, AllocError>
+    ensures whole { IfOk result (λ sink. whole ≡ true) }
+    ensures taken { IfOk result (λ sink. sink.taken ≡ text_of text) }
+{
+    match text.flush() {
+        Wrote::Done if whole => Ok(text.into_inner()),
+        _ => Err(AllocError),
+    }
+}
+
 impl<'a> Recorder<'a> {
     /// That of node `rank` of the job before all turns.
     ///
@@ -66,8 +79,8 @@ impl<'a> Recorder<'a> {
         requires rank { rank < job.now.settings.nodes }
         ensures { IfOk result (λ recorder. RecorderStands recorder (opening_record job.now rank)) }
     {
-        let node = NodeMachine::new(alloc, job, rank)?;
         let sink = MemorySink::new(alloc, Vec::new(alloc))?;
+        let node = NodeMachine::new(alloc, job, rank)?;
         Ok(Recorder {
             node,
             rank,
@@ -85,21 +98,14 @@ impl<'a> Recorder<'a> {
     {
         let Recorder {
             node,
-            mut text,
+            text,
             whole,
             most,
             ..
         } = self;
-        if !whole {
-            return Err(AllocError);
-        }
-        match text.flush() {
-            Wrote::Done => {
-                let text = text.into_inner();
-                Ok((node.into_endpoint(), NodeReport { text, most }))
-            }
-            Wrote::Fault => Err(AllocError),
-        }
+        let endpoint = node.into_endpoint();
+        let text = whole_text(text, whole)?;
+        Ok((endpoint, NodeReport { text, most }))
     }
 }
 

@@ -73,10 +73,9 @@ impl Endpoint {
         ensures stands { IfOk result (λ e.
             EndpointStands e (opening_node (nothing_begun settings.now))) }
     {
-        Ok(Endpoint {
-            core: Core::new(alloc, settings, me, table)?,
-            extended: Extended::new(alloc, settings, me)?,
-        })
+        let extended = Extended::new(alloc, settings, me)?;
+        let core = Core::new(alloc, settings, me, table)?;
+        Ok(Endpoint { core, extended })
     }
 
     /// One event at the time `now`.

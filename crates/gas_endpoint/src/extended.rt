@@ -80,13 +80,16 @@ impl Extended {
         ensures range { AreInRange settings.now }
     {
         let nodes = settings.nodes();
+        let barrier = Barrier::new(nodes, me)?;
+        let regions = Regions::new(alloc, settings.threads())?;
+        let transfers = Transfers::new(alloc, nodes, most_credits(settings, me))?;
         Ok(Extended {
             nodes,
             me,
-            transfers: Transfers::new(alloc, nodes, most_credits(settings, me))?,
-            regions: Regions::new(alloc, settings.threads())?,
+            transfers,
+            regions,
             registers: [Handle { serial: 0 }; 256],
-            barrier: Barrier::new(nodes, me)?,
+            barrier,
         })
     }
 

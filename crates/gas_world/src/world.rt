@@ -79,12 +79,16 @@ impl World {
     {
         let nodes = settings.nodes();
         let pairs = usize::from(nodes) * usize::from(nodes);
+        let most = vec![in alloc; 0; usize::from(nodes)]?;
+        let exchanges = no_exchanges(alloc, pairs)?;
+        let copy = table.copy()?;
+        let endpoints = opening_endpoints(alloc, settings, table)?;
         Ok(World {
             settings: *settings,
-            table: table.copy()?,
-            endpoints: opening_endpoints(alloc, settings, table)?,
-            exchanges: no_exchanges(alloc, pairs)?,
-            most: vec![in alloc; 0; usize::from(nodes)]?,
+            table: copy,
+            endpoints,
+            exchanges,
+            most,
         })
     }
 

@@ -103,8 +103,8 @@ impl<'a> NodeMachine<'a> {
         requires me { me < job.now.settings.nodes }
         ensures { IfOk result (λ machine. NodeStands machine (opening_state job.now me)) }
     {
-        let endpoint = Endpoint::new(alloc, job.settings(), me, job.table())?;
         let cursors = cursors_of(alloc, job, me)?;
+        let endpoint = Endpoint::new(alloc, job.settings(), me, job.table())?;
         Ok(NodeMachine {
             job,
             endpoint,

@@ -4,8 +4,8 @@ use Rattle.check_run.specs.Recording.{opening_record, text_of}
 use Rattle.check_run.proofs.Turning.{no_text, opened}
 use Rattle.check_run.proofs.recorder.Recorder.new.Goals as goal
 
-pub new-requires : goal.new-requires
-new-requires c = record { job = c.requires.job; me = c.requires.rank }
+pub new-requires-3 : goal.new-requires-3
+new-requires-3 c = record { job = c.requires.job; me = c.requires.rank }
 
 pub invariant_of-result : goal.invariant_of-result
 invariant_of-result c =
