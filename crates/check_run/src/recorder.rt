@@ -104,8 +104,13 @@ impl<'a> Recorder<'a> {
             ..
         } = self;
         let endpoint = node.into_endpoint();
-        let text = whole_text(text, whole)?;
-        Ok((endpoint, NodeReport { text, most }))
+        match whole_text(text, whole) {
+            Ok(text) => Ok((endpoint, NodeReport { text, most })),
+            Err(AllocError) => {
+                drop(endpoint);
+                Err(AllocError)
+            }
+        }
     }
 }
 

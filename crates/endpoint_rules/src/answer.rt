@@ -65,7 +65,7 @@ pub enum Region {
 }
 
 /// What an event of an endpoint is answered.
-#[derive(Clone, Copy, PartialEq, Eq, Debug)]
+#[derive(Clone, Copy, Debug)]
 pub enum Answer {
     /// To a request.
     Asked(Asked),

@@ -41,7 +41,7 @@ pub enum WorldEvent<'a> {
 }
 
 /// What an event of a world is answered.
-#[derive(Clone, Copy, PartialEq, Eq, Debug)]
+#[derive(Clone, Copy, Debug)]
 pub enum WorldAnswer {
     /// The answer of the endpoint on which it fell.
     Node(Answer),

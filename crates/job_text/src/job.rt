@@ -124,7 +124,7 @@ impl Model for BoxedLong {
 
 /// What a transfer of a schedule moves between the own segment and that of the node `to`: `remote` and `local` are
 /// offsets there and here, `len` is how many bytes.
-#[derive(Clone, Copy, Debug, PartialEq, Eq)]
+#[derive(Clone, Copy, Debug)]
 pub enum TransferText {
     /// Bytes of the own segment are written there.
     Put {

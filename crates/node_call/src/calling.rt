@@ -93,7 +93,10 @@ impl NodeEnd {
         ensures { result ≡ node_for self endpoint }
     {
         match self {
-            NodeEnd::NoMemory | NodeEnd::WriteFault => None,
+            NodeEnd::NoMemory | NodeEnd::WriteFault => {
+                drop(endpoint);
+                None
+            }
             _ => Some(endpoint),
         }
     }
@@ -147,7 +150,10 @@ fn ready<'a, L: Link, C>(
             clock,
             patience: job.patience(),
         }),
-        Err(link) => Err(NodeRan::unmade(link, clock)),
+        Err(link) => {
+            drop(machine);
+            Err(NodeRan::unmade(link, clock))
+        }
     }
 }
 

@@ -15,7 +15,7 @@ pub struct Handle {
 
 /// A contiguous transfer to or from another node's segment (GASNet 1.8.1 extended API, put, get and memset). Offsets
 /// and lengths are in bytes; `remote` is an offset into the target's segment and `local` one into the own.
-#[derive(Clone, Copy, Debug, PartialEq, Eq)]
+#[derive(Clone, Copy, Debug)]
 pub enum Transfer {
     /// Bytes of the own segment are written into the target's (gasnet_put).
     Put {
@@ -84,7 +84,7 @@ pub enum Synced {
 pub struct TooMany;
 
 /// A chunk that is to be issued next: `len` bytes from `start` on in the ranges of the transfer.
-#[derive(Clone, Copy, Debug, PartialEq, Eq)]
+#[derive(Clone, Copy, Debug)]
 pub struct Next {
     /// The number of its operation.
     pub number: u64,

@@ -18,7 +18,7 @@ pub struct Trial<'a> {
 }
 
 /// How the try of a step went.
-#[derive(Clone, Copy, PartialEq, Eq, Debug)]
+#[derive(Clone, Copy, Debug)]
 pub struct Tried {
     /// The slot of the message that its call sent, if it sent one.
     pub sent: Option<SlotRef>,

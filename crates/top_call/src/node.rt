@@ -62,7 +62,10 @@ fn say_node<K: Sink>(sink: &mut BufferedSink<K>, end: NodeEnd, node: Option<Endp
         NodeEnd::LinkFault => say(sink, End::LinkFault, given),
         NodeEnd::JournalFull => say(sink, End::JournalFull, given),
         NodeEnd::NoMemory => say(sink, End::NoMemory, given),
-        NodeEnd::WriteFault => Ended::cut(),
+        NodeEnd::WriteFault => {
+            drop(given);
+            Ended::cut()
+        }
     }
 }
 

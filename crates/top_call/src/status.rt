@@ -110,7 +110,10 @@ pub fn say<K: Sink>(sink: &mut BufferedSink<K>, end: End, given: Given) -> Ended
 {
     match write_status(sink, end) {
         Wrote::Done => Ended { end, given },
-        Wrote::Fault => Ended::cut(),
+        Wrote::Fault => {
+            drop(given);
+            Ended::cut()
+        }
     }
 }
 

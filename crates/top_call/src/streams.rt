@@ -7,7 +7,7 @@ ghost use Rattle.top_call.specs.Standard.{streams_seen, uncounted};
 ghost use Rattle.top_call.specs.Outsides.{call_of};
 ghost use Rattle.top_call.specs.TopCall.{IsComplete, LeavesAlone, StatusMeans};
 
-use crate::ending::{End, Given};
+use crate::ending::{End, Ended, Given};
 use crate::outside::Outside;
 use crate::standard::{ReaderSource, WriterSink};
 use crate::status::say;
@@ -71,7 +71,7 @@ pub fn run_streams<
         gate,
     };
     let (status, after) = gasnet(rt, alloc, words, outside);
-    (ExitCode::from(status.code), after)
+    (ExitCode::from(status.into_code()), after)
 }
 
 /// The words of the command line without the program's name, none where they are no text.
@@ -90,8 +90,10 @@ fn words<R: Env + AllocGlobal>(rt: &R) -> Result<Vec<String>, AllocError> {
 /// Says that memory ran out before the words were there.
 fn end_without_words<W: Write + Drop>(writer: W) -> ExitCode {
     let mut sink = BufferedSink::new(WriterSink::new(writer));
-    let ended = say(&mut sink, End::NoMemory, Given::nothing());
-    ExitCode::from(flushed(&mut sink, ended).end.code())
+    let said = say(&mut sink, End::NoMemory, Given::nothing());
+    let Ended { end, given } = flushed(&mut sink, said);
+    drop(given);
+    ExitCode::from(end.code())
 }
 
 /// The whole program but for what a node runs over and is started by: the words of the command line, standard input and

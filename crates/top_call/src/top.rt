@@ -35,7 +35,9 @@ impl Status {
     pub fn into_code(self) -> u8
         ensures { result ≡ self.code }
     {
-        self.code
+        let code = self.code;
+        drop(self);
+        code
     }
 }
 
@@ -49,7 +51,10 @@ pub(crate) fn flushed<K: Sink>(sink: &mut BufferedSink<K>, ended: Ended) -> Ende
     }
     match sink.flush() {
         Wrote::Done => ended,
-        Wrote::Fault => Ended::cut(),
+        Wrote::Fault => {
+            drop(ended);
+            Ended::cut()
+        }
     }
 }
 

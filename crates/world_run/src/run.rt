@@ -39,7 +39,7 @@ fn node_of(event: &WorldEvent<'_>) -> u16
 }
 
 /// Where a line of the output stands.
-#[derive(Clone, Copy, Debug)]
+#[derive(Clone, Copy)]
 struct Place {
     /// Its number, from 1.
     number: u64,
