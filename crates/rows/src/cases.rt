@@ -135,11 +135,7 @@ fn add_row<'a>(
 }
 
 /// Adds what a line of a block says, and answers whether it is a known one.
-fn add_part<'a>(
-    reading: &mut Reading<'a>,
-    word: &str,
-    rest: &'a str,
-) -> Result<bool, AllocError> {
+fn add_part<'a>(reading: &mut Reading<'a>, word: &str, rest: &'a str) -> Result<bool, AllocError> {
     if word == "words" {
         reading.now.words = rest;
         return Ok(true);

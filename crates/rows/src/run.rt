@@ -30,8 +30,14 @@ impl Gate for CaseGate {
 }
 
 /// The outside of a case.
-pub type CaseOutside =
-    Outside<MemorySource, MemorySink, MemoryLink, MemorySpawner, FixedClock, CaseGate>;
+pub type CaseOutside = Outside<
+    MemorySource,
+    MemorySink,
+    MemoryLink,
+    MemorySpawner,
+    FixedClock,
+    CaseGate,
+>;
 
 /// Calls the program as a case says, and tells what came.
 pub fn run<'a, R: Threads + Wait + Sync>(

@@ -127,7 +127,10 @@ fn is_front_of(known: &Known<'_>, written: &[u8]) -> bool {
 /// Tells that the last long text begins with so many bytes.
 fn tell_front(out: &mut String, known: &Known<'_>, count: usize) -> Result<(), AllocError> {
     let (name, whole) = (known.name, known.bytes.len());
-    write!(out, "writes the first {count} of the {whole} bytes of: {name}\n")
+    write!(
+        out,
+        "writes the first {count} of the {whole} bytes of: {name}\n"
+    )
 }
 
 /// Tells the text that was written: its lines, or that it is behind its first one what was read.
