@@ -150,6 +150,10 @@ fn add_part<'a>(reading: &mut Reading<'a>, word: &str, rest: &'a str) -> Result<
         reading.now.in_step = true;
         return Ok(rest == "step");
     }
+    if word == "over" {
+        reading.now.over_streams = true;
+        return Ok(rest == "streams");
+    }
     add_text(reading, word, rest)
 }
 

@@ -18,6 +18,7 @@
 //! - `child 9 NAME` is the next child, which writes that text and ends with that status.
 //! - `waits NAME` is the next datagram that waits on the link.
 //! - `in step` holds the first eight turns of each of two threads until the other has come as often.
+//! - `over streams` makes the call over a reader and a writer of std: its exit status is told as std has it.
 //!
 //! What is written of a call begins with its name and the exit status, and says whether it gives a node. Then stand the
 //! calls of the spawner, the datagrams that the link was sent, and the text that was written, each line behind `|`. A `\`
@@ -32,6 +33,7 @@ mod block;
 mod cases;
 mod lines;
 mod run;
+mod streams;
 mod told;
 
 use block::Kind;
