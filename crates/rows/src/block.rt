@@ -9,8 +9,8 @@ pub enum Kind {
     Text,
     /// A call of the program.
     Case,
-    /// The head of a table.
-    Rows,
+    /// A heading, also that of a table.
+    Heading,
     /// A line that is none of the known ones.
     Unread,
 }
