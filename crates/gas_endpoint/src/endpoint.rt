@@ -19,14 +19,15 @@ ghost use Rattle.endpoint_rules.specs.Called.{meant, called, IsMeantBy};
 ghost use Rattle.endpoint_rules.specs.TransferCalls.{handle_in};
 ghost use Rattle.gas_endpoint.specs.EndpointState.{EndpointStands, ForItsRecord, EndpointSteps, NodeSteps};
 ghost use Rattle.gas_endpoint.specs.EndpointState.{IsNodeOf, MayHappen, MayBeCalled, BytesCome};
-ghost use Rattle.gas_endpoint.specs.EndpointState.{IsTickTarget, WouldAcceptAt};
+ghost use Rattle.gas_endpoint.specs.EndpointState.{IsTickTarget, RunsNone, WouldAcceptAt};
+ghost use Rattle.gas_endpoint.specs.EndpointState.{IsAnsweredAlways, WouldDeliver};
 ghost use Rattle.gas_endpoint.specs.Parts.{CallSteps, kind_of};
 ghost use Rattle.gas_endpoint.specs.Sends.{StepSends};
 
 use crate::calls::kind_of;
 use crate::extended::Extended;
 use crate::memory;
-use am_core::{Core, SlotRef};
+use am_core::{Core, Delivered, SlotRef};
 use datagram_grammar::Settings;
 use endpoint_rules::{Answer, Call, Event, Local, Ticked};
 use handler_rules::{CallKind, Cells, Handlers, Log, Table};
@@ -95,6 +96,8 @@ impl Endpoint {
             (transition now event.now result) self.new }
         ensures sends { StepSends (H.meaning handlers.now) self.old
             (transition now event.now result) }
+        ensures quiet { RunsNone self.old event.now → (meaning : Meaning) → EndpointSteps meaning
+            self.old (transition now event.now result) self.new }
     {
         self.step_as_recorded(handlers, now, event)
     }
@@ -122,6 +125,14 @@ impl Endpoint {
         ensures { IsLastRun self.now.core from slot number result }
     {
         self.core.is_last_run(from, slot, number)
+    }
+
+    /// What a delivery of these bytes would be answered, at any time and whatever the handlers mean. It changes nothing.
+    pub fn would_deliver(&self, bytes: &[u8]) -> Delivered
+        ensures told { WouldDeliver self.now bytes.now result }
+        ensures agrees { IsAnsweredAlways self.now bytes.now result }
+    {
+        self.core.would_deliver(bytes)
     }
 
     /// Whether a request to another node would be accepted at the time `now`: one that a thread makes, or the one that
