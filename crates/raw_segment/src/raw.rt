@@ -8,7 +8,8 @@ use std::alloc::Allocator;
 use std::marker::{Model, PhantomData, Send};
 use std::slice::{from_raw_parts, from_raw_parts_mut};
 
-// The bytes `items`, which lie at `at`. Whoever has them knows how many they are.
+/// The bytes `items`, which lie in one raw allocation at `at`. Whoever has them knows how many they are.
+#[derive(Drop)]
 pub struct Bytes {
     at: *mut u8,
     pub ghost items: { List ℕ },
@@ -39,7 +40,8 @@ unsafe impl<A: Allocator + Send> Send for Lease<A> {}
 
 impl Bytes {
     ghost use Rattle.std.specs.Prelude.{◌≡◌, ◌<◌, ◌^◌, length, replicate, IfSome};
-    ghost use Rattle.std.specs.Borrow.{sem};
+    ghost use Rattle.std.specs.Borrow.{sem, full_share, Array, u8 as byte};
+    ghost use Rattle.std.specs.Ptr.{lies_at};
     ghost use Rattle.raw_segment.specs.Bytes.{IsInside, part};
     ghost use Rattle.raw_segment.specs.RawLending.{LendsRun};
 
@@ -59,6 +61,18 @@ impl Bytes {
             }
             Err(_) => None,
         }
+    }
+
+    /// The `len` zeros that lie at `at`, as pages of the system that nobody touched. None of them is written here.
+    ///
+    /// From now on nobody else reads or writes them, until what has them is dropped: then they are again those of
+    /// whoever reserved them.
+    pub unsafe fn given(at: *mut u8, len: usize) -> Bytes
+        requires few { len < 2 ^ 63 }
+        requires* zeros { sem 𝓛 (lies_at (Array byte len) full_share at (replicate len 0)) }
+        ensures { result.items ≡ replicate len 0 }
+    {
+        Bytes { at }
     }
 
     // Gives the allocation back.
