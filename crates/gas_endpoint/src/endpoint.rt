@@ -1,6 +1,7 @@
 //! One node: its active messages, and the other calls of its threads.
 
 ghost use Rattle.std.specs.Prelude.{◌≤◌, ℕ, ◌≡◌, ◌≢◌, ◌<◌, IfOk, IfSome, None, Some, option_copied, not};
+ghost use Rattle.std.specs.Prelude.{replicate};
 ghost use Rattle.handler_rules.specs.LogState.{log_of};
 ghost use Rattle.handler_rules.specs.Runs.{Meaning, IsLawfulMeaning};
 ghost use Rattle.hsl_locks.specs.Locks.{holds};
@@ -40,7 +41,7 @@ use std::marker::Model;
 /// One node of a job: its requests and runs, its segment, cells and locks, its transfers, access regions, registers of
 /// handles and barrier, and its violations.
 ///
-/// All memory is taken by `new`.
+/// All memory is taken by `new`, or by `with_segment`, which is given the segment.
 #[derive(Drop)]
 pub struct Endpoint {
     core: Core,
@@ -76,6 +77,25 @@ impl Endpoint {
     {
         let extended = Extended::new(alloc, settings, me)?;
         let core = Core::new(alloc, settings, me, table)?;
+        Ok(Endpoint { core, extended })
+    }
+
+    /// The same endpoint, over a segment of zeros that was made before. Where it is refused, the segment is dropped.
+    pub fn with_segment(
+        alloc: Global,
+        settings: &Settings,
+        me: u16,
+        table: &Table,
+        segment: Segment,
+    ) -> Result<Endpoint, AllocError>
+        requires me { me < settings.now.nodes }
+        requires zeros { segment ≡ replicate settings.now.segment 0 }
+        ensures node { IfOk result (IsNodeOf settings.now table.now me) }
+        ensures stands { IfOk result (λ e.
+            EndpointStands e (opening_node (nothing_begun settings.now))) }
+    {
+        let extended = Extended::new(alloc, settings, me)?;
+        let core = Core::with_segment(alloc, settings, me, table, segment)?;
         Ok(Endpoint { core, extended })
     }
 

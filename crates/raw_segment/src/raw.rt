@@ -63,9 +63,9 @@ impl Bytes {
         }
     }
 
-    /// The `len` zeros that lie at `at`, as pages of the system that nobody touched. None of them is written here.
+    /// The `len` zeros that lie at `at`. None of them is written here, so fresh pages of the system cost what is touched.
     ///
-    /// From now on nobody else reads or writes them, until what has them is dropped: then they are again those of
+    /// From now on nobody else reads or writes them, until what has them is dropped. Then they are again those of
     /// whoever reserved them.
     pub unsafe fn given(at: *mut u8, len: usize) -> Bytes
         requires few { len < 2 ^ 63 }
