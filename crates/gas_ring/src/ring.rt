@@ -8,7 +8,7 @@ use am_core::Asked;
 use datagram_grammar::Settings;
 use endpoint_rules::{Answer, Call, Event};
 use gas_endpoint::Endpoint;
-use handler_rules::{Entry, Role, Table};
+use handler_rules::{Entry, Serves, Table};
 use std::alloc::{AllocError, Global};
 use std::marker::Model;
 
@@ -154,11 +154,11 @@ impl RingNode {
 /// The table of all nodes: the token's handler, and the reply's.
 pub fn table(alloc: Global) -> Result<Table, AllocError> {
     let mut table = Table::new(alloc)?;
-    for (index, role) in [(TOKEN, Role::Request), (PASSED, Role::Reply)] {
+    for (index, serves) in [(TOKEN, Serves::Requests), (PASSED, Serves::Replies)] {
         // Both indexes are free in a new table.
         let _ = table.register(Entry {
             index,
-            role,
+            serves,
             locks: 0,
         });
     }
