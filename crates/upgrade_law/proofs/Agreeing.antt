@@ -385,12 +385,7 @@ calls_alike settings version table meaning me worn thread (OnCore call) local = 
         → (all_rules (in_version settings version) table meaning).does me worn thread (OnCore call) local
         ≡ (all_rules settings table meaning).does me worn thread (OnCore call) local
     by_call Poll = refl
-    by_call (Attempt kind) = refl
-    by_call (Lock lock) = refl
-    by_call (Unlock lock) = refl
-    by_call (Cell cell) = refl
-    by_call (SetCell cell value) = refl
-    by_call (OnSegment call) = refl
+    by_call _ = refl
 calls_alike settings version table meaning me worn thread (OnTransfers call) local = refl
 calls_alike settings version table meaning me worn thread (OnBarrier call) local = refl
 
