@@ -3,7 +3,6 @@ use Rattle.std.proofs.Common.{◌≡◌, ℕ, Bool, true, false, true≢false, L
 use Rattle.std.proofs.Common.{◌∙◌}
 use Rattle.std.proofs.Common.{inl, inr, subst}
 use Rattle.std.specs.Prelude.{◌==◌}
-use Rattle.std.specs.Prelude.{Result, Ok, Err}
 use Rattle.std.specs.Option.{option_map, option_to_list}
 use Rattle.std.proofs.lemmas.Bool.{cases_Bool}
 use Rattle.std.proofs.lemmas.Option.{same_Some}
@@ -12,8 +11,6 @@ use Rattle.datagram_grammar.specs.Message.{Message}
 use Rattle.datagram_grammar.specs.Parameters.{Parameters}
 use Rattle.datagram_grammar.specs.Refusals.{first_refusal}
 use Rattle.datagram_grammar.specs.declared.refused.Refused.{Refused as RefusedBytes}
-use Rattle.access_region.specs.Regions.{has_begun, region_of}
-use Rattle.access_region.specs.declared.Region.{Region as BegunRegion}
 use Rattle.hsl_locks.specs.declared.answer.Held.{Held}
 use Rattle.hsl_locks.specs.declared.answer.LockAnswer.{LockAnswer}
 use Rattle.hsl_locks.specs.declared.answer.LockAnswer.TheVariants as locking
@@ -23,7 +20,6 @@ use Rattle.handler_rules.specs.declared.rules.Forbidden.{Forbidden}
 use Rattle.handler_rules.specs.declared.table.Entry.{Entry}
 use Rattle.handler_rules.specs.Runs.{Meaning}
 use Rattle.put_get.specs.declared.operation.Handle.{Handle}
-use Rattle.put_get.specs.declared.operation.Mode.{Mode}
 use Rattle.put_get.specs.declared.operation.Transfer.{Transfer}
 use Rattle.node_record.specs.declared.answer.Asked.{Asked}
 use Rattle.node_record.specs.declared.answer.Asked.TheVariants as asked
@@ -33,7 +29,6 @@ use Rattle.node_record.specs.Record.{Node}
 use Rattle.node_record.specs.Step.{Verdict, Runs, Returns, verdict, after_delivery, request_answer, after_request}
 use Rattle.node_record.specs.Step.{said, with_itself, is_worn_out, TickChoice, Resends, Sends, Rests, tick_choice}
 use Rattle.node_record.specs.Step.{after_tick}
-use Rattle.am_core.specs.ClientRules.{rules}
 use Rattle.am_core.specs.HandlerRuns.{handlers_of, run_reply}
 use Rattle.am_core.specs.Kept.{Local}
 use Rattle.am_core.specs.Library.{note_handler}

@@ -27,7 +27,7 @@ use Rattle.node_record.specs.declared.answer.SlotRef.{SlotRef}
 use Rattle.hsl_locks.specs.declared.answer.Held.{Held}
 use Rattle.lists.proofs.Cases.{none_some, none_is}
 use Rattle.put_get.specs.Operation.{come_back}
-use Rattle.endpoint_rules.specs.CoreCalls.{LocalCall, Poll, Attempt, Lock, Unlock, Cell, SetCell, OnSegment}
+use Rattle.endpoint_rules.specs.CoreCalls.{LocalCall, Poll}
 use Rattle.am_core.specs.Kept.{Local, segment_of, start_of, with_writes}
 use Rattle.am_core.specs.Library.{note_handler, note_said, is_library, has_library, Note}
 use Rattle.am_core.specs.Library.{run_answer, work_content}
