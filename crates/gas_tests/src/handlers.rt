@@ -2,7 +2,7 @@
 
 ghost use Rattle.std.specs.Prelude.{◌≡◌, pos, slice_index_or};
 
-use handler_rules::{CallKind, Cells, Desk, Entry, Handlers, Role, Table};
+use handler_rules::{CallKind, Cells, Desk, Entry, Handlers, Serves, Table};
 use raw_segment::Segment;
 use std::alloc::Global;
 use std::test::Fail;
@@ -159,13 +159,13 @@ impl Handlers for Forbids {
 /// Handlers 128, 129 and 133 for requests, the last of which may take lock 3; 130 for replies.
 pub fn registered(alloc: Global) -> Result<Table, Fail> {
     let mut table = Table::new(alloc)?;
-    for (index, role, locks) in [
-        (128, Role::Request, 0),
-        (129, Role::Request, 0),
-        (130, Role::Reply, 0),
-        (133, Role::Request, 8),
+    for (index, serves, locks) in [
+        (128, Serves::Requests, 0),
+        (129, Serves::Requests, 0),
+        (130, Serves::Replies, 0),
+        (133, Serves::Requests, 8),
     ] {
-        let entry = Entry { index, role, locks };
+        let entry = Entry { index, serves, locks };
         if table.register(entry).is_err() {
             return Err(Fail::new("refused"));
         }

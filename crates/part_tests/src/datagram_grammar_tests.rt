@@ -555,7 +555,7 @@ fn keeps_the_limits_of_the_settings(rt: HostRuntime) -> Result<(), Fail> {
         nodes: 4,
         credits: 32,
         threads: 16,
-        segment: 67_108_864,
+        segment: 1_099_511_627_776,
         ..FEW
     };
     let many = Limits {
@@ -597,7 +597,7 @@ fn keeps_the_limits_of_a_node(rt: HostRuntime) {
     for threads in [0, 17] {
         assert!(rt; !is_allowed(Limits { threads, ..FEW }), "{threads} threads");
     }
-    for (nodes, segment) in [(2, 0), (2, 4097), (1, 67_112_960), (5, 67_108_864)] {
+    for (nodes, segment) in [(2, 0), (2, 4097), (1, 1_099_511_631_872)] {
         let limits = Limits {
             nodes,
             segment,

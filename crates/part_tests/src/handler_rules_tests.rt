@@ -6,24 +6,24 @@ ghost use Rattle.handler_rules.specs.Desks.{IsReadyDesk};
 use datagram_grammar::{Kind, Settings};
 use handler_rules::{
     CallKind, Cells, Context, Desk, Entry, EntryFault, Fault, Forbidden, Handlers, Incoming, Log,
-    Replied, Reply, Role, Table, Violation, Which, allowed,
+    Replied, Reply, Role, Serves, Table, Violation, Which, allowed,
 };
 use hsl_locks::{LockAnswer, LockFault, Locks, Owner, UnlockAnswer};
 use raw_segment::Segment;
 use std::alloc::{AllocError, Global};
 use std::test::Fail;
 
-fn entry(index: u8, role: Role) -> Entry {
+fn entry(index: u8, serves: Serves) -> Entry {
     Entry {
         index,
-        role,
+        serves,
         locks: 0,
     }
 }
 
 // Whether an entry that asks for any index gets this one.
 fn gets(table: &mut Table, index: u8) -> bool {
-    matches!(table.register(entry(0, Role::Reply)), Ok(got) if got == index)
+    matches!(table.register(entry(0, Serves::Replies)), Ok(got) if got == index)
 }
 
 // Whether 128 entries that ask for any index get 128 to 255, in this order.
@@ -40,7 +40,7 @@ fn fills(table: &mut Table) -> bool {
 fn the_129th_entry_is_refused(rt: HostRuntime) -> Result<(), Fail> {
     let mut table = Table::new(rt.alloc())?;
     assert!(rt; fills(&mut table));
-    let refused = table.register(entry(0, Role::Reply));
+    let refused = table.register(entry(0, Serves::Replies));
     assert!(rt; matches!(refused, Err(EntryFault::Full)));
     Ok(())
 }
@@ -49,17 +49,17 @@ fn the_129th_entry_is_refused(rt: HostRuntime) -> Result<(), Fail> {
 fn the_locks_of_all_replies(rt: HostRuntime) -> Result<(), Fail> {
     let mut table = Table::new(rt.alloc())?;
     assert_eq!(rt; table.reply_locks(), 0);
-    for (role, locks) in [(Role::Reply, 6), (Role::Request, 16), (Role::Reply, 12)] {
+    for (serves, locks) in [(Serves::Replies, 6), (Serves::Requests, 16), (Serves::Both, 12)] {
         let asked = Entry {
             locks,
-            ..entry(0, role)
+            ..entry(0, serves)
         };
         assert!(rt; table.register(asked).is_ok());
     }
     assert_eq!(rt;
         table.register(Entry {
             locks: 32,
-            ..entry(128, Role::Reply)
+            ..entry(128, Serves::Replies)
         }),
         Err(EntryFault::Taken)
     );
@@ -71,25 +71,25 @@ fn the_locks_of_all_replies(rt: HostRuntime) -> Result<(), Fail> {
 #[test]
 fn registers_entries(rt: HostRuntime) -> Result<(), Fail> {
     let mut table = Table::new(rt.alloc())?;
-    assert_eq!(rt; table.register(entry(129, Role::Request)), Ok(129));
-    assert_eq!(rt; table.register(entry(0, Role::Reply)), Ok(128));
-    assert_eq!(rt; table.register(entry(0, Role::Reply)), Ok(130));
-    assert_eq!(rt; table.register(entry(255, Role::Reply)), Ok(255));
+    assert_eq!(rt; table.register(entry(129, Serves::Requests)), Ok(129));
+    assert_eq!(rt; table.register(entry(0, Serves::Replies)), Ok(128));
+    assert_eq!(rt; table.register(entry(0, Serves::Replies)), Ok(130));
+    assert_eq!(rt; table.register(entry(255, Serves::Replies)), Ok(255));
     assert_eq!(rt;
-        table.register(entry(1, Role::Reply)),
+        table.register(entry(1, Serves::Replies)),
         Err(EntryFault::Reserved)
     );
     assert_eq!(rt;
-        table.register(entry(127, Role::Reply)),
+        table.register(entry(127, Serves::Replies)),
         Err(EntryFault::Reserved)
     );
     assert_eq!(rt;
-        table.register(entry(128, Role::Reply)),
+        table.register(entry(128, Serves::Replies)),
         Err(EntryFault::Taken)
     );
     let copy = table.copy()?;
-    assert_eq!(rt; copy.entry(129), Some(entry(129, Role::Request)));
-    assert_eq!(rt; copy.entry(130), Some(entry(130, Role::Reply)));
+    assert_eq!(rt; copy.entry(129), Some(entry(129, Serves::Requests)));
+    assert_eq!(rt; copy.entry(130), Some(entry(130, Serves::Replies)));
     assert_eq!(rt; copy.entry(131), None);
     assert_eq!(rt; copy.entry(64), None);
     Ok(())
@@ -244,8 +244,8 @@ const LONG_REPLY: [u8; 46] =
 // Handler 129 for requests, 130 for replies.
 fn registered(alloc: Global) -> Result<Table, Fail> {
     let mut table = Table::new(alloc)?;
-    if table.register(entry(129, Role::Request)).is_ok()
-        && table.register(entry(130, Role::Reply)).is_ok()
+    if table.register(entry(129, Serves::Requests)).is_ok()
+        && table.register(entry(130, Serves::Replies)).is_ok()
     {
         return Ok(table);
     }

@@ -1,9 +1,9 @@
 use Rattle.std.proofs.Common.{◌≡◌, Option, Some, subst}
 use Rattle.endpoint_rules.specs.EndpointRules.{Records}
 use Rattle.job_text.specs.declared.job.TimedEvent.{TimedEvent}
-use Rattle.node_script.specs.declared.line.Line.{Line}
-use Rattle.node_script.specs.ScheduleLine.{IsLine, IsLineOf}
-use Rattle.node_script.proofs.script.Script.line.Goals as goal
+use Rattle.world_run.specs.declared.schedule_line.Line.{Line}
+use Rattle.world_run.specs.ScheduleLine.{IsLine, IsLineOf}
+use Rattle.world_run.proofs.schedule_line.line_at.Goals as goal
 
 -- a line that is there
 some_line : (w : Records) (o : Option TimedEvent) (e : TimedEvent) (line : Line) → Some e ≡ o → IsLineOf w e line

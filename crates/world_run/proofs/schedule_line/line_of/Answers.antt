@@ -1,9 +1,9 @@
 use Rattle.std.proofs.Common.{◌∙◌, refl, sym, ap, Some, List, ℤ}
 use Rattle.endpoint_rules.specs.Called.{Meant, event_at}
 use Rattle.node_script.specs.ScheduledCalls.{meant_by}
-use Rattle.node_script.proofs.CallsAmong.{call_among}
-use Rattle.node_script.proofs.line.line_of.Goals.{in-Call, in-Request, in-Reply, in-Tick}
-use Rattle.node_script.proofs.line.line_of.Goals as goal
+use Rattle.world_run.proofs.CallsAmong.{call_among}
+use Rattle.world_run.proofs.schedule_line.line_of.Goals.{in-Call, in-Request, in-Reply, in-Tick}
+use Rattle.world_run.proofs.schedule_line.line_of.Goals as goal
 
 pub returns-clause-line : goal.returns-clause-line
 returns-clause-line c w most stands = (

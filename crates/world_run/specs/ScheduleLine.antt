@@ -3,15 +3,13 @@ use Rattle.std.specs.Prelude.{ℕ, ◌≡◌, ◌<◌, Option, Some, None}
 use Rattle.datagram_grammar.specs.Parameters.{Parameters}
 use Rattle.plain_world.specs.World.{IsAmong}
 use Rattle.endpoint_rules.specs.EndpointRules.{Records}
-use Rattle.endpoint_rules.specs.declared.call.Call.{Call}
-use Rattle.gas_endpoint.specs.EndpointState.{MayBeCalled}
 use Rattle.gas_world.specs.Aims.{MayFall}
 use Rattle.gas_world.specs.Events.{event_of}
-use Rattle.node_script.specs.Schedules.{scheduled_event}
+use Rattle.world_run.specs.Schedules.{scheduled_event}
 use Rattle.job_text.specs.declared.job.TimedEvent.{TimedEvent}
 use Rattle.job_text.specs.declared.job.ScheduledEvent.TheVariants as scheduled
-use Rattle.node_script.specs.declared.line.Line.{Line}
-use Rattle.node_script.specs.declared.line.Line.TheVariants as lines
+use Rattle.world_run.specs.declared.schedule_line.Line.{Line}
+use Rattle.world_run.specs.declared.schedule_line.Line.TheVariants as lines
 
 -- a line of a schedule, where the nodes have these records: its time, and its event or its rounds
 abbrev pub IsLineOf : Records → TimedEvent → Line → Type 0
@@ -29,10 +27,6 @@ IsLine records _ _ = ⊥
 abbrev pub NamesNodes : Parameters → Line → Type 0
 NamesNodes settings (lines.Event now event) = IsAmong settings (event_of event)
 NamesNodes settings (lines.Settle now rounds) = Unit {0}
-
--- each thread that is there may make the call
-abbrev pub IsCallable : Call → Type 0
-IsCallable call = (settings : Parameters) (thread : ℕ) → thread < settings.threads → MayBeCalled settings thread call
 
 -- the thread that calls is there, and a list of registers isn't too long, as a step of a world wants
 abbrev pub MayBeTaken : Parameters → Line → Type 0
