@@ -37,26 +37,41 @@ mod run;
 mod streams;
 mod told;
 
-use block::Kind;
+use block::{Block, Kind};
 use cases::blocks_of;
 use run::run;
 use std::io;
+use std::sync::Wait;
+use std::thread::Threads;
 use told::Known;
 
 fn main(rt: HostRuntime) -> io::Result<()> {
-    let alloc = rt.alloc();
-    let text = io::read_to_string(alloc, rt.reader())?;
-    let mut known = Known::new(alloc);
-    for block in blocks_of(alloc, &text)? {
-        match block.kind {
-            Kind::Text => {}
-            Kind::Heading => println!(rt; "{}", block.name)?,
-            Kind::Unread => println!(rt; "not understood: {}", block.name)?,
-            Kind::Case => {
-                let said = run(&rt, alloc, block, &mut known)?;
-                print!(rt; "{said}")?;
-            }
-        }
+    let text = io::read_to_string(rt.alloc(), rt.reader())?;
+    run_all(&rt, &text)
+}
+
+/// Runs the cases of a text.
+fn run_all<R: Threads + Wait + Sync + AllocGlobal + Print>(rt: &R, text: &str) -> io::Result<()> {
+    let mut known = Known::new(rt.alloc());
+    for block in blocks_of(rt.alloc(), text)? {
+        write_block(rt, block, &mut known)?;
     }
     Ok(())
+}
+
+/// Writes a heading, or what comes of a case.
+fn write_block<'a, R: Threads + Wait + Sync + AllocGlobal + Print>(
+    rt: &R,
+    block: Block<'a>,
+    known: &mut Known<'a>,
+) -> io::Result<()> {
+    match block.kind {
+        Kind::Text => Ok(()),
+        Kind::Heading => println!(rt; "{}", block.name),
+        Kind::Unread => println!(rt; "not understood: {}", block.name),
+        Kind::Case => {
+            let said = run(rt, rt.alloc(), block, known)?;
+            print!(rt; "{said}")
+        }
+    }
 }
