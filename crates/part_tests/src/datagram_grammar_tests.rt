@@ -1,8 +1,7 @@
-//! The layout's vectors, the table of refusals in its order, barrier notes, and the limits of the settings.
+//! The layout's vectors, the table of refusals in its order, barrier notes, and settings.
 
 ghost use Rattle.std.specs.Prelude.{◌≡◌, ◌<◌, ◌≤◌, true};
 ghost use Rattle.datagram_grammar.specs.Content.{is_version};
-ghost use Rattle.datagram_grammar.specs.Notes.{most_nodes};
 
 use datagram_grammar::{
     Address, BarrierNote, Kind, Outgoing, Refused, Settings, View, ack, args_note, long_reply,
@@ -63,81 +62,57 @@ const SECOND_GET: [u8; 60] =
 const SECOND_GOT: [u8; 44] =
     *b"\x47\x41\x4d\x32\x05\x44\0\0\0\0\0\0\0\0\0\x07\0\x01\0\0\0\0\0\x04\0\0\0\0\0\0\0\x01\0\0\0\0\0\0\0\x64\x09\x09\x09\x09";
 
-/// The parts of `REQUEST`.
-const REQUEST_PARTS: Outgoing<'static> = Outgoing {
-    version: 1,
-    kind: Kind::ShortRequest,
-    job: 7,
-    from: 0,
-    to: 1,
-    slot: 0,
-    number: 1,
-    handler: 128,
-    args: &[5],
-    offset: 0,
-    payload: &[],
-};
+/// The parts of a message of job 7 with number 1: a request of node 0 to node 1, or what comes back.
+fn parts<'a>(
+    kind: Kind,
+    handler: u8,
+    args: &'a [i32],
+    offset: u64,
+    payload: &'a [u8],
+) -> Outgoing<'a> {
+    let (from, to) = match kind {
+        Kind::ShortRequest | Kind::MediumRequest | Kind::LongRequest => (0, 1),
+        _ => (1, 0),
+    };
+    Outgoing {
+        version: 1,
+        kind,
+        job: 7,
+        from,
+        to,
+        slot: 0,
+        number: 1,
+        handler,
+        args,
+        offset,
+        payload,
+    }
+}
 
 /// The parts of `ACK`.
-const ACK_PARTS: Outgoing<'static> = Outgoing {
-    kind: Kind::Ack,
-    from: 1,
-    to: 0,
-    handler: 0,
-    args: &[],
-    ..REQUEST_PARTS
-};
+fn ack_parts() -> Outgoing<'static> {
+    parts(Kind::Ack, 0, &[], 0, &[])
+}
 
 /// The parts of `GET`.
-const GET_PARTS: Outgoing<'static> = Outgoing {
-    handler: 65,
-    args: &[0, 0, 4, 0, 100],
-    ..REQUEST_PARTS
-};
+fn get_parts() -> Outgoing<'static> {
+    parts(Kind::ShortRequest, 65, &[0, 0, 4, 0, 100], 0, &[])
+}
 
 /// The parts of `GOT`.
-const GOT_PARTS: Outgoing<'static> = Outgoing {
-    kind: Kind::LongReply,
-    handler: 68,
-    offset: 100,
-    payload: &[9; 4],
-    ..ACK_PARTS
-};
+fn got_parts() -> Outgoing<'static> {
+    parts(Kind::LongReply, 68, &[], 100, &[9; 4])
+}
+
+/// The parts of `REQUEST`.
+fn request_parts() -> Outgoing<'static> {
+    parts(Kind::ShortRequest, 128, &[5], 0, &[])
+}
 
 /// The parts of `MEDIUM`.
-const MEDIUM_PARTS: Outgoing<'static> = Outgoing {
-    kind: Kind::MediumRequest,
-    handler: 131,
-    args: &[1],
-    payload: &[10, 11],
-    ..REQUEST_PARTS
-};
-
-/// The parts of `LONG`.
-const LONG_PARTS: Outgoing<'static> = Outgoing {
-    kind: Kind::LongRequest,
-    handler: 131,
-    args: &[],
-    offset: 0x1_0000_0005,
-    payload: &[12],
-    ..REQUEST_PARTS
-};
-
-/// The parts of `REPLY`.
-const REPLY_PARTS: Outgoing<'static> = Outgoing {
-    kind: Kind::ShortReply,
-    handler: 129,
-    args: &[-2],
-    ..ACK_PARTS
-};
-
-/// The parts of `MEDIUM_REPLY`.
-const MEDIUM_REPLY_PARTS: Outgoing<'static> = Outgoing {
-    kind: Kind::MediumReply,
-    handler: 130,
-    payload: &[13],
-    ..ACK_PARTS
-};
+fn medium_parts() -> Outgoing<'static> {
+    parts(Kind::MediumRequest, 131, &[1], 0, &[10, 11])
+}
 
 /// The same parts in version 2.
 fn in_second<'a>(parts: Outgoing<'a>) -> Outgoing<'a> {
@@ -215,13 +190,6 @@ fn is_written(parts: &Outgoing<'_>, want: &[u8]) -> bool {
     }
 }
 
-/// What is read of the bytes of a version.
-fn viewed(bytes: &[u8], version: u8) -> Result<View<'_>, Refused>
-    requires { is_version version ≡ true }
-{
-    view(bytes, version)
-}
-
 /// Whether what is read has these arguments alone.
 fn has_args(read: &View<'_>, args: &[i32]) -> bool {
     for (i, arg) in args.iter().enumerate() {
@@ -246,32 +214,44 @@ fn is_read(bytes: &[u8], want: &Outgoing<'_>) -> bool {
     if !is_known(want.version) {
         return false;
     }
-    match viewed(bytes, want.version) {
+    match view(bytes, want.version) {
         Ok(read) => has_parts(&read, want),
         Err(_) => false,
     }
 }
 
-/// Whether the bytes are refused so.
-fn is_refused(bytes: &[u8], version: u8, want: Refused) -> bool
-    requires { is_version version ≡ true }
-{
-    match viewed(bytes, version) {
-        Ok(_) => false,
-        Err(refusal) => refusal == want,
-    }
+/// Whether the message is written as these bytes, and read from them.
+fn is_spelled_so(parts: &Outgoing<'_>, bytes: &[u8]) -> bool {
+    is_written(parts, bytes) && is_read(bytes, parts)
 }
 
 #[test]
-fn writes_each_kind(rt: HostRuntime) {
-    assert!(rt; is_written(&REQUEST_PARTS, &REQUEST));
-    assert!(rt; is_written(&GET_PARTS, &GET));
-    assert!(rt; is_written(&MEDIUM_PARTS, &MEDIUM));
-    assert!(rt; is_written(&LONG_PARTS, &LONG));
-    assert!(rt; is_written(&REPLY_PARTS, &REPLY));
-    assert!(rt; is_written(&MEDIUM_REPLY_PARTS, &MEDIUM_REPLY));
-    assert!(rt; is_written(&GOT_PARTS, &GOT));
-    assert!(rt; is_written(&ACK_PARTS, &ACK));
+fn writes_and_reads_each_kind(rt: HostRuntime) {
+    let long = parts(Kind::LongRequest, 131, &[], 0x1_0000_0005, &[12]);
+    let reply = parts(Kind::ShortReply, 129, &[-2], 0, &[]);
+    let medium_reply = parts(Kind::MediumReply, 130, &[], 0, &[13]);
+    assert!(rt; is_spelled_so(&request_parts(), &REQUEST));
+    assert!(rt; is_spelled_so(&get_parts(), &GET));
+    assert!(rt; is_spelled_so(&medium_parts(), &MEDIUM));
+    assert!(rt; is_spelled_so(&long, &LONG));
+    assert!(rt; is_spelled_so(&reply, &REPLY));
+    assert!(rt; is_spelled_so(&medium_reply, &MEDIUM_REPLY));
+    assert!(rt; is_spelled_so(&got_parts(), &GOT));
+    assert!(rt; is_spelled_so(&ack_parts(), &ACK));
+}
+
+#[test]
+fn writes_and_reads_the_second_version(rt: HostRuntime) {
+    let note = Outgoing {
+        from: 64,
+        to: 65,
+        ..parts(Kind::ShortRequest, 67, &TOLD_ARGS, 0, &[])
+    };
+    assert!(rt; is_spelled_so(&in_second(request_parts()), &SECOND));
+    assert!(rt; is_spelled_so(&in_second(get_parts()), &SECOND_GET));
+    assert!(rt; is_spelled_so(&in_second(got_parts()), &SECOND_GOT));
+    assert!(rt; is_spelled_so(&in_second(ack_parts()), &SECOND_ACK));
+    assert!(rt; is_spelled_so(&in_second(note), &NOTE));
 }
 
 /// The length of well-formed parts that are written at the front of a buffer with room for them.
@@ -291,47 +271,16 @@ fn is_written_again(parts: &Outgoing<'_>, buffer: &mut [u8]) -> bool {
 #[test]
 fn writes_where_there_is_room(rt: HostRuntime) {
     let mut buffer = [9; 46];
-    assert_eq!(rt; written(&MEDIUM_PARTS, &mut buffer[..45]), None);
-    assert_eq!(rt; written(&MEDIUM_PARTS, &mut buffer), Some(46));
-    assert!(rt; buffer == MEDIUM);
-    assert!(rt; is_written_again(&MEDIUM_PARTS, &mut buffer));
-    assert_eq!(rt; written(&ACK_PARTS, &mut buffer), Some(40));
-    assert!(rt; buffer.starts_with(&ACK));
-    assert_eq!(rt; buffer[45], 11);
+    assert!(rt; written(&ack_parts(), &mut buffer) == Some(40));
+    assert!(rt; buffer.starts_with(&ACK) && buffer[40] == 9);
+    assert!(rt; is_written_again(&medium_parts(), &mut buffer));
 }
 
-#[test]
-fn tells_what_is_well_formed(rt: HostRuntime) {
-    let third = Outgoing {
-        version: 3,
-        ..MEDIUM_PARTS
-    };
-    let placed = Outgoing {
-        offset: 1,
-        ..MEDIUM_PARTS
-    };
-    let handled = Outgoing {
-        handler: 1,
-        ..ACK_PARTS
-    };
-    assert!(rt; MEDIUM_PARTS.well_formed());
-    assert!(rt; !third.well_formed() && !placed.well_formed() && !handled.well_formed());
-}
-
-#[test]
-fn reads_the_vectors(rt: HostRuntime) {
-    assert!(rt; is_read(&REQUEST, &REQUEST_PARTS));
-    assert!(rt; is_read(&ACK, &ACK_PARTS));
-    assert!(rt; is_read(&GET, &GET_PARTS));
-    assert!(rt; is_read(&GOT, &GOT_PARTS));
-}
-
-#[test]
-fn reads_each_kind(rt: HostRuntime) {
-    assert!(rt; is_read(&MEDIUM, &MEDIUM_PARTS));
-    assert!(rt; is_read(&LONG, &LONG_PARTS));
-    assert!(rt; is_read(&REPLY, &REPLY_PARTS));
-    assert!(rt; is_read(&MEDIUM_REPLY, &MEDIUM_REPLY_PARTS));
+/// Why the bytes are refused, or none.
+fn refusal(bytes: &[u8], version: u8) -> Option<Refused>
+    requires { is_version version ≡ true }
+{
+    view(bytes, version).err()
 }
 
 /// The request in this version, with another byte at a place.
@@ -343,15 +292,6 @@ fn changed(version: u8, at: usize, byte: u8) -> [u8; 44]
     bytes[3] = 0x30 + version;
     bytes[at] = byte;
     bytes
-}
-
-#[test]
-fn reads_each_version_alone(rt: HostRuntime) {
-    let second = changed(2, 0, 0x47);
-    assert!(rt; is_read(&second, &in_second(REQUEST_PARTS)));
-    assert!(rt; is_refused(&second, 1, Refused::Magic));
-    assert!(rt; is_refused(&REQUEST, 2, Refused::Magic));
-    assert!(rt; is_written(&in_second(REQUEST_PARTS), &second));
 }
 
 /// The first refusal of the table that applies, for one byte of the request.
@@ -374,46 +314,48 @@ const ROWS: [(usize, u8, Refused); 15] = [
 ];
 
 /// Whether the request is refused so in this version, with each change of one byte.
-fn are_refused(version: u8, rows: &[(usize, u8, Refused)]) -> bool
+fn are_refused(version: u8) -> bool
     requires known { is_version version ≡ true }
     requires low { version ≤ 2 }
 {
-    for (at, byte, want) in rows {
-        if *at >= 44 || !is_refused(&changed(version, *at, *byte), version, *want) {
+    for (at, byte, want) in &ROWS {
+        if *at >= 44 || refusal(&changed(version, *at, *byte), version) != Some(*want) {
             return false;
         }
     }
     true
 }
 
-/// Whether the refusals come in the order of the table, in this version.
-fn is_in_order(version: u8) -> bool
-    requires known { is_version version ≡ true }
-    requires low { version ≤ 2 }
-{
-    let mut both = changed(version, 0, 0x48);
-    both[4] = 7;
-    let bytes = changed(version, 31, 1);
-    let mut longer = [0; 45];
-    longer[..44].copy_from_slice(&bytes);
-    are_refused(version, &ROWS)
-        && is_refused(&both, version, Refused::Magic)
-        && is_refused(&longer, version, Refused::Trailing(44))
-}
-
 #[test]
 fn refuses_in_order(rt: HostRuntime) {
-    assert!(rt; is_in_order(1));
-    assert!(rt; is_in_order(2));
-    assert!(rt; is_refused(&REQUEST[..39], 1, Refused::Short(39)));
-    assert!(rt; is_refused(&REQUEST[..43], 1, Refused::Cut(43)));
-    assert!(rt; is_refused(&SECOND[..39], 2, Refused::Short(39)));
-    assert!(rt; is_refused(&SECOND[..43], 2, Refused::Cut(43)));
+    assert!(rt; are_refused(1) && are_refused(2));
+    let mut both = changed(1, 0, 0x48);
+    both[4] = 7;
+    let mut longer = [0; 45];
+    longer[..44].copy_from_slice(&SECOND);
     let mut paid = MEDIUM;
     paid[22] = 0x20;
-    assert!(rt; is_refused(&paid, 1, Refused::Length));
-    paid[23] = 0;
-    assert!(rt; is_refused(&paid, 1, Refused::Cut(46)));
+    let refusals = [
+        refusal(&both, 1),
+        refusal(&longer, 2),
+        refusal(&paid, 1),
+        refusal(&REQUEST[..39], 1),
+        refusal(&SECOND[..43], 2),
+        refusal(&SECOND, 1),
+        refusal(&REQUEST, 2),
+    ];
+    assert!(rt;
+        refusals
+            == [
+                Some(Refused::Magic),
+                Some(Refused::Trailing(44)),
+                Some(Refused::Length),
+                Some(Refused::Short(39)),
+                Some(Refused::Cut(43)),
+                Some(Refused::Magic),
+                Some(Refused::Magic),
+            ]
+    );
 }
 
 /// The note of `NOTE`.
@@ -427,41 +369,6 @@ const TOLD: BarrierNote = BarrierNote {
 /// The arguments of `NOTE`.
 const TOLD_ARGS: [i32; 12] = [0, 0, 0, 0, 1, 0, 0, 0, 0, 0, 5, 0];
 
-/// The note that arguments spell among so many nodes, in a version.
-fn note_of(args: &[i32], nodes: u16, version: u8) -> Option<BarrierNote>
-    requires version { is_version version ≡ true }
-    requires nodes { nodes ≤ most_nodes version }
-{
-    args_note(args, nodes, version)
-}
-
-/// How many arguments a note has in a version, and these, with what was in the row behind them.
-fn told(note: &BarrierNote, version: u8, mut args: [i32; 12]) -> (usize, [i32; 12])
-    requires { is_version version ≡ true }
-{
-    let count = note_args(note, version, &mut args);
-    (count, args)
-}
-
-#[test]
-fn reads_and_writes_a_wide_note(rt: HostRuntime) {
-    let (count, written) = told(&TOLD, 2, [9; 12]);
-    assert_eq!(rt; count, 12);
-    assert!(rt; written == TOLD_ARGS);
-    let parts = Outgoing {
-        version: 2,
-        from: 64,
-        to: 65,
-        handler: 67,
-        args: &TOLD_ARGS,
-        ..REQUEST_PARTS
-    };
-    assert!(rt; is_read(&NOTE, &parts));
-    assert!(rt; is_written(&parts, &NOTE));
-    assert!(rt; note_of(&TOLD_ARGS, 66, 2) == Some(TOLD));
-    assert!(rt; note_of(&TOLD_ARGS, 64, 2).is_none());
-}
-
 /// A note of version 1 with each of its parts.
 const NARROW: BarrierNote = BarrierNote {
     phase: 0x1_0000_0002,
@@ -471,227 +378,24 @@ const NARROW: BarrierNote = BarrierNote {
 };
 
 #[test]
-fn reads_and_writes_narrow_notes(rt: HostRuntime) {
-    let (count, mut args) = told(&NARROW, 1, [9; 12]);
-    assert_eq!(rt; count, 6);
+fn reads_and_writes_notes(rt: HostRuntime) {
+    let mut args = [9; 12];
+    assert!(rt; note_args(&NARROW, 1, &mut args) == 6);
     assert!(rt; args == [1, 2, 1, -0x7fff_fffe, -7, 3, 9, 9, 9, 9, 9, 9]);
-    assert!(rt; note_of(&args[..6], 64, 1) == Some(NARROW));
-    assert!(rt; note_of(&args[..6], 63, 1).is_none());
-    assert!(rt; note_of(&args[..5], 64, 1).is_none());
-    assert!(rt; note_of(&args, 64, 1).is_none());
-    assert!(rt; note_of(&args[..6], 64, 2).is_none());
-    for flags in [-1, 4] {
-        args[5] = flags;
-        assert!(rt; note_of(&args[..6], 64, 1).is_none(), "flags {flags}");
-    }
+    assert!(rt; args_note(&args[..6], 64, 1) == Some(NARROW));
+    assert!(rt; note_args(&TOLD, 2, &mut args) == 12);
+    assert!(rt; args == TOLD_ARGS);
+    assert!(rt; args_note(&args, 66, 2) == Some(TOLD));
     assert!(rt; noted_again(&TOLD, 66, 2) == Some(TOLD));
 }
 
-/// What settings are to be.
-#[derive(Clone, Copy)]
-struct Limits {
-    version: u8,
-    nodes: u16,
-    credits: u16,
-    threads: u16,
-    segment: u64,
-    last: u64,
-    resend: u64,
-}
-
-/// Settings of two nodes with the least of each number.
-const FEW: Limits = Limits {
-    version: 1,
-    nodes: 2,
-    credits: 1,
-    threads: 1,
-    segment: 4096,
-    last: 1,
-    resend: 1,
-};
-
-/// Settings of a job.
-fn settings(job: u64, limits: Limits) -> Option<Settings> {
-    Settings::new(
-        limits.version,
-        job,
-        limits.nodes,
-        limits.credits,
-        limits.threads,
-        limits.segment,
-        limits.last,
-        limits.resend,
-    )
-}
-
-/// Whether there are such settings of job 7.
-fn is_allowed(limits: Limits) -> bool {
-    settings(7, limits).is_some()
-}
-
-/// Whether the settings are these ones of job 0.
-fn is_set(settings: &Settings, limits: Limits) -> bool {
-    (settings.version() == limits.version && settings.job() == 0)
-        && (settings.nodes() == limits.nodes && settings.threads() == limits.threads)
-        && (settings.segment() == limits.segment && settings.last() == limits.last)
-        && settings.resend() == limits.resend
-}
-
 #[test]
-fn keeps_the_limits_of_the_settings(rt: HostRuntime) -> Result<(), Fail> {
-    let one = Limits { nodes: 1, ..FEW };
-    let least = settings(0, one).ok_or("the least settings")?;
-    assert!(rt; is_set(&least, one));
-    let most = Limits {
-        nodes: 64,
-        credits: 16,
-        threads: 16,
-        segment: 4_194_304,
-        last: u64::MAX,
-        resend: 1_000_000,
-        ..FEW
-    };
-    let wide = Limits {
-        nodes: 4,
-        credits: 32,
-        threads: 16,
-        segment: 1_099_511_627_776,
-        ..FEW
-    };
-    let many = Limits {
-        version: 2,
-        nodes: 256,
-        threads: 16,
-        segment: 1_048_576,
-        ..FEW
-    };
-    assert!(rt; is_allowed(most) && is_allowed(wide) && is_allowed(many));
+fn keeps_what_settings_are_given(rt: HostRuntime) -> Result<(), Fail> {
+    let even = Settings::new(1, 7, 3, 2, 4, 8192, 100, 10).ok_or("the settings")?;
+    let narrow = even.with_pair(0, 1, 1).ok_or("the pair")?;
+    assert!(rt; (narrow.version(), narrow.job(), narrow.nodes()) == (1, 7, 3));
+    assert!(rt; (narrow.threads(), narrow.segment()) == (4, 8192));
+    assert!(rt; (narrow.last(), narrow.resend()) == (100, 10));
+    assert!(rt; (narrow.credits(0, 1), narrow.credits(1, 0)) == (1, 2));
     Ok(())
-}
-
-#[test]
-fn keeps_the_limits_of_versions_and_nodes(rt: HostRuntime) {
-    for (version, nodes, credits) in [
-        (0, 2, 1),
-        (3, 2, 1),
-        (1, 0, 1),
-        (1, 65, 1),
-        (2, 257, 1),
-        (1, 2, 0),
-        (1, 2, 33),
-        (1, 64, 17),
-        (2, 256, 2),
-    ] {
-        let limits = Limits {
-            version,
-            nodes,
-            credits,
-            ..FEW
-        };
-        assert!(rt; !is_allowed(limits), "{version} {nodes} {credits}");
-    }
-}
-
-#[test]
-fn keeps_the_limits_of_a_node(rt: HostRuntime) {
-    for threads in [0, 17] {
-        assert!(rt; !is_allowed(Limits { threads, ..FEW }), "{threads} threads");
-    }
-    for (nodes, segment) in [(2, 0), (2, 4097), (1, 1_099_511_631_872)] {
-        let limits = Limits {
-            nodes,
-            segment,
-            ..FEW
-        };
-        assert!(rt; !is_allowed(limits), "{nodes} nodes with {segment} bytes");
-    }
-    for (last, resend) in [(0, 1), (1, 0), (1, 1_000_001)] {
-        let limits = Limits {
-            last,
-            resend,
-            ..FEW
-        };
-        assert!(rt; !is_allowed(limits), "last {last}, resend {resend}");
-    }
-}
-
-/// The settings with so many credits of a pair.
-fn paired(settings: &Settings, from: u16, to: u16, credits: u16) -> Option<Settings> {
-    settings.with_pair(from, to, credits)
-}
-
-/// Whether each pair has so many credits.
-fn has_credits(settings: &Settings, rows: &[(u16, u16, u16)]) -> bool {
-    for (from, to, credits) in rows {
-        if *from == *to || settings.credits(*from, *to) != *credits {
-            return false;
-        }
-    }
-    true
-}
-
-#[test]
-fn narrows_one_pair(rt: HostRuntime) -> Result<(), Fail> {
-    let three = Limits {
-        nodes: 3,
-        credits: 2,
-        ..FEW
-    };
-    let even = settings(7, three).ok_or("the settings")?;
-    let narrow = paired(&even, 0, 1, 1).ok_or("the pair")?;
-    assert!(rt; has_credits(&narrow, &[(0, 1, 1), (1, 0, 2), (0, 2, 2)]));
-    for (from, to, credits) in [
-        (0, 1, 1),
-        (0, 3, 1),
-        (3, 0, 1),
-        (2, 2, 1),
-        (1, 0, 0),
-        (1, 0, 33),
-    ] {
-        let again = paired(&narrow, from, to, credits);
-        assert!(rt; again.is_none(), "{from} {to} {credits}");
-    }
-    let wide = paired(&narrow, 1, 0, 32).ok_or("another pair")?;
-    assert!(rt; has_credits(&wide, &[(0, 1, 1), (1, 0, 32), (2, 0, 2)]));
-    Ok(())
-}
-
-/// The settings with so many credits of each pair of node 0 and the nodes from one to before another.
-fn paired_with(settings: &Settings, first: u16, end: u16, credits: u16) -> Option<Settings> {
-    let mut all = *settings;
-    for to in first..end {
-        all = paired(&all, 0, to, credits)?;
-    }
-    Some(all)
-}
-
-#[test]
-fn counts_credits_and_pairs_in_all(rt: HostRuntime) -> Result<(), Fail> {
-    // 256 nodes have 65,280 pairs, so there are 256 credits to spare: eight pairs may have 32, and a ninth 9
-    let many = Limits {
-        version: 2,
-        nodes: 256,
-        ..FEW
-    };
-    let even = settings(7, many).ok_or("the settings")?;
-    let wide = paired_with(&even, 1, 9, 32).ok_or("a wide pair")?;
-    assert!(rt; paired(&wide, 0, 9, 10).is_none());
-    assert!(rt; paired(&wide, 0, 9, 9).is_some());
-    let full = paired_with(&wide, 9, 65, 1).ok_or("a pair")?;
-    assert!(rt; paired(&full, 0, 65, 1).is_none());
-    Ok(())
-}
-
-#[test]
-fn reads_the_vectors_of_the_second_version(rt: HostRuntime) {
-    assert!(rt; is_read(&SECOND_ACK, &in_second(ACK_PARTS)));
-    assert!(rt; is_read(&SECOND_GET, &in_second(GET_PARTS)));
-    assert!(rt; is_read(&SECOND_GOT, &in_second(GOT_PARTS)));
-}
-
-#[test]
-fn writes_the_vectors_of_the_second_version(rt: HostRuntime) {
-    assert!(rt; is_written(&in_second(ACK_PARTS), &SECOND_ACK));
-    assert!(rt; is_written(&in_second(GET_PARTS), &SECOND_GET));
-    assert!(rt; is_written(&in_second(GOT_PARTS), &SECOND_GOT));
 }

@@ -1,4 +1,4 @@
-//! Faults in mid-stream, the limit, and each public call once with ample memory.
+//! Faults in mid-stream, and each call once with ample memory.
 
 use gas_outside::{
     BufferedSink, Got, MemorySink, MemorySource, Put, ReadAll, Sink, Source, Wrote, read_all,
@@ -30,10 +30,9 @@ fn reads_all_up_to_the_limit(rt: HostRuntime) -> Result<(), Fail> {
     ] {
         let bytes = vec![in alloc; 7; 40_000]?;
         let mut source = MemorySource::new(bytes, vec![in alloc; fail]?)?;
-        assert_eq!(rt;
-            told(read_all(alloc, &mut source, limit)),
-            want,
-            "limit {limit}, failing read {fail}"
+        assert!(rt;
+            told(read_all(alloc, &mut source, limit)) == want,
+            "{limit} {fail}"
         );
     }
     Ok(())
@@ -44,13 +43,10 @@ fn goes_on_after_a_failed_read(rt: HostRuntime) -> Result<(), Fail> {
     let alloc = rt.alloc();
     let mut source = MemorySource::new(vec![in alloc; 1, 2, 3]?, vec![in alloc; 2]?)?;
     let mut room = [9; 2];
-    assert_eq!(rt; source.read(&mut room), Got::Got(2));
-    assert_eq!(rt; room, [1, 2]);
-    assert_eq!(rt; source.read(&mut room), Got::Failed);
-    assert_eq!(rt; room, [1, 2]);
-    assert_eq!(rt; source.read(&mut room), Got::Got(1));
-    assert_eq!(rt; room, [3, 2]);
-    assert_eq!(rt; source.read(&mut room), Got::End);
+    let first = [source.read(&mut room), source.read(&mut room)];
+    assert!(rt; first == [Got::Got(2), Got::Failed] && room == [1, 2]);
+    let last = [source.read(&mut room), source.read(&mut room)];
+    assert!(rt; last == [Got::Got(1), Got::End] && room == [3, 2]);
     Ok(())
 }
 
@@ -58,10 +54,13 @@ fn goes_on_after_a_failed_read(rt: HostRuntime) -> Result<(), Fail> {
 fn writes_all_but_what_a_failed_write_was_handed(rt: HostRuntime) -> Result<(), Fail> {
     let alloc = rt.alloc();
     let mut sink = MemorySink::new(alloc, vec![in alloc; 2]?)?;
-    assert_eq!(rt; sink.write(b"one "), Put::Put(4));
-    assert_eq!(rt; write_all(&mut sink, b"two "), Wrote::Fault);
-    assert_eq!(rt; write_all(&mut sink, b"three"), Wrote::Done);
-    assert_eq!(rt; sink.taken(), b"one three".as_slice());
+    assert!(rt; sink.write(b"one ") == Put::Put(4));
+    let wrote = [
+        write_all(&mut sink, b"two "),
+        write_all(&mut sink, b"three"),
+    ];
+    assert!(rt; wrote == [Wrote::Fault, Wrote::Done]);
+    assert!(rt; sink.taken() == b"one three".as_slice());
     Ok(())
 }
 
@@ -70,13 +69,13 @@ fn gathers_before_a_sink_that_fails(rt: HostRuntime) -> Result<(), Fail> {
     let alloc = rt.alloc();
     let mut sink = BufferedSink::new(MemorySink::new(alloc, vec![in alloc; 1, 3]?)?);
     let piece = [7; 3000];
-    assert_eq!(rt; sink.write_all(&piece), Wrote::Done);
-    assert_eq!(rt; sink.write_all(&piece), Wrote::Done);
+    let gathered = [sink.write_all(&piece), sink.write_all(&piece)];
+    assert!(rt; gathered == [Wrote::Done, Wrote::Done]);
     // The third piece doesn't fit: the first write behind fails, the second one takes two pieces.
-    assert_eq!(rt; sink.write(&piece), Put::Failed);
-    assert_eq!(rt; sink.write(&piece), Put::Put(3000));
-    assert_eq!(rt; sink.flush(), Wrote::Fault);
-    assert_eq!(rt; sink.flush(), Wrote::Done);
-    assert_eq!(rt; sink.into_inner().taken().len(), 9000);
+    let put = [sink.write(&piece), sink.write(&piece)];
+    assert!(rt; put == [Put::Failed, Put::Put(3000)]);
+    let flushed = [sink.flush(), sink.flush()];
+    assert!(rt; flushed == [Wrote::Fault, Wrote::Done]);
+    assert!(rt; sink.into_inner().taken().len() == 9000);
     Ok(())
 }

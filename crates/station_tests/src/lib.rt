@@ -11,7 +11,7 @@ use machine::{Machine, Turned};
 
 /// How far two threads are. Thread 1 has one step, in which it sets a cell. Thread 0 waits until the cell is set, and then has a step in
 /// which it sends two datagrams.
-#[derive(Clone, Copy, Debug, PartialEq, Eq)]
+#[derive(Clone, Copy)]
 pub enum TwoThreads {
     /// The cell isn't set.
     Waiting,

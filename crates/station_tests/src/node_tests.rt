@@ -7,7 +7,9 @@ use gas_outside::{
 };
 use station_run::{Node, Place, run_node};
 use std::alloc::Global;
+use std::sync::Wait;
 use std::test::Fail;
+use std::thread::Threads;
 
 // A trace of the two threads of node 0 of job 7.
 const WHOLE: &str = "trace 1
@@ -88,64 +90,49 @@ fn sink_failing_at(alloc: Global, call: u64) -> Result<BufferedSink<MemorySink>,
     Ok(BufferedSink::new(MemorySink::new(alloc, vec![in alloc; call]?)?))
 }
 
-// What the sink in memory took in the end.
-fn taken(alloc: Global, sink: BufferedSink<MemorySink>) -> Result<Vec<u8>, Fail> {
-    let mut sink = sink;
+// How a node's run ended over a link, whether its trace was written, and what the sink in memory took in the end.
+fn ran<R: Threads + Wait + Sync, L: Link + Drop + Send>(
+    rt: &R,
+    alloc: Global,
+    link: L,
+) -> Result<(End, Wrote, Vec<u8>), Fail> {
+    let mut sink = sink_failing_at(alloc, 0)?;
+    let run = run_node(rt, alloc, node_over(link), &InStep::new(), &mut sink);
+    let told = (run.left.end, run.wrote);
     if sink.flush() == Wrote::Fault {
         return Err(Fail::from("a fault"));
     }
-    Ok(Vec::from_slice(alloc, sink.into_inner().taken())?)
+    let taken = Vec::from_slice(alloc, sink.into_inner().taken())?;
+    Ok((told.0, told.1, taken))
 }
 
 #[test]
 fn writes_the_trace_of_a_node(rt: HostRuntime) -> Result<(), Fail> {
     let alloc = rt.alloc();
-    let gate = InStep::new();
-    let mut sink = sink_failing_at(alloc, 0)?;
-    let run = run_node(
-        &rt,
-        alloc,
-        node_over(link_failing_at(alloc, 0)?),
-        &gate,
-        &mut sink,
-    );
-    assert_eq!(rt; (run.left.end, run.wrote), (End::Over, Wrote::Done));
-    assert_eq!(rt; run.left.link.sent().len(), 2);
-    assert_eq!(rt; taken(alloc, sink)?.as_slice(), WHOLE.as_bytes());
-    assert!(rt; gate.held());
+    let (end, wrote, taken) = ran(&rt, alloc, link_failing_at(alloc, 0)?)?;
+    assert!(rt; end == End::Over && wrote == Wrote::Done);
+    assert!(rt; taken.as_slice() == WHOLE.as_bytes());
     Ok(())
 }
 
-// The first call of the link binds it, the second is the first receive. The machine's first datagrams go in its third
-// turn that changes something.
+// The first call of the link binds it, the second is the first receive.
 #[test]
 fn writes_the_trace_before_a_fault(rt: HostRuntime) -> Result<(), Fail> {
     let alloc = rt.alloc();
     for call in 1..3 {
-        let mut sink = sink_failing_at(alloc, 0)?;
-        let node = node_over(link_failing_at(alloc, call)?);
-        let run = run_node(&rt, alloc, node, &InStep::new(), &mut sink);
-        assert_eq!(rt;
-            (run.left.end, run.wrote),
-            (End::LinkFault, Wrote::Done),
-            "call {call}"
-        );
-        assert_eq!(rt;
-            taken(alloc, sink)?.as_slice(),
-            EMPTY.as_bytes(),
-            "call {call}"
-        );
+        let (end, wrote, taken) = ran(&rt, alloc, link_failing_at(alloc, call)?)?;
+        assert!(rt; end == End::LinkFault && wrote == Wrote::Done);
+        assert!(rt; taken.as_slice() == EMPTY.as_bytes(), "call {call}");
     }
-    let mut sink = sink_failing_at(alloc, 0)?;
-    let run = run_node(
-        &rt,
-        alloc,
-        node_over(Mute { bound: None }),
-        &InStep::new(),
-        &mut sink,
-    );
-    assert_eq!(rt; (run.left.end, run.wrote), (End::LinkFault, Wrote::Done));
-    assert_eq!(rt; taken(alloc, sink)?.as_slice(), WHOLE.as_bytes());
+    Ok(())
+}
+
+// The machine's first datagrams go in its third turn that changes something.
+#[test]
+fn writes_the_trace_before_a_failed_send(rt: HostRuntime) -> Result<(), Fail> {
+    let (end, wrote, taken) = ran(&rt, rt.alloc(), Mute { bound: None })?;
+    assert!(rt; end == End::LinkFault && wrote == Wrote::Done);
+    assert!(rt; taken.as_slice() == WHOLE.as_bytes());
     Ok(())
 }
 
@@ -154,10 +141,10 @@ fn writes_the_trace_before_a_fault(rt: HostRuntime) -> Result<(), Fail> {
 fn tells_a_fault_of_its_sink(rt: HostRuntime) -> Result<(), Fail> {
     let alloc = rt.alloc();
     let mut sink = sink_failing_at(alloc, 1)?;
-    assert_eq!(rt; sink.write_all(&[b' '; 8_192]), Wrote::Done);
+    let filled = sink.write_all(&[b' '; 8_192]);
     let node = node_over(link_failing_at(alloc, 0)?);
     let run = run_node(&rt, alloc, node, &InStep::new(), &mut sink);
-    assert_eq!(rt; (run.left.end, run.wrote), (End::Over, Wrote::Fault));
-    assert!(rt; sink.into_inner().taken().is_empty());
+    assert!(rt; filled == Wrote::Done && run.wrote == Wrote::Fault);
+    assert!(rt; run.left.end == End::Over && sink.into_inner().taken().is_empty());
     Ok(())
 }

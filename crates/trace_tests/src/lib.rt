@@ -6,7 +6,7 @@ ghost use Rattle.std.specs.Prelude.{◌≡◌};
 use machine::{Machine, Turned};
 
 /// Two threads, of which thread 0 polls. Each turn sends one byte to one node.
-#[derive(Clone, Copy, Debug, PartialEq, Eq)]
+#[derive(Clone, Copy)]
 pub struct Ping {
     /// The node.
     pub to: u16,

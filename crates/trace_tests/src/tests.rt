@@ -81,7 +81,7 @@ fn no_order(rt: HostRuntime) -> Result<(), Fail> {
     for (one, two, node, entry) in &FAULTS {
         let (node, entry) = (*node, *entry);
         let fault = merged(alloc, one, two)?.err();
-        assert_eq!(rt; fault, Some(MergeFault::NotARun { node, entry }));
+        assert!(rt; fault == Some(MergeFault::NotARun { node, entry }));
     }
     Ok(())
 }
@@ -94,12 +94,10 @@ fn an_order(rt: HostRuntime) -> Result<(), Fail> {
     let Ok(order) = merged(alloc, one, two)? else {
         return Err(Fail::from("an order"));
     };
-    let wanted = [(0, 1), (1, 1), (1, 2), (0, 2)];
-    assert_eq!(rt; order.len(), 4);
-    for (node, entry) in wanted {
+    assert!(rt; order.len() == 4 && order.first() == Some(&Placed { node: 0, entry: 1 }));
+    for (node, entry) in [(0, 1), (1, 1), (1, 2), (0, 2)] {
         assert!(rt; order.contains(&Placed { node, entry }));
     }
-    assert_eq!(rt; order[0], Placed { node: 0, entry: 1 });
     Ok(())
 }
 
@@ -132,9 +130,9 @@ fn prints(rt: HostRuntime) -> Result<(), Fail> {
     let alloc = rt.alloc();
     let trace = sample(alloc)?;
     let mut sink = BufferedSink::new(MemorySink::new(alloc, Vec::new(alloc))?);
-    assert_eq!(rt; print_trace(&trace, 2, &mut sink), Wrote::Done);
-    assert_eq!(rt; sink.flush(), Wrote::Done);
-    assert_eq!(rt; sink.into_inner().taken(), TEXT.as_bytes());
+    let wrote = [print_trace(&trace, 2, &mut sink), sink.flush()];
+    assert!(rt; wrote == [Wrote::Done, Wrote::Done]);
+    assert!(rt; sink.into_inner().taken() == TEXT.as_bytes());
     Ok(())
 }
 
@@ -145,17 +143,15 @@ fn reads(rt: HostRuntime) -> Result<(), Fail> {
     let Ok((trace, len)) = read_trace(alloc, text.as_bytes(), 16, 2) else {
         return Err(Fail::from("a trace"));
     };
-    assert_eq!(rt; len, TEXT.len());
-    assert_eq!(rt; (trace.job, trace.rank), (u64::MAX, 65_535));
+    assert!(rt; len == TEXT.len() && (trace.job, trace.rank) == (u64::MAX, 65_535));
     let entries = trace.entries.as_slice();
-    assert_eq!(rt; entries.len(), 2);
-    assert_eq!(rt; (entries[0].thread, entries[0].now), (0, 5));
-    assert!(rt; entries[0].got.is_none());
-    assert_eq!(rt; (entries[1].thread, entries[1].now), (15, u64::MAX));
+    assert!(rt; entries.len() == 2 && entries[0].got.is_none());
+    assert!(rt; (entries[0].thread, entries[0].now) == (0, 5));
+    assert!(rt; (entries[1].thread, entries[1].now) == (15, u64::MAX));
     let Some(got) = &entries[1].got else {
         return Err(Fail::from("bytes"));
     };
-    assert_eq!(rt; got.as_slice(), [0, 0xab, 0xff].as_slice());
+    assert!(rt; got.as_slice() == [0, 0xab, 0xff].as_slice());
     Ok(())
 }
 

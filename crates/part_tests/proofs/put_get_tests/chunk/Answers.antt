@@ -3,7 +3,7 @@ use Rattle.std.specs.List.{slice_get}
 use Rattle.std.proofs.lemmas.Option.{same_Some}
 use Rattle.put_get.specs.Operation.{Operation, Sent, IsFreeSlot}
 use Rattle.put_get.specs.Syncs.{flag_at}
-use Rattle.part_tests.proofs.put_get_tests.replies.Goals as goal
+use Rattle.part_tests.proofs.put_get_tests.chunk.Goals as goal
 
 -- an operation without a chunk that went has each slot free
 nothing_out : (only : Operation) (to slot : ℕ) → only.sent ≡ [] → IsFreeSlot (only ∷ []) to slot
@@ -15,26 +15,9 @@ nothing_out only to slot none zero index operation sent at there gone used =
     never index sent is = cc
 nothing_out only to slot none (suc place) index operation sent at there gone used = absurd (cc)
 
-pub back-other-requires : goal.back-other-requires
-back-other-requires c =
-    let first = c.back-before.ensures.stands [] c.requires.stands in
-    let begun = c.begin.ensures.stands [] first in
+pub back-own-requires : goal.back-own-requires
+back-own-requires c =
+    let begun = c.begin.ensures.stands [] c.requires.stands in
     let noted = c.note.ensures.stands (flag_at (true ∷ true ∷ true ∷ [])) _ [] begun
     (sym (c.in_ok-next.ensures.next _ begun)) (nothing_out _ _ _ refl) in
     (_, noted)
-
-pub back-own-requires : goal.back-own-requires
-back-own-requires c =
-    let first = c.back-before.ensures.stands [] c.requires.stands in
-    let begun = c.begin.ensures.stands [] first in
-    let noted = c.note.ensures.stands (flag_at (true ∷ true ∷ true ∷ [])) _ [] begun
-    (sym (c.in_ok-next.ensures.next _ begun)) (nothing_out _ _ _ refl) in
-    (_, c.back-other.ensures.stands _ noted)
-
-pub back-again-requires : goal.back-again-requires
-back-again-requires c =
-    let first = c.back-before.ensures.stands [] c.requires.stands in
-    let begun = c.begin.ensures.stands [] first in
-    let noted = c.note.ensures.stands (flag_at (true ∷ true ∷ true ∷ [])) _ [] begun
-    (sym (c.in_ok-next.ensures.next _ begun)) (nothing_out _ _ _ refl) in
-    (_, c.back-own.ensures.stands _ (c.back-other.ensures.stands _ noted))

@@ -1,7 +1,0 @@
-use Rattle.std.proofs.Common.{◌≡◌}
-use Rattle.put_get.specs.Stands.{room_of}
-use Rattle.part_tests.proofs.put_get_tests.puts_three_chunks.Given as goal
-
--- the room stays
-abbrev pub invariant-loop-slot : goal.invariant-loop-slot
-invariant-loop-slot g l = room_of l.table ≡ record { nodes = 3; credits = 4 }
