@@ -1,9 +1,9 @@
 //! Tests of the public calls of nodes, endpoints and worlds, a module a crate, named after it.
 //!
-//! A module has rows and refused inputs as tables, and the values that it expects come from the definitions or from
-//! outside. The modules `handlers`, `endpoints` and `worlds` have what they share: there one call runs the rows of a
-//! table, so that a test itself calls little, and is proved in little time. The crates below are tested in
-//! `part_tests`, those of texts by the cases of `rows`.
+//! Each module has one table of a layer, and what no clause says: the bytes of messages worked out by hand, and bytes
+//! that no node sent. The modules `handlers`, `endpoints` and `worlds` have what they share: there one call takes the
+//! events of a table and answers with a text, so that a test itself calls little, and is proved in little time. The
+//! crates below are tested in `part_tests`; schedules are cases of the top call.
 #![tactic(auto)]
 
 #[cfg(test)]
