@@ -1,8 +1,8 @@
-//! Tests of the machine of a node: what its turns end, send and leave, each step that waits, and a ring of four
-//! machines that pass a token.
+//! Tests of the machine of a node: what its turns end, send and leave, and a ring of four machines that pass a token.
 //!
 //! Each takes a job's text and takes turns; the answers that it expects come from what the steps are said to do.
-//! `network` has what carries the datagrams of several machines.
+//! `network` has what carries the datagrams of several machines. The steps that wait, and how each ends, are cases of the
+//! command `check`.
 #![tactic(auto)]
 
 #[cfg(test)]
@@ -11,5 +11,3 @@ mod network;
 mod ring_tests;
 #[cfg(test)]
 mod turn_tests;
-#[cfg(test)]
-mod waiting_tests;

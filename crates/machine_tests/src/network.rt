@@ -1,11 +1,10 @@
-//! The machines of a job, and a network between them that may lose datagrams.
+//! The machines of a job, and a network between them that loses datagrams.
 
 ghost use Rattle.std.specs.Prelude.{IfOk};
 ghost use Rattle.job_text.specs.JobText.{IsJob};
 
-use endpoint_rules::Answer;
 use job_text::read_job;
-use machine::{Machine, Turned};
+use machine::Machine;
 use node_machine::NodeMachine;
 use node_script::Script;
 use std::alloc::Global;
@@ -45,47 +44,30 @@ struct Datagram {
     bytes: Vec<u8>,
 }
 
-/// A network.
+/// A network that loses every third datagram.
 #[derive(Drop)]
 pub struct Network {
     alloc: Global,
     waiting: Vec<Datagram>,
-    /// How many datagrams are still taken before one is lost; none where none is.
-    left: Option<u8>,
+    /// How many datagrams are still taken before one is lost.
+    left: u8,
 }
 
 impl Network {
-    /// One that loses nothing.
+    /// A network on which nothing waits.
     pub fn new(alloc: Global) -> Network {
         Network {
             alloc,
             waiting: Vec::new(alloc),
-            left: None,
-        }
-    }
-
-    /// One that loses every third datagram.
-    pub fn losing(alloc: Global) -> Network {
-        Network {
-            alloc,
-            waiting: Vec::new(alloc),
-            left: Some(2),
+            left: 2,
         }
     }
 
     /// Whether the datagram that comes now is lost.
     fn loses(&mut self) -> bool {
-        match self.left {
-            None => false,
-            Some(0) => {
-                self.left = Some(2);
-                true
-            }
-            Some(left) => {
-                self.left = Some(left - 1);
-                false
-            }
-        }
+        let is_lost = self.left == 0;
+        self.left = if is_lost { 2 } else { self.left - 1 };
+        is_lost
     }
 
     /// Takes what waits longest for the node, if anything does.
@@ -113,44 +95,20 @@ impl Network {
         Ok(())
     }
 
-    /// A turn of a thread of the machine of a node, which gets what waits for it, if the thread polls.
-    pub fn turn(
-        &mut self,
-        machine: &mut NodeMachine<'_>,
-        node: u16,
-        thread: u16,
-        now: u64,
-    ) -> Result<Turned, Fail> {
-        if thread >= machine.threads() {
-            return Err(Fail::new("no such thread"));
+    /// A turn of thread 0 of the machine of a node, which gets what waits for it, if the thread polls.
+    pub fn turn(&mut self, machine: &mut NodeMachine<'_>, node: u16, now: u64) -> Result<(), Fail> {
+        if machine.threads() == 0 {
+            return Err(Fail::new("no thread"));
         }
-        if machine.polls(thread)
-            && let Some(datagram) = self.receive(node)
-        {
-            let turned = machine.turn(thread, now, Some(&datagram.bytes));
-            self.send_all(machine, turned.sends)?;
-            return Ok(turned);
-        }
-        let turned = machine.turn(thread, now, None);
-        self.send_all(machine, turned.sends)?;
-        Ok(turned)
-    }
-
-    /// A turn of a thread of a node of a ring: the answer of the step that ends in it, if one does.
-    pub fn ended(
-        &mut self,
-        ring: &mut [NodeMachine<'_>],
-        node: u16,
-        thread: u16,
-        now: u64,
-    ) -> Result<Option<Answer>, Fail> {
-        let Some(machine) = ring.get_mut(usize::from(node)) else {
-            return Err(Fail::new("no such node"));
+        let got = if machine.polls(0) {
+            self.receive(node)
+        } else {
+            None
         };
-        let turned = self.turn(machine, node, thread, now)?;
-        if !turned.stepped {
-            return Ok(None);
-        }
-        Ok(machine.answer())
+        let turned = match &got {
+            Some(datagram) => machine.turn(0, now, Some(&datagram.bytes)),
+            None => machine.turn(0, now, None),
+        };
+        self.send_all(machine, turned.sends)
     }
 }

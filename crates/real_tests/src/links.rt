@@ -16,26 +16,29 @@ fn bind_first<L: Link>(link: &mut L, port: u16) -> Result<u16, Fail> {
     Err(Fail::from("no port is free"))
 }
 
+/// What is sent to a link with room for four bytes, and what it has of that.
+const CARRIED: [(&[u8], &[u8]); 3] = [
+    (&[7, 8, 9], &[7, 8, 9]),
+    (&[], &[]),
+    (&[1, 2, 3, 4, 5], &[1, 2, 3, 4]),
+];
+
 #[test]
 fn carries_datagrams(rt: HostRuntime) -> Result<(), Fail> {
     let (near, far) = (LinkSocket::new(), LinkSocket::new());
     let (mut first, mut second) = (UdpLink::new(rt, &near), UdpLink::new(rt, &far));
     let port = bind_first(&mut first, 23_000)?;
-    assert_eq!(rt; second.bind(1, 2, port), LinkAnswer::Done);
+    assert!(rt; second.bind(1, 2, port) == LinkAnswer::Done);
     let gate = SocketGate::new(rt, rt.alloc(), &far);
     let mut room = [0u8; 4];
-    assert_eq!(rt; second.receive(&mut room), Received::Empty);
-    for (bytes, want) in [
-        ([7, 8, 9].as_slice(), [7, 8, 9].as_slice()),
-        (&[], &[]),
-        (&[1, 2, 3, 4, 5], &[1, 2, 3, 4]),
-    ] {
-        assert_eq!(rt; first.send(1, bytes), LinkAnswer::Done);
+    for (bytes, want) in CARRIED {
+        let sent = first.send(1, bytes);
         gate.before_turn(0, true);
-        assert_eq!(rt; second.receive(&mut room), Received::Got(want.len()));
-        assert_eq!(rt; room.get(..want.len()), Some(want));
+        let got = second.receive(&mut room);
+        assert!(rt; sent == LinkAnswer::Done && got == Received::Got(want.len()));
+        assert!(rt; room.starts_with(want));
     }
-    assert_eq!(rt; second.receive(&mut room), Received::Empty);
+    assert!(rt; second.receive(&mut room) == Received::Empty);
     Ok(())
 }
 
@@ -45,24 +48,25 @@ fn loses_what_a_closed_port_gets(rt: HostRuntime) -> Result<(), Fail> {
     let socket = LinkSocket::new();
     let mut link = UdpLink::new(rt, &socket);
     bind_first(&mut link, 24_000)?;
-    let mut room = [0u8; 4];
     for _ in 0..3 {
-        assert_eq!(rt; link.send(1, &[1]), LinkAnswer::Done);
-        assert_eq!(rt; link.receive(&mut room), Received::Empty);
+        let (sent, got) = (link.send(1, &[1]), link.receive(&mut [0u8; 4]));
+        assert!(rt; sent == LinkAnswer::Done && got == Received::Empty);
     }
     Ok(())
 }
 
 #[test]
-fn fails_where_it_is_not_bound(rt: HostRuntime) -> Result<(), Fail> {
+fn fails_where_it_is_not_bound(rt: HostRuntime) {
     let socket = LinkSocket::new();
     let mut link = UdpLink::new(rt, &socket);
-    assert_eq!(rt; link.send(0, &[1]), LinkAnswer::Failed);
-    assert_eq!(rt; link.receive(&mut [0u8; 4]), Received::Failed);
-    for (rank, nodes, port) in [(0, 0, 23_000), (2, 2, 23_000), (0, 2, 65_535)] {
-        assert_eq!(rt; link.bind(rank, nodes, port), LinkAnswer::Failed);
-    }
-    Ok(())
+    let answers = [
+        link.send(0, &[1]),
+        link.bind(0, 0, 23_000),
+        link.bind(2, 2, 23_000),
+        link.bind(0, 2, 65_535),
+    ];
+    assert!(rt; answers == [LinkAnswer::Failed; 4]);
+    assert!(rt; link.receive(&mut [0u8; 4]) == Received::Failed);
 }
 
 // A port has one socket, and a link too.
@@ -71,10 +75,13 @@ fn fails_where_the_port_is_taken(rt: HostRuntime) -> Result<(), Fail> {
     let (near, far) = (LinkSocket::new(), LinkSocket::new());
     let (mut first, mut second) = (UdpLink::new(rt, &near), UdpLink::new(rt, &far));
     let port = bind_first(&mut first, 25_000)?;
-    assert_eq!(rt; second.bind(0, 2, port), LinkAnswer::Failed);
-    assert_eq!(rt; second.send(0, &[1]), LinkAnswer::Failed);
-    assert_eq!(rt; first.bind(0, 2, port), LinkAnswer::Failed);
-    assert_eq!(rt; first.send(0, &[1]), LinkAnswer::Done);
-    assert_eq!(rt; first.receive(&mut [0u8; 4]), Received::Got(1));
+    let answers = [
+        second.bind(0, 2, port),
+        second.send(0, &[1]),
+        first.bind(0, 2, port),
+    ];
+    assert!(rt; answers == [LinkAnswer::Failed; 3]);
+    let (sent, got) = (first.send(0, &[1]), first.receive(&mut [0u8; 4]));
+    assert!(rt; sent == LinkAnswer::Done && got == Received::Got(1));
     Ok(())
 }

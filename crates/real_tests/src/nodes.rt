@@ -3,6 +3,7 @@ ghost use Rattle.endpoint_lock.specs.StationState.{opened, opening_of};
 
 use endpoint_lock::{End, Station, run_threads};
 use gas_outside::{Clock, Gate, Link, LinkAnswer};
+use machine::Entry;
 use real_outside::{LinkSocket, SocketGate, SystemClock, UdpLink};
 use station_tests::TwoThreads;
 use std::alloc::Global;
@@ -24,6 +25,16 @@ fn station_over<L: Link + Drop, C: Clock + Drop>(
     }
 }
 
+// Whether the turns of a journal are those of these threads, and got nothing.
+fn are_turns_of(entries: &[Entry], threads: &[u16]) -> bool {
+    for (entry, thread) in entries.iter().zip(threads) {
+        if entry.thread != *thread || entry.got.is_some() {
+            return false;
+        }
+    }
+    entries.len() == threads.len()
+}
+
 // Thread 0 waits for thread 1, and then sends to the ranks 1 and 2, whose ports aren't open.
 #[test]
 fn runs_threads_over_a_socket(rt: HostRuntime) -> Result<(), Fail> {
@@ -38,13 +49,8 @@ fn runs_threads_over_a_socket(rt: HostRuntime) -> Result<(), Fail> {
     let gate = SocketGate::new(rt, alloc, &socket);
     let station = station_over(alloc, link, SystemClock::new(rt))?;
     let ended = run_threads(&rt, alloc, station, 2, &gate);
-    assert_eq!(rt; ended.end, End::Over);
-    assert_eq!(rt; ended.machine, TwoThreads::Sent);
-    let threads = [1, 0, 0];
-    assert_eq!(rt; ended.journal.as_slice().len(), threads.len());
-    for (entry, thread) in ended.journal.as_slice().iter().zip(threads) {
-        assert_eq!(rt; (entry.thread, entry.got.is_none()), (thread, true));
-    }
+    assert!(rt; ended.end == End::Over && matches!(ended.machine, TwoThreads::Sent));
+    assert!(rt; are_turns_of(ended.journal.as_slice(), &[1, 0, 0]));
     Ok(())
 }
 
@@ -59,7 +65,7 @@ fn counts_milliseconds(rt: HostRuntime) -> Result<(), Fail> {
         gate.before_turn(0, true);
     }
     let last = clock.now();
-    assert!(rt; first.saturating_add(2) <= last, "{first} {last}");
+    assert!(rt; first.saturating_add(2) <= last);
     assert!(rt; u128::from(last) <= before.elapsed(&rt)?.as_millis());
     Ok(())
 }

@@ -12,18 +12,19 @@ fn spawner_of(rt: HostRuntime, program: &str) -> Result<ProcessSpawner<HostRunti
 fn gives_a_child_its_words(rt: HostRuntime) -> Result<(), Fail> {
     let mut spawner = spawner_of(rt, "echo")?;
     let mut output = Vec::new(rt.alloc());
-    assert_eq!(rt; spawner.start(0, 21_000, &[]), Started::Started);
-    assert_eq!(rt; spawner.start(0, 21_000, &[]), Started::Failed);
-    assert_eq!(rt; spawner.start(1, 21_000, &[]), Started::Started);
-    assert_eq!(rt; spawner.finish(0, &mut output), Finished::Ended(0));
-    assert_eq!(rt; output.as_slice(), b"node 0 21000\n".as_slice());
-    assert_eq!(rt; spawner.finish(1, &mut output), Finished::Ended(0));
-    assert_eq!(rt;
-        output.as_slice(),
-        b"node 0 21000\nnode 1 21000\n".as_slice()
-    );
-    assert_eq!(rt; spawner.finish(1, &mut output), Finished::Failed);
-    assert_eq!(rt; output.len(), 26);
+    let started = [
+        spawner.start(0, 21_000, &[]),
+        spawner.start(0, 21_000, &[]),
+        spawner.start(1, 21_000, &[]),
+    ];
+    assert!(rt; started == [Started::Started, Started::Failed, Started::Started]);
+    let finished = [
+        spawner.finish(0, &mut output),
+        spawner.finish(1, &mut output),
+        spawner.finish(1, &mut output),
+    ];
+    assert!(rt; finished == [Finished::Ended(0), Finished::Ended(0), Finished::Failed]);
+    assert!(rt; output.as_slice() == b"node 0 21000\nnode 1 21000\n".as_slice());
     Ok(())
 }
 
@@ -33,10 +34,9 @@ fn tells_how_a_child_ends(rt: HostRuntime) -> Result<(), Fail> {
     for (program, want) in [("false", Finished::Ended(1)), ("yes", Finished::Failed)] {
         let mut spawner = spawner_of(rt, program)?;
         let mut output = Vec::new(rt.alloc());
-        let input = b"gasnet 1\n".as_slice();
-        assert_eq!(rt; spawner.start(3, 21_000, input), Started::Started);
-        assert_eq!(rt; spawner.finish(3, &mut output), want, "{program}");
-        assert_eq!(rt; output.len(), 0, "{program}");
+        let started = spawner.start(3, 21_000, b"gasnet 1\n");
+        let finished = spawner.finish(3, &mut output);
+        assert!(rt; started == Started::Started && finished == want && output.is_empty());
     }
     Ok(())
 }
@@ -44,10 +44,8 @@ fn tells_how_a_child_ends(rt: HostRuntime) -> Result<(), Fail> {
 #[test]
 fn fails_where_there_is_no_program(rt: HostRuntime) -> Result<(), Fail> {
     let mut spawner = spawner_of(rt, "/no/such/program")?;
-    assert_eq!(rt; spawner.start(0, 21_000, &[]), Started::Failed);
-    assert_eq!(rt;
-        spawner.finish(0, &mut Vec::new(rt.alloc())),
-        Finished::Failed
-    );
+    let mut output = Vec::new(rt.alloc());
+    assert!(rt; spawner.start(0, 21_000, &[]) == Started::Failed);
+    assert!(rt; spawner.finish(0, &mut output) == Finished::Failed);
     Ok(())
 }
