@@ -33,6 +33,7 @@ use Rattle.am_core.specs.Kept.{Local, start_of, with_writes}
 use Rattle.handler_rules.specs.Runs.{Meaning, IsLawfulMeaning}
 use Rattle.handler_rules.specs.declared.rules.Role.{Role}
 use Rattle.hsl_locks.specs.declared.answer.Held.{Held}
+use Rattle.am_core.specs.WouldDeliver.{WouldAnswer, WouldDeliver, WouldRun}
 use Rattle.am_core.proofs.Landings.{content_fits, StaysInside}
 use Rattle.am_core.specs.ClientRules.{content_refusal, awaited_lock}
 use Rattle.am_core.specs.HandlerRuns.{left_by, landing, outcome, reply_or_ack, run_request}
@@ -374,3 +375,92 @@ refused_step meaning e version bytes reason same no_message first = record {
     refl,
   );
 }
+
+-- ---- what a delivery would be answered
+
+-- where this becomes of a message: the answer
+answer_by_verdict : (meaning : Meaning) (e : CoreState) (r : Node Local) (m : Message) (v : Verdict) (a : Delivered)
+    → verdict (site_at meaning e) r m ≡ v → a ≡ answer_by (rules_at meaning e) m v
+    → a ≡ deliver_answer (site_at meaning e) r m
+answer_by_verdict meaning e r m v a is answer = answer ∙ ap (answer_by (rules_at meaning e) m) (sym is)
+
+-- a new request would run
+run_answered : (meaning : Meaning) (e : CoreState) (m : Message) (a : Delivered) (r : Node Local) → Stands e r
+    → WouldRun e m a → a ≡ deliver_answer (site_at meaning e) r m
+run_answered meaning e m a r S h =
+    let O = h.request.ours in
+    let ours = O.known in
+    let above : greatest m.slot (r.ran m.from) < m.number = node_judged m.from m.slot m.number e r judged.New S
+    ours.from (from_other e m ours O.spelled) (request_slot_in e m O) h.request.new in
+    answer_by_verdict meaning e r m RunsVerdict a
+    (request_verdict meaning e r m _ O S (judged_new m (greatest m.slot (r.ran m.from)) (lock_at e m) above
+    ∙ ap (λ one. unless_waiting one RunsVerdict) h.free))
+    h.answer_is
+
+-- it would wait
+wait_answered : (meaning : Meaning) (e : CoreState) (m : Message) (lock : ℕ) (r : Node Local) → Stands e r
+    → IsNewRequest e m ⊎ IsOpenReply e m → lock_at e m ≡ Some lock
+    → delivered.Deferred lock ≡ deliver_answer (site_at meaning e) r m
+wait_answered meaning e m lock r S (inl request) waits =
+    let O = request.ours in
+    let above : greatest m.slot (r.ran m.from) < m.number = node_judged m.from m.slot m.number e r judged.New S
+    O.known.from (from_other e m O.known O.spelled) (request_slot_in e m O) request.new in
+    answer_by_verdict meaning e r m (WaitsVerdict lock) _
+    (request_verdict meaning e r m _ O S (judged_new m (greatest m.slot (r.ran m.from)) (lock_at e m) above
+    ∙ ap (λ one. unless_waiting one RunsVerdict) waits)) refl
+wait_answered meaning e m lock r S (inr reply) waits =
+    let O = reply.ours in
+    let open_ = node_taken m.from m.slot m.number e r S O.known.from (from_other e m O.known O.spelled)
+    (reply_slot_in e m O) reply.taken in
+    answer_by_verdict meaning e r m (WaitsVerdict lock) _
+    (reply_verdict meaning e r m _ O S (rw open_ (ap (λ one. unless_waiting one ReturnsVerdict) waits))) refl
+
+-- by the answer
+pub message_answered : (meaning : Meaning) (e : CoreState) (m : Message) (a : Delivered) (r : Node Local) → Stands e r
+    → WouldAnswer e m a → a ≡ deliver_answer (site_at meaning e) r m
+message_answered meaning e m (delivered.Ran at) r S h = run_answered meaning e m (delivered.Ran at) r S h
+message_answered meaning e m (delivered.Noted at note) r S h = run_answered meaning e m (delivered.Noted at note) r S h
+message_answered meaning e m (delivered.Again at) r S h =
+    let ours = h.0.known in
+    let same = node_judged m.from m.slot m.number e r judged.Again S ours.from (from_other e m ours h.0.spelled)
+    (request_slot_in e m h.0) h.2 in
+    answer_by_verdict meaning e r m Repeated _
+    (request_verdict meaning e r m _ h.0 S (judged_again m (greatest m.slot (r.ran m.from)) (lock_at e m) same))
+    (ap delivered.Again h.1)
+message_answered meaning e m delivered.Stale r S h =
+    let ours = h.0.known in
+    let below = node_judged m.from m.slot m.number e r judged.Stale S ours.from (from_other e m ours h.0.spelled)
+    (request_slot_in e m h.0) h.1 in
+    answer_by_verdict meaning e r m Passed _
+    (request_verdict meaning e r m _ h.0 S (judged_stale m (greatest m.slot (r.ran m.from)) (lock_at e m) below)) refl
+message_answered meaning e m (delivered.Returned to slot number) r S h =
+    let ours = h.0.ours.known in
+    let open_ = node_taken m.from m.slot m.number e r S ours.from (from_other e m ours h.0.ours.spelled)
+    (reply_slot_in e m h.0.ours) h.0.taken in
+    answer_by_verdict meaning e r m ReturnsVerdict _
+    (reply_verdict meaning e r m _ h.0.ours S
+    (rw open_ (ap (λ one. unless_waiting one ReturnsVerdict) h.4)))
+    (ap₂ (λ p q. delivered.Returned p q number) h.1 h.2 ∙ ap (λ n. delivered.Returned m.from m.slot n) h.3)
+message_answered meaning e m delivered.Late r S h =
+    let ours = h.0.known in
+    let not_open = node_not_taken m.from m.slot m.number e r S ours.from (from_other e m ours h.0.spelled)
+    (reply_slot_in e m h.0) h.1 in
+    answer_by_verdict meaning e r m Missed _ (reply_verdict meaning e r m _ h.0 S (rw not_open refl)) refl
+message_answered meaning e m (delivered.Refused reason) r S h =
+    answer_by_verdict meaning e r m (RefusedVerdict reason) _ (refused_verdict meaning e r m reason h) refl
+message_answered meaning e m (delivered.Deferred lock) r S h = wait_answered meaning e m lock r S h.0 h.1
+
+-- bytes that spell a message of the version, the only one that they spell
+pub bytes_answered : (e : CoreState) (version : ℕ) (bytes : List ℕ) (m : Message) (a : Delivered)
+    → version ≡ e.settings.version
+    → ((other : Message) → other.version ≡ version → Spells other bytes → m ≡ other)
+    → None ≡ first_refusal version bytes → WouldAnswer e m a → WouldDeliver e bytes a
+bytes_answered e version bytes m a same only fine h = record {
+  comes = λ other is spelled meaning r S.
+      subst (λ (n : Message). a ≡ deliver_answer (site_at meaning e) r n)
+      (only other (is ∙ sym same) spelled) (message_answered meaning e m a r S h);
+  refused = λ reason is. absurd (no_some reason (fine ∙ ap (λ v. first_refusal v bytes) same ∙ is));
+}
+  where
+    no_some : (reason : Refused) → None ≡ Some reason → ⊥
+    no_some reason e = cc

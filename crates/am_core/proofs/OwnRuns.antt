@@ -14,7 +14,7 @@ use Rattle.hsl_locks.specs.Locks.{blocked}
 use Rattle.hsl_locks.proofs.Laws.{unblocked_parts}
 use Rattle.handler_rules.specs.declared.table.Entry.{Entry}
 use Rattle.handler_rules.specs.declared.message.Reply.{Reply}
-use Rattle.handler_rules.specs.Registered.{entry_at, is_for_replies, is_of_replies, locks_in_replies, reply_locks}
+use Rattle.handler_rules.specs.Registered.{entry_at, is_for_replies, serves_replies, locks_in_replies, reply_locks}
 use Rattle.handler_rules.specs.Runs.{Frame, IsLawful, IsGood, IsPlaced, reply_bytes, outgoing_reply}
 use Rattle.handler_rules.specs.Desks.{reply_of, reply_after, buffer_after}
 use Rattle.am_core.specs.HandlerRuns.{entry_locks, frame_of_run, listed_for, place_of, shown_payload}
@@ -43,7 +43,7 @@ use Rattle.am_core.specs.CoreStep.{handlers_at, landed_core, with_outcome, with_
 
 -- where no lock of any handler of replies is held by a thread, none of this one's is
 replies_free : (table : List (Option Entry)) (place : ℕ) (entry : Entry) (held : List Held)
-    → slice_get table place ≡ Some (Some entry) → is_of_replies entry.role ≡ true
+    → slice_get table place ≡ Some (Some entry) → serves_replies entry.serves ≡ true
     → blocked held (reply_locks table) ≡ None → blocked held entry.locks ≡ None
 replies_free [] place entry held there role free = absurd (cc)
 replies_free (one ∷ rest) zero entry held there role free =

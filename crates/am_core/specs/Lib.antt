@@ -6,6 +6,7 @@ pub mod CoreState
 pub mod Stands
 pub mod CoreContracts
 pub mod Known
+pub mod WouldDeliver
 pub mod FloorRuns
 pub mod AskedFor
 pub mod CoreStep

@@ -159,7 +159,7 @@ impl Core {
 
     /// How the run of a request of the library is told.
     #[tactic(auto, unfolding(crate::specs::CoreStep::message_refusal))]
-    fn told(&self, message: &View<'_>, at: SlotRef) -> Delivered
+    pub(crate) fn told(&self, message: &View<'_>, at: SlotRef) -> Delivered
         requires message { IsMessage (viewed_message message.now) }
         requires ours { message_refusal self.now (viewed_message message.now) ≡ None }
         requires library { message.now.handler ≤ 127 }

@@ -1,7 +1,7 @@
 //! One node's active messages.
 
 ghost use Rattle.std.specs.Prelude.{◌≤◌, ℕ, ◌≡◌, ◌≢◌, ◌<◌, ◌-◌, ◌∷◌, [], nat_le, IfOk, length};
-ghost use Rattle.std.specs.Prelude.{option_copied};
+ghost use Rattle.std.specs.Prelude.{option_copied, replicate};
 ghost use Rattle.datagram_grammar.specs.Parameters.{credits_of};
 ghost use Rattle.handler_rules.specs.LogState.{log_of};
 ghost use Rattle.hsl_locks.specs.Locks.{lock_answer, unlock_answer};
@@ -39,7 +39,7 @@ use std::marker::Model;
 /// The active messages of one node (GASNet 1.8.1, core API): its requests that aren't back, the replies that it keeps,
 /// its segment, the handler-safe locks, the handlers' cells, and the violations of the rules.
 ///
-/// All memory is taken by `new`.
+/// All memory is taken by `new`, or by `with_segment`, which is given the segment.
 #[derive(Drop)]
 pub struct Core {
     pub(crate) settings: Settings,
@@ -101,10 +101,29 @@ impl Core {
         ensures segment { IfOk result (λ core. HasSegment core) }
         ensures stands { IfOk result (λ core. Stands core (opening_node nothing_done)) }
     {
+        let segment = Segment::new(alloc, settings.segment() as usize)?;
+        Core::with_segment(alloc, settings, me, table, segment)
+    }
+
+    /// The same core, over a segment of zeros that was made before.
+    pub fn with_segment(
+        alloc: Global,
+        settings: &Settings,
+        me: u16,
+        table: &Table,
+        segment: Segment,
+    ) -> Result<Core, AllocError>
+        requires me { me < settings.now.nodes }
+        requires zeros { segment ≡ replicate settings.now.segment 0 }
+        ensures settings { IfOk result (λ core. core.settings ≡ settings.now) }
+        ensures me_is { IfOk result (λ core. core.me ≡ me) }
+        ensures table_is { IfOk result (λ core. core.table ≡ table.now) }
+        ensures segment { IfOk result (λ core. HasSegment core) }
+        ensures stands { IfOk result (λ core. Stands core (opening_node nothing_done)) }
+    {
         let lent = Block::new(alloc, 1)?;
         let desk = Block::new(alloc, 1)?;
         let log = Log::new(alloc)?;
-        let segment = Segment::new(alloc, settings.segment() as usize)?;
         let table = table.copy()?;
         let replies = free_replies(alloc, settings, me)?;
         let requests = free_requests(alloc, settings, me)?;

@@ -270,7 +270,7 @@ impl Core {
 
     /// Why a message is refused.
     #[tactic(auto, unfolding(crate::specs::CoreStep::message_refusal))]
-    fn refusal(&self, message: &View<'_>) -> Option<Why>
+    pub(crate) fn refusal(&self, message: &View<'_>) -> Option<Why>
         requires segment { HasSegment self.now }
         requires message { IsMessage (viewed_message message.now) }
         ensures first { result ≡ message_refusal self.now (viewed_message message.now) }
@@ -355,7 +355,7 @@ impl Core {
     }
 
     /// The smallest lock that a thread holds among those that the handler of a message may take; none for an Ack.
-    fn awaited(&self, message: &View<'_>) -> Option<u8>
+    pub(crate) fn awaited(&self, message: &View<'_>) -> Option<u8>
         ensures { result ≡ lock_at self.now (viewed_message message.now) }
     {
         if message.kind == Kind::Ack {

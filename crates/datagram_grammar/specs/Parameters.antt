@@ -1,5 +1,5 @@
 -- The numbers that every node of a job knows, and their limits (this project's profile).
-use Rattle.std.specs.Prelude.{◌≡◌, ◌≢◌, ℕ, ◌<◌, ◌≤◌, ◌*◌, ◌%◌, ◌==◌, ◌&&◌, true, if◌then◌else◌, List, [], ◌∷◌, ◌++◌}
+use Rattle.std.specs.Prelude.{◌≡◌, ◌≢◌, ℕ, ◌<◌, ◌≤◌, ◌^◌, ◌%◌, ◌==◌, ◌&&◌, true, if◌then◌else◌, List, [], ◌∷◌, ◌++◌}
 use Rattle.std.specs.Prelude.{length, Option, None, Some, unwrap_or}
 use Rattle.lists.specs.Sums.{sum_below}
 use Rattle.datagram_grammar.specs.declared.pairs.PairCredits.{PairCredits}
@@ -64,7 +64,7 @@ ArePairs nodes [] = Unit {0}
 ArePairs nodes (pair ∷ pairs) =
     IsPair nodes pair × (own_credits pairs pair.from pair.to ≡ None) × ArePairs nodes pairs
 
--- each number is within its limits, and so are the credits and the segments of all nodes together
+-- each number is within its limits, and so are the credits of all nodes together
 pub record AreInRange (asked : Parameters) : Type 0 where
   pub version : is_version asked.version ≡ true
   pub some_node : 1 ≤ asked.nodes
@@ -79,8 +79,7 @@ pub record AreInRange (asked : Parameters) : Type 0 where
   pub threads : asked.threads ≤ 16
   pub pages : asked.segment % 4096 ≡ 0
   pub some_page : 4096 ≤ asked.segment
-  pub segment : asked.segment ≤ 67108864
-  pub segments : asked.nodes * asked.segment ≤ 268435456
+  pub segment : asked.segment ≤ 2 ^ 40
   pub last : 1 ≤ asked.last
   pub some_time : 1 ≤ asked.resend
   pub resend : asked.resend ≤ 1000000

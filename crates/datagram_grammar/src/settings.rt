@@ -13,6 +13,9 @@ use std::marker::Model;
 /// How many pairs may have credits of their own.
 const PLACES: usize = 64;
 
+/// How many bytes a segment may have.
+const MOST_BYTES: u64 = 1 << 40;
+
 /// What stands at a place that no pair has.
 const NO_PAIR: PairCredits = PairCredits {
     from: 0,
@@ -30,7 +33,7 @@ const NO_PAIR: PairCredits = PairCredits {
 /// | credits of each ordered pair of nodes | 1 to 32, and at most 65,536 over all pairs |
 /// | pairs with credits of their own | at most 64 |
 /// | threads of each node | 1 to 16 |
-/// | bytes of each node's segment | a multiple of 4,096, from 4,096 to 67,108,864; at most 268,435,456 over all nodes |
+/// | bytes of each node's segment | a multiple of 4,096, from 4,096 to 2^40 |
 /// | last number of a request | at least 1 |
 /// | time after which a request is sent again, in the unit of the calls' `now` | 1 to 1,000,000 |
 #[derive(Clone, Copy, Debug, PartialEq, Eq)]
@@ -146,13 +149,10 @@ impl Settings {
         if threads < 1 || threads > 16 {
             return None;
         }
-        if segment < 4096 || segment > 67_108_864 {
+        if segment < 4096 || segment > MOST_BYTES {
             return None;
         }
         if segment % 4096 != 0 {
-            return None;
-        }
-        if u64::from(nodes) * segment > 268_435_456 {
             return None;
         }
         if last < 1 {

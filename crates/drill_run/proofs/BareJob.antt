@@ -31,7 +31,6 @@ settings_in_range = record {
   pages = refl;
   some_page = lit≤ tt;
   segment = lit≤ tt;
-  segments = lit≤ tt;
   last = lit≤ tt;
   some_time = lit≤ tt;
   resend = lit≤ tt;
@@ -83,6 +82,8 @@ are_apart (suc (suc k)) l one other a b some same = absurd (cc)
 bare_is : IsJob bare_job
 bare_is = record {
   settings = settings_in_range;
+  segment = lit≤ tt;
+  segments = lit≤ tt;
   job_fits = lit< tt;
   last_fits = lit< tt;
   sums = few_credits;

@@ -29,14 +29,16 @@ use Rattle.am_core.specs.ClientRules.{rules}
 use Rattle.am_core.specs.Stands.{Stands}
 use Rattle.am_core.specs.CoreState.{CoreState}
 use Rattle.am_core.specs.CoreContracts.{CoreSteps, CoreTold, Delivers, core_job}
+use Rattle.am_core.specs.WouldDeliver.{WouldDeliver as CoreWouldDeliver}
 use Rattle.datagram_grammar.specs.declared.note.BarrierNote.{BarrierNote}
 use Rattle.endpoint_rules.specs.BarrierCalls.{has_ranges}
 use Rattle.endpoint_rules.specs.EndpointLocal.{EndpointLocal, core_of}
 use Rattle.endpoint_rules.specs.EndpointRules.{transition, after_note}
+use Rattle.endpoint_rules.specs.declared.answer.Answer.{Answer}
 use Rattle.endpoint_rules.specs.declared.answer.Answer.TheVariants as answers
 use Rattle.endpoint_rules.proofs.Over.{endpoint_over}
 use Rattle.gas_endpoint.specs.declared.extended.Extended.{Extended}
-use Rattle.gas_endpoint.specs.EndpointState.{EndpointState, NodeSteps, BytesCome, job_here}
+use Rattle.gas_endpoint.specs.EndpointState.{EndpointState, NodeSteps, BytesCome, WouldDeliver, IsAnsweredAlways, job_here}
 use Rattle.gas_endpoint.specs.Parts.{IsWhole, Hears, endpoint_of, after_answer, heard_by}
 use Rattle.gas_endpoint.proofs.Stepping.{steps_by, barrier_of, stays_whole, has_next}
 
@@ -177,3 +179,36 @@ bytes_whole meaning core new extended heard bytes answer lawful are W D H =
         stays_whole (record { core = core; extended = extended }) (record { core = new; extended = heard }) W D.same
         H.frame (has_next meaning (endpoint_of core extended) (endpoint_of new heard) 0 (Comes message)
         (answers.Delivered answer) N W.record_)
+
+-- what a delivery would be answered
+pub would_deliver_here : (core : CoreState) (extended : Extended) (bytes : List ℕ) (answer : Delivered)
+    → CoreWouldDeliver core bytes answer → WouldDeliver (endpoint_of core extended) bytes answer
+would_deliver_here core extended bytes answer D = record {
+  comes = λ message version spelled meaning node S.
+      let site = site_of (job_here meaning (endpoint_of core extended)) core.me in
+      let own = rules core.settings core.table meaning in
+      let over = endpoint_over core.settings core.table meaning in
+      D.comes message version spelled meaning (under core_of node) S.core
+      ∙ ap (λ (w : Verdict). answer_by own message w) (sym (verdict_alike core_of own site node message over));
+  refused = D.refused;
+}
+
+-- and every delivery is answered so
+pub answered_always : (core : CoreState) (extended : Extended) (bytes : List ℕ) (answer : Delivered) → IsBytes bytes
+    → IsWhole core extended → WouldDeliver (endpoint_of core extended) bytes answer
+    → IsAnsweredAlways (endpoint_of core extended) bytes answer
+answered_always core extended bytes answer are W told meaning now given new comes =
+    by (first_refusal core.settings.version bytes) refl
+  where
+    by : (refused : Option RefusedBytes) → first_refusal core.settings.version bytes ≡ refused
+        → given ≡ answers.Delivered answer
+    by (Some reason) e =
+        (comes.refused reason e).0 ∙ sym (ap (λ (a : Delivered). answers.Delivered a) (told.refused reason e))
+    by None e =
+        let version = core.settings.version in
+        let message = message_at version bytes in
+        let spelled = takes version bytes W.record_.1.core.range.version are e in
+        let same = version_at version bytes in
+        ((comes.comes message same spelled).steps W.record_.0 W.record_.1).0
+        ∙ sym (ap (λ (a : Delivered). answers.Delivered a)
+        (told.comes message same spelled meaning W.record_.0 W.record_.1))

@@ -4,6 +4,7 @@ pub mod Delivering
 pub mod Calling
 pub mod Ticks
 pub mod Flags
+mod Meanings
 pub mod Syncs
 pub mod Barriers
 pub mod Beginnings

@@ -14,10 +14,11 @@ use Rattle.handler_rules.specs.declared.table.Entry.{Entry}
 use Rattle.handler_rules.specs.declared.rules.CallKind.{CallKind}
 use Rattle.handler_rules.specs.Runs.{Meaning}
 use Rattle.node_record.specs.declared.answer.Why.TheVariants as why
+use Rattle.node_record.specs.declared.answer.Delivered.{Delivered}
 use Rattle.node_record.specs.declared.answer.Delivered.TheVariants as delivered
 use Rattle.node_record.specs.Record.{Node}
 use Rattle.node_record.specs.Behaviour.{Behaviour}
-use Rattle.node_record.specs.Step.{with_local, request_answer, tick_choice, TickChoice, Sends}
+use Rattle.node_record.specs.Step.{deliver_answer, with_local, request_answer, tick_choice, TickChoice, Sends}
 use Rattle.node_record.specs.NodeStep.{Job, Comes, Ticks, node_answer, node_after, site_of}
 use Rattle.node_record.specs.Transition.{Transition}
 use Rattle.node_record.specs.Under.{under}
@@ -28,7 +29,7 @@ use Rattle.am_core.specs.Known.{is_accepted}
 use Rattle.endpoint_rules.specs.EndpointLocal.{EndpointLocal, IsEndpointKept, core_of}
 use Rattle.endpoint_rules.specs.EndpointRules.{OtherCall, RecordEvent, job_of, told, transition, unless_forbidden}
 use Rattle.endpoint_rules.specs.Tracking.{NodeTracks}
-use Rattle.endpoint_rules.specs.Called.{Meant, Requests, Performs, meant, called}
+use Rattle.endpoint_rules.specs.Called.{Meant, Requests, Performs, meant, called, HasTarget}
 use Rattle.endpoint_rules.specs.declared.call.Call.{Call}
 use Rattle.endpoint_rules.specs.declared.call.Call.TheVariants as call
 use Rattle.endpoint_rules.specs.declared.call.Event.{Event}
@@ -124,6 +125,12 @@ EndpointSteps meaning old step new = elim step.event [
   | event.Tick ↦ NodeSteps meaning old (transition step.now Ticks step.answer) new
 ]
 
+-- the event runs no handler, whatever the node has kept: it is a tick, or a call that is no request to the own node
+abbrev pub RunsNone : EndpointState → Event → Type 0
+RunsNone endpoint (event.Call thread call) = HasTarget call endpoint.core.me → ⊥
+RunsNone endpoint (event.Deliver bytes) = ⊥
+RunsNone endpoint event.Tick = Unit {0}
+
 -- ---- what an event would do
 
 -- the node to which a tick that does this sends a request for the first time
@@ -151,3 +158,16 @@ WouldAcceptAt endpoint step = elim step.event [
   | event.Deliver bytes ↦ step.answer ≡ false
   | event.Tick ↦ (target : Option ℕ) → IsTickTarget endpoint step.now target → step.answer ≡ is_some target
 ]
+
+-- what a delivery of these bytes would be answered: what the record says, whatever the handlers mean
+pub record WouldDeliver (endpoint : EndpointState) (bytes : List ℕ) (answer : Delivered) : Type 0 where
+  pub comes : (message : Message) → message.version ≡ endpoint.core.settings.version → Spells message bytes
+      → (meaning : Meaning) → ForItsRecord endpoint (λ node.
+      answer ≡ deliver_answer (site_of (job_here meaning endpoint) endpoint.core.me) node message)
+  pub refused : (reason : Refused) → first_refusal endpoint.core.settings.version bytes ≡ Some reason
+      → answer ≡ delivered.Refused (why.Bytes reason)
+
+-- every delivery of these bytes is answered so, at any time and whatever the handlers mean
+abbrev pub IsAnsweredAlways : EndpointState → (bytes : List ℕ) → Delivered → Type 0
+IsAnsweredAlways endpoint bytes answer = (meaning : Meaning) (now : ℕ) (given : Answer) (new : EndpointState)
+    → BytesCome meaning endpoint (transition now bytes given) new → given ≡ answers.Delivered answer

@@ -1,6 +1,7 @@
 //! One node: its active messages, and the other calls of its threads.
 
 ghost use Rattle.std.specs.Prelude.{◌≤◌, ℕ, ◌≡◌, ◌≢◌, ◌<◌, IfOk, IfSome, None, Some, option_copied, not};
+ghost use Rattle.std.specs.Prelude.{replicate};
 ghost use Rattle.handler_rules.specs.LogState.{log_of};
 ghost use Rattle.handler_rules.specs.Runs.{Meaning, IsLawfulMeaning};
 ghost use Rattle.hsl_locks.specs.Locks.{holds};
@@ -19,14 +20,15 @@ ghost use Rattle.endpoint_rules.specs.Called.{meant, called, IsMeantBy};
 ghost use Rattle.endpoint_rules.specs.TransferCalls.{handle_in};
 ghost use Rattle.gas_endpoint.specs.EndpointState.{EndpointStands, ForItsRecord, EndpointSteps, NodeSteps};
 ghost use Rattle.gas_endpoint.specs.EndpointState.{IsNodeOf, MayHappen, MayBeCalled, BytesCome};
-ghost use Rattle.gas_endpoint.specs.EndpointState.{IsTickTarget, WouldAcceptAt};
+ghost use Rattle.gas_endpoint.specs.EndpointState.{IsTickTarget, RunsNone, WouldAcceptAt};
+ghost use Rattle.gas_endpoint.specs.EndpointState.{IsAnsweredAlways, WouldDeliver};
 ghost use Rattle.gas_endpoint.specs.Parts.{CallSteps, kind_of};
 ghost use Rattle.gas_endpoint.specs.Sends.{StepSends};
 
 use crate::calls::kind_of;
 use crate::extended::Extended;
 use crate::memory;
-use am_core::{Core, SlotRef};
+use am_core::{Core, Delivered, SlotRef};
 use datagram_grammar::Settings;
 use endpoint_rules::{Answer, Call, Event, Local, Ticked};
 use handler_rules::{CallKind, Cells, Handlers, Log, Table};
@@ -39,7 +41,7 @@ use std::marker::Model;
 /// One node of a job: its requests and runs, its segment, cells and locks, its transfers, access regions, registers of
 /// handles and barrier, and its violations.
 ///
-/// All memory is taken by `new`.
+/// All memory is taken by `new`, or by `with_segment`, which is given the segment.
 #[derive(Drop)]
 pub struct Endpoint {
     core: Core,
@@ -78,6 +80,25 @@ impl Endpoint {
         Ok(Endpoint { core, extended })
     }
 
+    /// The same endpoint, over a segment of zeros that was made before. Where it is refused, the segment is dropped.
+    pub fn with_segment(
+        alloc: Global,
+        settings: &Settings,
+        me: u16,
+        table: &Table,
+        segment: Segment,
+    ) -> Result<Endpoint, AllocError>
+        requires me { me < settings.now.nodes }
+        requires zeros { segment ≡ replicate settings.now.segment 0 }
+        ensures node { IfOk result (IsNodeOf settings.now table.now me) }
+        ensures stands { IfOk result (λ e.
+            EndpointStands e (opening_node (nothing_begun settings.now))) }
+    {
+        let extended = Extended::new(alloc, settings, me)?;
+        let core = Core::with_segment(alloc, settings, me, table, segment)?;
+        Ok(Endpoint { core, extended })
+    }
+
     /// One event at the time `now`.
     ///
     /// A library call that the rule table forbids is answered `Forbidden`, whatever the call, and
@@ -88,6 +109,8 @@ impl Endpoint {
     /// of a note the barrier. A tick sends the request that is due again, else the barrier's note that is
     /// due to the least node that can be asked, else the next chunk of the oldest operation whose target
     /// can be asked. What the event sends is the message of the slot that `Answer::sends` names.
+    ///
+    /// An event that runs no handler does the same whatever the handlers mean.
     #[inline(always)]
     pub fn step<H: Handlers>(&mut self, handlers: &H, now: u64, event: &Event<'_>) -> Answer
         requires { MayHappen self.old.core.settings event.now }
@@ -95,6 +118,8 @@ impl Endpoint {
             (transition now event.now result) self.new }
         ensures sends { StepSends (H.meaning handlers.now) self.old
             (transition now event.now result) }
+        ensures quiet { RunsNone self.old event.now → (meaning : Meaning) → EndpointSteps meaning
+            self.old (transition now event.now result) self.new }
     {
         self.step_as_recorded(handlers, now, event)
     }
@@ -122,6 +147,14 @@ impl Endpoint {
         ensures { IsLastRun self.now.core from slot number result }
     {
         self.core.is_last_run(from, slot, number)
+    }
+
+    /// What a delivery of these bytes would be answered, at any time and whatever the handlers mean. It changes nothing.
+    pub fn would_deliver(&self, bytes: &[u8]) -> Delivered
+        ensures told { WouldDeliver self.now bytes.now result }
+        ensures agrees { IsAnsweredAlways self.now bytes.now result }
+    {
+        self.core.would_deliver(bytes)
     }
 
     /// Whether a request to another node would be accepted at the time `now`: one that a thread makes, or the one that

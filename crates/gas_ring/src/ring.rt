@@ -4,11 +4,7 @@ ghost use Rattle.std.specs.Prelude.{◌≡◌, ◌<◌};
 
 use crate::handlers::{CAME, HOPS, PASSED, RingHandlers, TOKEN, TOLD};
 use crate::queue::LossyQueue;
-use am_core::Asked;
-use datagram_grammar::Settings;
-use endpoint_rules::{Answer, Call, Event};
-use gas_endpoint::Endpoint;
-use handler_rules::{Entry, Role, Table};
+use gasnet::{Answer, Asked, Call, Endpoint, Entry, Event, Serves, Settings, Table};
 use std::alloc::{AllocError, Global};
 use std::marker::Model;
 
@@ -27,7 +23,7 @@ pub struct RingNode {
 
 impl Model for RingNode {
     ghost use Rattle.std.specs.Prelude.{◌≡◌};
-    ghost use Rattle.gas_endpoint.specs.EndpointState.{EndpointState};
+    ghost use Rattle.gasnet.specs.Endpoints.{EndpointState};
 
     ghost Value = { EndpointState };
 
@@ -154,11 +150,11 @@ impl RingNode {
 /// The table of all nodes: the token's handler, and the reply's.
 pub fn table(alloc: Global) -> Result<Table, AllocError> {
     let mut table = Table::new(alloc)?;
-    for (index, role) in [(TOKEN, Role::Request), (PASSED, Role::Reply)] {
+    for (index, serves) in [(TOKEN, Serves::Requests), (PASSED, Serves::Replies)] {
         // Both indexes are free in a new table.
         let _ = table.register(Entry {
             index,
-            role,
+            serves,
             locks: 0,
         });
     }

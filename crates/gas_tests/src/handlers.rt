@@ -2,7 +2,7 @@
 
 ghost use Rattle.std.specs.Prelude.{◌≡◌, pos, slice_index_or};
 
-use handler_rules::{Cells, Desk, Entry, Handlers, Role, Table};
+use handler_rules::{Cells, Desk, Entry, Handlers, Serves, Table};
 use raw_segment::Segment;
 use std::alloc::Global;
 use std::test::Fail;
@@ -41,10 +41,10 @@ fn first(args: &[i32]) -> i32
 /// Handler 128 for requests, 130 for replies.
 pub fn registered(alloc: Global) -> Result<Table, Fail> {
     let mut table = Table::new(alloc)?;
-    for (index, role) in [(128, Role::Request), (130, Role::Reply)] {
+    for (index, serves) in [(128, Serves::Requests), (130, Serves::Replies)] {
         let entry = Entry {
             index,
-            role,
+            serves,
             locks: 0,
         };
         if table.register(entry).is_err() {

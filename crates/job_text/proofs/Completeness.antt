@@ -154,10 +154,10 @@ job_numbers job is Credits = record {
 job_numbers job is Threads = record { low = is.settings.some_thread; high = is.settings.threads; fits = refl }
 job_numbers job is Segment = record {
   low = is.settings.some_page;
-  high = is.settings.segment;
+  high = is.segment;
   fits = and_from _ _
       (eq-eqb (job.settings.segment % 4096) 0 is.settings.pages) (le-leb
-      (job.settings.nodes * job.settings.segment) 268435456 is.settings.segments);
+      (job.settings.nodes * job.settings.segment) 268435456 is.segments);
 }
 job_numbers job is Last = record { low = is.settings.last; high = (let lt = is.last_fits in omega arith); fits = refl }
 job_numbers job is Resend = record { low = is.settings.some_time; high = is.settings.resend; fits = refl }

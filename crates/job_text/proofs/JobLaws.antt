@@ -24,7 +24,7 @@ use Rattle.job_text.specs.declared.job.TimedEvent.{TimedEvent}
 use Rattle.job_text.proofs.Freshness.{AreFresh, fresh_apart, fresh_more, fresh_from}
 use Rattle.job_text.proofs.HandlerRuns.{few_full, rounds_more}
 use Rattle.job_text.proofs.Threads.{threads_more}
-use Rattle.job_text.proofs.Ranges.{IsNumber, AreNumbers, settings_range, fitting, is_pair, pair_range}
+use Rattle.job_text.proofs.Ranges.{IsNumber, AreNumbers, settings_range, segments_few, fitting, is_pair, pair_range}
 
 -- ---- the head
 
@@ -125,6 +125,8 @@ none_is settings (Some lines) e = absurd (cc)
 -- a job so far, whose handlers have each a fresh index
 pub record IsSound (job : Job) : Type 0 where
   pub settings : AreInRange job.settings
+  pub segment : job.settings.segment ≤ 67108864
+  pub segments : job.settings.nodes * job.settings.segment ≤ 268435456
   pub job_fits : job.settings.job < 2 ^ 64
   pub last_fits : job.settings.last < 2 ^ 64
   pub sums : (count : ℕ) → credits_in_all (with_first_pairs count job.settings) ≤ 65536
@@ -142,6 +144,8 @@ pub record IsSound (job : Job) : Type 0 where
 pub sound_job : (job : Job) → IsSound job → IsJob job
 sound_job job is = record {
   settings = is.settings;
+  segment = is.segment;
+  segments = is.segments;
   job_fits = is.job_fits;
   last_fits = is.last_fits;
   sums = is.sums;
@@ -164,6 +168,8 @@ head_sound job is =
     let scripts = no_script job.settings.nodes job.settings.threads job.scripts is.scripts in
     record {
       settings = settings_range job is.pairs all;
+      segment = (all Segment).high;
+      segments = segments_few job all;
       job_fits = (let high = (all places.Job).high in omega arith);
       last_fits = (let high = (all Last).high in omega arith);
       sums = λ count. rw (even_sum (with_first_pairs count job.settings)
@@ -217,6 +223,8 @@ pair_sound job pair is fits low high new few none =
     let range = pair_range s pair is.settings fit one new few in
     record {
       settings = range;
+      segment = is.segment;
+      segments = is.segments;
       job_fits = is.job_fits;
       last_fits = is.last_fits;
       sums = λ count. sums_by s pair count (leb count (length s.pairs)) refl is.sums range.credits_in_all;
@@ -243,6 +251,8 @@ pub handler_sound : (job : Job) (handler : HandlerText) → IsSound job → IsHa
     → has_index job.handlers handler.index ≡ false → length job.handlers < 128 → IsSound (with_handler handler job)
 handler_sound job handler is one new few = record {
   settings = is.settings;
+  segment = is.segment;
+  segments = is.segments;
   job_fits = is.job_fits;
   last_fits = is.last_fits;
   sums = is.sums;
@@ -264,6 +274,8 @@ pub script_sound : (job : Job) (script : NodeScript) → IsSound job
     → has_thread job.scripts script.node script.thread ≡ false → IsSound (with_script script job)
 script_sound job script is one new = record {
   settings = is.settings;
+  segment = is.segment;
+  segments = is.segments;
   job_fits = is.job_fits;
   last_fits = is.last_fits;
   sums = is.sums;
@@ -284,6 +296,8 @@ script_sound job script is one new = record {
 pub empty_sound : (job : Job) → IsSound job → IsSound (record job { schedule = Some [] })
 empty_sound job is = record {
   settings = is.settings;
+  segment = is.segment;
+  segments = is.segments;
   job_fits = is.job_fits;
   last_fits = is.last_fits;
   sums = is.sums;
@@ -326,6 +340,8 @@ pub line_sound : (job : Job) (t : TimedEvent) → IsSound job → (lines : List 
     ≡ None → IsSound (with_line t job)
 line_sound job t is some one free = record {
   settings = is.settings;
+  segment = is.segment;
+  segments = is.segments;
   job_fits = is.job_fits;
   last_fits = is.last_fits;
   sums = is.sums;

@@ -66,12 +66,18 @@ settings_range job none all =
       threads = (all Threads).high;
       pages = eqb-true (s.segment % 4096) 0 pages.0;
       some_page = (all Segment).low;
-      segment = (all Segment).high;
-      segments = leb-true (s.nodes * s.segment) 268435456 pages.1;
+      segment = (let low = (all Segment).high in omega arith);
       last = (all Last).low;
       some_time = (all Resend).low;
       resend = (all Resend).high;
     }
+
+-- and their segments have at most 256 MiB in all
+pub segments_few : (job : Job) → AreNumbers job → job.settings.nodes * job.settings.segment ≤ 268435456
+segments_few job all =
+    let s = job.settings in
+    leb-true (s.nodes * s.segment) 268435456
+    (and_parts (eqb (s.segment % 4096) 0) (leb (s.nodes * s.segment) 268435456) (all Segment).fits).1
 
 -- ---- one more pair
 
@@ -155,7 +161,6 @@ pair_range settings pair range fit is new few =
       pages = range.pages;
       some_page = range.some_page;
       segment = range.segment;
-      segments = range.segments;
       last = range.last;
       some_time = range.some_time;
       resend = range.resend;

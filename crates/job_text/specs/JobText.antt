@@ -147,6 +147,8 @@ with_first_pairs count settings = record settings { pairs = take count settings.
 -- a job whose words are in range; behind the line of each pair the sum of all credits is
 pub record IsJob (job : Job) : Type 0 where
   pub settings : AreInRange job.settings
+  pub segment : job.settings.segment ≤ 67108864
+  pub segments : job.settings.nodes * job.settings.segment ≤ 268435456
   pub job_fits : job.settings.job < 2 ^ 64
   pub last_fits : job.settings.last < 2 ^ 64
   pub sums : (count : ℕ) → credits_in_all (with_first_pairs count job.settings) ≤ 65536

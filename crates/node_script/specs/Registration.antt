@@ -5,7 +5,7 @@ use Rattle.std.specs.Prelude.{ℕ, ◌==◌, not, List, [], ◌∷◌, ◌++◌,
 use Rattle.std.specs.List.{filter, fold}
 use Rattle.handler_rules.specs.declared.table.Entry.{Entry}
 use Rattle.handler_rules.specs.declared.table.EntryFault.{EntryFault}
-use Rattle.handler_rules.specs.Registered.{no_entries, index_for, registering}
+use Rattle.handler_rules.specs.Registered.{no_entries, index_for, only, registering}
 use Rattle.job_text.specs.Locks.{listed_by}
 use Rattle.job_text.specs.declared.job.Action.{Action}
 use Rattle.job_text.specs.declared.job.HandlerText.{HandlerText}
@@ -21,7 +21,7 @@ no_handlers = record { table = no_entries; bodies = [] }
 
 -- the entry that a handler asks for
 abbrev pub entry_of : HandlerText → Entry
-entry_of text = record { index = text.index; role = text.role; locks = listed_by text.locks }
+entry_of text = record { index = text.index; serves = only text.role; locks = listed_by text.locks }
 
 -- after a handler got this index, if it got one
 abbrev pub with_index : Registry → HandlerText → Result ℕ EntryFault → Registry

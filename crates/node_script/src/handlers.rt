@@ -7,7 +7,7 @@ ghost use Rattle.node_script.specs.Registration.{body_for, entry_of, register, r
 ghost use Rattle.node_script.specs.Places.{ArePlaced, AtRegistering, body_at, place_at, placing, register_turn};
 
 use crate::body::do_all;
-use handler_rules::{Cells, Desk, Entry, Handlers, Table};
+use handler_rules::{Cells, Desk, Entry, Handlers, Serves, Table};
 use job_text::{Action, HandlerText, HandlerTexts};
 use raw_segment::Segment;
 use std::alloc::{AllocError, Global};
@@ -120,7 +120,7 @@ fn entry_of(text: &HandlerText) -> Entry
 {
     Entry {
         index: text.index,
-        role: text.role,
+        serves: Serves::only(text.role),
         locks: text.locks.listed(),
     }
 }

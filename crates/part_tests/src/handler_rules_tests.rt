@@ -5,7 +5,7 @@ ghost use Rattle.handler_rules.specs.Desks.{IsReadyDesk};
 use datagram_grammar::{Kind, Settings};
 use handler_rules::{
     CallKind, Cells, Context, Desk, Entry, EntryFault, Fault, Forbidden, Incoming, Log, Replied,
-    Role, Table, Violation, allowed,
+    Role, Serves, Table, Violation, allowed,
 };
 use hsl_locks::{LockAnswer, Locks, UnlockAnswer};
 use std::alloc::Global;
@@ -13,13 +13,13 @@ use std::test::Fail;
 
 const REPLIES: Entry = Entry {
     index: 0,
-    role: Role::Reply,
+    serves: Serves::Replies,
     locks: 6,
 };
 
 const REQUESTS: Entry = Entry {
     index: 129,
-    role: Role::Request,
+    serves: Serves::Requests,
     locks: 8,
 };
 

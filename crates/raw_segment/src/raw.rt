@@ -8,7 +8,8 @@ use std::alloc::Allocator;
 use std::marker::{Model, PhantomData, Send};
 use std::slice::{from_raw_parts, from_raw_parts_mut};
 
-// The bytes `items`, which lie at `at`. Whoever has them knows how many they are.
+/// The bytes `items`, which lie in one raw allocation at `at`. Whoever has them knows how many they are.
+#[derive(Drop)]
 pub struct Bytes {
     at: *mut u8,
     pub ghost items: { List ℕ },
@@ -21,7 +22,7 @@ impl Model for Bytes {
 }
 
 // The right to give the allocation of `len` bytes at `at` back to `alloc`. It has no drop, so that it isn't lost.
-pub struct Lease<A: Allocator> {
+pub(crate) struct Lease<A: Allocator> {
     marker: PhantomData<A>,
     pub ghost alloc: { A },
     pub ghost at: { Ptr },
@@ -39,12 +40,13 @@ unsafe impl<A: Allocator + Send> Send for Lease<A> {}
 
 impl Bytes {
     ghost use Rattle.std.specs.Prelude.{◌≡◌, ◌<◌, ◌^◌, length, replicate, IfSome};
-    ghost use Rattle.std.specs.Borrow.{sem};
+    ghost use Rattle.std.specs.Borrow.{sem, full_share, Array, u8 as byte};
+    ghost use Rattle.std.specs.Ptr.{lies_at};
     ghost use Rattle.raw_segment.specs.Bytes.{IsInside, part};
     ghost use Rattle.raw_segment.specs.RawLending.{LendsRun};
 
     // `len` zeros, and the right to give them back; none for want of memory.
-    pub fn zeroed<A: Allocator>(alloc: &A, len: usize) -> Option<(Bytes, Lease<A>)>
+    pub(crate) fn zeroed<A: Allocator>(alloc: &A, len: usize) -> Option<(Bytes, Lease<A>)>
         requires { len < 2 ^ 63 }
         ensures { IfSome result (λ made. (made.0.items ≡ replicate len 0)
             × (made.1.alloc ≡ alloc.now) × (made.1.at ≡ made.0.at) × (made.1.len ≡ len)) }
@@ -61,8 +63,20 @@ impl Bytes {
         }
     }
 
+    /// The `len` zeros that lie at `at`. None of them is written here, so fresh pages of the system cost what is touched.
+    ///
+    /// From now on nobody else reads or writes them, until what has them is dropped. Then they are again those of
+    /// whoever reserved them.
+    pub unsafe fn given(at: *mut u8, len: usize) -> Bytes
+        requires few { len < 2 ^ 63 }
+        requires* zeros { sem 𝓛 (lies_at (Array byte len) full_share at (replicate len 0)) }
+        ensures { result.items ≡ replicate len 0 }
+    {
+        Bytes { at }
+    }
+
     // Gives the allocation back.
-    pub fn free<A: Allocator>(self, len: usize, lease: Lease<A>, alloc: &A)
+    pub(crate) fn free<A: Allocator>(self, len: usize, lease: Lease<A>, alloc: &A)
         requires { (lease.alloc ≡ alloc.now) × (lease.at ≡ self.at) × (lease.len ≡ len)
             × (len ≡ length self.items) }
     {
@@ -72,7 +86,7 @@ impl Bytes {
     }
 
     // All of them.
-    pub fn all(&self, len: usize) -> &[u8]
+    pub(crate) fn all(&self, len: usize) -> &[u8]
         requires { len ≡ length self.now.items }
         ensures { result.now ≡ self.now.items }
     {
@@ -80,7 +94,7 @@ impl Bytes {
     }
 
     // The `len` bytes from `offset` on, to be written.
-    pub fn run_mut(&mut self, offset: usize, len: usize) -> &mut [u8]
+    pub(crate) fn run_mut(&mut self, offset: usize, len: usize) -> &mut [u8]
         requires { IsInside self.old.items offset len }
         ensures* writes_back { sem 𝓛 (LendsRun self.entry offset len result) }
         ensures value { result.now ≡ part self.old.items offset len }

@@ -56,6 +56,12 @@ impl<T> Offset<T> {
 pub struct Segment {
     bytes: Bytes,
     len: usize,
+    // None where the bytes were given: whoever reserved them takes them back.
+    block: Option<Leased>,
+}
+
+// The right to give the segment's own block back, and to whom.
+struct Leased {
     lease: Lease<Global>,
     alloc: Global,
 }
@@ -67,19 +73,19 @@ impl Model for Segment {
 
     ghost view = { λ s. s.bytes.items };
 
-    ghost invariant = { λ s. (s.len ≡ length s.bytes.items) × (s.lease.alloc ≡ s.alloc)
-        × (s.lease.at ≡ s.bytes.at) × (s.lease.len ≡ s.len) };
+    ghost use Rattle.std.specs.Prelude.{IfSome};
+
+    ghost invariant = { λ s. (s.len ≡ length s.bytes.items)
+        × IfSome s.block (λ block. (block.lease.alloc ≡ block.alloc)
+        × (block.lease.at ≡ s.bytes.at) × (block.lease.len ≡ s.len)) };
 }
 
 impl Drop for Segment {
     fn drop(self) {
-        let Segment {
-            bytes,
-            len,
-            lease,
-            alloc,
-        } = self;
-        bytes.free(len, lease, &alloc);
+        let Segment { bytes, len, block } = self;
+        if let Some(Leased { lease, alloc }) = block {
+            bytes.free(len, lease, &alloc);
+        }
     }
 }
 
@@ -104,13 +110,24 @@ impl Segment {
             return Err(AllocError);
         }
         match Bytes::zeroed(&alloc, len) {
-            Some((bytes, lease)) => Ok(Segment {
-                bytes,
-                len,
-                lease,
-                alloc,
-            }),
+            Some((bytes, lease)) => {
+                let block = Some(Leased { lease, alloc });
+                Ok(Segment { bytes, len, block })
+            }
             None => Err(AllocError),
+        }
+    }
+
+    /// A segment of the `len` bytes that were given. None of them is written here, and no call takes memory. Where it is
+    /// dropped, they aren't given back to any allocator.
+    pub fn of(bytes: Bytes, len: usize) -> Segment
+        requires { len ≡ length bytes.items }
+        ensures { result ≡ bytes.items }
+    {
+        Segment {
+            bytes,
+            len,
+            block: None,
         }
     }
 

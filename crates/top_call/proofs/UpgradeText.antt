@@ -35,6 +35,8 @@ job_in_range : (job : JobState) → IsJob job → IsJob (in_version job 2)
 unfolding credits_in_all credits_of
 job_in_range job is = record {
   settings = upgraded_range job.settings is.settings;
+  segment = is.segment;
+  segments = is.segments;
   job_fits = is.job_fits;
   last_fits = is.last_fits;
   sums = λ count. is.sums count;

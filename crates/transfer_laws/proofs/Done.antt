@@ -25,7 +25,7 @@ start_below : (all index : ℕ) → index < chunks all → chunk_start index < a
 start_below all index inside = omega (arith, inside)
 
 -- an offset into a segment has 64 bits
-small : (segment base all start : ℕ) → segment ≤ 67108864 → base + all ≤ segment → start < all → base + start < 2 ^ 64
+small : (segment base all start : ℕ) → segment ≤ 2 ^ 40 → base + all ≤ segment → start < all → base + start < 2 ^ 64
 small segment base all start low inside below = omega (arith, low, inside, below)
 
 put_done : {settings : Parameters} {table : List (Option Entry)} {meaning : Meaning}

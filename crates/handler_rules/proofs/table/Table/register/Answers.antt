@@ -8,7 +8,7 @@ pub invariant_of-self : goal.invariant_of-self
 invariant_of-self c =
     registered c.self.inside.places.items (c.in_ok-index.index - 128) (record {
       index = c.in_ok-index.index;
-      role = c.args.entry.role;
+      serves = c.args.entry.serves;
       locks = c.args.entry.locks;
     }) c.self.inside.reply_locks c.locks_in_replies.result c.self.invariant
     (ap (λ (table : List (Option Entry)). slice_get table (c.in_ok-index.index - 128)) c.self.view_is
