@@ -34,7 +34,7 @@ impl Model for Node {
 }
 
 /// Whether the call has a list of registers.
-pub fn has_registers(call: &Call<'_>) -> bool
+fn has_registers(call: &Call<'_>) -> bool
     ensures { (settings : Parameters) (thread : ℕ) → result ≡ false → thread < settings.threads
         → MayBeCalled settings thread call.now }
 {

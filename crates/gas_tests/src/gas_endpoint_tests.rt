@@ -77,28 +77,28 @@ const ASKS: Event<'static> = Event::Call {
     },
 };
 
-/// Whether the put is all that was done at node 1.
-fn has_the_put(node: &Node) -> bool {
-    let endpoint = &node.endpoint;
+/// Whether the put is all that was done at node 1, and register 0 of node 0 has no handle.
+fn is_all_done(near: &Node, far: &Node) -> bool {
+    let endpoint = &far.endpoint;
     endpoint.segment().part(7, 4) == Some(&[0, 5, 6, 0])
         && endpoint.is_last_run(0, 0, 1)
         && endpoint.number(REPLY) == Some(1)
         && endpoint.held() == 1
         && endpoint.cells().get(0) == 0
         && endpoint.log().count() == 0
+        && endpoint.polls(0)
         && endpoint.would_accept(0, &ASKS)
-}
-
-/// Whether the register that node 0 might have is unused, and its thread may poll.
-fn has_none(node: &Node) -> bool {
-    node.endpoint.register(0).serial == 0 && node.endpoint.polls(0)
+        && near.endpoint.register(0).serial == 0
 }
 
 #[test]
 fn a_put_without_a_register(rt: HostRuntime) -> Result<(), Fail> {
     let mut nodes = two_nodes(rt.alloc())?;
     let told = answers(rt.alloc(), &mut nodes, &DEEDS)?;
-    assert_eq!(rt; told.as_str(), ANSWERS);
-    assert!(rt; nodes.iter().take(1).all(has_none) && nodes.iter().skip(1).all(has_the_put));
+    assert!(rt; told.as_str() == ANSWERS);
+    let (Some(near), Some(far)) = (nodes.first(), nodes.last()) else {
+        return Err(Fail::new("no node"));
+    };
+    assert!(rt; is_all_done(near, far));
     Ok(())
 }

@@ -1,4 +1,4 @@
-//! A handler of the tests of endpoints and worlds, and the table of a node.
+//! A handler of the tests of endpoints, and the table of a node.
 
 ghost use Rattle.std.specs.Prelude.{◌≡◌, pos, slice_index_or};
 
