@@ -49,7 +49,7 @@ done
 
 /// A turn of each node.
 fn round(ring: &mut [NodeMachine<'_>], now: u64, network: &mut Network) -> Result<(), Fail> {
-    for (node, machine) in (0..4).zip(ring) {
+    for (node, machine) in (0..4).zip(ring.iter_mut()) {
         network.turn(machine, node, now)?;
     }
     Ok(())
