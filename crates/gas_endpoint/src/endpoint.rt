@@ -109,6 +109,8 @@ impl Endpoint {
     /// of a note the barrier. A tick sends the request that is due again, else the barrier's note that is
     /// due to the least node that can be asked, else the next chunk of the oldest operation whose target
     /// can be asked. What the event sends is the message of the slot that `Answer::sends` names.
+    ///
+    /// An event that runs no handler does the same whatever the handlers mean.
     #[inline(always)]
     pub fn step<H: Handlers>(&mut self, handlers: &H, now: u64, event: &Event<'_>) -> Answer
         requires { MayHappen self.old.core.settings event.now }

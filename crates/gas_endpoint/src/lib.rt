@@ -8,13 +8,16 @@
 //!   that spell a message of the job's version come as that message, and others are refused by the first reason of the
 //!   grammar. What the rule table forbids is answered `Forbidden`, whatever the call, and noted once. The message that
 //!   the step sends is that of the slot which `Answer::sends` names [`sends`: `StepSends`]; `Endpoint::message` gives
-//!   it, `Endpoint::number` its number.
+//!   it, `Endpoint::number` its number. A step that runs no handler (`RunsNone`: a tick, or a call that is no request to
+//!   the own node) is the same whatever the handlers mean [`quiet`].
 //! - A tick sends a request again that is due; else the note of the barrier that is due to the least node that can be
 //!   asked; else the next chunk of the oldest operation whose target can be asked. `Endpoint::next_target` tells before
 //!   it which node would get a request of the node's own accord [`target`: `IsTickTarget`]; `would_accept` whether an
 //!   event would accept a request.
+//! - `Endpoint::would_deliver` tells what a delivery of bytes would be answered [`told`: `WouldDeliver`]: every delivery
+//!   of them is answered so, at any time and whatever the handlers mean [`agrees`: `IsAnsweredAlways`].
 //! - `Endpoint::new` gives an endpoint that stands for the opening record [`stands`]; want of memory is its one error.
-//!   After it no call takes memory.
+//!   After it no call takes memory. `Endpoint::with_segment` is the same over a segment of zeros that was made before.
 //! - `issued`, `register`, `segment`, `cells`, `log`, `held` and `polls` give what the record has.
 #![tactic(auto)]
 

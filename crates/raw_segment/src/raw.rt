@@ -22,7 +22,7 @@ impl Model for Bytes {
 }
 
 // The right to give the allocation of `len` bytes at `at` back to `alloc`. It has no drop, so that it isn't lost.
-pub struct Lease<A: Allocator> {
+pub(crate) struct Lease<A: Allocator> {
     marker: PhantomData<A>,
     pub ghost alloc: { A },
     pub ghost at: { Ptr },
@@ -46,7 +46,7 @@ impl Bytes {
     ghost use Rattle.raw_segment.specs.RawLending.{LendsRun};
 
     // `len` zeros, and the right to give them back; none for want of memory.
-    pub fn zeroed<A: Allocator>(alloc: &A, len: usize) -> Option<(Bytes, Lease<A>)>
+    pub(crate) fn zeroed<A: Allocator>(alloc: &A, len: usize) -> Option<(Bytes, Lease<A>)>
         requires { len < 2 ^ 63 }
         ensures { IfSome result (λ made. (made.0.items ≡ replicate len 0)
             × (made.1.alloc ≡ alloc.now) × (made.1.at ≡ made.0.at) × (made.1.len ≡ len)) }
@@ -76,7 +76,7 @@ impl Bytes {
     }
 
     // Gives the allocation back.
-    pub fn free<A: Allocator>(self, len: usize, lease: Lease<A>, alloc: &A)
+    pub(crate) fn free<A: Allocator>(self, len: usize, lease: Lease<A>, alloc: &A)
         requires { (lease.alloc ≡ alloc.now) × (lease.at ≡ self.at) × (lease.len ≡ len)
             × (len ≡ length self.items) }
     {
@@ -86,7 +86,7 @@ impl Bytes {
     }
 
     // All of them.
-    pub fn all(&self, len: usize) -> &[u8]
+    pub(crate) fn all(&self, len: usize) -> &[u8]
         requires { len ≡ length self.now.items }
         ensures { result.now ≡ self.now.items }
     {
@@ -94,7 +94,7 @@ impl Bytes {
     }
 
     // The `len` bytes from `offset` on, to be written.
-    pub fn run_mut(&mut self, offset: usize, len: usize) -> &mut [u8]
+    pub(crate) fn run_mut(&mut self, offset: usize, len: usize) -> &mut [u8]
         requires { IsInside self.old.items offset len }
         ensures* writes_back { sem 𝓛 (LendsRun self.entry offset len result) }
         ensures value { result.now ≡ part self.old.items offset len }
