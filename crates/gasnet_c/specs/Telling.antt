@@ -1,0 +1,56 @@
+-- What an export tells of the event that it makes.
+use Rattle.std.specs.Prelude.{ℕ, ◌≡◌, ◌<◌, ◌≤◌, List, take, length, Option, Some, None}
+use Rattle.handler_rules.specs.Runs.{Meaning}
+use Rattle.node_record.specs.SlotMessages.{message_at}
+use Rattle.node_record.specs.declared.answer.SlotRef.{SlotRef}
+use Rattle.endpoint_rules.specs.EndpointRules.{transition}
+use Rattle.endpoint_rules.specs.Sends.{sends}
+use Rattle.endpoint_rules.specs.declared.answer.Answer.{Answer}
+use Rattle.endpoint_rules.specs.declared.call.Event.{Event}
+use Rattle.gas_endpoint.specs.EndpointState.{EndpointState, EndpointSteps, ForItsRecord}
+use Rattle.gasnet_c.specs.Codes.{code_of, place_of, value_of}
+use Rattle.gasnet_c.specs.declared.told.Told.{Told}
+
+-- ---- the datagram
+
+-- the buffer begins with these bytes, where they fit in
+pub record BeginsWith (bytes : List ℕ) (len : ℕ) (buffer : List ℕ) : Type 0 where
+  pub whole : length bytes ≤ length buffer → (len ≡ length bytes) × (take len buffer ≡ bytes)
+  pub short : length buffer < length bytes → len ≡ 0
+
+-- so it is of a datagram that is there
+abbrev pub IsCopied : Option (List ℕ) → (len : ℕ) → List ℕ → Type 0
+IsCopied None len buffer = len ≡ 0
+IsCopied (Some bytes) len buffer = BeginsWith bytes len buffer
+
+-- the buffer begins with the message of the slot that sends
+abbrev pub IsSent : EndpointState → Option SlotRef → (len : ℕ) → List ℕ → Type 0
+IsSent endpoint None len buffer = len ≡ 0
+IsSent endpoint (Some at) len buffer = ForItsRecord endpoint (λ node.
+    IsCopied (message_at endpoint.core.settings endpoint.core.me node at) len buffer)
+
+-- ---- what is told
+
+-- the slot that an answer is about is told
+abbrev pub IsPlaced : Option SlotRef → Told → Type 0
+IsPlaced None told = (told.to ≡ 0) × (told.slot ≡ 0)
+IsPlaced (Some at) told = (told.to ≡ at.peer) × (told.slot ≡ at.slot)
+
+-- C is told this answer, and what it sends
+pub record IsTold (endpoint : EndpointState) (answer : Answer) (told : Told) (buffer : List ℕ) : Type 0 where
+  pub code : told.code ≡ code_of answer
+  pub value : told.value ≡ value_of answer
+  pub place : IsPlaced (place_of answer) told
+  pub sent : IsSent endpoint (sends answer) told.len buffer
+
+-- C is told that the handle is dead
+pub record IsDead (told : Told) : Type 0 where
+  pub code : told.code ≡ 99
+  pub len : told.len ≡ 0
+
+-- where a node is held, this event happened to it, its handlers mean this, and C is told the answer
+abbrev pub Tells : Meaning → Option EndpointState → (now : ℕ) → Event → Told → List ℕ → Option EndpointState → Type 0
+Tells meaning (Some old) now event told buffer (Some new) =
+    (answer : Answer) × EndpointSteps meaning old (transition now event answer) new × IsTold new answer told buffer
+Tells meaning (Some old) now event told buffer None = ⊥
+Tells meaning None now event told buffer new = IsDead told × (new ≡ None)

@@ -1,0 +1,111 @@
+//! Handlers that C ran already: what each of them did, as values that are replayed.
+
+ghost use Rattle.std.specs.Prelude.{◌≡◌, length};
+ghost use Rattle.gasnet_c.specs.Replayed.{left_write, overwritten_if};
+
+use handler_rules::{Cells, Desk, Handlers, Role};
+use raw_segment::Segment;
+
+/// The reply that a handler asked for: `gasnet_c_reply`.
+#[repr(C)]
+#[derive(Clone, Copy)]
+pub struct Reply<'a> {
+    /// Its arguments.
+    pub args: &'a [i32],
+    /// Its payload.
+    pub payload: &'a [u8],
+    /// Where a Long's payload goes in the requester's segment.
+    pub offset: u64,
+    /// 0 for a Short, 1 for a Medium, 2 for a Long; else there is none.
+    pub category: u32,
+    /// The index of its handler.
+    pub handler: u8,
+}
+
+/// What a handler did: `gasnet_c_run`.
+#[repr(C)]
+#[derive(Clone, Copy)]
+pub struct Run<'a> {
+    /// The reply that it asked for.
+    pub reply: Reply<'a>,
+    /// The bytes that it left at a Long's place; none where the payload stands there as it came.
+    pub left: &'a [u8],
+}
+
+/// No handler ran.
+pub const NO_RUN: Run<'static> = Run {
+    reply: Reply {
+        args: &[],
+        payload: &[],
+        offset: 0,
+        category: 3,
+        handler: 0,
+    },
+    left: &[],
+};
+
+/// The handlers of an event that C ran: one for a request, and one for a reply.
+#[derive(Clone, Copy)]
+pub struct Replay<'a> {
+    /// What the handler of a request did.
+    pub request: Run<'a>,
+    /// The bytes that the handler of a reply left at a Long's place.
+    pub reply_left: &'a [u8],
+}
+
+/// Nothing ran.
+pub const NO_ONE: Replay<'static> = Replay {
+    request: NO_RUN,
+    reply_left: &[],
+};
+
+/// Writes bytes at a Long's place, where there are some and they fit.
+fn leave(segment: &mut Segment, place: Option<(u64, u64)>, left: &[u8])
+    ensures { segment.new ≡ overwritten_if
+        (left_write (length segment.old) place left.now) segment.old }
+{
+    if let Some((offset, _)) = place {
+        let len = left.len() as u64;
+        if len == 0 || !segment.contains(offset, len) {
+            return;
+        }
+        segment.part_mut(offset, len).copy_from_slice(left);
+    }
+}
+
+impl Handlers for Replay<'_> {
+    ghost use Rattle.gasnet_c.specs.Replayed.{replayed};
+    ghost use Rattle.gasnet_c.specs.Lawful.{replayed_lawful};
+
+    ghost meaning = { λ it handler frame start. replayed it frame start };
+
+    ghost is_lawful = { λ it handler frame start. replayed_lawful it frame start };
+
+    /// It leaves what C's handler left, and asks for the reply that it asked for.
+    fn run(&self, _handler: u8, segment: &mut Segment, _cells: &mut Cells, desk: &mut Desk<'_>) {
+        match desk.role() {
+            Role::Reply => leave(segment, desk.place(), self.reply_left),
+            Role::Request => {
+                leave(segment, desk.place(), self.request.left);
+                let reply = &self.request.reply;
+                match reply.category {
+                    0 => {
+                        let _ = desk.reply_short(reply.handler, reply.args);
+                    }
+                    1 => {
+                        let _ = desk.reply_medium(reply.handler, reply.args, reply.payload);
+                    }
+                    2 => {
+                        let _ = desk.reply_long(
+                            reply.handler,
+                            reply.args,
+                            reply.payload,
+                            reply.offset,
+                        );
+                    }
+                    _ => {}
+                }
+            }
+        }
+    }
+}
