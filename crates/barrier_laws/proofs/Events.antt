@@ -12,10 +12,6 @@ use Rattle.datagram_grammar.specs.Parameters.{Parameters, AreInRange}
 use Rattle.datagram_grammar.specs.Content.{Content, content_of}
 use Rattle.datagram_grammar.specs.Message.{Message}
 use Rattle.datagram_grammar.specs.declared.note.BarrierNote.{BarrierNote}
-use Rattle.access_region.specs.declared.Region.{Region as BegunRegion}
-use Rattle.access_region.specs.Regions.{has_begun, region_of}
-use Rattle.put_get.specs.declared.operation.Mode.{Mode}
-use Rattle.put_get.specs.declared.operation.Mode.TheVariants.{Explicit}
 use Rattle.put_get.specs.declared.operation.Next.{Next}
 use Rattle.put_get.specs.declared.operation.Transfer.{Transfer}
 use Rattle.put_get.specs.declared.operation.Transfer.TheVariants as transfers
@@ -49,18 +45,15 @@ use Rattle.am_core.specs.Kept.{segment_of}
 use Rattle.am_core.specs.ClientRules.{asking_fault, payload_in, said_in}
 use Rattle.am_core.specs.Library.{Note, work_content, note_said, note_handler}
 use Rattle.endpoint_rules.specs.EndpointLocal.{EndpointLocal}
-use Rattle.endpoint_rules.specs.TransferCalls.{TransferCall, Begin, BeginImplicit, IsIssued, Sync, SyncHandle}
-use Rattle.endpoint_rules.specs.TransferCalls.{SyncAll, SyncSome, SyncImplicit, RegionBegin, RegionEnd, Caller}
-use Rattle.endpoint_rules.specs.TransferCalls.{begin_says, after_beginning, implicit_mode, ended, transfer_does}
+use Rattle.endpoint_rules.specs.TransferCalls.{Caller}
 use Rattle.endpoint_rules.specs.BarrierCalls.{Notify, TryBarrier, identifier, has_ranges, worn_out_for}
-use Rattle.endpoint_rules.specs.EndpointRules.{OtherCall, OnCore, OnTransfers, OnBarrier, Records, note_among}
+use Rattle.endpoint_rules.specs.EndpointRules.{OtherCall, OnBarrier, Records, note_among}
 use Rattle.endpoint_rules.specs.EndpointRules.{next_note, chunk_work, note_first, next_sending, after_sent}
 use Rattle.endpoint_rules.specs.EndpointRules.{after_note, endpoint_rules, unless_forbidden, job_of}
 use Rattle.endpoint_rules.specs.declared.answer.Answer.{Answer}
 use Rattle.endpoint_rules.specs.declared.answer.Answer.TheVariants as answers
-use Rattle.endpoint_rules.specs.declared.answer.Begun.{Begun}
-use Rattle.endpoint_rules.specs.declared.answer.Begun.TheVariants as begun
 use Rattle.endpoint_rules.proofs.Noting.{note_ranges}
+use Rattle.endpoint_rules.proofs.Frames.{call_framed}
 use Rattle.barrier_laws.specs.BarrierLaws.{barriers_of, notify_told, ends_told}
 use Rattle.barrier_laws.proofs.Said.{IsSaid, AllSaid, said_grows, said_put, said_push, said_change}
 use Rattle.barrier_laws.proofs.Steps.{Added, nothing_added, Steps, notify_adds, try_adds, step_same, step_notify}
@@ -124,47 +117,6 @@ asks_step settings table meaning records now node ask _ holds e =
 
 -- ---- other calls
 
--- what the beginning of a transfer leaves
-after_begun : (caller : Caller) (transfer : Transfer) (mode : Mode) (says : Begun) (local : EndpointLocal)
-    → (after_beginning caller transfer mode says local).barrier ≡ local.barrier
-after_begun caller transfer mode (begun.Handle handle) local = refl
-after_begun caller transfer mode begun.Done local = refl
-after_begun caller transfer mode (begun.BadArg part) local = refl
-after_begun caller transfer mode begun.TooMany local = refl
-
--- the end of a region
-after_ended : (caller : Caller) (register : ℕ) (region : Option BegunRegion) (local : EndpointLocal)
-    → (ended caller register region local).1.barrier ≡ local.barrier
-after_ended caller register None local = refl
-after_ended caller register (Some was) local = elim (cases_option was.name) [
-  | inl none ↦ rw none refl
-  | inr name ↦ rw name.1 refl
-]
-
--- no call on transfers touches the barrier
-transfer_keeps : (caller : Caller) (call : TransferCall) (local : EndpointLocal)
-    → (transfer_does caller call local).1.barrier ≡ local.barrier
-transfer_keeps caller (Begin register transfer) local =
-    after_begun caller transfer Explicit (begin_says caller transfer local.operations) local
-transfer_keeps caller (BeginImplicit transfer) local =
-    after_begun caller transfer (implicit_mode local.regions caller.thread)
-    (begin_says caller transfer local.operations) local
-transfer_keeps caller (IsIssued register) local = refl
-transfer_keeps caller (Sync register) local = refl
-transfer_keeps caller (SyncHandle handle) local = refl
-transfer_keeps caller (SyncAll registers) local = refl
-transfer_keeps caller (SyncSome registers) local = refl
-transfer_keeps caller (SyncImplicit some) local = elim (cases_Bool (has_begun local.regions caller.thread)) [
-  | inl inside ↦ rw inside refl
-  | inr outside ↦ rw outside refl
-]
-transfer_keeps caller RegionBegin local = elim (cases_Bool (has_begun local.regions caller.thread)) [
-  | inl inside ↦ rw inside refl
-  | inr outside ↦ rw outside refl
-]
-transfer_keeps caller (RegionEnd register) local =
-    after_ended caller register (region_of local.regions caller.thread) local
-
 -- a call that the rule table judges
 by_judgement : (Holds : Answer → BarrierRecord → Type 0) (settings : Parameters) (table : List (Option Entry))
     (meaning : Meaning) (thread : ℕ) (judged : Result (Unit {0}) Forbidden) (local : EndpointLocal)
@@ -209,14 +161,6 @@ does_steps : (settings : Parameters) (table : List (Option Entry)) (meaning : Me
     (node thread : ℕ) (call : OtherCall) → node < settings.nodes → NodeHolds settings (records node)
     → let outcome = done (job_of settings table meaning) node (records node) thread call in
     Steps settings.nodes (barriers_of records) node (call_adds call outcome.0) outcome.1.barrier
-does_steps settings table meaning records node thread (OnCore call) there holds =
-    step_same settings.nodes (barriers_of records) node _ holds.within refl
-does_steps settings table meaning records node thread (OnTransfers call) there holds =
-    by_judgement (λ answer. Steps settings.nodes (barriers_of records) node (call_adds (OnTransfers call) answer))
-    settings table meaning thread _ (records node).local _
-    (λ forbidden. step_same settings.nodes (barriers_of records) node _ holds.within refl)
-    (step_same settings.nodes (barriers_of records) node _ holds.within
-    (transfer_keeps (caller_at settings records node thread) call (records node).local))
 does_steps settings table meaning records node thread (OnBarrier (Notify id flags)) there holds =
     let barrier = barriers_of records node in
     by_judgement
@@ -239,6 +183,10 @@ does_steps settings table meaning records node thread (OnBarrier (TryBarrier id 
     (subst (λ added. Steps settings.nodes (barriers_of records) node added (try_after barrier says))
     (try_is_told id flags says)
     (step_try settings.nodes (barriers_of records) node try there holds.within))
+does_steps settings table meaning records node thread call there holds =
+    step_same settings.nodes (barriers_of records) node _ holds.within
+    ((call_framed settings table meaning (caller_at settings records node thread) call (records node).local).barrier
+    refl)
 
 pub does_step : (settings : Parameters) (table : List (Option Entry)) (meaning : Meaning) (records : Records)
     (node thread : ℕ) (call : OtherCall) → node < settings.nodes → NodeHolds settings (records node)

@@ -1,6 +1,6 @@
 -- What the answer of a step names is there at its node after the turn in which the step ended; and each step that a
 -- turn began has a handle.
-use Rattle.std.proofs.Common.{◌≡◌, ℕ, ◌+◌, ◌≤◌, ◌==◌, ◌%◌, Bool, true, false, not, List, [], ◌∷◌, ◌++◌, length, Option}
+use Rattle.std.proofs.Common.{◌≡◌, ℕ, ◌+◌, ◌≤◌, ◌==◌, Bool, true, false, not, List, [], ◌∷◌, ◌++◌, length, Option}
 use Rattle.std.proofs.Common.{Some}
 use Rattle.std.proofs.Common.{None, refl, sym, ap, subst, ◌∙◌, append-nil, if◌then◌else◌}
 use Rattle.std.specs.Prelude.{ℤ, IfSome, is_some, is_none, nat_lt, ◌&&◌, int_le}
@@ -8,7 +8,6 @@ use Rattle.std.specs.Option.{option_map, option_to_list}
 use Rattle.std.proofs.lemmas.Bool.{false≢true, true≢false}
 use Rattle.raw_segment.specs.Image.{Write, image}
 use Rattle.datagram_grammar.specs.Parameters.{Parameters}
-use Rattle.handler_rules.specs.declared.rules.CallKind.TheVariants as kind
 use Rattle.handler_rules.specs.declared.table.Entry.{Entry as TableEntry}
 use Rattle.handler_rules.specs.Runs.{Meaning}
 use Rattle.lists.specs.Put.{put}
@@ -18,12 +17,12 @@ use Rattle.node_record.specs.Step.{is_worn_out}
 use Rattle.am_core.specs.ClientRules.{rules}
 use Rattle.am_core.specs.Kept.{segment_of}
 use Rattle.endpoint_rules.specs.Called.{Requests, Performs, node_event}
-use Rattle.endpoint_rules.specs.CoreCalls.{Poll, Attempt, Lock, Unlock, Cell, SetCell, OnSegment}
+use Rattle.endpoint_rules.specs.CoreCalls.{OnSegment}
 use Rattle.endpoint_rules.specs.EndpointLocal.{EndpointLocal}
-use Rattle.endpoint_rules.specs.EndpointRules.{OtherCall, OnCore, OnTransfers, OnBarrier, RecordEvent, endpoint_rules}
+use Rattle.endpoint_rules.specs.EndpointRules.{OtherCall, OnCore, RecordEvent, endpoint_rules}
 use Rattle.endpoint_rules.specs.EndpointRules.{job_of, told}
-use Rattle.endpoint_rules.specs.Memory.{Show, Set, Fill, LoadWord, SetWord, range_fault, unless_fault}
-use Rattle.endpoint_rules.specs.TransferCalls.{Caller, transfer_kind}
+use Rattle.endpoint_rules.specs.Memory.{Show, range_fault, unless_fault}
+use Rattle.endpoint_rules.specs.TransferCalls.{Caller}
 use Rattle.endpoint_rules.specs.declared.answer.Answer.{Answer}
 use Rattle.endpoint_rules.specs.declared.answer.Answer.TheVariants as answers
 use Rattle.endpoint_rules.specs.declared.answer.Begun.TheVariants as begun
@@ -47,8 +46,8 @@ use Rattle.node_script.specs.Bodies.{script_meaning}
 use Rattle.node_script.specs.Registration.{registered}
 use Rattle.script_steps.specs.Forms.{as_synced, begun_handle, is_issued, step_form, tried_while}
 use Rattle.script_steps.specs.Forms.{waiting_form, waits_of}
-use Rattle.world_run.proofs.ToldAnswers.{asked_names, barrier_names, judged_names, range_names, show_names}
-use Rattle.world_run.proofs.ToldAnswers.{transfer_names, unless_names, word_names}
+use Rattle.world_run.proofs.ToldAnswers.{asked_names, plain_names, show_names}
+use Rattle.endpoint_rules.proofs.PlainAnswers.{answers_plain}
 use Rattle.check_run.specs.Recording.{HasHandles, ScriptedNode}
 use Rattle.check_run.specs.StepLines.{after_entry, answer_of_step}
 use Rattle.check_run.specs.TracesRun.{first_machine}
@@ -90,37 +89,14 @@ call_names : (endpoint : EndpointState) (settings : Parameters) (table : List (O
     → EndpointStands endpoint (node_after (job_of settings table meaning) me node now (Does thread call))
     → endpoint.core.settings ≡ settings
     → NamesWhatIs endpoint (done (job_of settings table meaning) me node thread call).0
-call_names endpoint settings table meaning me thread now node (OnCore Poll) stands same =
-    let own = rules settings table meaning in
-    judged_names endpoint own thread (own.judges thread kind.Poll node.local.core) answers.Polled node.local.core tt
-call_names endpoint settings table meaning me thread now node (OnCore (Attempt call)) stands same =
-    let own = rules settings table meaning in
-    judged_names endpoint own thread (own.judges thread call node.local.core) answers.Allowed node.local.core tt
-call_names endpoint settings table meaning me thread now node (OnCore (Lock lock)) stands same = tt
-call_names endpoint settings table meaning me thread now node (OnCore (Unlock lock)) stands same = tt
-call_names endpoint settings table meaning me thread now node (OnCore (Cell cell)) stands same = tt
-call_names endpoint settings table meaning me thread now node (OnCore (SetCell cell value)) stands same = tt
 call_names endpoint settings table meaning me thread now node (OnCore (OnSegment (Show offset len))) stands same =
     let size = length (segment_of settings node.local.core) in
     show_names endpoint size offset len (nat_lt size (offset + len)) refl
     (range_shown endpoint settings table meaning me thread now node offset len stands same)
-call_names endpoint settings table meaning me thread now node (OnCore (OnSegment (Set write))) stands same =
-    range_names endpoint
-    (nat_lt (length (segment_of settings node.local.core)) (write.offset + length write.bytes)) _ tt
-call_names endpoint settings table meaning me thread now node (OnCore (OnSegment (Fill offset len byte))) stands same =
-    range_names endpoint (nat_lt (length (segment_of settings node.local.core)) (offset + len)) _ tt
-call_names endpoint settings table meaning me thread now node (OnCore (OnSegment (LoadWord offset))) stands same =
-    word_names endpoint (nat_lt (length (segment_of settings node.local.core)) (offset + 8)) (offset % 8 == 0) _ tt
-call_names endpoint settings table meaning me thread now node (OnCore (OnSegment (SetWord offset value))) stands same =
-    word_names endpoint (nat_lt (length (segment_of settings node.local.core)) (offset + 8)) (offset % 8 == 0) _ tt
-call_names endpoint settings table meaning me thread now node (OnTransfers call) stands same =
-    let own = endpoint_rules settings table meaning in
-    unless_names endpoint own thread (own.judges thread (transfer_kind call) node.local) node.local _
-    (transfer_names endpoint (caller_at settings me thread node) call node.local)
-call_names endpoint settings table meaning me thread now node (OnBarrier call) stands same =
-    let own = endpoint_rules settings table meaning in
-    unless_names endpoint own thread (own.judges thread kind.Barrier node.local) node.local _
-    (barrier_names endpoint (caller_at settings me thread node) call node.local.barrier)
+call_names endpoint settings table meaning me thread now node call stands same =
+    plain_names endpoint (done (job_of settings table meaning) me node thread call).0
+    (answers_plain (endpoint_rules settings table meaning) (rules settings table meaning)
+    (caller_at settings me thread node) call node.local refl)
 
 -- a call of a thread
 thread_names : (endpoint : EndpointState) (settings : Parameters) (table : List (Option TableEntry)) (meaning : Meaning)

@@ -69,7 +69,7 @@ use Rattle.job_text.specs.declared.job.Operand.TheVariants as operand
 use Rattle.job_text.specs.declared.job.ReplyAction.TheVariants as reply
 use Rattle.node_script.specs.Bodies.{act, acts, operand_at, operand_value, script_meaning}
 use Rattle.node_script.specs.Registration.{registered}
-use Rattle.node_script.specs.Schedules.{schedule_events}
+use Rattle.world_run.specs.Schedules.{schedule_events}
 use Rattle.world_run.specs.RunText.{any_violation, is_violated, run_records, violations}
 use Rattle.drill_run.specs.Draws.{before_round, round_at}
 use Rattle.drill_run.specs.Rounds.{bare_job, deed_lines, drill_job, drill_schedule, drill_settings, number_of}

@@ -7,7 +7,7 @@ use Rattle.plain_world.specs.World.{run}
 use Rattle.endpoint_rules.specs.EndpointRules.{Records, at_the_opening}
 use Rattle.gas_world.specs.Settling.{WorldJob}
 use Rattle.job_text.specs.declared.job.TimedEvent.{TimedEvent}
-use Rattle.node_script.specs.Schedules.{schedule_events, world_job}
+use Rattle.world_run.specs.Schedules.{schedule_events, world_job}
 use Rattle.node_script.specs.ScriptInvariant.{AreWithin, IsWithin}
 use Rattle.world_run.specs.RunLaws.{RunLaws}
 use Rattle.world_run.proofs.RunLaws.{laws_within}

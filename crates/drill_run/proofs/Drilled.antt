@@ -20,7 +20,7 @@ use Rattle.job_text.specs.declared.job.ScheduledEvent.{ScheduledEvent}
 use Rattle.job_text.specs.declared.job.TimedEvent.{TimedEvent}
 use Rattle.node_script.specs.AnswerWords.{Sight, sight_of}
 use Rattle.node_script.specs.Bodies.{script_meaning}
-use Rattle.node_script.specs.Schedules.{line_events, schedule_events, world_job}
+use Rattle.world_run.specs.Schedules.{line_events, schedule_events, world_job}
 use Rattle.world_run.specs.RunText.{line_words, node_of, run_most, run_records, world_words}
 use Rattle.world_run.specs.ScheduleRun.{StandsAfter}
 use Rattle.drill_run.specs.Counting.{AreAtMost, Tallies, count_in}

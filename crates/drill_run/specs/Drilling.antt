@@ -12,7 +12,7 @@ use Rattle.job_text.specs.declared.job.TimedEvent.{TimedEvent}
 use Rattle.node_script.specs.Bodies.{script_meaning}
 use Rattle.node_script.specs.Lines.{Line}
 use Rattle.node_script.specs.Registration.{registered}
-use Rattle.node_script.specs.Schedules.{schedule_events}
+use Rattle.world_run.specs.Schedules.{schedule_events}
 use Rattle.world_run.specs.RunText.{event_words}
 use Rattle.world_run.specs.ScheduleRun.{StandsAfter}
 use Rattle.drill_run.specs.Counting.{Tallies}

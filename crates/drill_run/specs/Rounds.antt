@@ -17,7 +17,7 @@ use Rattle.job_text.specs.declared.job.ScheduledEvent.{ScheduledEvent}
 use Rattle.job_text.specs.declared.job.ScheduledEvent.TheVariants as scheduled
 use Rattle.job_text.specs.declared.job.TimedEvent.{TimedEvent}
 use Rattle.job_text.specs.declared.job.TransferText.TheVariants as transfer
-use Rattle.node_script.specs.Schedules.{world_job, schedule_events}
+use Rattle.world_run.specs.Schedules.{world_job, schedule_events}
 use Rattle.drill_run.specs.Draws.{round_at}
 use Rattle.drill_run.specs.declared.rounds.Deed.{Deed}
 use Rattle.drill_run.specs.declared.rounds.Deed.TheVariants.{Short, Put, Tick, Request, Reply}

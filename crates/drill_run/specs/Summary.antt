@@ -6,7 +6,7 @@ use Rattle.endpoint_rules.specs.EndpointRules.{Records, at_the_opening}
 use Rattle.gas_world.specs.Settling.{WorldJob}
 use Rattle.job_text.specs.declared.job.TimedEvent.{TimedEvent}
 use Rattle.node_script.specs.Lines.{Word, Line}
-use Rattle.node_script.specs.Schedules.{world_job, line_events}
+use Rattle.world_run.specs.Schedules.{world_job, line_events}
 use Rattle.world_run.specs.RunText.{line_words, end_lines, run_records, run_most}
 use Rattle.drill_run.specs.Rounds.{drill_job, drill_schedule, drill_settings}
 use Rattle.drill_run.specs.declared.counts.Counted.{Counted}

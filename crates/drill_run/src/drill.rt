@@ -8,7 +8,7 @@ ghost use Rattle.gas_world.specs.Aims.{MayFall};
 ghost use Rattle.gas_world.specs.Events.{ForItsRecords, event_of};
 ghost use Rattle.gas_world.specs.Stands.{Stands};
 ghost use Rattle.plain_world.specs.World.{IsAmong};
-ghost use Rattle.node_script.specs.Schedules.{world_job};
+ghost use Rattle.world_run.specs.Schedules.{world_job};
 ghost use Rattle.world_run.specs.LinesWritten.{Says, OnDone};
 ghost use Rattle.world_run.specs.RunLaws.{RunLaws};
 ghost use Rattle.world_run.specs.RunText.{is_violated};

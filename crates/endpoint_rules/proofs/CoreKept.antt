@@ -17,7 +17,7 @@ use Rattle.endpoint_rules.specs.declared.answer.Answer.{Answer}
 use Rattle.endpoint_rules.specs.Memory.{SegmentCall, Show, Set, Fill, LoadWord, SetWord, segment_does, unless_fault}
 use Rattle.endpoint_rules.specs.Memory.{range_fault}
 use Rattle.endpoint_rules.specs.Memory.{word_fault}
-use Rattle.endpoint_rules.specs.CoreCalls.{LocalCall, Poll, Attempt, Lock, Unlock, Cell, SetCell, OnSegment}
+use Rattle.endpoint_rules.specs.CoreCalls.{LocalCall, Poll, Attempt, Lock, Unlock, OnSegment}
 use Rattle.endpoint_rules.specs.CoreCalls.{local_does, if_allowed}
 
 -- the segment has the length of the settings
@@ -98,10 +98,8 @@ call_kept s behaviour me thread (Lock lock) kept notes good =
     record { writes = good.writes; locks = lock_unheld kept.locks thread lock good.locks }
 call_kept s behaviour me thread (Unlock lock) kept notes good =
     record { writes = good.writes; locks = unlock_unheld kept.locks thread lock good.locks }
-call_kept s behaviour me thread (Cell cell) kept notes good = good
-call_kept s behaviour me thread (SetCell cell value) kept notes good =
-    record { writes = good.writes; locks = good.locks }
 call_kept s behaviour me thread (OnSegment call) kept notes good = record {
   writes = all_fit-append s.segment kept.writes _ good.writes (written_fits s me kept call good);
   locks = good.locks;
 }
+call_kept s behaviour me thread _ kept notes good = record { writes = good.writes; locks = good.locks }

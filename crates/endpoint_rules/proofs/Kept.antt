@@ -17,8 +17,10 @@ use Rattle.handler_rules.specs.declared.rules.Forbidden.{Forbidden}
 use Rattle.handler_rules.specs.declared.rules.CallKind.TheVariants as kinds
 use Rattle.handler_rules.specs.declared.message.Which.{Which}
 use Rattle.handler_rules.specs.Runs.{Meaning}
-use Rattle.access_region.specs.declared.Region.{Region}
-use Rattle.access_region.specs.Regions.{region_of, has_begun}
+use Rattle.hsl_locks.specs.declared.answer.Held.{Held}
+use Rattle.hsl_locks.specs.declared.answer.Owner.TheVariants as owner
+use Rattle.hsl_locks.specs.Locks.{holds}
+use Rattle.access_region.specs.Regions.{has_begun}
 use Rattle.named_barrier.specs.Record.{BarrierRecord}
 use Rattle.named_barrier.specs.Within.{IsWithin}
 use Rattle.named_barrier.proofs.Within.{stays_within}
@@ -42,15 +44,16 @@ use Rattle.endpoint_rules.specs.declared.answer.Begun.TheVariants as begun
 use Rattle.endpoint_rules.specs.EndpointLocal.{EndpointLocal, IsEndpointKept, AreByChunks, IsByChunks, own_end}
 use Rattle.endpoint_rules.specs.EndpointLocal.{remote_end}
 use Rattle.endpoint_rules.specs.EndpointLocal.{has_byte, nothing_begun}
-use Rattle.endpoint_rules.specs.TransferCalls.{TransferCall, Begin, BeginImplicit, IsIssued, Sync, SyncHandle, SyncAll}
-use Rattle.endpoint_rules.specs.TransferCalls.{SyncSome, SyncImplicit, RegionBegin, RegionEnd, Caller, transfer_does}
-use Rattle.endpoint_rules.specs.TransferCalls.{begin_says, after_beginning, implicit_mode, handle_in, ended}
+use Rattle.endpoint_rules.specs.TransferCalls.{TransferCall, Begin, BeginImplicit, Sync, SyncHandle, SyncAll}
+use Rattle.endpoint_rules.specs.TransferCalls.{SyncSome, SyncImplicit, Caller, transfer_does}
+use Rattle.endpoint_rules.specs.TransferCalls.{begin_says, after_beginning, implicit_mode, handle_in}
 use Rattle.endpoint_rules.specs.TransferCalls.{transfer_fault}
 use Rattle.endpoint_rules.specs.TransferCalls.{transfer_kind, is_at_once, begun_as, unless_bad, own_write}
 use Rattle.endpoint_rules.specs.TransferCalls.{written_at_once}
 use Rattle.endpoint_rules.specs.BarrierCalls.{BarrierCall, Notify, TryBarrier, barrier_does, identifier, worn_out_for}
 use Rattle.endpoint_rules.specs.EndpointRules.{OtherCall, OnCore, OnTransfers, OnBarrier, endpoint_rules, does_call}
 use Rattle.endpoint_rules.specs.EndpointRules.{unless_forbidden}
+use Rattle.endpoint_rules.proofs.Frames.{transfer_framed}
 use Rattle.endpoint_rules.proofs.Chunks.{number_was}
 use Rattle.endpoint_rules.proofs.CoreKept.{call_kept}
 use Rattle.endpoint_rules.proofs.Noting.{identifier_fits}
@@ -215,17 +218,6 @@ handle_kept settings me operations says handle good = elim (cases_Bool (handle =
 
 -- ---- every call on transfers
 
-ended_kept : (caller : Caller) (register : ℕ) (region : Option Region) (local : EndpointLocal)
-    → IsEndpointKept caller.settings caller.me local
-    → IsEndpointKept caller.settings caller.me (ended caller register region local).1
-ended_kept caller register None local good = good
-ended_kept caller register (Some was) local good = by_name was.name
-  where
-    by_name : (name : Option ℕ) → IsEndpointKept caller.settings caller.me
-        (ended caller register (Some (record was { name = name })) local).1
-    by_name None = record { core = good.core; operations = good.operations; barrier = good.barrier }
-    by_name (Some name) = record { core = good.core; operations = good.operations; barrier = good.barrier }
-
 pub transfer_kept : (caller : Caller) (call : TransferCall) (local : EndpointLocal)
     → IsEndpointKept caller.settings caller.me local
     → IsEndpointKept caller.settings caller.me (transfer_does caller call local).1
@@ -236,7 +228,6 @@ transfer_kept caller (BeginImplicit transfer) local good =
     let after = begun_kept caller transfer (implicit_mode local.regions caller.thread)
     (begin_says caller transfer local.operations) local refl good in
     record { core = after.core; operations = after.operations; barrier = after.barrier }
-transfer_kept caller (IsIssued register) local good = good
 transfer_kept caller (Sync register) local good = record {
   core = good.core;
   operations = handle_kept caller.settings caller.me local.operations _
@@ -274,12 +265,16 @@ transfer_kept caller (SyncImplicit some) local good =
         barrier = good.barrier;
       })
     ]
-transfer_kept caller RegionBegin local good = elim (cases_Bool (has_begun local.regions caller.thread)) [
-  | inl inside ↦ rw inside good
-  | inr outside ↦ rw outside (record { core = good.core; operations = good.operations; barrier = good.barrier })
-]
-transfer_kept caller (RegionEnd register) local good =
-    ended_kept caller register (region_of local.regions caller.thread) local good
+transfer_kept caller call local good =
+    let framed = transfer_framed caller call local in
+    record {
+      core = record {
+        writes = subst (AllFit caller.settings.segment) (sym (framed.writes refl)) good.core.writes;
+        locks = subst (λ (locks : List Held). holds owner.Handler locks ≡ false) (sym (framed.locks refl)) good.core.locks;
+      };
+      operations = subst (AreByChunks caller.settings caller.me) (sym (framed.operations refl)) good.operations;
+      barrier = subst (IsWithin caller.settings.nodes) (sym (framed.barrier refl)) good.barrier;
+    }
 
 -- ---- calls on the barrier
 

@@ -1,3 +1,5 @@
+pub mod Frames
+pub mod PlainAnswers
 pub mod Calling
 pub mod Over
 pub mod Asked

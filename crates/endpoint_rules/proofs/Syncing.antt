@@ -1,12 +1,11 @@
 -- What the calls of threads leave of the operations keeps what operations and requests say of each other.
 use Rattle.std.proofs.Common.{◌≡◌, inl, inr, ℕ, zero, suc, ◌==◌, ◌&&◌, not, Bool, true, true≢false, List, [], ◌∷◌}
-use Rattle.std.proofs.Common.{map, Option, None, Some, refl, sym, ap, ◌∙◌, arith}
+use Rattle.std.proofs.Common.{map, Option, None, Some, refl, sym, ap, ◌∙◌, subst, arith}
 use Rattle.std.specs.List.{list_any, list_all}
 use Rattle.std.proofs.lemmas.Bool.{cases_Bool, and_parts}
 use Rattle.lists.proofs.Cases.{none_some}
 use Rattle.node_record.specs.Record.{Request}
-use Rattle.access_region.specs.declared.Region.{Region}
-use Rattle.access_region.specs.Regions.{region_of, has_begun}
+use Rattle.access_region.specs.Regions.{has_begun}
 use Rattle.put_get.specs.declared.operation.Handle.{Handle}
 use Rattle.put_get.specs.declared.operation.Mode.{Mode}
 use Rattle.put_get.specs.declared.operation.Mode.TheVariants.{Explicit}
@@ -23,10 +22,11 @@ use Rattle.put_get.proofs.Gone.{chosen_complete}
 use Rattle.endpoint_rules.specs.declared.answer.Begun.{Begun}
 use Rattle.endpoint_rules.specs.declared.answer.Begun.TheVariants as begun
 use Rattle.endpoint_rules.specs.EndpointLocal.{EndpointLocal}
-use Rattle.endpoint_rules.specs.TransferCalls.{TransferCall, Begin, BeginImplicit, IsIssued, Sync, SyncHandle, SyncAll}
-use Rattle.endpoint_rules.specs.TransferCalls.{SyncSome, SyncImplicit, RegionBegin, RegionEnd, Caller, transfer_does}
-use Rattle.endpoint_rules.specs.TransferCalls.{begin_says, after_beginning, implicit_mode, handle_in, ended}
+use Rattle.endpoint_rules.specs.TransferCalls.{TransferCall, Begin, BeginImplicit, Sync, SyncHandle, SyncAll}
+use Rattle.endpoint_rules.specs.TransferCalls.{SyncSome, SyncImplicit, Caller, transfer_does}
+use Rattle.endpoint_rules.specs.TransferCalls.{begin_says, after_beginning, implicit_mode, handle_in}
 use Rattle.endpoint_rules.specs.Tracking.{Tracks}
+use Rattle.endpoint_rules.proofs.Frames.{transfer_framed}
 use Rattle.endpoint_rules.proofs.Chunks.{AreComplete, tracks_begun, tracks_go}
 
 -- ---- what a sync that says Ok finds
@@ -129,17 +129,6 @@ begin_tracks version asked caller transfer mode (begun.Handle handle) local trac
 begin_tracks version asked caller transfer mode begun.Done local tracks = tracks
 begin_tracks version asked caller transfer mode _ local tracks = tracks
 
-ended_tracks : (version : ℕ) (asked : ℕ → List Request) (caller : Caller) (register : ℕ) (region : Option Region)
-    (local : EndpointLocal) → Tracks version asked local.operations
-    → Tracks version asked (ended caller register region local).1.operations
-ended_tracks version asked caller register None local tracks = tracks
-ended_tracks version asked caller register (Some was) local tracks = by_name was.name
-  where
-    by_name : (name : Option ℕ)
-        → Tracks version asked (ended caller register (Some (record was { name = name })) local).1.operations
-    by_name None = tracks
-    by_name (Some name) = tracks
-
 pub transfer_tracks : (version : ℕ) (asked : ℕ → List Request) (caller : Caller) (call : TransferCall)
     (local : EndpointLocal) → Tracks version asked local.operations
     → Tracks version asked (transfer_does caller call local).1.operations
@@ -148,7 +137,6 @@ transfer_tracks version asked caller (Begin register transfer) local tracks =
 transfer_tracks version asked caller (BeginImplicit transfer) local tracks =
     begin_tracks version asked caller transfer (implicit_mode local.regions caller.thread)
     (begin_says caller transfer local.operations) local tracks
-transfer_tracks version asked caller (IsIssued register) local tracks = tracks
 transfer_tracks version asked caller (Sync register) local tracks =
     handle_tracks version asked local.operations caller.worn caller.thread
     (handle_in local.registers register).serial tracks
@@ -175,10 +163,5 @@ transfer_tracks version asked caller (SyncImplicit some) local tracks =
           (λ ok. complete_by (implicit_of caller.thread some) local.operations
           (sync_all caller.worn (chosen (implicit_of caller.thread some) 1 local.operations) ok)) tracks)
     ]
-transfer_tracks version asked caller RegionBegin local tracks =
-    elim (cases_Bool (has_begun local.regions caller.thread)) [
-      | inl begun_so ↦ rw begun_so tracks
-      | inr none ↦ rw none tracks
-    ]
-transfer_tracks version asked caller (RegionEnd register) local tracks =
-    ended_tracks version asked caller register (region_of local.regions caller.thread) local tracks
+transfer_tracks version asked caller call local tracks =
+    subst (Tracks version asked) (sym ((transfer_framed caller call local).operations refl)) tracks

@@ -5,6 +5,8 @@ pub mod TransferCalls
 pub mod BarrierCalls
 pub mod EndpointRules
 pub mod Called
+pub mod Touches
+pub mod PlainAnswers
 pub mod Sends
 pub mod Tracking
 pub mod EveryCall

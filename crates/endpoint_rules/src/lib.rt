@@ -12,6 +12,8 @@
 #![tactic(auto)]
 
 ghost use Rattle.endpoint_rules.specs.EveryCall.{AreSound, OpeningsAreGood, AreOver, ChunksAreRequests};
+ghost use Rattle.endpoint_rules.specs.Touches.{CallsAreFramed};
+ghost use Rattle.endpoint_rules.specs.PlainAnswers.{AnswersArePlain};
 
 mod answer;
 mod call;
@@ -30,6 +32,10 @@ pub use call::{Call, Event};
 /// number, which says what the chunk says and is back exactly where the chunk is; no request belongs to two chunks; and
 /// an operation that was synchronised is complete: all its chunks were issued and are back. This holds before all
 /// events, and each event keeps it, the coming of any message included.
+///
+/// `frame`: the frame condition of each call. The table `touches` says which parts of the record the call may change; it
+/// leaves the others as they were. `plain`: a call that makes no request has a plain answer, which refers to no message
+/// and to no range of the segment. The one exception is the call that shows a range.
 pub fn every_call()
     // The behaviour is sound.
     ensures sound { AreSound }
@@ -39,4 +45,8 @@ pub fn every_call()
     ensures over { AreOver }
     // Chunks are requests, and what was synchronised is complete.
     ensures tracked { ChunksAreRequests }
+    // A call leaves what it doesn't touch as it was.
+    ensures frame { CallsAreFramed }
+    // The answer of a call that makes no request refers to nothing, unless the call shows a range.
+    ensures plain { AnswersArePlain }
 {}

@@ -79,11 +79,7 @@ does_by meaning core caller (OnCore (Attempt attempted)) kind kept e =
     subst (λ (k : CallKind). DoesBy meaning core caller (OnCore (Attempt attempted)) k kept) (same_Some _ _ e)
     (judged_core (rules core.settings core.table meaning) (endpoint_rules core.settings core.table meaning)
     caller.thread _ answers.Allowed kept (λ forbidden. refl))
-does_by meaning core caller (OnCore (Lock lock)) kind kept e = absurd (cc)
-does_by meaning core caller (OnCore (Unlock lock)) kind kept e = absurd (cc)
-does_by meaning core caller (OnCore (Cell cell)) kind kept e = absurd (cc)
-does_by meaning core caller (OnCore (SetCell cell value)) kind kept e = absurd (cc)
-does_by meaning core caller (OnCore (OnSegment call)) kind kept e = absurd (cc)
+does_by meaning core caller (OnCore _) kind kept e = absurd (cc)
 does_by meaning core caller (OnTransfers call) kind kept e =
     subst (λ (k : CallKind). DoesBy meaning core caller (OnTransfers call) k kept) (same_Some _ _ e) refl
 does_by meaning core caller (OnBarrier call) kind kept e =

@@ -1,8 +1,8 @@
 -- What an event sends stands in the slot that its answer names.
-use Rattle.std.proofs.Common.{◌≡◌, inl, inr, ℕ, ◌≤◌, Bool, true, false, eqb, List, [], Option}
+use Rattle.std.proofs.Common.{◌≡◌, inl, inr, ℕ, ◌≤◌, Bool, true, false, true≢false, eqb, List, [], Option}
 use Rattle.std.proofs.Common.{None}
 use Rattle.std.proofs.Common.{Some, refl, sym, ap, ap₂, ◌∙◌, subst, arith}
-use Rattle.std.specs.Prelude.{nat_lt, if◌then◌else◌, Result, Ok, Err}
+use Rattle.std.specs.Prelude.{nat_lt, if◌then◌else◌}
 use Rattle.std.proofs.lemmas.Bool.{cases_Bool, eqb-true}
 use Rattle.datagram_grammar.specs.Message.{Message}
 use Rattle.datagram_grammar.specs.Content.{content_of}
@@ -12,9 +12,8 @@ use Rattle.node_record.specs.declared.answer.Asked.TheVariants as asked
 use Rattle.node_record.specs.Record.{Request, Run, Node, numbered}
 use Rattle.node_record.specs.Requests.{Due, is_open}
 use Rattle.node_record.specs.declared.answer.Why.{Why}
-use Rattle.handler_rules.specs.declared.rules.Forbidden.{Forbidden}
 use Rattle.node_record.specs.Executed.{greatest, run_at}
-use Rattle.node_record.specs.Behaviour.{Ask, Behaviour, is_request}
+use Rattle.node_record.specs.Behaviour.{Ask, is_request}
 use Rattle.node_record.specs.Step.{Verdict, Refused, Repeated, Passed, Runs, Missed, Returns, verdict, answer_by}
 use Rattle.node_record.specs.Step.{request_answer, request_slot, reply_slot, next_due, choice_of, tick_answer}
 use Rattle.node_record.specs.Step.{unless_refused, unless_waiting, judged, taken_back, refusal}
@@ -23,29 +22,22 @@ use Rattle.node_record.proofs.Answers.{accepted_says}
 use Rattle.node_record.proofs.Runs.{greatest_there, run_at_says, run_at_from}
 use Rattle.plain_world.specs.Sent.{Packet, asking, replying, asked_sends, delivered_sends, ticked_sends}
 use Rattle.plain_world.proofs.PlainTicks.{IsOpenAt, all_dues_open, earliest_has}
+use Rattle.endpoint_rules.specs.PlainAnswers.{is_plain}
+use Rattle.endpoint_rules.proofs.PlainAnswers.{answers_plain}
 use Rattle.endpoint_rules.specs.EndpointRules.{OtherCall, transition, asked_answer, does_call}
-use Rattle.endpoint_rules.specs.CoreCalls.{if_allowed, Poll, Attempt, Lock, Unlock, Cell, SetCell}
 use Rattle.endpoint_rules.specs.CoreCalls.{OnSegment}
-use Rattle.am_core.specs.Kept.{Local}
 use Rattle.am_core.specs.ClientRules.{rules}
 use Rattle.endpoint_rules.specs.EndpointLocal.{EndpointLocal}
-use Rattle.endpoint_rules.specs.EndpointRules.{OnCore, OnTransfers, OnBarrier, unless_forbidden, endpoint_rules}
-use Rattle.endpoint_rules.specs.EndpointRules.{sent_as, with_barrier}
-use Rattle.endpoint_rules.specs.TransferCalls.{Caller, TransferCall, transfer_kind, transfer_does, ended, Begin}
-use Rattle.endpoint_rules.specs.TransferCalls.{BeginImplicit, IsIssued}
-use Rattle.endpoint_rules.specs.TransferCalls.{Sync, SyncHandle, SyncAll, SyncSome, SyncImplicit, RegionBegin}
-use Rattle.endpoint_rules.specs.TransferCalls.{RegionEnd}
-use Rattle.access_region.specs.Regions.{has_begun, region_of}
-use Rattle.access_region.specs.declared.Region.{Region as BegunRegion}
+use Rattle.endpoint_rules.specs.EndpointRules.{OnCore}
+use Rattle.endpoint_rules.specs.EndpointRules.{sent_as}
+use Rattle.endpoint_rules.specs.TransferCalls.{Caller}
 use Rattle.am_core.specs.Library.{note_handler, run_answer}
-use Rattle.handler_rules.specs.declared.rules.CallKind.TheVariants as kinds
 use Rattle.node_record.specs.declared.answer.SlotRef.{SlotRef}
 use Rattle.node_record.specs.Behaviour.{Sending}
 use Rattle.node_record.specs.Requests.{next_claim}
 use Rattle.datagram_grammar.specs.Content.{Content}
 use Rattle.std.specs.Prelude.{◌==◌}
 use Rattle.gas_endpoint.specs.Parts.{caller_in}
-use Rattle.endpoint_rules.specs.BarrierCalls.{BarrierCall, Notify, TryBarrier, barrier_does}
 use Rattle.endpoint_rules.specs.Sends.{sends}
 use Rattle.endpoint_rules.specs.Called.{Meant, Requests, Performs, meant, node_event}
 use Rattle.gas_endpoint.specs.EndpointState.{EndpointState, EndpointSteps, NodeSteps, job_here}
@@ -152,76 +144,23 @@ ticked_slot meaning old node (Some due) next now e =
     subst (λ o. AreThatOf (Some (request_slot due.peer due.slot)) (asking old.core.me due.peer due.number o)) (sym it.1)
     (_, refl, ap (request_slot due.peer) (sym it.3))
 
--- a call that is judged sends nothing
-judged_slot : (behaviour : Behaviour Local) (thread : ℕ) (judged_is : Result (Unit {0}) Forbidden) (answer : Answer)
-    (kept : Local) → sends answer ≡ None → sends (if_allowed behaviour thread judged_is answer kept).0 ≡ None
-judged_slot behaviour thread (Ok _) answer kept none = none
-judged_slot behaviour thread (Err forbidden) answer kept none = refl
-
-allowed_slot : (behaviour : Behaviour EndpointLocal) (thread : ℕ) (judged_is : Result (Unit {0}) Forbidden)
-    (kept : EndpointLocal) (outcome : Answer × EndpointLocal) → sends outcome.0 ≡ None
-    → sends (unless_forbidden behaviour thread judged_is kept outcome).0 ≡ None
-allowed_slot behaviour thread (Ok _) kept outcome none = none
-allowed_slot behaviour thread (Err forbidden) kept outcome none = refl
-
--- nor do calls on transfers
-transfer_slot : (caller : Caller) (call : TransferCall) (kept : EndpointLocal)
-    → sends (transfer_does caller call kept).0 ≡ None
-transfer_slot caller (Begin register transfer) kept = refl
-transfer_slot caller (BeginImplicit transfer) kept = refl
-transfer_slot caller (IsIssued register) kept = refl
-transfer_slot caller (Sync register) kept = refl
-transfer_slot caller (SyncHandle handle) kept = refl
-transfer_slot caller (SyncAll registers) kept = refl
-transfer_slot caller (SyncSome registers) kept = refl
-transfer_slot caller (SyncImplicit some) kept = elim (cases_Bool (has_begun kept.regions caller.thread)) [
-  | inl inside ↦ rw inside refl
-  | inr outside ↦ rw outside refl
-]
-transfer_slot caller RegionBegin kept = elim (cases_Bool (has_begun kept.regions caller.thread)) [
-  | inl inside ↦ rw inside refl
-  | inr outside ↦ rw outside refl
-]
-transfer_slot caller (RegionEnd register) kept = by (region_of kept.regions caller.thread)
-  where
-    by : (was : Option BegunRegion) → sends (ended caller register was kept).0 ≡ None
-    by None = refl
-    by (Some was) = by_name was.name
-      where
-        by_name : (name : Option ℕ) → sends (ended caller register (Some (record { name = name })) kept).0 ≡ None
-        by_name None = refl
-        by_name (Some name) = refl
-
--- nor those on the barrier
-barrier_slot : (caller : Caller) (call : BarrierCall) (kept : EndpointLocal)
-    → sends (barrier_does caller call kept.barrier).0 ≡ None
-barrier_slot caller (Notify id flags) kept = refl
-barrier_slot caller (TryBarrier id flags) kept = refl
+-- a plain answer tells of no message
+plain_slot : (answer : Answer) → is_plain answer ≡ true → sends answer ≡ None
+plain_slot (answers.Asked asked) plain = absurd (true≢false (sym plain))
+plain_slot (answers.Delivered delivered) plain = absurd (true≢false (sym plain))
+plain_slot (answers.Ticked ticked) plain = absurd (true≢false (sym plain))
+plain_slot _ plain = refl
 
 -- a call that is no request sends nothing
 call_slot : (meaning : Meaning) (endpoint : EndpointState) (caller : Caller) (call : OtherCall)
     (kept : EndpointLocal)
     → sends (does_call (job_here meaning endpoint).behaviour.messages
     (rules endpoint.core.settings endpoint.core.table meaning) caller call kept).0 ≡ None
-call_slot meaning endpoint caller (OnCore Poll) kept =
-    let own = rules endpoint.core.settings endpoint.core.table meaning in
-    judged_slot own caller.thread (own.judges caller.thread kinds.Poll kept.core) answers.Polled kept.core refl
-call_slot meaning endpoint caller (OnCore (Attempt kind)) kept =
-    let own = rules endpoint.core.settings endpoint.core.table meaning in
-    judged_slot own caller.thread (own.judges caller.thread kind kept.core) answers.Allowed kept.core refl
-call_slot meaning endpoint caller (OnCore (Lock lock)) kept = refl
-call_slot meaning endpoint caller (OnCore (Unlock lock)) kept = refl
-call_slot meaning endpoint caller (OnCore (Cell cell)) kept = refl
-call_slot meaning endpoint caller (OnCore (SetCell cell value)) kept = refl
 call_slot meaning endpoint caller (OnCore (OnSegment call)) kept = refl
-call_slot meaning endpoint caller (OnTransfers call) kept =
-    let behaviour = endpoint_rules endpoint.core.settings endpoint.core.table meaning in
-    allowed_slot behaviour caller.thread (behaviour.judges caller.thread (transfer_kind call) kept) kept
-    (transfer_does caller call kept) (transfer_slot caller call kept)
-call_slot meaning endpoint caller (OnBarrier call) kept =
-    let behaviour = endpoint_rules endpoint.core.settings endpoint.core.table meaning in
-    allowed_slot behaviour caller.thread (behaviour.judges caller.thread kinds.Barrier kept) kept
-    (with_barrier kept (barrier_does caller call kept.barrier)) (barrier_slot caller call kept)
+call_slot meaning endpoint caller call kept =
+    let behaviour = (job_here meaning endpoint).behaviour.messages in
+    let own = rules endpoint.core.settings endpoint.core.table meaning in
+    plain_slot (does_call behaviour own caller call kept).0 (answers_plain behaviour own caller call kept refl)
 
 -- ---- an event of a node
 

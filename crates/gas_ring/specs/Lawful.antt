@@ -1,8 +1,8 @@
 -- The handlers of the ring are lawful.
 use Rattle.std.proofs.Common.{ℕ, ◌==◌, Bool, true, false, if◌then◌else◌, [], ◌∷◌}
-use Rattle.datagram_grammar.specs.Content.{short_reply}
-use Rattle.handler_rules.specs.Runs.{Frame, Start, IsLawfulRun, untouched}
-use Rattle.handler_rules.proofs.Lawful.{lawful-untouched, lawful-cells, lawful-replying, short_reply-content}
+use Rattle.gasnet.specs.Messages.{short_reply}
+use Rattle.gasnet.specs.Handlers.{Frame, Start, IsLawfulRun, untouched}
+use Rattle.gasnet.proofs.Lawful.{lawful-untouched, lawful-cells, lawful-replying, short_reply-content}
 use Rattle.gas_ring.specs.Ring.{ring_meaning, token_comes, token_came, hops_in}
 
 chosen : (token : Bool) (frame : Frame) (start : Start)

@@ -1,8 +1,8 @@
 -- What the handlers of the ring do.
 use Rattle.std.specs.Prelude.{ℕ, ℤ, pos, ◌==◌, if◌then◌else◌, List, [], ◌∷◌, slice_set, slice_index_or}
 use Rattle.std.specs.Int.{w32, int_wrapping_add}
-use Rattle.datagram_grammar.specs.Content.{short_reply}
-use Rattle.handler_rules.specs.Runs.{Frame, Start, Outcome, replying, untouched}
+use Rattle.gasnet.specs.Messages.{short_reply}
+use Rattle.gasnet.specs.Handlers.{Frame, Start, Outcome, replying, untouched}
 
 -- the cells after one of them rose by 1, wrapping
 abbrev pub counted : List ℤ → (cell : ℕ) → List ℤ

@@ -3,8 +3,7 @@
 ghost use Rattle.std.specs.Prelude.{◌≡◌, ℤ, pos, slice_index_or};
 ghost use Rattle.gas_ring.specs.Ring.{counted};
 
-use handler_rules::{Cells, Desk, Handlers};
-use raw_segment::Segment;
+use gasnet::{Cells, Desk, Handlers, Segment};
 
 /// The request handler of the token: its argument says how many times the token was passed on.
 pub const TOKEN: u8 = 128;
@@ -37,10 +36,10 @@ fn count(cells: &mut Cells, cell: u8)
 
 impl Handlers for RingHandlers {
     ghost use Rattle.std.specs.Prelude.{[], ◌∷◌, ◌==◌, pos, if◌then◌else◌, slice_set, slice_index_or};
-    ghost use Rattle.datagram_grammar.specs.Content.{short_reply};
-    ghost use Rattle.handler_rules.specs.Runs.{replying, untouched};
-    ghost use Rattle.handler_rules.proofs.Lawful.{lawful-untouched, lawful-cells, lawful-replying};
-    ghost use Rattle.handler_rules.proofs.Lawful.{short_reply-content};
+    ghost use Rattle.gasnet.specs.Messages.{short_reply};
+    ghost use Rattle.gasnet.specs.Handlers.{replying, untouched};
+    ghost use Rattle.gasnet.proofs.Lawful.{lawful-untouched, lawful-cells, lawful-replying};
+    ghost use Rattle.gasnet.proofs.Lawful.{short_reply-content};
     ghost use Rattle.gas_ring.specs.Ring.{ring_meaning};
     ghost use Rattle.gas_ring.specs.Lawful.{ring_lawful};
 

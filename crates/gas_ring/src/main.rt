@@ -15,7 +15,7 @@ mod ring;
 
 use crate::queue::LossyQueue;
 use crate::ring::{LAST, NODES, RingNode, table};
-use datagram_grammar::Settings;
+use gasnet::Settings;
 use std::alloc::{AllocError, Global};
 use std::io;
 

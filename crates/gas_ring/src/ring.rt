@@ -4,11 +4,7 @@ ghost use Rattle.std.specs.Prelude.{◌≡◌, ◌<◌};
 
 use crate::handlers::{CAME, HOPS, PASSED, RingHandlers, TOKEN, TOLD};
 use crate::queue::LossyQueue;
-use am_core::Asked;
-use datagram_grammar::Settings;
-use endpoint_rules::{Answer, Call, Event};
-use gas_endpoint::Endpoint;
-use handler_rules::{Entry, Serves, Table};
+use gasnet::{Answer, Asked, Call, Endpoint, Entry, Event, Serves, Settings, Table};
 use std::alloc::{AllocError, Global};
 use std::marker::Model;
 
@@ -27,7 +23,7 @@ pub struct RingNode {
 
 impl Model for RingNode {
     ghost use Rattle.std.specs.Prelude.{◌≡◌};
-    ghost use Rattle.gas_endpoint.specs.EndpointState.{EndpointState};
+    ghost use Rattle.gasnet.specs.Endpoints.{EndpointState};
 
     ghost Value = { EndpointState };
 

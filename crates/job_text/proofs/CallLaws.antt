@@ -11,36 +11,13 @@ use Rattle.job_text.proofs.FormLaws.{AreMade, IsExact, IsTable, IsEntryOf, entry
 -- an entry makes its call, by the first row of its name
 call_again : (c : ScheduledCall) → IsEntryOf calls call_entry c
 unfolding calls later_calls own_calls segment_calls transfer_calls implicit_calls sync_calls barrier_calls
-call_again (call.Short to handler operands) = entry_of refl refl refl
-call_again (call.Medium text) = entry_of refl refl refl
-call_again (call.Long text) = entry_of refl refl refl
-call_again (call.LongAsync text) = entry_of refl refl refl
-call_again (call.Lock lock) = entry_of refl refl refl
-call_again (call.Unlock lock) = entry_of refl refl refl
-call_again call.Poll = entry_of refl refl refl
-call_again (call.Attempt kind) = entry_of refl refl refl
-call_again (call.Cell cell) = entry_of refl refl refl
-call_again (call.SetCell cell operand) = entry_of refl refl refl
-call_again (call.Show offset len) = entry_of refl refl refl
-call_again (call.Set offset bytes) = entry_of refl refl refl
-call_again (call.Fill offset len byte) = entry_of refl refl refl
-call_again (call.Word offset) = entry_of refl refl refl
-call_again (call.SetWord offset number) = entry_of refl refl refl
 call_again (call.Begin register (transfer.Put to remote local len)) = entry_of refl refl refl
 call_again (call.Begin register (transfer.Get to remote local len)) = entry_of refl refl refl
 call_again (call.Begin register (transfer.Memset to remote len byte)) = entry_of refl refl refl
 call_again (call.BeginImplicit (transfer.Put to remote local len)) = entry_of refl refl refl
 call_again (call.BeginImplicit (transfer.Get to remote local len)) = entry_of refl refl refl
 call_again (call.BeginImplicit (transfer.Memset to remote len byte)) = entry_of refl refl refl
-call_again (call.IsIssued register) = entry_of refl refl refl
-call_again (call.Sync register) = entry_of refl refl refl
-call_again (call.SyncAll registers) = entry_of refl refl refl
-call_again (call.SyncSome registers) = entry_of refl refl refl
-call_again (call.SyncImplicit which) = entry_of refl refl refl
-call_again call.RegionBegin = entry_of refl refl refl
-call_again (call.RegionEnd register) = entry_of refl refl refl
-call_again (call.Notify id flags) = entry_of refl refl refl
-call_again (call.TryBarrier id flags) = entry_of refl refl refl
+call_again _ = entry_of refl refl refl
 
 -- ---- the rows make what the entries say
 

@@ -209,47 +209,17 @@ end_or_exact at text fits exact other = record {
 -- an action isn't the line `end`
 action_other : IsOther action_text IsAction
 action_other (action.Add cell operand) rest h = refl
-action_other (action.SetCell cell operand) rest h = refl
-action_other (action.Source cell) rest h = refl
-action_other (action.Sum cell) rest h = refl
-action_other (action.Keep offset) rest h = refl
-action_other (action.Lock lock) rest h = refl
-action_other (action.Unlock lock) rest h = refl
-action_other (action.Attempt kind) rest h = refl
-action_other (action.Reply reply) rest h = refl
+action_other _ rest h = refl
 
 -- a step isn't the line `end`
 step_other : IsOther step_text IsStep
-step_other (step.Call (call.Short to handler operands)) rest h = refl
-step_other (step.Call (call.Medium text)) rest h = refl
-step_other (step.Call (call.Long text)) rest h = refl
-step_other (step.Call (call.LongAsync text)) rest h = refl
-step_other (step.Call (call.Lock lock)) rest h = refl
-step_other (step.Call (call.Unlock lock)) rest h = refl
-step_other (step.Call call.Poll) rest h = refl
-step_other (step.Call (call.Attempt kind)) rest h = refl
-step_other (step.Call (call.Cell cell)) rest h = refl
-step_other (step.Call (call.SetCell cell operand)) rest h = refl
-step_other (step.Call (call.Show offset len)) rest h = refl
-step_other (step.Call (call.Set offset bytes)) rest h = refl
-step_other (step.Call (call.Fill offset len byte)) rest h = refl
-step_other (step.Call (call.Word offset)) rest h = refl
-step_other (step.Call (call.SetWord offset number)) rest h = refl
 step_other (step.Call (call.Begin register (transfer.Put to remote local len))) rest h = refl
 step_other (step.Call (call.Begin register (transfer.Get to remote local len))) rest h = refl
 step_other (step.Call (call.Begin register (transfer.Memset to remote len byte))) rest h = refl
 step_other (step.Call (call.BeginImplicit (transfer.Put to remote local len))) rest h = refl
 step_other (step.Call (call.BeginImplicit (transfer.Get to remote local len))) rest h = refl
 step_other (step.Call (call.BeginImplicit (transfer.Memset to remote len byte))) rest h = refl
-step_other (step.Call (call.IsIssued register)) rest h = refl
-step_other (step.Call (call.Sync register)) rest h = refl
-step_other (step.Call (call.SyncAll registers)) rest h = refl
-step_other (step.Call (call.SyncSome registers)) rest h = refl
-step_other (step.Call (call.SyncImplicit which)) rest h = refl
-step_other (step.Call call.RegionBegin) rest h = refl
-step_other (step.Call (call.RegionEnd register)) rest h = refl
-step_other (step.Call (call.Notify id flags)) rest h = refl
-step_other (step.Call (call.TryBarrier id flags)) rest h = refl
+step_other (step.Call _) rest h = refl
 step_other (step.Waiting (waiting.Until cell operand)) rest h = refl
 step_other (step.Waiting (waiting.Transfer (transfer.Put to remote local len))) rest h = refl
 step_other (step.Waiting (waiting.Transfer (transfer.Get to remote local len))) rest h = refl

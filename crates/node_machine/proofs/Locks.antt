@@ -3,7 +3,6 @@ use Rattle.std.proofs.Common.{◌≡◌, ℕ, Bool, true, false, true≢false, L
 use Rattle.std.proofs.Common.{◌∙◌}
 use Rattle.std.proofs.Common.{inl, inr, subst}
 use Rattle.std.specs.Prelude.{◌==◌}
-use Rattle.std.specs.Prelude.{Result, Ok, Err}
 use Rattle.std.specs.Option.{option_map, option_to_list}
 use Rattle.std.proofs.lemmas.Bool.{cases_Bool}
 use Rattle.std.proofs.lemmas.Option.{same_Some}
@@ -12,8 +11,6 @@ use Rattle.datagram_grammar.specs.Message.{Message}
 use Rattle.datagram_grammar.specs.Parameters.{Parameters}
 use Rattle.datagram_grammar.specs.Refusals.{first_refusal}
 use Rattle.datagram_grammar.specs.declared.refused.Refused.{Refused as RefusedBytes}
-use Rattle.access_region.specs.Regions.{has_begun, region_of}
-use Rattle.access_region.specs.declared.Region.{Region as BegunRegion}
 use Rattle.hsl_locks.specs.declared.answer.Held.{Held}
 use Rattle.hsl_locks.specs.declared.answer.LockAnswer.{LockAnswer}
 use Rattle.hsl_locks.specs.declared.answer.LockAnswer.TheVariants as locking
@@ -23,7 +20,6 @@ use Rattle.handler_rules.specs.declared.rules.Forbidden.{Forbidden}
 use Rattle.handler_rules.specs.declared.table.Entry.{Entry}
 use Rattle.handler_rules.specs.Runs.{Meaning}
 use Rattle.put_get.specs.declared.operation.Handle.{Handle}
-use Rattle.put_get.specs.declared.operation.Mode.{Mode}
 use Rattle.put_get.specs.declared.operation.Transfer.{Transfer}
 use Rattle.node_record.specs.declared.answer.Asked.{Asked}
 use Rattle.node_record.specs.declared.answer.Asked.TheVariants as asked
@@ -33,23 +29,18 @@ use Rattle.node_record.specs.Record.{Node}
 use Rattle.node_record.specs.Step.{Verdict, Runs, Returns, verdict, after_delivery, request_answer, after_request}
 use Rattle.node_record.specs.Step.{said, with_itself, is_worn_out, TickChoice, Resends, Sends, Rests, tick_choice}
 use Rattle.node_record.specs.Step.{after_tick}
-use Rattle.am_core.specs.ClientRules.{rules}
 use Rattle.am_core.specs.HandlerRuns.{handlers_of, run_reply}
 use Rattle.am_core.specs.Kept.{Local}
 use Rattle.am_core.specs.Library.{note_handler}
-use Rattle.endpoint_rules.specs.BarrierCalls.{barrier_does}
 use Rattle.endpoint_rules.specs.Called.{Requests, Performs, node_event}
-use Rattle.endpoint_rules.specs.CoreCalls.{Poll, Attempt, Lock, Unlock, Cell, if_allowed}
+use Rattle.endpoint_rules.specs.CoreCalls.{Lock, Unlock, Cell}
 use Rattle.endpoint_rules.specs.EndpointLocal.{EndpointLocal}
-use Rattle.endpoint_rules.specs.EndpointRules.{OnCore, OnTransfers, OnBarrier, RecordEvent, job_of, told}
-use Rattle.endpoint_rules.specs.EndpointRules.{endpoint_rules, unless_forbidden, with_barrier}
-use Rattle.endpoint_rules.specs.TransferCalls.{Caller, TransferCall, Begin, BeginImplicit, SyncHandle}
-use Rattle.endpoint_rules.specs.TransferCalls.{SyncImplicit, RegionBegin, RegionEnd, transfer_does}
-use Rattle.endpoint_rules.specs.TransferCalls.{after_beginning, ended}
+use Rattle.endpoint_rules.specs.EndpointRules.{OnCore, RecordEvent, job_of, told}
+use Rattle.endpoint_rules.specs.Touches.{touches}
+use Rattle.endpoint_rules.proofs.Frames.{call_framed}
+use Rattle.endpoint_rules.specs.TransferCalls.{Caller, SyncHandle}
 use Rattle.endpoint_rules.specs.declared.answer.Answer.{Answer}
 use Rattle.endpoint_rules.specs.declared.answer.Answer.TheVariants as answers
-use Rattle.endpoint_rules.specs.declared.answer.Begun.{Begun}
-use Rattle.endpoint_rules.specs.declared.answer.Begun.TheVariants as begun
 use Rattle.job_text.specs.declared.job.ScheduledCall.TheVariants as call
 use Rattle.job_text.specs.declared.job.ScriptStep.{ScriptStep}
 use Rattle.job_text.specs.declared.job.ScriptStep.TheVariants as step
@@ -102,57 +93,12 @@ request_keeps settings table meaning me now node ask asked.Ran =
 request_keeps settings table meaning me now node ask (asked.Forbidden forbidden) = refl
 request_keeps settings table meaning me now node ask _ = refl
 
--- ---- calls that make no request
-
-begin_keeps : (caller : Caller) (transfer : Transfer) (mode : Mode) (says : Begun) (local : EndpointLocal)
-    → (after_beginning caller transfer mode says local).core.locks ≡ local.core.locks
-begin_keeps caller transfer mode (begun.Handle handle) local = refl
-begin_keeps caller transfer mode begun.Done local = refl
-begin_keeps caller transfer mode _ local = refl
-
-ended_keeps : (caller : Caller) (register : ℕ) (was : Option BegunRegion) (local : EndpointLocal)
-    → (ended caller register was local).1.core.locks ≡ local.core.locks
-ended_keeps caller register None local = refl
-ended_keeps caller register (Some was) local = by_name was.name refl
-  where
-    by_name : (name : Option ℕ) → was.name ≡ name
-        → (ended caller register (Some was) local).1.core.locks ≡ local.core.locks
-    by_name None e = rw e refl
-    by_name (Some name) e = rw e refl
-
-transfer_keeps : (caller : Caller) (made : TransferCall) (local : EndpointLocal)
-    → (transfer_does caller made local).1.core.locks ≡ local.core.locks
-transfer_keeps caller (Begin register transfer) local = begin_keeps caller transfer _ _ local
-transfer_keeps caller (BeginImplicit transfer) local = begin_keeps caller transfer _ _ local
-transfer_keeps caller (SyncImplicit some) local =
-    elim (cases_Bool (has_begun local.regions caller.thread)) [ inl e ↦ rw e refl | inr e ↦ rw e refl ]
-transfer_keeps caller RegionBegin local =
-    elim (cases_Bool (has_begun local.regions caller.thread)) [ inl e ↦ rw e refl | inr e ↦ rw e refl ]
-transfer_keeps caller (RegionEnd register) local =
-    ended_keeps caller register (region_of local.regions caller.thread) local
-transfer_keeps caller _ local = refl
-
--- a call by how the rule table judges it
-judged_keeps : (settings : Parameters) (table : List (Option Entry)) (meaning : Meaning) (thread : ℕ)
-    (judged : Result (Unit {0}) Forbidden) (local : EndpointLocal) (outcome : Answer × EndpointLocal)
-    → outcome.1.core.locks ≡ local.core.locks
-    → (unless_forbidden (endpoint_rules settings table meaning) thread judged local outcome).1.core.locks
-    ≡ local.core.locks
-judged_keeps settings table meaning thread (Ok allowed) local outcome same = same
-judged_keeps settings table meaning thread (Err forbidden) local outcome same = refl
+-- ---- calls
 
 -- the call takes no lock and gives none back
 abbrev pub is_locking : ThreadCall → Bool
-is_locking (Performs (OnCore (Lock lock))) = true
-is_locking (Performs (OnCore (Unlock lock))) = true
-is_locking _ = false
-
--- a call of a thread on what its core keeps, by how the rule table judges it
-allowed_keeps : (settings : Parameters) (table : List (Option Entry)) (meaning : Meaning) (thread : ℕ)
-    (judged : Result (Unit {0}) Forbidden) (answer : Answer) (local : Local)
-    → (if_allowed (rules settings table meaning) thread judged answer local).1.locks ≡ local.locks
-allowed_keeps settings table meaning thread (Ok allowed) answer local = refl
-allowed_keeps settings table meaning thread (Err forbidden) answer local = refl
+is_locking (Requests to asking) = false
+is_locking (Performs made) = (touches made).locks
 
 -- a thread of the node
 abbrev pub caller_of : Parameters → (me thread : ℕ) → Node EndpointLocal → Caller
@@ -167,21 +113,8 @@ call_keeps settings table meaning me thread now node (Requests to asking) free =
     let ask : Ask = record { thread = thread; to = to; what = asking } in
     request_keeps settings table meaning me now node ask
     (request_answer (site_of (job_of settings table meaning) me) node ask)
-call_keeps settings table meaning me thread now node (Performs (OnCore Poll)) free =
-    allowed_keeps settings table meaning thread _ _ node.local.core
-call_keeps settings table meaning me thread now node (Performs (OnCore (Attempt kind))) free =
-    allowed_keeps settings table meaning thread _ _ node.local.core
-call_keeps settings table meaning me thread now node (Performs (OnCore (Lock lock))) free = absurd (true≢false free)
-call_keeps settings table meaning me thread now node (Performs (OnCore (Unlock lock))) free = absurd (true≢false free)
-call_keeps settings table meaning me thread now node (Performs (OnCore _)) free = refl
-call_keeps settings table meaning me thread now node (Performs (OnTransfers made)) free =
-    let caller = caller_of settings me thread node in
-    judged_keeps settings table meaning thread _ node.local (transfer_does caller made node.local)
-    (transfer_keeps caller made node.local)
-call_keeps settings table meaning me thread now node (Performs (OnBarrier made)) free =
-    let caller = caller_of settings me thread node in
-    judged_keeps settings table meaning thread _ node.local
-    (with_barrier node.local (barrier_does caller made node.local.barrier)) refl
+call_keeps settings table meaning me thread now node (Performs made) free =
+    (call_framed settings table meaning (caller_of settings me thread node) made node.local).locks free
 
 -- ---- the calls of steps
 

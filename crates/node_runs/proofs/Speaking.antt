@@ -15,7 +15,6 @@ use Rattle.datagram_grammar.specs.Message.{Message, IsMessage}
 use Rattle.datagram_grammar.proofs.Credits.{few_credits}
 use Rattle.raw_segment.specs.Image.{Write}
 use Rattle.handler_rules.specs.declared.table.Entry.{Entry}
-use Rattle.handler_rules.specs.declared.message.Which.{Which}
 use Rattle.handler_rules.specs.declared.rules.Forbidden.{Forbidden}
 use Rattle.handler_rules.specs.Runs.{Meaning}
 use Rattle.node_record.specs.declared.answer.Asked.{Asked}
@@ -35,40 +34,36 @@ use Rattle.node_record.specs.Step.{is_worn_out}
 use Rattle.node_record.specs.Spelled.{IsAskSpelled, IsReplySpelled, IsTickSpelled, IsSpelled}
 use Rattle.node_record.proofs.Answers.{accepted_says, here_says, runs_says, returns_says, sends_choice, can_says}
 use Rattle.node_record.proofs.Slots.{free_le}
-use Rattle.access_region.specs.declared.Region.{Region}
-use Rattle.access_region.specs.Regions.{region_of, has_begun}
 use Rattle.put_get.specs.declared.operation.Mode.{Mode}
 use Rattle.put_get.specs.declared.operation.Mode.TheVariants.{Explicit}
 use Rattle.put_get.specs.declared.operation.Transfer.{Transfer}
 use Rattle.put_get.specs.declared.operation.Transfer.TheVariants as transfers
-use Rattle.put_get.specs.Operation.{Operation, size}
+use Rattle.put_get.specs.Operation.{size}
 use Rattle.am_core.specs.Kept.{Local, segment_of, with_writes}
 use Rattle.am_core.specs.ClientRules.{rules}
 use Rattle.am_core.specs.Library.{Note, note_handler}
 use Rattle.endpoint_rules.specs.EndpointLocal.{EndpointLocal, IsEndpointKept, nothing_begun}
-use Rattle.endpoint_rules.specs.BarrierCalls.{barrier_does}
 use Rattle.endpoint_rules.specs.Called.{Requests, Performs, node_event}
-use Rattle.endpoint_rules.specs.CoreCalls.{LocalCall, Poll, Attempt, Lock, Unlock, Cell, SetCell, OnSegment, local_does}
-use Rattle.endpoint_rules.specs.CoreCalls.{if_allowed}
-use Rattle.endpoint_rules.specs.EndpointRules.{OtherCall, OnCore, OnTransfers, OnBarrier, RecordEvent, job_of}
+use Rattle.endpoint_rules.specs.CoreCalls.{SetCell, OnSegment}
+use Rattle.endpoint_rules.specs.EndpointRules.{OtherCall, OnCore, OnTransfers, RecordEvent, job_of}
 use Rattle.endpoint_rules.specs.EndpointRules.{endpoint_rules, next_sending, chunk_work, after_sent, does_call}
-use Rattle.endpoint_rules.specs.EndpointRules.{unless_forbidden, with_barrier}
+use Rattle.endpoint_rules.specs.EndpointRules.{unless_forbidden}
 use Rattle.endpoint_rules.specs.Memory.{SegmentCall, Show, Set, Fill, LoadWord, SetWord, segment_does, range_fault}
 use Rattle.endpoint_rules.specs.Memory.{word_fault, unless_fault}
-use Rattle.endpoint_rules.specs.TransferCalls.{TransferCall, Begin, BeginImplicit, IsIssued, Sync, SyncHandle, SyncAll}
-use Rattle.endpoint_rules.specs.TransferCalls.{SyncSome, SyncImplicit, RegionBegin, RegionEnd, Caller, transfer_does}
-use Rattle.endpoint_rules.specs.TransferCalls.{begin_says, after_beginning, implicit_mode, ended, transfer_fault}
-use Rattle.endpoint_rules.specs.TransferCalls.{unless_bad, own_write, written_at_once}
+use Rattle.endpoint_rules.specs.TransferCalls.{Begin, BeginImplicit}
+use Rattle.endpoint_rules.specs.TransferCalls.{Caller, transfer_does}
+use Rattle.endpoint_rules.specs.TransferCalls.{begin_says, after_beginning, implicit_mode}
+use Rattle.endpoint_rules.specs.TransferCalls.{own_write, written_at_once}
 use Rattle.endpoint_rules.specs.declared.answer.Answer.{Answer}
-use Rattle.endpoint_rules.specs.declared.answer.Answer.TheVariants as answers
 use Rattle.endpoint_rules.specs.declared.answer.Begun.{Begun}
 use Rattle.endpoint_rules.specs.declared.answer.Begun.TheVariants as begun
 use Rattle.endpoint_rules.specs.declared.answer.Local.{Local as LocalAnswer}
 use Rattle.endpoint_rules.specs.declared.answer.Local.TheVariants as local_answers
-use Rattle.endpoint_rules.proofs.Kept.{IsFaultless, faultless, done_says}
+use Rattle.endpoint_rules.proofs.Kept.{IsFaultless, done_says}
 use Rattle.endpoint_rules.proofs.Handled.{asking_well, run_replies}
 use Rattle.endpoint_rules.proofs.Sending.{IsSent, IsNote, IsChunk, sending_is}
 use Rattle.endpoint_rules.proofs.Works.{note_work_fits, chunk_work_fits, sending_well}
+use Rattle.endpoint_rules.proofs.Frames.{call_framed}
 use Rattle.node_runs.specs.Fitting.{CoreFits, KeptFits, CallFits, OtherFits, ContentFits, PayloadFits, AreNumbers}
 use Rattle.node_runs.specs.Fitting.{AreBytes, WriteBytes, IsFittingJob}
 use Rattle.node_runs.specs.Scripts.{ThreadCall}
@@ -293,31 +288,6 @@ more_fits local writes fits bytes = record {
   writes = all_append (λ (write : Write). AreBytes write.bytes) local.writes writes fits.writes bytes;
 }
 
-judged_fits : (behaviour : Behaviour Local) (thread : ℕ) (judged : Result (Unit {0}) Forbidden) (says : Answer)
-    (local : Local) → ((forbidden : Forbidden) → CoreFits (behaviour.notes thread forbidden local)) → CoreFits local
-    → CoreFits (if_allowed behaviour thread judged says local).1
-judged_fits behaviour thread (Ok _) says local notes fits = fits
-judged_fits behaviour thread (Err forbidden) says local notes fits = notes forbidden
-
-core_fits : (settings : Parameters) (table : List (Option Entry)) (meaning : Meaning) (thread : ℕ) (call : LocalCall)
-    (local : Local) → OtherFits (OnCore call) → CoreFits local
-    → CoreFits (local_does settings (rules settings table meaning) thread call local).1
-core_fits settings table meaning thread Poll local may fits =
-    judged_fits (rules settings table meaning) thread _ answers.Polled local
-    (λ forbidden. record { cells = fits.cells; writes = fits.writes }) fits
-core_fits settings table meaning thread (Attempt kind) local may fits =
-    judged_fits (rules settings table meaning) thread _ answers.Allowed local
-    (λ forbidden. record { cells = fits.cells; writes = fits.writes }) fits
-core_fits settings table meaning thread (Lock lock) local may fits =
-    record { cells = fits.cells; writes = fits.writes }
-core_fits settings table meaning thread (Unlock lock) local may fits =
-    record { cells = fits.cells; writes = fits.writes }
-core_fits settings table meaning thread (Cell cell) local may fits = fits
-core_fits settings table meaning thread (SetCell cell value) local may fits =
-    record { cells = numbers_set local.cells cell value fits.cells may; writes = fits.writes }
-core_fits settings table meaning thread (OnSegment call) local may fits =
-    more_fits local _ fits (segment_bytes (segment_of settings local) call may)
-
 -- ---- transfers
 
 own_bytes : (settings : Parameters) (segment : List ℕ) (transfer : Transfer) → IsFaultless settings transfer
@@ -345,37 +315,6 @@ begun_fits caller transfer mode begun.Done local is fits =
 begun_fits caller transfer mode (begun.Handle handle) local is fits = fits
 begun_fits caller transfer mode _ local is fits = fits
 
-ended_fits : (caller : Caller) (register : ℕ) (region : Option Region) (local : EndpointLocal) → KeptFits local
-    → KeptFits (ended caller register region local).1
-ended_fits caller register None local fits = fits
-ended_fits caller register (Some was) local fits = by_name was.name
-  where
-    by_name : (name : Option ℕ) → KeptFits (ended caller register (Some (record was { name = name })) local).1
-    by_name None = fits
-    by_name (Some name) = fits
-
-transfer_fits : (caller : Caller) (call : TransferCall) (local : EndpointLocal) → KeptFits local
-    → KeptFits (transfer_does caller call local).1
-transfer_fits caller (Begin register transfer) local fits =
-    begun_fits caller transfer Explicit _ local refl fits
-transfer_fits caller (BeginImplicit transfer) local fits =
-    begun_fits caller transfer (implicit_mode local.regions caller.thread) _ local refl fits
-transfer_fits caller (IsIssued register) local fits = fits
-transfer_fits caller (Sync register) local fits = fits
-transfer_fits caller (SyncHandle handle) local fits = fits
-transfer_fits caller (SyncAll registers) local fits = fits
-transfer_fits caller (SyncSome registers) local fits = fits
-transfer_fits caller (SyncImplicit some) local fits = elim (cases_Bool (has_begun local.regions caller.thread)) [
-  | inl inside ↦ rw inside fits
-  | inr outside ↦ rw outside fits
-]
-transfer_fits caller RegionBegin local fits = elim (cases_Bool (has_begun local.regions caller.thread)) [
-  | inl inside ↦ rw inside fits
-  | inr outside ↦ rw outside fits
-]
-transfer_fits caller (RegionEnd register) local fits =
-    ended_fits caller register (region_of local.regions caller.thread) local fits
-
 -- ---- any call
 
 unless_fits : (behaviour : Behaviour EndpointLocal) (thread : ℕ) (judged : Result (Unit {0}) Forbidden)
@@ -388,17 +327,26 @@ unless_fits behaviour thread (Err forbidden) local outcome notes fits = notes fo
 call_fits : (settings : Parameters) (table : List (Option Entry)) (meaning : Meaning) (caller : Caller)
     (call : OtherCall) (local : EndpointLocal) → caller.settings ≡ settings → OtherFits call → KeptFits local
     → KeptFits (does_call (endpoint_rules settings table meaning) (rules settings table meaning) caller call local).1
-call_fits settings table meaning caller (OnCore call) local same may fits =
-    subst (λ (s : Parameters).
-    CoreFits (local_does s (rules settings table meaning) caller.thread call local.core).1) (sym same)
-    (core_fits settings table meaning caller.thread call local.core may fits)
-call_fits settings table meaning caller (OnTransfers call) local same may fits =
-    unless_fits (endpoint_rules settings table meaning) caller.thread _ local (transfer_does caller call local)
-    (λ forbidden. record { cells = fits.cells; writes = fits.writes }) (transfer_fits caller call local fits)
-call_fits settings table meaning caller (OnBarrier call) local same may fits =
+call_fits settings table meaning caller (OnCore (SetCell cell value)) local same may fits =
+    record { cells = numbers_set local.core.cells cell value fits.cells may; writes = fits.writes }
+call_fits settings table meaning caller (OnCore (OnSegment call)) local same may fits =
+    more_fits local.core _ fits (segment_bytes (segment_of caller.settings local.core) call may)
+call_fits settings table meaning caller (OnTransfers (Begin register transfer)) local same may fits =
     unless_fits (endpoint_rules settings table meaning) caller.thread _ local
-    (with_barrier local (barrier_does caller call local.barrier))
-    (λ forbidden. record { cells = fits.cells; writes = fits.writes }) fits
+    (transfer_does caller (Begin register transfer) local)
+    (λ forbidden. record { cells = fits.cells; writes = fits.writes })
+    (begun_fits caller transfer Explicit _ local refl fits)
+call_fits settings table meaning caller (OnTransfers (BeginImplicit transfer)) local same may fits =
+    unless_fits (endpoint_rules settings table meaning) caller.thread _ local
+    (transfer_does caller (BeginImplicit transfer) local)
+    (λ forbidden. record { cells = fits.cells; writes = fits.writes })
+    (begun_fits caller transfer (implicit_mode local.regions caller.thread) _ local refl fits)
+call_fits settings table meaning caller call local same may fits =
+    let framed = call_framed settings table meaning caller call local in
+    record {
+      cells = subst AreNumbers (sym (framed.cells refl)) fits.cells;
+      writes = subst WriteBytes (sym (framed.writes refl)) fits.writes;
+    }
 
 -- ---- any event
 

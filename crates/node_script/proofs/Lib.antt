@@ -3,4 +3,3 @@ pub mod ScheduleNodes
 mod LineTexts
 pub mod SentNumbers
 mod RepliesAsked
-pub mod CallsAmong

@@ -21,32 +21,10 @@ below n count some low = omega (arith, some, low)
 
 -- the payload of a call of a schedule is one of a schedule
 pub call_given : (call : ScheduledCall) → IsCall call → IsGiven call
-call_given (calls.Short to handler operands) h = tt
 call_given (calls.Medium text) h = h.0.1.1.0
 call_given (calls.Long text) h = h.0.1.1.0
 call_given (calls.LongAsync text) h = h.0.1.1.0
-call_given (calls.Lock lock) h = tt
-call_given (calls.Unlock lock) h = tt
-call_given calls.Poll h = tt
-call_given (calls.Attempt kind) h = tt
-call_given (calls.Cell cell) h = tt
-call_given (calls.SetCell cell operand) h = tt
-call_given (calls.Show offset len) h = tt
-call_given (calls.Set offset bytes) h = tt
-call_given (calls.Fill offset len byte) h = tt
-call_given (calls.Word offset) h = tt
-call_given (calls.SetWord offset number) h = tt
-call_given (calls.Begin register transfer) h = tt
-call_given (calls.BeginImplicit transfer) h = tt
-call_given (calls.IsIssued register) h = tt
-call_given (calls.Sync register) h = tt
-call_given (calls.SyncAll registers) h = tt
-call_given (calls.SyncSome registers) h = tt
-call_given (calls.SyncImplicit which) h = tt
-call_given calls.RegionBegin h = tt
-call_given (calls.RegionEnd register) h = tt
-call_given (calls.Notify id flags) h = tt
-call_given (calls.TryBarrier id flags) h = tt
+call_given _ h = tt
 
 -- an event in range is within
 event_within : (settings : Parameters) (e : ScheduledEvent) → 1 ≤ settings.nodes → 1 ≤ settings.threads

@@ -4,9 +4,8 @@ pub mod Bodies
 pub mod AnswerWords
 pub mod AnswersTold
 pub mod ScheduledCalls
-pub mod Schedules
 pub mod ActionResult
 pub mod LawfulBodies
 pub mod Places
-pub mod ScheduleLine
+pub mod Callable
 pub mod ScriptInvariant

@@ -1,10 +1,11 @@
-//! A job as it is run: its handlers' bodies, the lines of its schedule, and the words of its answers.
+//! A job as its nodes run it: its handlers' bodies, the calls of its threads, and the words of their answers.
 //!
-//! What a job's text is, and reading it, is `job_text`'s. What is proved here:
+//! What a job's text is, and reading it, is `job_text`'s. This crate knows no world: a run over sockets stands on it
+//! without the simulator. What is proved here:
 //!
 //! - `Script::new` keeps the job, with its handlers and their locks registered; indexes are given as `registered` says.
-//!   `Script::line` gives the event or the rounds of a schedule line (`IsLine`), with each `cN` read from its node's
-//!   cells in the world; None exactly where there is no such line.
+//! - `call_of` gives the call that a schedule line or a step makes (`meant_by`), with each `cN` read from the node's
+//!   cells. Each thread of the job may make it (`IsCallable`).
 //! - `ScriptHandlers` is a `Handlers` whose meaning is the body of the text (`script_meaning`): `run` leaves what its
 //!   actions leave, in order. It is lawful: what a body writes lies inside the segment, the locks of threads stay
 //!   theirs, and a reply is one that was let through.
@@ -32,6 +33,6 @@ pub use answer_words::{lock_fault_word, rule_word};
 pub use answers::write_answer;
 pub use body_numbers::value_of;
 pub use handlers::ScriptHandlers;
-pub use line::{Line, call_of, some_of, transfer_of};
+pub use line::{call_of, some_of, transfer_of};
 pub use line_writer::write_line;
 pub use script::Script;

@@ -1,99 +1,22 @@
-//! The lines of a schedule, as they are run.
+//! The calls of a schedule, as they are made.
 
-ghost use Rattle.std.specs.Prelude.{◌≡◌, ℤ, List, [], IfSome, map, slice_get};
+ghost use Rattle.std.specs.Prelude.{◌≡◌, ℤ, List, [], map};
 ghost use Rattle.am_core.specs.AskedFor.{payload_from};
 ghost use Rattle.endpoint_rules.specs.Called.{meant};
-ghost use Rattle.gas_world.specs.Events.{ForItsRecords};
-ghost use Rattle.node_script.specs.ScriptInvariant.{IsWithin};
-ghost use Rattle.node_script.specs.ScheduleLine.{IsCallable, IsLine, IsLineOf, MayBeTaken, NamesNodes};
+ghost use Rattle.node_script.specs.Callable.{IsCallable};
 ghost use Rattle.node_script.specs.Bodies.{operand_value};
 ghost use Rattle.node_script.specs.ScheduledCalls.{IsGiven, IsOnSegment, IsOnTransfers, IsOwn, given_from, meant_by};
 ghost use Rattle.node_script.specs.ScheduledCalls.{meant_long, meant_medium, some_of, transfer_of};
 ghost use Rattle.job_text.specs.Payloads.{IsPayload};
-ghost use Rattle.job_text.specs.JobReading.{lines_of};
 
 use crate::body_numbers::{value_of, values_of};
-use crate::script::Script;
 use am_core::Payload;
 use endpoint_rules::Call;
-use gas_world::{World, WorldEvent};
 use handler_rules::Cells;
 use job_text::{
-    ImplicitKind, LongText, MediumText, Operands, Payload as Given, ScheduledCall, ScheduledEvent,
-    TimedEvent, TransferText,
+    ImplicitKind, LongText, MediumText, Operands, Payload as Given, ScheduledCall, TransferText,
 };
 use put_get::{Some3, Transfer};
-
-/// A line of a schedule, as it is run.
-#[derive(Clone, Copy, Debug)]
-pub enum Line<'a> {
-    /// An event at its time.
-    Event {
-        /// The time.
-        now: u64,
-        /// The event.
-        event: WorldEvent<'a>,
-    },
-    /// Rounds of ticks and deliveries, all at one time.
-    Settle {
-        /// The time.
-        now: u64,
-        /// How many.
-        rounds: u32,
-    },
-}
-
-impl Script {
-    /// Line `i` of the schedule, counted from 0, by the cells of the nodes in this world; none where there is no such
-    /// line. The arguments of a request are put into `args`.
-    pub fn line<'a>(&'a self, i: usize, world: &World, args: &'a mut [i32; 17]) -> Option<Line<'a>>
-        requires { world.now.settings ≡ self.now.settings }
-        ensures line { ForItsRecords world.now (λ records most.
-            IsLine records (slice_get (lines_of self.now.schedule) i) result) }
-        ensures nodes { IfSome result (NamesNodes self.now.settings) }
-        ensures called { IfSome result (MayBeTaken self.now.settings) }
-    {
-        match self.timed(i) {
-            Some(timed) => Some(line_of(timed, world, args)),
-            None => None,
-        }
-    }
-}
-
-/// A line, by the cells of the nodes in this world.
-fn line_of<'a>(timed: &'a TimedEvent, world: &World, args: &'a mut [i32; 17]) -> Line<'a>
-    requires { IsWithin world.now.settings timed.now.event }
-    ensures line { ForItsRecords world.now (λ records most. IsLineOf records timed.now result) }
-    ensures nodes { NamesNodes world.now.settings result }
-    ensures called { MayBeTaken world.now.settings result }
-{
-    let now = timed.time;
-    let event = match &timed.event {
-        ScheduledEvent::Call { node, thread, call } => WorldEvent::Call {
-            node: *node,
-            thread: *thread,
-            call: call_of(call, world.endpoint(*node).cells(), args),
-        },
-        ScheduledEvent::Request { from, to, number } => WorldEvent::Request {
-            from: *from,
-            to: *to,
-            number: *number,
-        },
-        ScheduledEvent::Reply { from, to, number } => WorldEvent::Reply {
-            from: *from,
-            to: *to,
-            number: *number,
-        },
-        ScheduledEvent::Tick { node } => WorldEvent::Tick { node: *node },
-        ScheduledEvent::Settle { rounds } => {
-            return Line::Settle {
-                now,
-                rounds: *rounds,
-            };
-        }
-    };
-    Line::Event { now, event }
-}
 
 /// A call, by the cells of its node. The arguments of a request are put into `args`.
 pub fn call_of<'a>(call: &'a ScheduledCall, cells: &Cells, args: &'a mut [i32; 17]) -> Call<'a>

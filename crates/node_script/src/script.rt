@@ -127,7 +127,7 @@ impl Script {
     }
 
     /// What line `i` of the schedule asks for, if there is such a line.
-    pub(crate) fn timed(&self, i: usize) -> Option<&TimedEvent>
+    pub fn timed(&self, i: usize) -> Option<&TimedEvent>
         ensures line { option_map (λ e. e.now) result ≡ slice_get (lines_of self.now.schedule) i }
         ensures within { IfSome result (λ e. IsWithin self.now.settings e.now.event) }
     {

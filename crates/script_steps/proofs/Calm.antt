@@ -294,27 +294,7 @@ call_calm place node (call.LongAsync text) =
     (long_asking text.handler (map (operand_value node.local.core.cells []) text.operands) (given_from text.payload)
     text.offset)
 call_calm place node (call.Lock lock) = lock_leaves place node lock
-call_calm place node (call.Unlock lock) = tt
-call_calm place node call.Poll = tt
-call_calm place node (call.Attempt kind) = tt
-call_calm place node (call.Cell cell) = tt
-call_calm place node (call.SetCell cell operand) = tt
-call_calm place node (call.Show offset len) = tt
-call_calm place node (call.Set offset bytes) = tt
-call_calm place node (call.Fill offset len byte) = tt
-call_calm place node (call.Word offset) = tt
-call_calm place node (call.SetWord offset number) = tt
-call_calm place node (call.Begin register transfer) = tt
-call_calm place node (call.BeginImplicit transfer) = tt
-call_calm place node (call.IsIssued register) = tt
-call_calm place node (call.Sync register) = tt
-call_calm place node (call.SyncAll registers) = tt
-call_calm place node (call.SyncSome registers) = tt
-call_calm place node (call.SyncImplicit which) = tt
-call_calm place node call.RegionBegin = tt
-call_calm place node (call.RegionEnd register) = tt
-call_calm place node (call.Notify id flags) = tt
-call_calm place node (call.TryBarrier id flags) = tt
+call_calm place node _ = tt
 
 -- the second call of a blocking transfer
 second_calm : (place : Place) (node : Node EndpointLocal) (handle : Option Handle) (made : ThreadCall)

@@ -6,7 +6,7 @@ ghost use Rattle.endpoint_rules.specs.declared.answer.Answer.{Answer};
 ghost use Rattle.gas_endpoint.specs.EndpointState.{ForItsRecord, MayBeCalled};
 ghost use Rattle.job_text.specs.declared.job.WaitingStep.{WaitingStep};
 ghost use Rattle.node_runs.specs.Actions.{Again, Looks};
-ghost use Rattle.node_script.specs.ScheduleLine.{IsCallable};
+ghost use Rattle.node_script.specs.Callable.{IsCallable};
 ghost use Rattle.script_steps.specs.Forms.{IsPut, IsSync, is_not_ready, is_sent, put_of, waiting_form};
 ghost use Rattle.script_steps.specs.Tries.{TriesForm, read_as, looked};
 

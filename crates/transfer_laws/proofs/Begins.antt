@@ -25,8 +25,8 @@ use Rattle.endpoint_rules.specs.declared.answer.Begun.TheVariants as begun
 use Rattle.endpoint_rules.specs.EndpointLocal.{EndpointLocal}
 use Rattle.endpoint_rules.specs.EndpointRules.{OnTransfers, Records, endpoint_rules, job_of, does_call}
 use Rattle.endpoint_rules.specs.EndpointRules.{unless_forbidden}
-use Rattle.endpoint_rules.specs.TransferCalls.{TransferCall, Begin, BeginImplicit, IsIssued, Sync, SyncHandle, SyncAll}
-use Rattle.endpoint_rules.specs.TransferCalls.{SyncSome, SyncImplicit, RegionBegin, RegionEnd, Caller, transfer_kind}
+use Rattle.endpoint_rules.specs.TransferCalls.{TransferCall, Begin, BeginImplicit}
+use Rattle.endpoint_rules.specs.TransferCalls.{Caller, transfer_kind}
 use Rattle.endpoint_rules.specs.TransferCalls.{transfer_does, transfer_fault, is_at_once, begun_as, unless_bad}
 use Rattle.endpoint_rules.specs.TransferCalls.{begin_says, after_beginning, implicit_mode}
 use Rattle.transfer_laws.specs.TransferLaws.{IsBeginning, called}
@@ -183,11 +183,4 @@ begins_last settings table meaning world now node thread (BeginImplicit asked) t
     never : (forbidden : Forbidden) → answers.Forbidden forbidden
         ≡ answers.Started (begun.Handle (record { serial = number })) → ⊥
     never forbidden e = cc
-begins_last settings table meaning world now node thread (IsIssued register) transfer number is = absurd is
-begins_last settings table meaning world now node thread (Sync register) transfer number is = absurd is
-begins_last settings table meaning world now node thread (SyncHandle handle) transfer number is = absurd is
-begins_last settings table meaning world now node thread (SyncAll registers) transfer number is = absurd is
-begins_last settings table meaning world now node thread (SyncSome registers) transfer number is = absurd is
-begins_last settings table meaning world now node thread (SyncImplicit some) transfer number is = absurd is
-begins_last settings table meaning world now node thread RegionBegin transfer number is = absurd is
-begins_last settings table meaning world now node thread (RegionEnd register) transfer number is = absurd is
+begins_last settings table meaning world now node thread _ transfer number is = absurd is

@@ -1,5 +1,5 @@
 -- What one event leaves of a node's operations, and of what was written into its segment.
-use Rattle.std.proofs.Common.{◌≡◌, inl, inr, ℕ, List, [], ◌++◌, Option, None, Some, refl, sym, ap, ◌∙◌, append_assoc}
+use Rattle.std.proofs.Common.{◌≡◌, inl, inr, ℕ, List, [], ◌++◌, Option, refl, sym, ap, ◌∙◌, append_assoc}
 use Rattle.std.proofs.Common.{append-nil}
 use Rattle.std.specs.Prelude.{Result, Ok, Err}
 use Rattle.std.proofs.lemmas.Bool.{cases_Bool}
@@ -11,24 +11,23 @@ use Rattle.handler_rules.specs.declared.rules.Forbidden.{Forbidden}
 use Rattle.handler_rules.specs.declared.rules.Role.TheVariants as role
 use Rattle.handler_rules.specs.Runs.{Meaning}
 use Rattle.node_record.specs.Behaviour.{Contact}
-use Rattle.access_region.specs.declared.Region.{Region as BegunRegion}
-use Rattle.access_region.specs.Regions.{has_begun, region_of}
+use Rattle.access_region.specs.Regions.{has_begun}
 use Rattle.put_get.specs.declared.operation.Mode.{Mode}
 use Rattle.put_get.specs.declared.operation.Transfer.{Transfer}
 use Rattle.am_core.specs.Kept.{Local, start_of, with_writes}
 use Rattle.am_core.specs.HandlerRuns.{NodeHandlers, landing, outcome, run_request, run_reply}
 use Rattle.am_core.specs.ClientRules.{rules}
 use Rattle.endpoint_rules.specs.EndpointLocal.{EndpointLocal}
-use Rattle.endpoint_rules.specs.CoreCalls.{LocalCall, Poll, Attempt, Lock, Unlock, Cell, SetCell, OnSegment, local_does}
-use Rattle.endpoint_rules.specs.CoreCalls.{if_allowed}
-use Rattle.endpoint_rules.specs.TransferCalls.{TransferCall, Begin, BeginImplicit, IsIssued, Sync, SyncHandle, SyncAll}
-use Rattle.endpoint_rules.specs.TransferCalls.{SyncSome, SyncImplicit, RegionBegin, RegionEnd, Caller, transfer_does}
-use Rattle.endpoint_rules.specs.TransferCalls.{after_beginning, ended, begin_says, implicit_mode}
-use Rattle.endpoint_rules.specs.EndpointRules.{OtherCall, OnCore, OnTransfers, OnBarrier, endpoint_rules, does_call}
+use Rattle.endpoint_rules.specs.CoreCalls.{OnSegment}
+use Rattle.endpoint_rules.specs.TransferCalls.{TransferCall, Begin, BeginImplicit, Sync, SyncHandle, SyncAll}
+use Rattle.endpoint_rules.specs.TransferCalls.{SyncSome, SyncImplicit, Caller, transfer_does}
+use Rattle.endpoint_rules.specs.TransferCalls.{after_beginning, begin_says, implicit_mode}
+use Rattle.endpoint_rules.specs.EndpointRules.{OtherCall, OnCore, OnTransfers, endpoint_rules, does_call}
 use Rattle.endpoint_rules.specs.EndpointRules.{unless_forbidden}
 use Rattle.endpoint_rules.specs.declared.answer.Answer.{Answer}
 use Rattle.endpoint_rules.specs.declared.answer.Begun.{Begun}
 use Rattle.endpoint_rules.specs.declared.answer.Begun.TheVariants as begun
+use Rattle.endpoint_rules.proofs.Frames.{call_framed, transfer_framed}
 use Rattle.transfer_laws.proofs.Marking.{Alike, alike_same, alike_left, alike_handle, alike_begin}
 
 -- ---- writes
@@ -76,25 +75,6 @@ no_effect before after operations writes = record {
   writes = extends_same before.core.writes after.core.writes writes;
 }
 
--- on what a core keeps, where the rule table judges it
-rule_extends : (settings : Parameters) (table : List (Option Entry)) (meaning : Meaning) (thread : ℕ)
-    (judged : Result (Unit {0}) Forbidden) (answer : Answer) (core : Local)
-    → Extends core.writes (if_allowed (rules settings table meaning) thread judged answer core).1.writes
-rule_extends settings table meaning thread (Ok allowed) answer core = extends_same core.writes core.writes refl
-rule_extends settings table meaning thread (Err forbidden) answer core = extends_same core.writes core.writes refl
-
--- on what a core keeps
-core_extends : (all settings : Parameters) (table : List (Option Entry)) (meaning : Meaning) (thread : ℕ)
-    (call : LocalCall) (core : Local)
-    → Extends core.writes (local_does all (rules settings table meaning) thread call core).1.writes
-core_extends all settings table meaning thread Poll core = rule_extends settings table meaning thread _ _ core
-core_extends all settings table meaning thread (Attempt kind) core = rule_extends settings table meaning thread _ _ core
-core_extends all settings table meaning thread (Lock lock) core = extends_same core.writes core.writes refl
-core_extends all settings table meaning thread (Unlock lock) core = extends_same core.writes core.writes refl
-core_extends all settings table meaning thread (Cell cell) core = extends_same core.writes core.writes refl
-core_extends all settings table meaning thread (SetCell cell value) core = extends_same core.writes core.writes refl
-core_extends all settings table meaning thread (OnSegment call) core = (_, refl)
-
 -- the beginning of a transfer
 begin_effect : (caller : Caller) (transfer : Transfer) (mode : Mode) (says : Begun) (local : EndpointLocal)
     → CallEffect local (after_beginning caller transfer mode says local)
@@ -109,16 +89,6 @@ begin_effect caller transfer mode begun.Done local = record {
 begin_effect caller transfer mode (begun.BadArg part) local = no_effect local local refl refl
 begin_effect caller transfer mode begun.TooMany local = no_effect local local refl refl
 
--- the end of a region
-end_effect : (caller : Caller) (register : ℕ) (region : Option BegunRegion) (local : EndpointLocal)
-    → CallEffect local (ended caller register region local).1
-end_effect caller register None local = no_effect local local refl refl
-end_effect caller register (Some region) local = by_name region.name
-  where
-    by_name : (name : Option ℕ) → CallEffect local (ended caller register (Some (record { name = name })) local).1
-    by_name None = no_effect local _ refl refl
-    by_name (Some name) = no_effect local _ refl refl
-
 -- on transfers, where the rule table allows it
 pub transfer_effect : (caller : Caller) (call : TransferCall) (local : EndpointLocal)
     → CallEffect local (transfer_does caller call local).1
@@ -129,7 +99,6 @@ transfer_effect caller (BeginImplicit transfer) local =
     let it = begin_effect caller transfer (implicit_mode local.regions caller.thread)
     (begin_says caller transfer local.operations) local in
     record { operations = it.operations; writes = it.writes }
-transfer_effect caller (IsIssued register) local = no_effect local local refl refl
 transfer_effect caller (Sync register) local = record {
   operations = alike_handle _ _ local.operations;
   writes = extends_same local.core.writes local.core.writes refl;
@@ -153,12 +122,9 @@ transfer_effect caller (SyncImplicit some) local = elim (cases_Bool (has_begun l
     writes = extends_same local.core.writes local.core.writes refl;
   })
 ]
-transfer_effect caller RegionBegin local = elim (cases_Bool (has_begun local.regions caller.thread)) [
-  | inl inside ↦ rw inside (no_effect local local refl refl)
-  | inr outside ↦ rw outside (no_effect local _ refl refl)
-]
-transfer_effect caller (RegionEnd register) local = end_effect caller register (region_of local.regions caller.thread)
-    local
+transfer_effect caller call local =
+    let framed = transfer_framed caller call local in
+    no_effect local _ (framed.operations refl) (framed.writes refl)
 
 -- a call that the rule table judges
 judged_effect : (settings : Parameters) (table : List (Option Entry)) (meaning : Meaning) (thread : ℕ)
@@ -173,12 +139,13 @@ pub call_effect : (settings : Parameters) (table : List (Option Entry)) (meaning
     (call : OtherCall) (local : EndpointLocal)
     → CallEffect local (does_call (endpoint_rules settings table meaning) (rules settings table meaning) caller call
     local).1
-call_effect settings table meaning caller (OnCore call) local = record {
+call_effect settings table meaning caller (OnCore (OnSegment call)) local = record {
   operations = alike_same local.operations local.operations refl;
-  writes = core_extends caller.settings settings table meaning caller.thread call local.core;
+  writes = (_, refl);
 }
 call_effect settings table meaning caller (OnTransfers call) local =
     judged_effect settings table meaning caller.thread _ local (transfer_does caller call local)
     (transfer_effect caller call local)
-call_effect settings table meaning caller (OnBarrier call) local =
-    judged_effect settings table meaning caller.thread _ local _ (no_effect local _ refl refl)
+call_effect settings table meaning caller call local =
+    let framed = call_framed settings table meaning caller call local in
+    no_effect local _ (framed.operations refl) (framed.writes refl)

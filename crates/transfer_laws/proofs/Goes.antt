@@ -30,15 +30,14 @@ use Rattle.put_get.specs.Syncs.{implicit_answer, left_by}
 use Rattle.put_get.proofs.Gone.{chosen_complete}
 use Rattle.endpoint_rules.specs.declared.answer.Answer.{Answer}
 use Rattle.endpoint_rules.specs.declared.answer.Answer.TheVariants as answers
-use Rattle.endpoint_rules.specs.declared.answer.Begun.{Begun}
 use Rattle.endpoint_rules.specs.declared.answer.Begun.TheVariants as begun
 use Rattle.endpoint_rules.specs.declared.answer.Region.{Region as RegionAnswer}
 use Rattle.endpoint_rules.specs.EndpointLocal.{EndpointLocal}
 use Rattle.am_core.specs.Kept.{segment_of}
 use Rattle.raw_segment.specs.Image.{Write}
 use Rattle.endpoint_rules.specs.EndpointRules.{OtherCall, Records, job_of}
-use Rattle.endpoint_rules.specs.TransferCalls.{TransferCall, Begin, BeginImplicit, IsIssued, Sync, SyncHandle, SyncAll}
-use Rattle.endpoint_rules.specs.TransferCalls.{SyncSome, SyncImplicit, RegionBegin, RegionEnd, Caller, transfer_does}
+use Rattle.endpoint_rules.specs.TransferCalls.{TransferCall, Begin, BeginImplicit, Sync, SyncHandle, SyncAll}
+use Rattle.endpoint_rules.specs.TransferCalls.{SyncSome, SyncImplicit, Caller, transfer_does}
 use Rattle.endpoint_rules.specs.TransferCalls.{handle_in, transfer_fault, is_at_once, begun_as, unless_bad, begin_says}
 use Rattle.endpoint_rules.specs.TransferCalls.{after_beginning, implicit_mode, written_at_once}
 use Rattle.transfer_laws.specs.Chunks.{writes_at}
@@ -352,11 +351,7 @@ call_over caller (SyncImplicit some) local number operation told at is =
   where
     not_synced : {one : RegionAnswer} → answers.Region one ≡ answers.Synced synced.Ok → ⊥
     not_synced e = cc
-call_over caller (Begin register transfer) local number operation told at is = absurd (true≢false (sym is))
-call_over caller (BeginImplicit transfer) local number operation told at is = absurd (true≢false (sym is))
-call_over caller (IsIssued register) local number operation told at is = absurd (true≢false (sym is))
-call_over caller RegionBegin local number operation told at is = absurd (true≢false (sym is))
-call_over caller (RegionEnd register) local number operation told at is = absurd (true≢false (sym is))
+call_over caller _ local number operation told at is = absurd (true≢false (sym is))
 
 -- in the job
 there_over : (settings : Parameters) (table : List (Option Entry)) (meaning : Meaning) (world : Records)
@@ -468,11 +463,4 @@ own_is_done settings table meaning world now node thread (BeginImplicit asked) t
   where
     never : (forbidden : Forbidden) → answers.Forbidden forbidden ≡ answers.Started begun.Done → ⊥
     never forbidden e = cc
-own_is_done settings table meaning world now node thread (IsIssued register) transfer is = absurd is
-own_is_done settings table meaning world now node thread (Sync register) transfer is = absurd is
-own_is_done settings table meaning world now node thread (SyncHandle handle) transfer is = absurd is
-own_is_done settings table meaning world now node thread (SyncAll registers) transfer is = absurd is
-own_is_done settings table meaning world now node thread (SyncSome registers) transfer is = absurd is
-own_is_done settings table meaning world now node thread (SyncImplicit some) transfer is = absurd is
-own_is_done settings table meaning world now node thread RegionBegin transfer is = absurd is
-own_is_done settings table meaning world now node thread (RegionEnd register) transfer is = absurd is
+own_is_done settings table meaning world now node thread _ transfer is = absurd is

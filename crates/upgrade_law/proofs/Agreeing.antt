@@ -27,7 +27,7 @@ use Rattle.node_record.specs.declared.answer.SlotRef.{SlotRef}
 use Rattle.hsl_locks.specs.declared.answer.Held.{Held}
 use Rattle.lists.proofs.Cases.{none_some, none_is}
 use Rattle.put_get.specs.Operation.{come_back}
-use Rattle.endpoint_rules.specs.CoreCalls.{LocalCall, Poll, Attempt, Lock, Unlock, Cell, SetCell, OnSegment}
+use Rattle.endpoint_rules.specs.CoreCalls.{LocalCall, Poll}
 use Rattle.am_core.specs.Kept.{Local, segment_of, start_of, with_writes}
 use Rattle.am_core.specs.Library.{note_handler, note_said, is_library, has_library, Note}
 use Rattle.am_core.specs.Library.{run_answer, work_content}
@@ -385,12 +385,7 @@ calls_alike settings version table meaning me worn thread (OnCore call) local = 
         → (all_rules (in_version settings version) table meaning).does me worn thread (OnCore call) local
         ≡ (all_rules settings table meaning).does me worn thread (OnCore call) local
     by_call Poll = refl
-    by_call (Attempt kind) = refl
-    by_call (Lock lock) = refl
-    by_call (Unlock lock) = refl
-    by_call (Cell cell) = refl
-    by_call (SetCell cell value) = refl
-    by_call (OnSegment call) = refl
+    by_call _ = refl
 calls_alike settings version table meaning me worn thread (OnTransfers call) local = refl
 calls_alike settings version table meaning me worn thread (OnBarrier call) local = refl
 

@@ -25,9 +25,9 @@ use Rattle.node_script.specs.LawfulBodies.{lawful-script}
 use Rattle.node_script.specs.Lines.{Line}
 use Rattle.node_script.specs.Registration.{registered}
 use Rattle.node_script.specs.ScheduledCalls.{meant_by}
-use Rattle.node_script.specs.Schedules.{call_event, scheduled_event, line_events, schedule_events}
+use Rattle.world_run.specs.Schedules.{call_event, scheduled_event, line_events, schedule_events}
 use Rattle.node_script.specs.ScriptInvariant.{IsWithin, AreWithin}
-use Rattle.node_script.proofs.CallsAmong.{call_among}
+use Rattle.world_run.proofs.CallsAmong.{call_among}
 use Rattle.node_script.proofs.ScheduleNodes.{job_within}
 use Rattle.plain_world.proofs.Worlds.{opening_holds}
 use Rattle.lists.proofs.Numbered.{numbered_nil}

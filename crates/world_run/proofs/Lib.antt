@@ -1,6 +1,7 @@
 pub mod LinesWritten
 pub mod Halfway
 pub mod ScheduleRuns
+pub mod CallsAmong
 pub mod ScheduleLines
 pub mod ScheduleAmong
 pub mod ToldAnswers

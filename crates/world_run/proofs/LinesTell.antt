@@ -23,7 +23,7 @@ use Rattle.node_script.specs.Lines.{Line}
 use Rattle.job_text.specs.declared.job.Job.{Job as JobState}
 use Rattle.node_script.specs.AnswerWords.{Sight, sight_of, delivered_words}
 use Rattle.gas_world.specs.Settling.{WorldJob}
-use Rattle.node_script.specs.Schedules.{world_job, scheduled_event, line_events, schedule_events}
+use Rattle.world_run.specs.Schedules.{world_job, scheduled_event, line_events, schedule_events}
 use Rattle.job_text.specs.JobReading.{lines_of}
 use Rattle.job_text.specs.declared.job.ScheduledEvent.{ScheduledEvent}
 use Rattle.job_text.specs.declared.job.ScheduledEvent.TheVariants as scheduled

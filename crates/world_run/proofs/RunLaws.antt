@@ -14,7 +14,7 @@ use Rattle.job_text.specs.declared.job.Job.{Job as JobState}
 use Rattle.node_script.specs.LawfulBodies.{lawful-script}
 use Rattle.node_script.specs.ScriptInvariant.{AreWithin}
 use Rattle.node_script.specs.Registration.{registered}
-use Rattle.node_script.specs.Schedules.{world_job}
+use Rattle.world_run.specs.Schedules.{world_job}
 use Rattle.world_run.specs.RunText.{run_events}
 use Rattle.world_run.specs.RunLaws.{RunLaws}
 use Rattle.world_run.proofs.ScheduleAmong.{lines_among}

@@ -7,9 +7,9 @@ use Rattle.endpoint_rules.specs.EndpointRules.{Records, RecordsEvent}
 use Rattle.node_script.specs.ScriptInvariant.{IsWithin, AreWithin}
 use Rattle.gas_world.specs.Settling.{WorldJob}
 use Rattle.gas_world.proofs.Among.{AreAmong, both_among, settle_among}
-use Rattle.node_script.specs.Schedules.{scheduled_event, line_events, schedule_events}
+use Rattle.world_run.specs.Schedules.{scheduled_event, line_events, schedule_events}
 use Rattle.node_script.specs.ScheduledCalls.{meant_by}
-use Rattle.node_script.proofs.CallsAmong.{call_among}
+use Rattle.world_run.proofs.CallsAmong.{call_among}
 use Rattle.job_text.specs.declared.job.ScheduledEvent.{ScheduledEvent}
 use Rattle.job_text.specs.declared.job.ScheduledEvent.TheVariants as scheduled
 use Rattle.job_text.specs.declared.job.TimedEvent.{TimedEvent}

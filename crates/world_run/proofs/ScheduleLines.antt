@@ -9,11 +9,11 @@ use Rattle.gas_world.specs.Aims.{MayFall}
 use Rattle.gas_world.specs.Events.{event_of}
 use Rattle.endpoint_rules.specs.EndpointRules.{Records, RecordsEvent, timed}
 use Rattle.gas_world.specs.declared.event.WorldEvent.{WorldEvent}
-use Rattle.node_script.specs.ScheduleLine.{IsLine, MayBeTaken}
+use Rattle.world_run.specs.ScheduleLine.{IsLine, MayBeTaken}
 use Rattle.gas_world.specs.Settling.{WorldJob}
-use Rattle.node_script.specs.Schedules.{scheduled_event, line_events}
-use Rattle.node_script.specs.declared.line.Line.{Line}
-use Rattle.node_script.specs.declared.line.Line.TheVariants as lines
+use Rattle.world_run.specs.Schedules.{scheduled_event, line_events}
+use Rattle.world_run.specs.declared.schedule_line.Line.{Line}
+use Rattle.world_run.specs.declared.schedule_line.Line.TheVariants as lines
 use Rattle.job_text.specs.declared.job.ScheduledEvent.{ScheduledEvent}
 use Rattle.job_text.specs.declared.job.ScheduledEvent.TheVariants as scheduled
 use Rattle.job_text.specs.declared.job.TimedEvent.{TimedEvent}

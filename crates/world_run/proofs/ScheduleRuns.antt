@@ -14,7 +14,7 @@ use Rattle.gas_world.specs.declared.event.WorldAnswer.TheVariants as answers
 use Rattle.node_script.specs.AnswerWords.{sight_of}
 use Rattle.node_script.specs.Lines.{Line, spell, line_text}
 use Rattle.gas_world.specs.Settling.{WorldJob, Moves, settle_events}
-use Rattle.node_script.specs.Schedules.{scheduled_event, line_events, schedule_events}
+use Rattle.world_run.specs.Schedules.{scheduled_event, line_events, schedule_events}
 use Rattle.job_text.specs.declared.job.ScheduledEvent.{ScheduledEvent}
 use Rattle.job_text.specs.declared.job.ScheduledEvent.TheVariants as scheduled
 use Rattle.job_text.specs.declared.job.TimedEvent.{TimedEvent}

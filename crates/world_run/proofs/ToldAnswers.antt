@@ -1,25 +1,17 @@
 -- What an answer names is there after the event: the slot of what a tick sent has it, with its number, and the range
 -- that is shown lies inside the segment.
-use Rattle.std.proofs.Common.{◌≡◌, ℕ, ◌+◌, ◌<◌, ◌≤◌, ◌%◌, ◌==◌, Option, Some, None, Result, Ok, Err, refl, sym, ◌∙◌}
-use Rattle.std.proofs.Common.{inl, inr, subst, Bool, true, false, List, [], length, if◌then◌else◌}
+use Rattle.std.proofs.Common.{◌≡◌, ℕ, ◌+◌, ◌<◌, ◌≤◌, ◌==◌, Option, Some, None, refl, sym, ◌∙◌}
+use Rattle.std.proofs.Common.{subst, Bool, true, false, true≢false, List, [], length, if◌then◌else◌}
 use Rattle.std.specs.Prelude.{nat_lt}
 use Rattle.std.proofs.lemmas.Bool.{ltb-false}
-use Rattle.raw_segment.specs.Image.{Write}
-use Rattle.raw_segment.proofs.Images.{length-image}
-use Rattle.access_region.specs.declared.Region.{Region}
-use Rattle.access_region.specs.Regions.{has_begun, region_of}
 use Rattle.datagram_grammar.specs.Content.{Content}
 use Rattle.datagram_grammar.specs.Parameters.{Parameters, AreInRange}
 use Rattle.handler_rules.specs.declared.table.Entry.{Entry}
-use Rattle.handler_rules.specs.declared.rules.CallKind.TheVariants as kind
-use Rattle.handler_rules.specs.declared.rules.Forbidden.{Forbidden}
 use Rattle.handler_rules.specs.Runs.{Meaning}
-use Rattle.lists.proofs.Cases.{cases_option}
 use Rattle.lists.proofs.Put.{put_same}
 use Rattle.lists.specs.Numbered.{numbered}
 use Rattle.node_record.specs.declared.answer.Asked.{Asked}
 use Rattle.node_record.specs.declared.answer.Asked.TheVariants as asked
-use Rattle.named_barrier.specs.Record.{BarrierRecord}
 use Rattle.node_record.specs.declared.answer.SlotRef.{SlotRef}
 use Rattle.node_record.specs.declared.answer.Ticked.TheVariants as ticked
 use Rattle.node_record.specs.Behaviour.{Behaviour, Sending}
@@ -36,26 +28,22 @@ use Rattle.am_core.specs.Kept.{IsKept, Local, segment_of}
 use Rattle.am_core.specs.Library.{note_handler}
 use Rattle.plain_world.specs.World.{Asks, Does, RequestComes, ReplyComes, Ticks, IsAmong, world_after, world_answer}
 use Rattle.plain_world.specs.World.{answer_at, reply_event, request_event}
+use Rattle.endpoint_rules.specs.PlainAnswers.{is_plain}
+use Rattle.endpoint_rules.proofs.PlainAnswers.{answers_plain}
 use Rattle.endpoint_rules.specs.EndpointLocal.{EndpointLocal, IsEndpointKept, core_of}
-use Rattle.endpoint_rules.specs.EndpointRules.{OtherCall, OnCore, OnTransfers, OnBarrier, Records, RecordsEvent}
+use Rattle.endpoint_rules.specs.EndpointRules.{OtherCall, OnCore, Records, RecordsEvent}
 use Rattle.endpoint_rules.specs.EndpointRules.{asked_answer, does_call, next_sending, sent_as, timed, transition}
-use Rattle.endpoint_rules.specs.EndpointRules.{unless_forbidden}
-use Rattle.endpoint_rules.specs.BarrierCalls.{BarrierCall, Notify, TryBarrier, barrier_does}
-use Rattle.endpoint_rules.specs.CoreCalls.{LocalCall, Poll, Attempt, Lock, Unlock, Cell, SetCell, OnSegment}
-use Rattle.endpoint_rules.specs.CoreCalls.{if_allowed, local_does}
-use Rattle.endpoint_rules.specs.TransferCalls.{TransferCall, Begin, BeginImplicit, IsIssued, Sync, SyncHandle, SyncAll}
-use Rattle.endpoint_rules.specs.TransferCalls.{SyncSome, SyncImplicit, RegionBegin, RegionEnd, Caller, ended}
-use Rattle.endpoint_rules.specs.TransferCalls.{transfer_does, transfer_kind}
+use Rattle.endpoint_rules.specs.CoreCalls.{OnSegment}
+use Rattle.endpoint_rules.specs.TransferCalls.{Caller}
 use Rattle.endpoint_rules.proofs.Works.{sending_well}
 use Rattle.gas_world.specs.WorldTold.{world_told}
-use Rattle.endpoint_rules.specs.Memory.{SegmentCall, Show, Set, Fill, LoadWord, SetWord, segment_does, unless_fault}
+use Rattle.endpoint_rules.specs.Memory.{Show, unless_fault}
 use Rattle.gas_endpoint.specs.EndpointState.{EndpointState, EndpointStands}
 use Rattle.gas_world.specs.Events.{Steps, job_in}
 use Rattle.gas_world.specs.Stands.{Stands}
 use Rattle.gas_world.specs.WorldState.{WorldState}
 use Rattle.endpoint_rules.specs.declared.answer.Answer.{Answer}
 use Rattle.endpoint_rules.specs.declared.answer.Answer.TheVariants as answers
-use Rattle.endpoint_rules.specs.declared.answer.Local.{Local as LocalAnswer}
 use Rattle.endpoint_rules.specs.declared.answer.Local.TheVariants as local
 use Rattle.gas_world.specs.declared.event.WorldAnswer.{WorldAnswer}
 use Rattle.gas_world.specs.declared.event.WorldAnswer.TheVariants as world_answers
@@ -67,29 +55,6 @@ use Rattle.endpoint_rules.proofs.CoreKept.{segment_long}
 
 -- ---- no other event is answered as a tick
 
--- a call that is judged by the rule table
-pub judged_names : (endpoint : EndpointState) (rules : Behaviour Local) (thread : ℕ)
-    (judged : Result (Unit {0}) Forbidden) (answer : Answer) (local : Local) → NamesWhatIs endpoint answer
-    → NamesWhatIs endpoint (if_allowed rules thread judged answer local).0
-judged_names endpoint rules thread (Ok allowed) answer local names = names
-judged_names endpoint rules thread (Err forbidden) answer local names = tt
-
--- a call on the own segment that passes its end
-pub range_names : (endpoint : EndpointState) (far : Bool) (outcome : LocalAnswer × List Write)
-    → NamesItsBytes endpoint outcome.0
-    → NamesItsBytes endpoint (unless_fault (if far then Some local.Outside else None) outcome).0
-range_names endpoint true outcome names = tt
-range_names endpoint false outcome names = names
-
--- a number of the own segment
-pub word_names : (endpoint : EndpointState) (far aligned : Bool) (outcome : LocalAnswer × List Write)
-    → NamesItsBytes endpoint outcome.0
-    → NamesItsBytes endpoint
-    (unless_fault (if far then Some local.Outside else (if aligned then None else Some local.Unaligned)) outcome).0
-word_names endpoint true aligned outcome names = tt
-word_names endpoint false true outcome names = names
-word_names endpoint false false outcome names = tt
-
 -- a range that is shown
 pub show_names : (endpoint : EndpointState) (size offset len : ℕ) (far : Bool) → nat_lt size (offset + len) ≡ far
     → ((offset + len ≤ size) → HasRange endpoint offset len)
@@ -98,96 +63,22 @@ pub show_names : (endpoint : EndpointState) (size offset len : ℕ) (far : Bool)
 show_names endpoint size offset len true test has = tt
 show_names endpoint size offset len false test has = has (ltb-false size (offset + len) test)
 
--- a call on the own segment, where each range inside it is there
-segment_names : (endpoint : EndpointState) (bytes : List ℕ) (call : SegmentCall)
-    → ((offset len : ℕ) → offset + len ≤ length bytes → HasRange endpoint offset len)
-    → NamesItsBytes endpoint (segment_does bytes call).0
-segment_names endpoint bytes (Show offset len) has =
-    show_names endpoint (length bytes) offset len (nat_lt (length bytes) (offset + len)) refl (has offset len)
-segment_names endpoint bytes (Set write) has =
-    range_names endpoint (nat_lt (length bytes) (write.offset + length write.bytes)) _ tt
-segment_names endpoint bytes (Fill offset len byte) has =
-    range_names endpoint (nat_lt (length bytes) (offset + len)) _ tt
-segment_names endpoint bytes (LoadWord offset) has =
-    word_names endpoint (nat_lt (length bytes) (offset + 8)) (offset % 8 == 0) _ tt
-segment_names endpoint bytes (SetWord offset value) has =
-    word_names endpoint (nat_lt (length bytes) (offset + 8)) (offset % 8 == 0) _ tt
-
--- a call on what a core keeps, where each range inside the segment is there
-core_names : (endpoint : EndpointState) (settings : Parameters) (rules : Behaviour Local) (thread : ℕ)
-    (call : LocalCall) (kept : Local)
-    → ((offset len : ℕ) → offset + len ≤ length (segment_of settings kept) → HasRange endpoint offset len)
-    → NamesWhatIs endpoint (local_does settings rules thread call kept).0
-core_names endpoint settings rules thread Poll kept has =
-    judged_names endpoint rules thread (rules.judges thread kind.Poll kept) answers.Polled kept tt
-core_names endpoint settings rules thread (Attempt call) kept has =
-    judged_names endpoint rules thread (rules.judges thread call kept) answers.Allowed kept tt
-core_names endpoint settings rules thread (Lock lock) kept has = tt
-core_names endpoint settings rules thread (Unlock lock) kept has = tt
-core_names endpoint settings rules thread (Cell cell) kept has = tt
-core_names endpoint settings rules thread (SetCell cell value) kept has = tt
-core_names endpoint settings rules thread (OnSegment call) kept has =
-    segment_names endpoint (segment_of settings kept) call has
-
--- one of two outcomes
-either_names : (endpoint : EndpointState) (test : Bool) (first second : Answer × EndpointLocal)
-    → NamesWhatIs endpoint first.0 → NamesWhatIs endpoint second.0
-    → NamesWhatIs endpoint (if test then first else second).0
-either_names endpoint true first second one other = one
-either_names endpoint false first second one other = other
-
--- the end of a region
-ended_names : (endpoint : EndpointState) (caller : Caller) (register : ℕ) (was : Option Region)
-    (local : EndpointLocal) → NamesWhatIs endpoint (ended caller register was local).0
-ended_names endpoint caller register None local = tt
-ended_names endpoint caller register (Some was) local = elim (cases_option was.name) [
-  | inl none ↦ rw none tt
-  | inr some ↦ rw some.1 tt
-]
-
--- a call on transfers
-pub transfer_names : (endpoint : EndpointState) (caller : Caller) (call : TransferCall) (local : EndpointLocal)
-    → NamesWhatIs endpoint (transfer_does caller call local).0
-transfer_names endpoint caller (Begin register transfer) local = tt
-transfer_names endpoint caller (BeginImplicit transfer) local = tt
-transfer_names endpoint caller (IsIssued register) local = tt
-transfer_names endpoint caller (Sync register) local = tt
-transfer_names endpoint caller (SyncHandle handle) local = tt
-transfer_names endpoint caller (SyncAll registers) local = tt
-transfer_names endpoint caller (SyncSome registers) local = tt
-transfer_names endpoint caller (SyncImplicit some) local =
-    either_names endpoint (has_begun local.regions caller.thread) _ _ tt tt
-transfer_names endpoint caller RegionBegin local =
-    either_names endpoint (has_begun local.regions caller.thread) _ _ tt tt
-transfer_names endpoint caller (RegionEnd register) local =
-    ended_names endpoint caller register (region_of local.regions caller.thread) local
-
--- a call on the barrier
-pub barrier_names : (endpoint : EndpointState) (caller : Caller) (call : BarrierCall) (barrier : BarrierRecord)
-    → NamesWhatIs endpoint (barrier_does caller call barrier).0
-barrier_names endpoint caller (Notify id flags) barrier = tt
-barrier_names endpoint caller (TryBarrier id flags) barrier = tt
-
--- a call that the rule table judges
-pub unless_names : (endpoint : EndpointState) (rules : Behaviour EndpointLocal) (thread : ℕ)
-    (judged : Result (Unit {0}) Forbidden) (local : EndpointLocal) (outcome : Answer × EndpointLocal)
-    → NamesWhatIs endpoint outcome.0 → NamesWhatIs endpoint (unless_forbidden rules thread judged local outcome).0
-unless_names endpoint rules thread (Ok allowed) local outcome names = names
-unless_names endpoint rules thread (Err forbidden) local outcome names = tt
+-- a plain answer names nothing
+pub plain_names : (endpoint : EndpointState) (answer : Answer) → is_plain answer ≡ true → NamesWhatIs endpoint answer
+plain_names endpoint (answers.Ticked sent) plain = absurd (true≢false (sym plain))
+plain_names endpoint (answers.Local (local.Shown offset len)) plain = absurd (true≢false (sym plain))
+plain_names endpoint _ plain = tt
 
 -- a call that makes no request, where each range inside the segment is there
 call_names : (endpoint : EndpointState) (rules : Behaviour EndpointLocal) (own : Behaviour Local) (caller : Caller)
     (call : OtherCall) (local : EndpointLocal)
     → ((offset len : ℕ) → offset + len ≤ length (segment_of caller.settings local.core) → HasRange endpoint offset len)
     → NamesWhatIs endpoint (does_call rules own caller call local).0
-call_names endpoint rules own caller (OnCore call) local has =
-    core_names endpoint caller.settings own caller.thread call local.core has
-call_names endpoint rules own caller (OnTransfers call) local has =
-    unless_names endpoint rules caller.thread (rules.judges caller.thread (transfer_kind call) local) local _
-    (transfer_names endpoint caller call local)
-call_names endpoint rules own caller (OnBarrier call) local has =
-    unless_names endpoint rules caller.thread (rules.judges caller.thread kind.Barrier local) local _
-    (barrier_names endpoint caller call local.barrier)
+call_names endpoint rules own caller (OnCore (OnSegment (Show offset len))) local has =
+    let size = length (segment_of caller.settings local.core) in
+    show_names endpoint size offset len (nat_lt size (offset + len)) refl (has offset len)
+call_names endpoint rules own caller call local has =
+    plain_names endpoint (does_call rules own caller call local).0 (answers_plain rules own caller call local refl)
 
 -- a request
 pub asked_names : (endpoint : EndpointState) (answer : Asked) → NamesWhatIs endpoint (asked_answer answer)

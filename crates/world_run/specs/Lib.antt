@@ -3,3 +3,5 @@ pub mod RunText
 pub mod ScheduleRun
 pub mod RunLaws
 pub mod RunEnds
+pub mod Schedules
+pub mod ScheduleLine

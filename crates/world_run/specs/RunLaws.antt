@@ -11,7 +11,7 @@ use Rattle.job_text.specs.declared.job.Job.{Job as JobState}
 use Rattle.node_script.specs.Bodies.{script_meaning}
 use Rattle.node_script.specs.Lines.{Line}
 use Rattle.node_script.specs.Registration.{registered}
-use Rattle.node_script.specs.Schedules.{world_job, scheduled_event}
+use Rattle.world_run.specs.Schedules.{world_job, scheduled_event}
 use Rattle.job_text.specs.JobReading.{lines_of}
 use Rattle.job_text.specs.declared.job.ScheduledEvent.{ScheduledEvent}
 use Rattle.job_text.specs.declared.job.ScheduledEvent.TheVariants as scheduled

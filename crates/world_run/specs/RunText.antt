@@ -21,7 +21,7 @@ use Rattle.node_script.specs.Lines.{Word, Line}
 use Rattle.job_text.specs.declared.job.Job.{Job as JobState}
 use Rattle.node_script.specs.AnswerWords.{Sight, sight_of, answer_words, lock_fault_word, rule_word}
 use Rattle.gas_world.specs.Settling.{WorldJob}
-use Rattle.node_script.specs.Schedules.{world_job, scheduled_event, line_events, schedule_events}
+use Rattle.world_run.specs.Schedules.{world_job, scheduled_event, line_events, schedule_events}
 use Rattle.job_text.specs.JobReading.{lines_of}
 use Rattle.job_text.specs.declared.job.TimedEvent.{TimedEvent}
 

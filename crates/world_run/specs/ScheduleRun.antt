@@ -20,7 +20,7 @@ use Rattle.node_script.specs.Lines.{Line, line_text, spell}
 use Rattle.job_text.specs.declared.job.Job.{Job as JobState}
 use Rattle.node_script.specs.Registration.{registered}
 use Rattle.gas_world.specs.Settling.{WorldJob, settle_events}
-use Rattle.node_script.specs.Schedules.{line_events, schedule_events}
+use Rattle.world_run.specs.Schedules.{line_events, schedule_events}
 use Rattle.job_text.specs.declared.job.TimedEvent.{TimedEvent}
 use Rattle.world_run.specs.RunText.{world_words, event_words, line_words, answer_lines, any_violation, lines_of_node}
 use Rattle.world_run.specs.RunText.{end_lines, run_records, run_most}

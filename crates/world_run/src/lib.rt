@@ -4,6 +4,8 @@
 //! each; then the lines of each node. `run_lines` (`specs/RunText.antt`) is that text, line by line, as the run of the
 //! records has it.
 //!
+//! - **What a line gives** (`line_at`): the event or the rounds of a line of the schedule (`IsLine`), with each `cN`
+//!   read from its node's cells in the world; none exactly where there is no such line.
 //! - **How a run ends** [`run`: `RunEnds`]: all its lines went into the sink, and the world that it gives stands for
 //!   the end of the run; or the sink failed, and a front of their text went in; or memory ran out, and whole lines of
 //!   them did.
@@ -27,6 +29,7 @@
 mod output;
 mod run;
 mod said;
+mod schedule_line;
 mod violations;
 
 pub use output::{any_violation, write_node_line, write_nodes};

@@ -21,9 +21,10 @@ ghost use Rattle.world_run.specs.RunEnds.{RunEnds};
 
 use crate::output::{any_violation, write_event_answer, write_nodes, write_numbered};
 use crate::said::Said;
+use crate::schedule_line::{Line, line_at};
 use gas_outside::{BufferedSink, Sink};
 use gas_world::{World, WorldAnswer, WorldEvent};
-use node_script::{Line, Script};
+use node_script::Script;
 use std::alloc::{AllocError, Global};
 
 /// The node on which an event falls.
@@ -114,7 +115,7 @@ fn run_line<K: Sink>(
 {
     let number = place as u64 + 1;
     let mut args = [0; 17];
-    match script.line(place, world, &mut args) {
+    match line_at(script, place, world, &mut args) {
         Some(Line::Event { now, event }) => {
             run_event(world, script, Place { number, now }, &event, sink)
         }

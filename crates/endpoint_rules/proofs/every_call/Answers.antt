@@ -2,6 +2,8 @@ use Rattle.endpoint_rules.proofs.Sound.{rules_sound}
 use Rattle.endpoint_rules.proofs.Kept.{opening_kept}
 use Rattle.endpoint_rules.proofs.Over.{endpoint_over}
 use Rattle.endpoint_rules.proofs.Tracking.{opening_tracks, event_tracks}
+use Rattle.endpoint_rules.proofs.Frames.{call_framed}
+use Rattle.endpoint_rules.proofs.PlainAnswers.{answers_plain}
 use Rattle.endpoint_rules.proofs.every_call.Goals as goal
 
 pub returns-clause-sound : goal.returns-clause-sound
@@ -15,3 +17,9 @@ returns-clause-over c = endpoint_over
 
 pub returns-clause-tracked : goal.returns-clause-tracked
 returns-clause-tracked c = (opening_tracks, event_tracks)
+
+pub returns-clause-frame : goal.returns-clause-frame
+returns-clause-frame c = call_framed
+
+pub returns-clause-plain : goal.returns-clause-plain
+returns-clause-plain c = answers_plain

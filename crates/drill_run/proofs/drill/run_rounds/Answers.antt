@@ -1,6 +1,6 @@
 use Rattle.std.proofs.Common.{◌≡◌, ◌*◌, ◌<◌, refl, sym, ap, subst, ◌∙◌, arith}
 use Rattle.gas_world.specs.Settling.{WorldJob}
-use Rattle.node_script.specs.Schedules.{world_job}
+use Rattle.world_run.specs.Schedules.{world_job}
 use Rattle.drill_run.specs.Draws.{behind_round, round_from}
 use Rattle.drill_run.specs.Drilling.{CountsLines, IsDrilled, stage}
 use Rattle.drill_run.specs.Rounds.{bare_job, round_lines, rounds_lines}

@@ -1,5 +1,5 @@
 use Rattle.std.proofs.Common.{◌≡◌, ◌*◌}
-use Rattle.node_script.specs.Schedules.{world_job}
+use Rattle.world_run.specs.Schedules.{world_job}
 use Rattle.drill_run.specs.Counting.{AreAtMost}
 use Rattle.drill_run.specs.Draws.{before_round}
 use Rattle.drill_run.specs.Drilling.{CountsLines, stage}

@@ -3,7 +3,7 @@ use Rattle.datagram_grammar.specs.Parameters.{Parameters}
 use Rattle.endpoint_rules.specs.EndpointRules.{at_the_opening}
 use Rattle.gas_outside.specs.Buffered.{GathersAll, outbox}
 use Rattle.node_script.specs.Lines.{spell}
-use Rattle.node_script.specs.Schedules.{world_job}
+use Rattle.world_run.specs.Schedules.{world_job}
 use Rattle.job_text.specs.JobReading.{lines_of}
 use Rattle.world_run.specs.RunText.{answer_lines, end_lines, run_lines, run_records, run_most}
 use Rattle.world_run.proofs.LinesWritten.{no_lines_yet, lines_said, both_said, not_done, on_done}

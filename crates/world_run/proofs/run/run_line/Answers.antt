@@ -22,9 +22,9 @@ run_event-requires-clause-among g c =
     let stood = c.requires.stood in
     let event = event_of c.in-Some-Event.event in
     let line =
-    event_line stood.records (slice_get lines c.args.place) there.0 c.line.result c.in-Some-Event.field-0
+    event_line stood.records (slice_get lines c.args.place) there.0 c.line_at.result c.in-Some-Event.field-0
     c.in-Some-Event.now c.in-Some-Event.event there.1 c.in-Some-Event.is c.in-Some-Event.field-0-is
-    (c.line.ensures.line stood.records stood.most stood.stands)
+    (c.line_at.ensures.line stood.records stood.most stood.stands)
     in
     let within = job_within j c.requires.job c.args.place there.0 there.1 in
     subst (λ (settings : Parameters). IsAmong settings event) (sym c.requires.settings)
@@ -33,8 +33,8 @@ run_event-requires-clause-among g c =
 pub run_event-requires-clause-called : goal.run_event-requires-clause-called
 run_event-requires-clause-called g c =
     subst (λ (settings : Parameters). MayFall settings c.in-Some-Event.event) (sym c.requires.settings)
-    (event_may c.args.script.now.settings c.line.result c.in-Some-Event.field-0 c.in-Some-Event.now
-    c.in-Some-Event.event c.in-Some-Event.is c.in-Some-Event.field-0-is c.line.ensures.called)
+    (event_may c.args.script.now.settings c.line_at.result c.in-Some-Event.field-0 c.in-Some-Event.now
+    c.in-Some-Event.event c.in-Some-Event.is c.in-Some-Event.field-0-is c.line_at.ensures.called)
 
 pub returns-in-Some-Event-clause-runs : goal.returns-in-Some-Event-clause-runs
 returns-in-Some-Event-clause-runs g c = λ line at.
@@ -48,8 +48,8 @@ returns-in-Some-Event-clause-runs g c = λ line at.
     (stage g.K.Sink.taken g.K.Sink.faults c.run_event.new.world c.run_event.new.sink) c.run_event.result
     (λ w most h.
     event_is_line job number now event line w
-    (event_line w (slice_get lines c.args.place) line c.line.result c.in-Some-Event.field-0 now c.in-Some-Event.event
-    at c.in-Some-Event.is c.in-Some-Event.field-0-is (c.line.ensures.line w most h))) c.run_event.ensures.runs
+    (event_line w (slice_get lines c.args.place) line c.line_at.result c.in-Some-Event.field-0 now c.in-Some-Event.event
+    at c.in-Some-Event.is c.in-Some-Event.field-0-is (c.line_at.ensures.line w most h))) c.run_event.ensures.runs
 
 pub returns-in-Some-Settle-clause-runs : goal.returns-in-Some-Settle-clause-runs
 returns-in-Some-Settle-clause-runs g c = λ line at.
@@ -63,13 +63,13 @@ returns-in-Some-Settle-clause-runs g c = λ line at.
     (stage g.K.Sink.taken g.K.Sink.faults c.run_settle.new.world c.run_settle.new.sink) c.run_settle.result
     (λ w most h.
     settle_is_line job number now rounds line w
-    (settle_line w (slice_get lines c.args.place) line c.line.result c.in-Some-Settle.field-0 now rounds at
-    c.in-Some-Settle.is c.in-Some-Settle.field-0-is (c.line.ensures.line w most h))) c.run_settle.ensures.runs
+    (settle_line w (slice_get lines c.args.place) line c.line_at.result c.in-Some-Settle.field-0 now rounds at
+    c.in-Some-Settle.is c.in-Some-Settle.field-0-is (c.line_at.ensures.line w most h))) c.run_settle.ensures.runs
 
 pub unreachable-requires : goal.unreachable-requires
 unreachable-requires g c =
     let lines = lines_of c.args.script.now.schedule in
     let there = timed_there lines c.args.place c.requires.line in
     let stood = c.requires.stood in
-    never_none stood.records (slice_get lines c.args.place) there.0 c.line.result there.1 c.in-None.is
-    (c.line.ensures.line stood.records stood.most stood.stands)
+    never_none stood.records (slice_get lines c.args.place) there.0 c.line_at.result there.1 c.in-None.is
+    (c.line_at.ensures.line stood.records stood.most stood.stands)

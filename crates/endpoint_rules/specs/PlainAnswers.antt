@@ -1,0 +1,32 @@
+-- Plain answers: those that refer to nothing of their node.
+use Rattle.std.specs.Prelude.{◌≡◌, Bool, true, false}
+use Rattle.node_record.specs.Behaviour.{Behaviour}
+use Rattle.am_core.specs.Kept.{Local}
+use Rattle.endpoint_rules.specs.EndpointLocal.{EndpointLocal}
+use Rattle.endpoint_rules.specs.CoreCalls.{OnSegment}
+use Rattle.endpoint_rules.specs.Memory.{Show}
+use Rattle.endpoint_rules.specs.TransferCalls.{Caller}
+use Rattle.endpoint_rules.specs.EndpointRules.{OtherCall, OnCore, does_call}
+use Rattle.endpoint_rules.specs.declared.answer.Answer.{Answer}
+use Rattle.endpoint_rules.specs.declared.answer.Answer.TheVariants as answers
+use Rattle.endpoint_rules.specs.declared.answer.Local.TheVariants as local
+
+-- the answer is plain: it refers to no message in a slot of the node, and to no range of its segment
+abbrev pub is_plain : Answer → Bool
+is_plain (answers.Asked answer) = false
+is_plain (answers.Delivered answer) = false
+is_plain (answers.Ticked answer) = false
+is_plain (answers.Local (local.Shown offset len)) = false
+is_plain _ = true
+
+-- the call whose answer refers to a range of the segment
+abbrev pub shows : OtherCall → Bool
+shows (OnCore (OnSegment (Show offset len))) = true
+shows _ = false
+
+-- every other call that makes no request has a plain answer
+abbrev pub AnswersArePlain : Type 0
+AnswersArePlain =
+    (behaviour : Behaviour EndpointLocal) (own : Behaviour Local) (caller : Caller) (call : OtherCall)
+    (local : EndpointLocal)
+    → shows call ≡ false → is_plain (does_call behaviour own caller call local).0 ≡ true

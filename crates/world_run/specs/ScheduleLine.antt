@@ -1,0 +1,34 @@
+-- What a line of a schedule gives.
+use Rattle.std.specs.Prelude.{ℕ, ◌≡◌, ◌<◌, Option, Some, None}
+use Rattle.datagram_grammar.specs.Parameters.{Parameters}
+use Rattle.plain_world.specs.World.{IsAmong}
+use Rattle.endpoint_rules.specs.EndpointRules.{Records}
+use Rattle.gas_world.specs.Aims.{MayFall}
+use Rattle.gas_world.specs.Events.{event_of}
+use Rattle.world_run.specs.Schedules.{scheduled_event}
+use Rattle.job_text.specs.declared.job.TimedEvent.{TimedEvent}
+use Rattle.job_text.specs.declared.job.ScheduledEvent.TheVariants as scheduled
+use Rattle.world_run.specs.declared.schedule_line.Line.{Line}
+use Rattle.world_run.specs.declared.schedule_line.Line.TheVariants as lines
+
+-- a line of a schedule, where the nodes have these records: its time, and its event or its rounds
+abbrev pub IsLineOf : Records → TimedEvent → Line → Type 0
+IsLineOf records timed (lines.Event now event) =
+    (now ≡ timed.time) × (scheduled_event records timed.event ≡ Some (event_of event))
+IsLineOf records timed (lines.Settle now rounds) = (now ≡ timed.time) × (timed.event ≡ scheduled.Settle rounds)
+
+-- none exactly where there is no such line
+abbrev pub IsLine : Records → Option TimedEvent → Option Line → Type 0
+IsLine records None None = Unit {0}
+IsLine records (Some timed) (Some line) = IsLineOf records timed line
+IsLine records _ _ = ⊥
+
+-- the nodes that the line names are there, as a step of a world wants
+abbrev pub NamesNodes : Parameters → Line → Type 0
+NamesNodes settings (lines.Event now event) = IsAmong settings (event_of event)
+NamesNodes settings (lines.Settle now rounds) = Unit {0}
+
+-- the thread that calls is there, and a list of registers isn't too long, as a step of a world wants
+abbrev pub MayBeTaken : Parameters → Line → Type 0
+MayBeTaken settings (lines.Event now event) = MayFall settings event
+MayBeTaken settings (lines.Settle now rounds) = Unit {0}

@@ -1,0 +1,86 @@
+//! The lines of a schedule, as they are run.
+
+ghost use Rattle.std.specs.Prelude.{◌≡◌, IfSome, slice_get};
+ghost use Rattle.gas_world.specs.Events.{ForItsRecords};
+ghost use Rattle.node_script.specs.ScriptInvariant.{IsWithin};
+ghost use Rattle.world_run.specs.ScheduleLine.{IsLine, IsLineOf, MayBeTaken, NamesNodes};
+ghost use Rattle.job_text.specs.JobReading.{lines_of};
+
+use gas_world::{World, WorldEvent};
+use job_text::{ScheduledEvent, TimedEvent};
+use node_script::{Script, call_of};
+
+/// A line of a schedule, as it is run.
+#[derive(Clone, Copy, Debug)]
+pub enum Line<'a> {
+    /// An event at its time.
+    Event {
+        /// The time.
+        now: u64,
+        /// The event.
+        event: WorldEvent<'a>,
+    },
+    /// Rounds of ticks and deliveries, all at one time.
+    Settle {
+        /// The time.
+        now: u64,
+        /// How many.
+        rounds: u32,
+    },
+}
+
+/// Line `place` of a job's schedule, counted from 0, or none where there is no such line.
+///
+/// Each `cN` is read from the cells of its node in this world. The arguments of a request are put into `args`.
+pub fn line_at<'a>(
+    script: &'a Script,
+    place: usize,
+    world: &World,
+    args: &'a mut [i32; 17],
+) -> Option<Line<'a>>
+    requires { world.now.settings ≡ script.now.settings }
+    ensures line { ForItsRecords world.now (λ records most.
+        IsLine records (slice_get (lines_of script.now.schedule) place) result) }
+    ensures nodes { IfSome result (NamesNodes script.now.settings) }
+    ensures called { IfSome result (MayBeTaken script.now.settings) }
+{
+    match script.timed(place) {
+        Some(timed) => Some(line_of(timed, world, args)),
+        None => None,
+    }
+}
+
+/// What one line of a schedule asks for, by the cells of the nodes in this world.
+fn line_of<'a>(timed: &'a TimedEvent, world: &World, args: &'a mut [i32; 17]) -> Line<'a>
+    requires { IsWithin world.now.settings timed.now.event }
+    ensures line { ForItsRecords world.now (λ records most. IsLineOf records timed.now result) }
+    ensures nodes { NamesNodes world.now.settings result }
+    ensures called { MayBeTaken world.now.settings result }
+{
+    let now = timed.time;
+    let event = match &timed.event {
+        ScheduledEvent::Call { node, thread, call } => WorldEvent::Call {
+            node: *node,
+            thread: *thread,
+            call: call_of(call, world.endpoint(*node).cells(), args),
+        },
+        ScheduledEvent::Request { from, to, number } => WorldEvent::Request {
+            from: *from,
+            to: *to,
+            number: *number,
+        },
+        ScheduledEvent::Reply { from, to, number } => WorldEvent::Reply {
+            from: *from,
+            to: *to,
+            number: *number,
+        },
+        ScheduledEvent::Tick { node } => WorldEvent::Tick { node: *node },
+        ScheduledEvent::Settle { rounds } => {
+            return Line::Settle {
+                now,
+                rounds: *rounds,
+            };
+        }
+    };
+    Line::Event { now, event }
+}
