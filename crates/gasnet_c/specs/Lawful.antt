@@ -1,17 +1,15 @@
 -- Handlers that are replayed are lawful.
-use Rattle.std.specs.Prelude.{ℕ, ◌≡◌, ◌+◌, ◌==◌, ◌||◌, nat_lt, List, length, Option, Some, None}
+use Rattle.std.specs.Prelude.{ℕ, ◌≡◌, ◌+◌, ◌==◌, ◌||◌, nat_lt, int_eq, List, length, Option, Some, None}
 use Rattle.std.proofs.Common.{Bool, true, false, refl, if◌then◌else◌}
 use Rattle.std.proofs.lemmas.Bool.{ltb-false}
 use Rattle.raw_segment.specs.Image.{Write}
-use Rattle.datagram_grammar.specs.Content.{short_reply, medium_reply, long_reply}
-use Rattle.handler_rules.specs.Runs.{Frame, Start, Outcome, IsLawfulRun, replying, untouched}
-use Rattle.handler_rules.specs.declared.rules.Role.{Role}
-use Rattle.handler_rules.specs.declared.rules.Role.TheVariants as role
+use Rattle.handler_rules.specs.Runs.{Frame, Start, Outcome, IsLawfulRun, untouched}
 use Rattle.handler_rules.proofs.Lawful.{lawful-replying, lawful-untouched, lawful-writing, long_reply-content}
 use Rattle.handler_rules.proofs.Lawful.{medium_reply-content, short_reply-content}
 use Rattle.gasnet_c.specs.declared.replay.Reply.{Reply}
-use Rattle.gasnet_c.specs.declared.replay.Replay.{Replay}
-use Rattle.gasnet_c.specs.Replayed.{answering, leaving, left_write, replayed, run_for, writing_if}
+use Rattle.gasnet_c.specs.declared.replay.Run.{Run}
+use Rattle.gasnet_c.specs.declared.replay.OwnRuns.{OwnRuns}
+use Rattle.gasnet_c.specs.Replayed.{answering, both_replayed, left_write, leaving, mark_of, marked, replayed, writing_if}
 
 lawful-kept : {frame : Frame} {start : Start} {outcome : Outcome} (write : Write) (none far : Bool)
     → nat_lt (length start.segment) (write.offset + length write.bytes) ≡ far → IsLawfulRun frame start outcome
@@ -43,11 +41,21 @@ lawful-answering reply frame start outcome lawful =
     (lawful-either (reply.category == 2)
     (lawful-replying frame start _ outcome (long_reply-content reply.handler args reply.offset payload) lawful) lawful))
 
-lawful-run : (which : Role) (it : Replay) (frame : Frame) (start : Start)
-    → IsLawfulRun frame start (run_for which it frame start)
-lawful-run role.Request it frame start =
-    lawful-answering it.request.reply frame start _ (lawful-left frame start frame.arrival.place it.request.left.now)
-lawful-run role.Reply it frame start = lawful-left frame start frame.arrival.place it.reply_left.now
+pub replayed_lawful : (run : Run) (frame : Frame) (start : Start) → IsLawfulRun frame start (replayed run frame start)
+replayed_lawful run frame start =
+    lawful-answering run.reply frame start _ (lawful-left frame start frame.arrival.place run.left.now)
 
-pub replayed_lawful : (it : Replay) (frame : Frame) (start : Start) → IsLawfulRun frame start (replayed it frame start)
-replayed_lawful it frame start = lawful-run frame.arrival.role it frame start
+-- what is lawful from other cells is lawful
+other-cells : {frame : Frame} {start other : Start} {outcome : Outcome} → other.segment ≡ start.segment
+    → other.locks ≡ start.locks → IsLawfulRun frame other outcome → IsLawfulRun frame start outcome
+other-cells segment locks lawful = record {
+  reply = lawful.reply;
+  writes = rw segment at lawful.writes;
+  locks = rw locks at lawful.locks;
+}
+
+pub both_lawful : (it : OwnRuns) (frame : Frame) (start : Start) → IsLawfulRun frame start (both_replayed it frame start)
+both_lawful it frame start =
+    lawful-either (int_eq (mark_of start.cells) it.mark)
+    (other-cells refl refl (replayed_lawful it.request frame (marked it.mark start)))
+    (lawful-left frame start frame.arrival.place it.reply_left.now)

@@ -1,13 +1,12 @@
 -- What the runs of handlers give that C ran already.
-use Rattle.std.specs.Prelude.{ℕ, ◌+◌, ◌==◌, ◌||◌, nat_lt, if◌then◌else◌, List, length, Option, Some, None}
+use Rattle.std.specs.Prelude.{ℕ, ℤ, pos, ◌+◌, ◌==◌, ◌||◌, nat_lt, int_eq, if◌then◌else◌, List, length, Option, Some, None}
+use Rattle.std.specs.Prelude.{slice_index_or, slice_set}
 use Rattle.raw_segment.specs.Image.{Write, overwritten}
 use Rattle.datagram_grammar.specs.Content.{short_reply, medium_reply, long_reply}
 use Rattle.handler_rules.specs.Runs.{Frame, Start, Outcome, Meaning, replying, untouched, writing}
-use Rattle.handler_rules.specs.declared.rules.Role.{Role}
-use Rattle.handler_rules.specs.declared.rules.Role.TheVariants as role
 use Rattle.gasnet_c.specs.declared.replay.Reply.{Reply}
 use Rattle.gasnet_c.specs.declared.replay.Run.{Run}
-use Rattle.gasnet_c.specs.declared.replay.Replay.{Replay}
+use Rattle.gasnet_c.specs.declared.replay.OwnRuns.{OwnRuns}
 
 -- these bytes from this offset of a segment of that length, where there are some and they fit
 abbrev pub kept_write : (len offset : ℕ) → List ℕ → Option Write
@@ -42,18 +41,34 @@ answering reply frame outcome =
     then replying frame (long_reply reply.handler reply.args.now reply.offset reply.payload.now) outcome
     else outcome))
 
--- a request's handler leaves bytes and asks for a reply; a reply's leaves bytes
-abbrev pub run_for : Role → Replay → Frame → Start → Outcome
-run_for role.Request it frame start = answering it.request.reply frame (leaving it.request.left.now frame start)
-run_for role.Reply it frame start = leaving it.reply_left.now frame start
+-- the handler did this
+abbrev pub replayed : Run → Frame → Start → Outcome
+replayed run frame start = answering run.reply frame (leaving run.left.now frame start)
 
-abbrev pub replayed : Replay → Frame → Start → Outcome
-replayed it frame start = run_for frame.arrival.role it frame start
+-- the handlers mean that, whichever they are
+abbrev pub replayed_by : Run → Meaning
+replayed_by run = λ handler frame start. replayed run frame start
 
--- the handlers mean this, whichever they are
-abbrev pub replayed_by : Replay → Meaning
-replayed_by it handler frame start = replayed it frame start
+-- ---- a request to the own node
 
--- the one handler that runs at a delivery did this
-abbrev pub after_run : Run → Replay
-after_run run = record { request = run; reply_left = run.left }
+-- the mark
+abbrev pub mark_of : List ℤ → ℤ
+mark_of cells = slice_index_or cells 0 (pos 0)
+
+-- another one
+abbrev pub next_mark : ℤ → ℤ
+next_mark mark = if int_eq mark (pos 0) then pos 1 else pos 0
+
+-- what a handler finds where the mark was changed
+abbrev pub marked : ℤ → Start → Start
+marked mark start = record start { cells = slice_set start.cells 0 (next_mark mark) }
+
+-- the request's handler, which finds the mark, did this; the reply's left those bytes at a Long's place
+abbrev pub both_replayed : OwnRuns → Frame → Start → Outcome
+both_replayed it frame start =
+    if int_eq (mark_of start.cells) it.mark then replayed it.request frame (marked it.mark start)
+    else leaving it.reply_left.now frame start
+
+-- the handlers mean that, whichever they are
+abbrev pub both_replayed_by : OwnRuns → Meaning
+both_replayed_by it = λ handler frame start. both_replayed it frame start

@@ -1,14 +1,19 @@
 -- What an export tells of the event that it makes.
-use Rattle.std.specs.Prelude.{ℕ, ◌≡◌, ◌<◌, ◌≤◌, List, take, length, Option, Some, None}
+use Rattle.std.specs.Prelude.{ℕ, ℤ, ◌≡◌, ◌<◌, ◌≤◌, List, [], take, length, Option, Some, None}
+use Rattle.std.specs.Borrow.{Bor}
 use Rattle.handler_rules.specs.Runs.{Meaning}
 use Rattle.node_record.specs.SlotMessages.{message_at}
 use Rattle.node_record.specs.declared.answer.SlotRef.{SlotRef}
 use Rattle.endpoint_rules.specs.EndpointRules.{transition}
 use Rattle.endpoint_rules.specs.Sends.{sends}
 use Rattle.endpoint_rules.specs.declared.answer.Answer.{Answer}
+use Rattle.endpoint_rules.specs.declared.call.Call.{Call}
 use Rattle.endpoint_rules.specs.declared.call.Event.{Event}
+use Rattle.endpoint_rules.specs.declared.call.Event.TheVariants as event
 use Rattle.gas_endpoint.specs.EndpointState.{EndpointState, EndpointSteps, ForItsRecord}
 use Rattle.gasnet_c.specs.Codes.{code_of, place_of, value_of}
+use Rattle.gasnet_c.specs.Replayed.{both_replayed_by, mark_of}
+use Rattle.gasnet_c.specs.declared.replay.Run.{Run}
 use Rattle.gasnet_c.specs.declared.told.Told.{Told}
 
 -- ---- the datagram
@@ -48,9 +53,32 @@ pub record IsDead (told : Told) : Type 0 where
   pub code : told.code ≡ 99
   pub len : told.len ≡ 0
 
--- where a node is held, this event happened to it, its handlers mean this, and C is told the answer
-abbrev pub Tells : Meaning → Option EndpointState → (now : ℕ) → Event → Told → List ℕ → Option EndpointState → Type 0
-Tells meaning (Some old) now event told buffer (Some new) =
+-- this event happened to the node, its handlers mean this, and C is told the answer
+abbrev pub TellsOf : Meaning → EndpointState → (now : ℕ) → Event → Told → List ℕ → EndpointState → Type 0
+TellsOf meaning old now event told buffer new =
     (answer : Answer) × EndpointSteps meaning old (transition now event answer) new × IsTold new answer told buffer
+
+-- so it is of a node that is held; else nothing happened
+abbrev pub Tells : Meaning → Option EndpointState → (now : ℕ) → Event → Told → List ℕ → Option EndpointState → Type 0
+Tells meaning (Some old) now event told buffer (Some new) = TellsOf meaning old now event told buffer new
 Tells meaning (Some old) now event told buffer None = ⊥
 Tells meaning None now event told buffer new = IsDead told × (new ≡ None)
+
+-- a request to the own node, whose handlers did this
+pub record OwnAsked : Type 0 where
+  pub call : Call
+  pub run : Run
+  pub reply_left : Bor (List ℕ)
+
+-- this is the mark of the node's record
+abbrev pub IsMark : EndpointState → ℤ → Type 0
+IsMark endpoint mark = ForItsRecord endpoint (λ node. mark ≡ mark_of node.local.core.cells)
+
+-- it happened to the node that is held, and its handlers mean what they did; else nothing happened
+abbrev pub TellsOwn : Option EndpointState → (now : ℕ) → OwnAsked → Told → Option EndpointState → Type 0
+TellsOwn (Some old) now asked told (Some new) =
+    (mark : ℤ) × IsMark old mark × TellsOf
+    (both_replayed_by (record { request = asked.run; reply_left = asked.reply_left; mark = mark }))
+    old now (event.Call 0 asked.call) told [] new
+TellsOwn (Some old) now asked told None = ⊥
+TellsOwn None now asked told new = IsDead told × (new ≡ None)

@@ -5,14 +5,15 @@ ghost use Rattle.handler_rules.specs.Runs.{Meaning};
 ghost use Rattle.endpoint_rules.specs.declared.call.Event.TheVariants as event;
 ghost use Rattle.gasnet_c.specs.Calls.{asked_call, payload_of, IsToAnother};
 ghost use Rattle.gasnet_c.specs.Peeking.{PeeksIn};
-ghost use Rattle.gasnet_c.specs.Replayed.{after_run, replayed_by};
-ghost use Rattle.gasnet_c.specs.Telling.{Tells};
+ghost use Rattle.gasnet_c.specs.Replayed.{replayed_by};
+ghost use Rattle.gasnet_c.specs.Telling.{Tells, TellsOwn};
 ghost use Rattle.gasnet_c.specs.Whole.{IsForOne, IsWhole};
 
 use crate::coming::{Coming, nothing};
 use crate::handle::{Handle, put, taken};
-use crate::replay::{NO_ONE, Replay, Run};
-use crate::stepping::{Happening, stepped};
+use crate::node::Happening;
+use crate::replay::{NO_RUN, OwnRuns, Run};
+use crate::stepping::stepped;
 use crate::told::{Told, dead};
 use am_core::Payload;
 use endpoint_rules::{Call, Event};
@@ -107,7 +108,7 @@ pub extern "C" fn gasnet_c_request(
     }
     let call = asked_call(ask);
     let event = Event::Call { thread: 0, call };
-    stepped(alloc, handle, &NO_ONE, &Happening { now, event }, buffer)
+    stepped(alloc, handle, &NO_RUN, &Happening { now, event }, buffer)
 }
 
 /// A request to the own node, which sends nothing: C ran its handler before this call, and then that of its reply where
@@ -128,21 +129,28 @@ pub extern "C" fn gasnet_c_request_own(
 ) -> Told
     requires { IsWhole handle.old }
     ensures whole { IsWhole handle.new }
-    ensures tells { Tells
-        (replayed_by (record { request = run.now; reply_left = reply_left.entry }))
-        handle.old.slot.held now (event.Call 0 (asked_call ask.now)) result []
-        handle.new.slot.held }
+    ensures tells { TellsOwn handle.old.slot.held now
+        (record {
+          call = asked_call ask.now;
+          run = run.now;
+          reply_left = reply_left.entry;
+        })
+        result handle.new.slot.held }
 {
     if !handle.live {
         return dead();
     }
-    let replay = Replay {
-        request: *run,
-        reply_left,
-    };
     let call = asked_call(ask);
     let event = Event::Call { thread: 0, call };
-    stepped(alloc, handle, &replay, &Happening { now, event }, &mut [])
+    let mut node = taken(handle, alloc);
+    let runs = OwnRuns {
+        request: *run,
+        reply_left,
+        mark: node.mark(),
+    };
+    let told = node.happen(&runs, &Happening { now, event }, &mut []);
+    put(handle, node);
+    told
 }
 
 /// Which handler of the client's a delivery of these bytes would run, and with what. It changes nothing.
@@ -185,16 +193,12 @@ pub extern "C" fn gasnet_c_deliver(
 ) -> Told
     requires { IsWhole handle.old }
     ensures whole { IsWhole handle.new }
-    ensures tells { Tells (replayed_by (after_run run.now)) handle.old.slot.held now
+    ensures tells { Tells (replayed_by run.now) handle.old.slot.held now
         (event.Deliver bytes.entry) result buffer.new handle.new.slot.held }
 {
     if !handle.live {
         return dead();
     }
-    let replay = Replay {
-        request: *run,
-        reply_left: run.left,
-    };
     let event = Event::Deliver { bytes };
-    stepped(alloc, handle, &replay, &Happening { now, event }, buffer)
+    stepped(alloc, handle, run, &Happening { now, event }, buffer)
 }

@@ -5,20 +5,29 @@ ghost use Rattle.handler_rules.specs.Runs.{Meaning};
 ghost use Rattle.node_record.specs.Record.{opening_node};
 ghost use Rattle.am_core.specs.Kept.{segment_of};
 ghost use Rattle.endpoint_rules.specs.EndpointLocal.{nothing_begun};
-ghost use Rattle.endpoint_rules.specs.EndpointRules.{transition};
-ghost use Rattle.gas_endpoint.specs.EndpointState.{EndpointStands, EndpointSteps, ForItsRecord};
+ghost use Rattle.gas_endpoint.specs.EndpointState.{EndpointStands, ForItsRecord};
 ghost use Rattle.gas_endpoint.specs.EndpointState.{IsNodeOf, RunsNone};
 ghost use Rattle.gasnet_c.specs.Whole.{IsForOne};
 ghost use Rattle.gasnet_c.specs.Peeking.{Peeks};
+ghost use Rattle.gasnet_c.specs.Telling.{IsMark, TellsOf};
 
 use crate::coming::{Coming, peeked};
+use crate::replay::MARK;
+use crate::told::{Told, tell};
 use datagram_grammar::Settings;
-use endpoint_rules::{Answer, Event};
+use endpoint_rules::Event;
 use gas_endpoint::Endpoint;
 use handler_rules::{Handlers, Table};
 use raw_segment::Segment;
 use std::alloc::{AllocError, Global};
 use std::marker::Model;
+
+/// An event, and its time in the unit of the calls' `now`.
+#[derive(Clone, Copy)]
+pub struct Happening<'a> {
+    pub now: u64,
+    pub event: Event<'a>,
+}
 
 /// The endpoint of a node of a job whose nodes have one thread each, and datagrams of version 1.
 #[derive(Drop)]
@@ -59,15 +68,30 @@ impl Node {
         Ok(Node { endpoint })
     }
 
-    /// One event.
-    pub fn step<H: Handlers>(&mut self, handlers: &H, now: u64, event: &Event<'_>) -> Answer
-        requires { IsForOne event.now }
-        ensures steps { EndpointSteps (H.meaning handlers.now) self.old
-            (transition now event.now result) self.new }
-        ensures quiet { RunsNone self.old event.now → (meaning : Meaning) → EndpointSteps meaning
-            self.old (transition now event.now result) self.new }
+    /// One event. What it sends is copied into the buffer, where it fits.
+    pub fn happen<H: Handlers>(
+        &mut self,
+        handlers: &H,
+        happening: &Happening<'_>,
+        buffer: &mut [u8],
+    ) -> Told
+        requires { IsForOne happening.now.event }
+        ensures tells { TellsOf (H.meaning handlers.now) self.old happening.now.now
+            happening.now.event result buffer.new self.new }
+        ensures quiet { RunsNone self.old happening.now.event → (meaning : Meaning) → TellsOf meaning
+            self.old happening.now.now happening.now.event result buffer.new self.new }
     {
-        self.endpoint.step(handlers, now, event)
+        let answer = self
+            .endpoint
+            .step(handlers, happening.now, &happening.event);
+        tell(&self.endpoint, &answer, buffer)
+    }
+
+    /// The mark of the runs of requests to the own node.
+    pub fn mark(&self) -> i32
+        ensures { IsMark self.now result }
+    {
+        self.endpoint.cells().get(MARK)
     }
 
     /// What a delivery of these bytes would run.

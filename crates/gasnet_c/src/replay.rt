@@ -1,9 +1,9 @@
 //! Handlers that C ran already: what each of them did, as values that are replayed.
 
 ghost use Rattle.std.specs.Prelude.{◌≡◌, length};
-ghost use Rattle.gasnet_c.specs.Replayed.{left_write, overwritten_if};
+ghost use Rattle.gasnet_c.specs.Replayed.{left_write, next_mark, overwritten_if};
 
-use handler_rules::{Cells, Desk, Handlers, Role};
+use handler_rules::{Cells, Desk, Handlers};
 use raw_segment::Segment;
 
 /// The reply that a handler asked for: `gasnet_c_reply`.
@@ -26,13 +26,13 @@ pub struct Reply<'a> {
 #[repr(C)]
 #[derive(Clone, Copy)]
 pub struct Run<'a> {
-    /// The reply that it asked for.
+    /// The reply that it asked for; a reply's handler asks for none.
     pub reply: Reply<'a>,
     /// The bytes that it left at a Long's place; none where the payload stands there as it came.
     pub left: &'a [u8],
 }
 
-/// No handler ran.
+/// Nothing.
 pub const NO_RUN: Run<'static> = Run {
     reply: Reply {
         args: &[],
@@ -44,20 +44,28 @@ pub const NO_RUN: Run<'static> = Run {
     left: &[],
 };
 
-/// The handlers of an event that C ran: one for a request, and one for a reply.
+/// What the two handlers of a request to the own node did.
+///
+/// Both run in one event. The request's handler is the one that finds the mark, which it changes.
 #[derive(Clone, Copy)]
-pub struct Replay<'a> {
-    /// What the handler of a request did.
+pub struct OwnRuns<'a> {
+    /// What the request's handler did.
     pub request: Run<'a>,
-    /// The bytes that the handler of a reply left at a Long's place.
+    /// The bytes that its reply's handler left at a Long's place.
     pub reply_left: &'a [u8],
+    /// The mark before the event.
+    pub mark: i32,
 }
 
-/// Nothing ran.
-pub const NO_ONE: Replay<'static> = Replay {
-    request: NO_RUN,
-    reply_left: &[],
-};
+/// The cell of the mark. Nothing else uses cells here.
+pub const MARK: u8 = 0;
+
+/// Another mark than this.
+fn next_mark(mark: i32) -> i32
+    ensures { result ≡ next_mark mark }
+{
+    if mark == 0 { 1 } else { 0 }
+}
 
 /// Writes bytes at a Long's place, where there are some and they fit.
 fn leave(segment: &mut Segment, place: Option<(u64, u64)>, left: &[u8])
@@ -73,7 +81,7 @@ fn leave(segment: &mut Segment, place: Option<(u64, u64)>, left: &[u8])
     }
 }
 
-impl Handlers for Replay<'_> {
+impl Handlers for Run<'_> {
     ghost use Rattle.gasnet_c.specs.Replayed.{replayed};
     ghost use Rattle.gasnet_c.specs.Lawful.{replayed_lawful};
 
@@ -83,29 +91,38 @@ impl Handlers for Replay<'_> {
 
     /// It leaves what C's handler left, and asks for the reply that it asked for.
     fn run(&self, _handler: u8, segment: &mut Segment, _cells: &mut Cells, desk: &mut Desk<'_>) {
-        match desk.role() {
-            Role::Reply => leave(segment, desk.place(), self.reply_left),
-            Role::Request => {
-                leave(segment, desk.place(), self.request.left);
-                let reply = &self.request.reply;
-                match reply.category {
-                    0 => {
-                        let _ = desk.reply_short(reply.handler, reply.args);
-                    }
-                    1 => {
-                        let _ = desk.reply_medium(reply.handler, reply.args, reply.payload);
-                    }
-                    2 => {
-                        let _ = desk.reply_long(
-                            reply.handler,
-                            reply.args,
-                            reply.payload,
-                            reply.offset,
-                        );
-                    }
-                    _ => {}
-                }
+        leave(segment, desk.place(), self.left);
+        let reply = &self.reply;
+        match reply.category {
+            0 => {
+                let _ = desk.reply_short(reply.handler, reply.args);
             }
+            1 => {
+                let _ = desk.reply_medium(reply.handler, reply.args, reply.payload);
+            }
+            2 => {
+                let _ = desk.reply_long(reply.handler, reply.args, reply.payload, reply.offset);
+            }
+            _ => {}
+        }
+    }
+}
+
+impl Handlers for OwnRuns<'_> {
+    ghost use Rattle.gasnet_c.specs.Replayed.{both_replayed};
+    ghost use Rattle.gasnet_c.specs.Lawful.{both_lawful};
+
+    ghost meaning = { λ it handler frame start. both_replayed it frame start };
+
+    ghost is_lawful = { λ it handler frame start. both_lawful it frame start };
+
+    /// The request's handler changes the mark and does what it did; the reply's leaves what it left.
+    fn run(&self, handler: u8, segment: &mut Segment, cells: &mut Cells, desk: &mut Desk<'_>) {
+        if cells.get(MARK) == self.mark {
+            cells.set(MARK, next_mark(self.mark));
+            self.request.run(handler, segment, cells, desk);
+        } else {
+            leave(segment, desk.place(), self.reply_left);
         }
     }
 }

@@ -7,18 +7,12 @@ ghost use Rattle.gasnet_c.specs.Whole.{AsksNone, IsForOne, IsWhole, RunsNoneIn};
 ghost use Rattle.gasnet_c.specs.Telling.{Tells};
 
 use crate::handle::{Handle, put, taken};
-use crate::replay::NO_ONE;
-use crate::told::{Told, dead, tell};
+use crate::node::Happening;
+use crate::replay::NO_RUN;
+use crate::told::{Told, dead};
 use endpoint_rules::{Call, Event};
 use handler_rules::Handlers;
 use std::alloc::Global;
-
-/// An event, and its time in the unit of the calls' `now`.
-#[derive(Clone, Copy)]
-pub struct Happening<'a> {
-    pub now: u64,
-    pub event: Event<'a>,
-}
 
 /// The event happens to the node of a handle that is live. What it sends is copied into the buffer, where it fits.
 pub fn stepped<H: Handlers>(
@@ -38,8 +32,7 @@ pub fn stepped<H: Handlers>(
         handle.new.slot.held }
 {
     let mut node = taken(handle, alloc);
-    let answer = node.step(handlers, happening.now, &happening.event);
-    let told = tell(&node.endpoint, &answer, buffer);
+    let told = node.happen(handlers, happening, buffer);
     put(handle, node);
     told
 }
@@ -57,7 +50,7 @@ pub fn called(alloc: Global, handle: &mut Handle, now: u64, call: Call<'_>) -> T
         return dead();
     }
     let event = Event::Call { thread: 0, call };
-    stepped(alloc, handle, &NO_ONE, &Happening { now, event }, &mut [])
+    stepped(alloc, handle, &NO_RUN, &Happening { now, event }, &mut [])
 }
 
 /// A tick: at most one datagram that is due goes out. It is `GASNET_C_RESENT` where a request is sent again that had no
@@ -85,5 +78,5 @@ pub extern "C" fn gasnet_c_tick(
         now,
         event: Event::Tick,
     };
-    stepped(alloc, handle, &NO_ONE, &happening, buffer)
+    stepped(alloc, handle, &NO_RUN, &happening, buffer)
 }
