@@ -36,4 +36,4 @@ pub use handler_rules::{
 pub use hsl_locks::{LockAnswer, LockFault, UnlockAnswer};
 pub use named_barrier::{BarrierAnswer, Notified};
 pub use put_get::{Handle, Some3, Synced, Transfer};
-pub use raw_segment::{Offset, Outside, PartFault, Plain, Segment, TypedFault};
+pub use raw_segment::{Bytes, Offset, Outside, PartFault, Plain, Segment, TypedFault};

@@ -9,8 +9,8 @@ pub enum Kind {
     Text,
     /// A call of the program.
     Case,
-    /// The head of a table.
-    Rows,
+    /// A heading, also that of a table.
+    Heading,
     /// A line that is none of the known ones.
     Unread,
 }
@@ -40,6 +40,8 @@ pub struct Block<'a> {
     pub waiting: Vec<Vec<u8>>,
     /// Whether two threads are held in step.
     pub in_step: bool,
+    /// Whether the call is over a reader and a writer of std.
+    pub over_streams: bool,
 }
 
 impl<'a> Block<'a> {
@@ -59,6 +61,7 @@ impl<'a> Block<'a> {
             children: Vec::new(alloc),
             waiting: Vec::new(alloc),
             in_step: false,
+            over_streams: false,
         }
     }
 }

@@ -35,8 +35,11 @@ pub fn blocks_of(alloc: Global, text: &str) -> Result<Vec<Block<'_>>, AllocError
 
 /// Reads a line.
 fn read_line<'a>(reading: &mut Reading<'a>, line: &'a str) -> Result<(), AllocError> {
-    if line.is_empty() || line.starts_with('#') {
+    if line.is_empty() {
         return Ok(());
+    }
+    if line.starts_with('#') {
+        return begin(reading, Kind::Heading, line);
     }
     if let Some(text) = line.strip_prefix("| ") {
         return add_line(&mut reading.now.text, text);
@@ -83,7 +86,7 @@ fn begin_rows<'a>(
     line: &'a str,
     rest: &'a str,
 ) -> Result<bool, AllocError> {
-    begin(reading, Kind::Rows, line)?;
+    begin(reading, Kind::Heading, line)?;
     let Some((words, name)) = rest.split_once(" of ") else {
         return Ok(false);
     };
@@ -149,6 +152,10 @@ fn add_part<'a>(reading: &mut Reading<'a>, word: &str, rest: &'a str) -> Result<
     if word == "in" {
         reading.now.in_step = true;
         return Ok(rest == "step");
+    }
+    if word == "over" {
+        reading.now.over_streams = true;
+        return Ok(rest == "streams");
     }
     add_text(reading, word, rest)
 }

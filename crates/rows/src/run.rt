@@ -1,6 +1,7 @@
 //! The call of a case.
 
 use crate::block::Block;
+use crate::streams::run_over_streams;
 use crate::told::{Came, Known, told};
 use gas_outside::{
     FixedClock, Gate, MemoryLink, MemorySink, MemorySource, MemorySpawner, OpenGate,
@@ -47,11 +48,14 @@ pub fn run<'a, R: Threads + Wait + Sync>(
     known: &mut Known<'a>,
 ) -> Result<String, AllocError> {
     let words = words_of(alloc, block.words)?;
+    if block.over_streams {
+        return run_over_streams(rt, alloc, &words, block, known);
+    }
     let read = block.text.clone()?;
     let name = block.name;
     let outside = outside_of(alloc, block)?;
     let came = call(rt, alloc, &words, outside);
-    told(alloc, name, &read, &came, known)
+    told(name, &read, &came, known)
 }
 
 /// The words of a command.
@@ -64,7 +68,7 @@ fn words_of(alloc: Global, text: &str) -> Result<Vec<String>, AllocError> {
 }
 
 /// The outside of a block.
-fn outside_of(alloc: Global, block: Block<'_>) -> Result<CaseOutside, AllocError> {
+pub fn outside_of(alloc: Global, block: Block<'_>) -> Result<CaseOutside, AllocError> {
     let Block {
         kind: _,
         name: _,
@@ -74,6 +78,7 @@ fn outside_of(alloc: Global, block: Block<'_>) -> Result<CaseOutside, AllocError
         children,
         waiting,
         in_step,
+        over_streams: _,
     } = block;
     Ok(Outside {
         source: MemorySource::new(text, vec![in alloc; fails.read]?)?,

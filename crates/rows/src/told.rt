@@ -22,6 +22,7 @@ pub struct Came {
 /// The last long text that was written.
 #[derive(Drop)]
 pub struct Known<'a> {
+    alloc: Global,
     name: &'a str,
     bytes: Vec<u8>,
 }
@@ -30,6 +31,7 @@ impl<'a> Known<'a> {
     /// None yet.
     pub fn new(alloc: Global) -> Known<'a> {
         Known {
+            alloc,
             name: "",
             bytes: Vec::new(alloc),
         }
@@ -38,29 +40,35 @@ impl<'a> Known<'a> {
 
 /// What is told of a call: its name, what it read, and what came.
 pub fn told<'a>(
-    alloc: Global,
     name: &'a str,
     read: &[u8],
     came: &Came,
     known: &mut Known<'a>,
 ) -> Result<String, AllocError> {
-    let mut out = String::new(alloc);
+    let mut out = String::new(known.alloc);
     tell_status(&mut out, name, came)?;
     tell_starts(&mut out, came.after.spawner.calls(), read)?;
     tell_sent(&mut out, came.after.link.sent())?;
-    let written = came.after.sink.taken();
+    tell_text(&mut out, name, came.after.sink.taken(), read, known)?;
+    Ok(out)
+}
+
+/// Tells the text that a call wrote.
+pub fn tell_text<'a>(
+    out: &mut String,
+    name: &'a str,
+    written: &[u8],
+    read: &[u8],
+    known: &mut Known<'a>,
+) -> Result<(), AllocError> {
     if is_front_of(known, written) {
-        tell_front(&mut out, known, written.len())?;
-        return Ok(out);
+        return tell_front(out, known, written.len());
     }
     if written.len() > LONG {
-        *known = Known {
-            name,
-            bytes: Vec::from_slice(alloc, written)?,
-        };
+        known.name = name;
+        known.bytes = Vec::from_slice(known.alloc, written)?;
     }
-    tell_written(&mut out, written, read)?;
-    Ok(out)
+    tell_written(out, written, read)
 }
 
 /// Tells the name and the exit status, whether there is a node, and whether threads were in step.
