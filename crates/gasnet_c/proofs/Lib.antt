@@ -1,2 +1,6 @@
 pub mod Values
+pub mod Telling
+pub mod Peeked
+pub mod Opened
+pub mod Replaying
 mod Crosses

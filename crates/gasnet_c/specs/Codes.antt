@@ -1,5 +1,5 @@
 -- The numbers of answers, and what else C is told of one.
-use Rattle.std.specs.Prelude.{ℕ, Option, Some}
+use Rattle.std.specs.Prelude.{ℕ, Option, Some, None}
 use Rattle.endpoint_rules.specs.Sends.{sends}
 use Rattle.endpoint_rules.specs.declared.answer.Answer.{Answer}
 use Rattle.endpoint_rules.specs.declared.answer.Answer.TheVariants as answers
@@ -98,3 +98,8 @@ value_of _ = 0
 abbrev pub place_of : Answer → Option SlotRef
 place_of (answers.Delivered (delivered.Returned to slot number)) = Some (request_slot to slot)
 place_of answer = sends answer
+
+-- its node and its number; zeros where there is none
+abbrev pub told_at : Option SlotRef → ℕ × ℕ
+told_at None = (0, 0)
+told_at (Some at) = (at.peer, at.slot)

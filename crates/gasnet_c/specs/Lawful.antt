@@ -1,5 +1,6 @@
 -- Handlers that are replayed are lawful.
-use Rattle.std.specs.Prelude.{ℕ, ◌≡◌, ◌+◌, ◌==◌, ◌||◌, nat_lt, int_eq, List, length, Option, Some, None}
+use Rattle.std.specs.Prelude.{ℕ, ◌≡◌, ◌+◌, ◌==◌, ◌||◌, nat_lt, List, length, Option, Some, None}
+use Rattle.std.specs.Ordering.{int_eq}
 use Rattle.std.proofs.Common.{Bool, true, false, refl, if◌then◌else◌}
 use Rattle.std.proofs.lemmas.Bool.{ltb-false}
 use Rattle.raw_segment.specs.Image.{Write}

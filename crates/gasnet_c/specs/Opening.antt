@@ -1,11 +1,10 @@
 -- How a node opens.
-use Rattle.std.specs.Prelude.{ℕ, ◌≡◌, ◌<◌, ◌⊎◌, List, [], length, Option, Some, None}
+use Rattle.std.specs.Prelude.{ℕ, ◌≡◌, ◌<◌, ◌⊎◌, [], length, Option, Some, None}
 use Rattle.datagram_grammar.specs.Parameters.{Parameters, AreInRange}
-use Rattle.handler_rules.specs.declared.table.Entry.{Entry}
 use Rattle.node_record.specs.Record.{opening_node}
 use Rattle.am_core.specs.Kept.{segment_of}
 use Rattle.endpoint_rules.specs.EndpointLocal.{nothing_begun}
-use Rattle.gas_endpoint.specs.EndpointState.{EndpointState, EndpointStands, ForItsRecord, IsNodeOf}
+use Rattle.gas_endpoint.specs.EndpointState.{EndpointState, EndpointStands, ForItsRecord}
 use Rattle.gasnet_c.specs.declared.opening.Setup.{Setup}
 
 -- the settings of the job that C sets up: datagrams of version 1, one thread a node, and all numbers of requests
@@ -24,8 +23,8 @@ settings_of setup = record {
 
 -- it is the node `me` of such a job, which asked and ran nothing, and began nothing
 pub record IsOpened (settings : Parameters) (me : ℕ) (endpoint : EndpointState) : Type 0 where
-  pub table : List (Option Entry)
-  pub node : IsNodeOf settings table me endpoint
+  pub settings_are : endpoint.core.settings ≡ settings
+  pub me_is : endpoint.core.me ≡ me
   pub stands : EndpointStands endpoint (opening_node (nothing_begun settings))
 
 -- the setup is within its limits

@@ -1,11 +1,13 @@
 -- What C is told of a delivery before it comes.
-use Rattle.std.specs.Prelude.{ℕ, ◌≡◌, ◌-◌, nat_lt, if◌then◌else◌, List, take, drop, length, Option, Some, None}
+use Rattle.std.specs.Prelude.{ℕ, ◌≡◌, ◌+◌, ◌-◌, ◌/◌, min, nat_lt, if◌then◌else◌, List, take, drop, length, Option, Some}
+use Rattle.std.specs.Prelude.{None}
 use Rattle.datagram_grammar.specs.Message.{Message, Spells}
 use Rattle.datagram_grammar.specs.Reading.{integers_of}
 use Rattle.datagram_grammar.specs.Refusals.{first_refusal}
 use Rattle.datagram_grammar.specs.declared.kind.Kind.{Kind}
 use Rattle.datagram_grammar.specs.declared.kind.Kind.TheVariants as kind
 use Rattle.datagram_grammar.specs.declared.refused.Refused.{Refused}
+use Rattle.datagram_grammar.specs.declared.viewed.View.{View}
 use Rattle.node_record.specs.declared.answer.Delivered.{Delivered}
 use Rattle.node_record.specs.declared.answer.Delivered.TheVariants as delivered
 use Rattle.gas_endpoint.specs.EndpointState.{EndpointState, IsAnsweredAlways, WouldDeliver}
@@ -27,6 +29,17 @@ category_of kind.ShortReply = 0
 category_of kind.MediumReply = 1
 category_of kind.LongReply = 2
 category_of kind.Ack = 0
+
+-- what C is told of a message that was read
+pub record TellsView (view : View) (coming : Coming) : Type 0 where
+  pub from : coming.from ≡ view.from
+  pub handler : coming.handler ≡ view.handler
+  pub category : coming.category ≡ category_of view.kind
+  pub count : coming.count ≡ min (length view.words.now / 4) 16
+  pub args_at : coming.args_at ≡ 40
+  pub payload_at : coming.payload_at ≡ length view.words.now + 40
+  pub payload_len : coming.payload_len ≡ length view.payload.now
+  pub place : coming.place ≡ view.offset
 
 -- C is told of the message that the bytes spell: of its parts, and where in the bytes the arguments and the payload are
 pub record ShowsOf (message : Message) (bytes : List ℕ) (coming : Coming) : Type 0 where

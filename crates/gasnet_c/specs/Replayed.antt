@@ -1,6 +1,7 @@
 -- What the runs of handlers give that C ran already.
-use Rattle.std.specs.Prelude.{ℕ, ℤ, pos, ◌+◌, ◌==◌, ◌||◌, nat_lt, int_eq, if◌then◌else◌, List, length, Option, Some, None}
+use Rattle.std.specs.Prelude.{ℕ, ℤ, pos, ◌+◌, ◌==◌, ◌||◌, nat_lt, if◌then◌else◌, List, length, Option, Some, None}
 use Rattle.std.specs.Prelude.{slice_index_or, slice_set}
+use Rattle.std.specs.Ordering.{int_eq}
 use Rattle.raw_segment.specs.Image.{Write, overwritten}
 use Rattle.datagram_grammar.specs.Content.{short_reply, medium_reply, long_reply}
 use Rattle.handler_rules.specs.Runs.{Frame, Start, Outcome, Meaning, replying, untouched, writing}

@@ -11,7 +11,7 @@ use Rattle.endpoint_rules.specs.declared.call.Call.{Call}
 use Rattle.endpoint_rules.specs.declared.call.Event.{Event}
 use Rattle.endpoint_rules.specs.declared.call.Event.TheVariants as event
 use Rattle.gas_endpoint.specs.EndpointState.{EndpointState, EndpointSteps, ForItsRecord}
-use Rattle.gasnet_c.specs.Codes.{code_of, place_of, value_of}
+use Rattle.gasnet_c.specs.Codes.{code_of, place_of, told_at, value_of}
 use Rattle.gasnet_c.specs.Replayed.{both_replayed_by, mark_of}
 use Rattle.gasnet_c.specs.declared.replay.Run.{Run}
 use Rattle.gasnet_c.specs.declared.told.Told.{Told}
@@ -36,16 +36,11 @@ IsSent endpoint (Some at) len buffer = ForItsRecord endpoint (λ node.
 
 -- ---- what is told
 
--- the slot that an answer is about is told
-abbrev pub IsPlaced : Option SlotRef → Told → Type 0
-IsPlaced None told = (told.to ≡ 0) × (told.slot ≡ 0)
-IsPlaced (Some at) told = (told.to ≡ at.peer) × (told.slot ≡ at.slot)
-
 -- C is told this answer, and what it sends
 pub record IsTold (endpoint : EndpointState) (answer : Answer) (told : Told) (buffer : List ℕ) : Type 0 where
   pub code : told.code ≡ code_of answer
   pub value : told.value ≡ value_of answer
-  pub place : IsPlaced (place_of answer) told
+  pub place : (told.to, told.slot) ≡ told_at (place_of answer)
   pub sent : IsSent endpoint (sends answer) told.len buffer
 
 -- C is told that the handle is dead

@@ -1,6 +1,6 @@
 //! The barrier.
 
-ghost use Rattle.std.specs.Prelude.{◌≡◌};
+ghost use Rattle.std.specs.Prelude.{◌≡◌, []};
 ghost use Rattle.handler_rules.specs.Runs.{Meaning};
 ghost use Rattle.endpoint_rules.specs.declared.call.Call.TheVariants as call;
 ghost use Rattle.endpoint_rules.specs.declared.call.Event.TheVariants as event;

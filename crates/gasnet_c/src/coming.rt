@@ -1,10 +1,10 @@
 //! What a delivery would run.
 
 ghost use Rattle.std.specs.Prelude.{◌≡◌};
-ghost use Rattle.gasnet_c.specs.Peeking.{Peeks, runs_by, category_of};
+ghost use Rattle.gasnet_c.specs.Peeking.{Peeks, TellsView, category_of, runs_by};
 
 use am_core::Delivered;
-use datagram_grammar::{Kind, view};
+use datagram_grammar::{Kind, View, view};
 use gas_endpoint::Endpoint;
 
 /// The client's handler that a delivery of some bytes would run, and where its message stands in them:
@@ -71,18 +71,14 @@ fn category_of(kind: Kind) -> u32
     }
 }
 
-/// What a delivery of these bytes would run.
-pub fn peeked(endpoint: &Endpoint, bytes: &[u8]) -> Coming
-    requires { endpoint.now.core.settings.version ≡ 1 }
-    ensures { Peeks endpoint.now bytes.now result }
+/// What C is told of a message whose delivery runs this.
+fn told_of(message: &View<'_>, runs: u32) -> Coming
+    ensures runs { result.runs ≡ runs }
+    ensures message { TellsView message.now result }
 {
-    let answer = endpoint.would_deliver(bytes);
-    let Ok(message) = view(bytes, 1) else {
-        return nothing();
-    };
     let words = message.words.len();
     Coming {
-        runs: runs_by(&answer, message.handler),
+        runs,
         from: u32::from(message.from),
         handler: u32::from(message.handler),
         category: category_of(message.kind),
@@ -92,4 +88,18 @@ pub fn peeked(endpoint: &Endpoint, bytes: &[u8]) -> Coming
         payload_len: message.payload.len() as u64,
         place: message.offset,
     }
+}
+
+/// What a delivery of these bytes would run.
+#[tactic(auto, using(crate::proofs::Peeked::peeks_read, crate::proofs::Peeked::peeks_unread))]
+pub fn peeked(endpoint: &Endpoint, bytes: &[u8]) -> Coming
+    requires { endpoint.now.core.settings.version ≡ 1 }
+    ensures { Peeks endpoint.now bytes.now result }
+{
+    let answer = endpoint.would_deliver(bytes);
+    let Ok(message) = view(bytes, 1) else {
+        return nothing();
+    };
+    let runs = runs_by(&answer, message.handler);
+    told_of(&message, runs)
 }

@@ -108,7 +108,13 @@ pub extern "C" fn gasnet_c_request(
     }
     let call = asked_call(ask);
     let event = Event::Call { thread: 0, call };
-    stepped(alloc, handle, &NO_RUN, &Happening { now, event }, buffer)
+    stepped(
+        alloc,
+        handle,
+        &NO_RUN,
+        &Happening { time: now, event },
+        buffer,
+    )
 }
 
 /// A request to the own node, which sends nothing: C ran its handler before this call, and then that of its reply where
@@ -148,7 +154,7 @@ pub extern "C" fn gasnet_c_request_own(
         reply_left,
         mark: node.mark(),
     };
-    let told = node.happen(&runs, &Happening { now, event }, &mut []);
+    let told = node.happen(&runs, &Happening { time: now, event }, &mut []);
     put(handle, node);
     told
 }
@@ -200,5 +206,5 @@ pub extern "C" fn gasnet_c_deliver(
         return dead();
     }
     let event = Event::Deliver { bytes };
-    stepped(alloc, handle, run, &Happening { now, event }, buffer)
+    stepped(alloc, handle, run, &Happening { time: now, event }, buffer)
 }

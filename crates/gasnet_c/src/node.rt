@@ -25,7 +25,7 @@ use std::marker::Model;
 /// An event, and its time in the unit of the calls' `now`.
 #[derive(Clone, Copy)]
 pub struct Happening<'a> {
-    pub now: u64,
+    pub time: u64,
     pub event: Event<'a>,
 }
 
@@ -76,14 +76,14 @@ impl Node {
         buffer: &mut [u8],
     ) -> Told
         requires { IsForOne happening.now.event }
-        ensures tells { TellsOf (H.meaning handlers.now) self.old happening.now.now
+        ensures tells { TellsOf (H.meaning handlers.now) self.old happening.now.time
             happening.now.event result buffer.new self.new }
         ensures quiet { RunsNone self.old happening.now.event → (meaning : Meaning) → TellsOf meaning
-            self.old happening.now.now happening.now.event result buffer.new self.new }
+            self.old happening.now.time happening.now.event result buffer.new self.new }
     {
         let answer = self
             .endpoint
-            .step(handlers, happening.now, &happening.event);
+            .step(handlers, happening.time, &happening.event);
         tell(&self.endpoint, &answer, buffer)
     }
 

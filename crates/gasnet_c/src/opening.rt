@@ -92,6 +92,7 @@ fn may_cross<T: Send>(_held: &T) {}
 /// C owes a handle that it began as zeros, or that this library left, and memory of at least `setup.segment` bytes, all
 /// zeros. From the answer 0 on the library reads and writes that memory while a call of the handle runs, and C between
 /// calls alone. What C writes there is what a call `Set` of the node's thread would write.
+#[tactic(auto, using(crate::proofs::Opened::opens_live, crate::proofs::Opened::opens_beyond, crate::proofs::Opened::opens_nobody, crate::proofs::Opened::opens_poor, crate::proofs::Opened::opens_new))]
 #[unsafe(no_mangle)]
 pub extern "C" fn gasnet_c_new(
     alloc: Global,

@@ -1,6 +1,6 @@
 //! One event of the node behind a handle.
 
-ghost use Rattle.std.specs.Prelude.{◌≡◌, IsSome};
+ghost use Rattle.std.specs.Prelude.{◌≡◌, [], IsSome};
 ghost use Rattle.handler_rules.specs.Runs.{Meaning};
 ghost use Rattle.endpoint_rules.specs.declared.call.Event.TheVariants as event;
 ghost use Rattle.gasnet_c.specs.Whole.{AsksNone, IsForOne, IsWhole, RunsNoneIn};
@@ -25,10 +25,10 @@ pub fn stepped<H: Handlers>(
     requires live { IsSome handle.old.slot.held }
     requires may { IsForOne happening.now.event }
     ensures whole { IsWhole handle.new }
-    ensures tells { Tells (H.meaning handlers.now) handle.old.slot.held happening.now.now
+    ensures tells { Tells (H.meaning handlers.now) handle.old.slot.held happening.now.time
         happening.now.event result buffer.new handle.new.slot.held }
     ensures quiet { RunsNoneIn handle.old.slot.held happening.now.event → (meaning : Meaning) → Tells
-        meaning handle.old.slot.held happening.now.now happening.now.event result buffer.new
+        meaning handle.old.slot.held happening.now.time happening.now.event result buffer.new
         handle.new.slot.held }
 {
     let mut node = taken(handle, alloc);
@@ -50,7 +50,13 @@ pub fn called(alloc: Global, handle: &mut Handle, now: u64, call: Call<'_>) -> T
         return dead();
     }
     let event = Event::Call { thread: 0, call };
-    stepped(alloc, handle, &NO_RUN, &Happening { now, event }, &mut [])
+    stepped(
+        alloc,
+        handle,
+        &NO_RUN,
+        &Happening { time: now, event },
+        &mut [],
+    )
 }
 
 /// A tick: at most one datagram that is due goes out. It is `GASNET_C_RESENT` where a request is sent again that had no
@@ -75,7 +81,7 @@ pub extern "C" fn gasnet_c_tick(
         return dead();
     }
     let happening = Happening {
-        now,
+        time: now,
         event: Event::Tick,
     };
     stepped(alloc, handle, &NO_RUN, &happening, buffer)

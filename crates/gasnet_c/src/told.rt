@@ -1,8 +1,10 @@
 //! What an export tells C of an event.
 
 ghost use Rattle.std.specs.Prelude.{◌≡◌, option_copied};
-ghost use Rattle.gasnet_c.specs.Codes.{code_of, value_of, place_of};
-ghost use Rattle.gasnet_c.specs.Telling.{IsCopied, IsTold, IsDead};
+ghost use Rattle.gasnet_c.specs.Codes.{asked_code, barrier_code, begun_code, code_of, delivered_code};
+ghost use Rattle.gasnet_c.specs.Codes.{notified_code, place_of, region_code, synced_code, ticked_code};
+ghost use Rattle.gasnet_c.specs.Codes.{told_at, value_of};
+ghost use Rattle.gasnet_c.specs.Telling.{IsCopied, IsDead, IsSent, IsTold};
 
 use am_core::{Asked, Delivered, Side, SlotRef};
 use endpoint_rules::{Answer, Begun, Region, Ticked};
@@ -185,9 +187,19 @@ fn place_of(answer: &Answer) -> Option<SlotRef>
     }
 }
 
+/// The node and the slot that are told of a place; zeros of none.
+fn told_at(place: Option<SlotRef>) -> (u16, u16)
+    ensures { result ≡ told_at place }
+{
+    match place {
+        Some(at) => (at.peer, at.slot),
+        None => (0, 0),
+    }
+}
+
 /// Copies a datagram into the buffer where there is one and it fits, and tells how many bytes it has; 0 where not.
 fn copied(found: Option<&[u8]>, buffer: &mut [u8]) -> u64
-    ensures { IsCopied (option_copied found) result buffer.new }
+    ensures { IsCopied (option_copied found.entry) result buffer.new }
 {
     let Some(bytes) = found else {
         return 0;
@@ -199,18 +211,22 @@ fn copied(found: Option<&[u8]>, buffer: &mut [u8]) -> u64
     bytes.len() as u64
 }
 
+/// Copies the datagram that the answer sends into the buffer, where it fits, and tells how many bytes it has.
+fn sent(endpoint: &Endpoint, place: Option<SlotRef>, buffer: &mut [u8]) -> u64
+    ensures { IsSent endpoint.now place result buffer.new }
+{
+    match place {
+        Some(at) => copied(endpoint.message(at), buffer),
+        None => 0,
+    }
+}
+
 /// What C is told of an answer. The datagram that it sends is copied into the buffer, where it fits.
 pub fn tell(endpoint: &Endpoint, answer: &Answer, buffer: &mut [u8]) -> Told
     ensures { IsTold endpoint.now answer.now result buffer.new }
 {
-    let (to, slot) = match place_of(answer) {
-        Some(at) => (at.peer, at.slot),
-        None => (0, 0),
-    };
-    let len = match answer.sends() {
-        Some(at) => copied(endpoint.message(at), buffer),
-        None => 0,
-    };
+    let (to, slot) = told_at(place_of(answer));
+    let len = sent(endpoint, answer.sends(), buffer);
     Told {
         code: code_of(answer),
         to,

@@ -1,0 +1,18 @@
+use Rattle.std.proofs.Common.{ℕ, List, arith, rules, subst}
+use Rattle.endpoint_rules.specs.declared.call.Call.{Call}
+use Rattle.gasnet_c.specs.Replayed.{both_replayed_by}
+use Rattle.gasnet_c.specs.Telling.{OwnAsked, TellsOwn}
+use Rattle.gasnet_c.proofs.Telling.{dead_is_none, dead_own, empty_is, own_in, own_of}
+use Rattle.gasnet_c.proofs.messages.gasnet_c_request_own.Goals as goal
+
+pub returns-then-not-handle-clause-tells : goal.returns-then-not-handle-clause-tells
+returns-then-not-handle-clause-tells c =
+    dead_own _ _ _ _ (dead_is_none _ _ c.requires c.if-not-handle.true) c.dead.ensures
+
+pub returns-clause-tells : goal.returns-clause-tells
+returns-clause-tells c =
+    own_in c.args.handle.now.slot.held c.put.new.handle.slot.held c.deref_mut.result.now c.happen-told.new.self
+    c.args.now _ c.happen-told.result (search rules) (search rules)
+    (own_of c.deref_mut.result.now c.happen-told.new.self c.args.now c.asked_call-call.result _ c.args.run.now
+    c.args.reply_left c.mark.result c.happen-told.result c.happen-told.new.buffer c.asked_call-call.ensures.call
+    c.mark.ensures (empty_is c.happen-told.new.buffer (omega arith)) c.happen-told.ensures.tells)
