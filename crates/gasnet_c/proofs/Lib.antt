@@ -2,5 +2,4 @@ pub mod Values
 pub mod Telling
 pub mod Peeked
 pub mod Opened
-pub mod Replaying
 mod Crosses

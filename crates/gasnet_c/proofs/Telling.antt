@@ -88,16 +88,16 @@ asks_another_in (Some endpoint) ask apart = λ has. apart (targeted ask endpoint
 
 pub own_of : (old new : EndpointState) (now : ℕ) (made call : Call) (run : Run) (reply_left : Bor (List ℕ)) (mark : ℤ)
     (told : Told) (buffer : List ℕ) → made ≡ call → IsMark old mark → buffer ≡ []
-    → TellsOf (both_replayed_by (record { request = run; reply_left = reply_left; mark = mark })) old now
+    → TellsOf (both_replayed_by (record { request = run; reply = record { bytes = reply_left }; mark = mark })) old now
     (event.Call 0 made) told buffer new
     → TellsOwn (Some old) now (record { call = call; run = run; reply_left = reply_left }) told (Some new)
 own_of old new now made call run reply_left mark told buffer same is_mark none tells = (
   mark,
   is_mark,
   subst (λ (asked : Call). TellsOf
-      (both_replayed_by (record { request = run; reply_left = reply_left; mark = mark })) old now
+      (both_replayed_by (record { request = run; reply = record { bytes = reply_left }; mark = mark })) old now
       (event.Call 0 asked) told [] new) same
       (subst (λ (bytes : List ℕ). TellsOf
-      (both_replayed_by (record { request = run; reply_left = reply_left; mark = mark })) old now
+      (both_replayed_by (record { request = run; reply = record { bytes = reply_left }; mark = mark })) old now
       (event.Call 0 made) told bytes new) none tells),
 )

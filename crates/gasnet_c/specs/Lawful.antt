@@ -25,6 +25,9 @@ lawful-left frame start None bytes = lawful-untouched frame start
 lawful-left frame start (Some place) bytes =
     lawful-kept (record { offset = place.0; bytes = bytes }) _ _ refl (lawful-untouched frame start)
 
+pub leaving_lawful : (left : List ℕ) (frame : Frame) (start : Start) → IsLawfulRun frame start (leaving left frame start)
+leaving_lawful left frame start = lawful-left frame start frame.arrival.place left
+
 lawful-either : {frame : Frame} {start : Start} {one other : Outcome} (test : Bool) → IsLawfulRun frame start one
     → IsLawfulRun frame start other → IsLawfulRun frame start (if test then one else other)
 lawful-either true one other = one
@@ -44,7 +47,7 @@ lawful-answering reply frame start outcome lawful =
 
 pub replayed_lawful : (run : Run) (frame : Frame) (start : Start) → IsLawfulRun frame start (replayed run frame start)
 replayed_lawful run frame start =
-    lawful-answering run.reply frame start _ (lawful-left frame start frame.arrival.place run.left.now)
+    lawful-answering run.reply frame start _ (leaving_lawful run.left.now frame start)
 
 -- what is lawful from other cells is lawful
 other-cells : {frame : Frame} {start other : Start} {outcome : Outcome} → other.segment ≡ start.segment
@@ -59,4 +62,4 @@ pub both_lawful : (it : OwnRuns) (frame : Frame) (start : Start) → IsLawfulRun
 both_lawful it frame start =
     lawful-either (int_eq (mark_of start.cells) it.mark)
     (other-cells refl refl (replayed_lawful it.request frame (marked it.mark start)))
-    (lawful-left frame start frame.arrival.place it.reply_left.now)
+    (leaving_lawful it.reply.bytes.now frame start)

@@ -68,7 +68,7 @@ marked mark start = record start { cells = slice_set start.cells 0 (next_mark ma
 abbrev pub both_replayed : OwnRuns → Frame → Start → Outcome
 both_replayed it frame start =
     if int_eq (mark_of start.cells) it.mark then replayed it.request frame (marked it.mark start)
-    else leaving it.reply_left.now frame start
+    else leaving it.reply.bytes.now frame start
 
 -- the handlers mean that, whichever they are
 abbrev pub both_replayed_by : OwnRuns → Meaning

@@ -73,7 +73,7 @@ IsMark endpoint mark = ForItsRecord endpoint (λ node. mark ≡ mark_of node.loc
 abbrev pub TellsOwn : Option EndpointState → (now : ℕ) → OwnAsked → Told → Option EndpointState → Type 0
 TellsOwn (Some old) now asked told (Some new) =
     (mark : ℤ) × IsMark old mark × TellsOf
-    (both_replayed_by (record { request = asked.run; reply_left = asked.reply_left; mark = mark }))
+    (both_replayed_by (record { request = asked.run; reply = record { bytes = asked.reply_left }; mark = mark }))
     old now (event.Call 0 asked.call) told [] new
 TellsOwn (Some old) now asked told None = ⊥
 TellsOwn None now asked told new = IsDead told × (new ≡ None)

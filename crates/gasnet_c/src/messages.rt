@@ -12,7 +12,7 @@ ghost use Rattle.gasnet_c.specs.Whole.{IsForOne, IsWhole};
 use crate::coming::{Coming, nothing};
 use crate::handle::{Handle, put, taken};
 use crate::node::Happening;
-use crate::replay::{NO_RUN, OwnRuns, Run};
+use crate::replay::{Left, NO_RUN, OwnRuns, Run};
 use crate::stepping::stepped;
 use crate::told::{Told, dead};
 use am_core::Payload;
@@ -151,7 +151,7 @@ pub extern "C" fn gasnet_c_request_own(
     let mut node = taken(handle, alloc);
     let runs = OwnRuns {
         request: *run,
-        reply_left,
+        reply: Left { bytes: reply_left },
         mark: node.mark(),
     };
     let told = node.happen(&runs, &Happening { time: now, event }, &mut []);

@@ -44,6 +44,13 @@ pub const NO_RUN: Run<'static> = Run {
     left: &[],
 };
 
+/// What the handler of a reply did that came from the own node: the bytes that it left at a Long's place.
+#[derive(Clone, Copy)]
+pub struct Left<'a> {
+    /// The bytes; none where the payload stands there as it came.
+    pub bytes: &'a [u8],
+}
+
 /// What the two handlers of a request to the own node did.
 ///
 /// Both run in one event. The request's handler is the one that finds the mark, which it changes.
@@ -51,8 +58,8 @@ pub const NO_RUN: Run<'static> = Run {
 pub struct OwnRuns<'a> {
     /// What the request's handler did.
     pub request: Run<'a>,
-    /// The bytes that its reply's handler left at a Long's place.
-    pub reply_left: &'a [u8],
+    /// What its reply's handler did.
+    pub reply: Left<'a>,
     /// The mark before the event.
     pub mark: i32,
 }
@@ -108,6 +115,20 @@ impl Handlers for Run<'_> {
     }
 }
 
+impl Handlers for Left<'_> {
+    ghost use Rattle.gasnet_c.specs.Replayed.{leaving};
+    ghost use Rattle.gasnet_c.specs.Lawful.{leaving_lawful};
+
+    ghost meaning = { λ it handler frame start. leaving it.bytes.now frame start };
+
+    ghost is_lawful = { λ it handler frame start. leaving_lawful it.bytes.now frame start };
+
+    /// It leaves what C's handler left.
+    fn run(&self, _handler: u8, segment: &mut Segment, _cells: &mut Cells, desk: &mut Desk<'_>) {
+        leave(segment, desk.place(), self.bytes);
+    }
+}
+
 impl Handlers for OwnRuns<'_> {
     ghost use Rattle.gasnet_c.specs.Replayed.{both_replayed};
     ghost use Rattle.gasnet_c.specs.Lawful.{both_lawful};
@@ -122,7 +143,7 @@ impl Handlers for OwnRuns<'_> {
             cells.set(MARK, next_mark(self.mark));
             self.request.run(handler, segment, cells, desk);
         } else {
-            leave(segment, desk.place(), self.reply_left);
+            self.reply.run(handler, segment, cells, desk);
         }
     }
 }
