@@ -1,0 +1,5 @@
+pub mod Values
+pub mod Telling
+pub mod Peeked
+pub mod Opened
+mod Crosses

@@ -1,0 +1,105 @@
+-- The numbers of answers, and what else C is told of one.
+use Rattle.std.specs.Prelude.{ℕ, Option, Some, None}
+use Rattle.endpoint_rules.specs.Sends.{sends}
+use Rattle.endpoint_rules.specs.declared.answer.Answer.{Answer}
+use Rattle.endpoint_rules.specs.declared.answer.Answer.TheVariants as answers
+use Rattle.endpoint_rules.specs.declared.answer.Begun.{Begun}
+use Rattle.endpoint_rules.specs.declared.answer.Begun.TheVariants as begun
+use Rattle.endpoint_rules.specs.declared.answer.Region.{Region}
+use Rattle.endpoint_rules.specs.declared.answer.Region.TheVariants as region
+use Rattle.node_record.specs.Step.{request_slot}
+use Rattle.node_record.specs.declared.answer.Asked.{Asked}
+use Rattle.node_record.specs.declared.answer.Asked.TheVariants as asked
+use Rattle.node_record.specs.declared.answer.Delivered.{Delivered}
+use Rattle.node_record.specs.declared.answer.Delivered.TheVariants as delivered
+use Rattle.node_record.specs.declared.answer.SlotRef.{SlotRef}
+use Rattle.node_record.specs.declared.answer.Ticked.{Ticked}
+use Rattle.node_record.specs.declared.answer.Ticked.TheVariants as ticked
+use Rattle.put_get.specs.declared.operation.Synced.{Synced}
+use Rattle.put_get.specs.declared.operation.Synced.TheVariants as synced
+use Rattle.named_barrier.specs.declared.answer.Notified.{Notified}
+use Rattle.named_barrier.specs.declared.answer.Notified.TheVariants as notified
+use Rattle.named_barrier.specs.declared.answer.BarrierAnswer.{BarrierAnswer}
+use Rattle.named_barrier.specs.declared.answer.BarrierAnswer.TheVariants as barrier
+
+abbrev pub asked_code : Asked → ℕ
+asked_code (asked.Accepted to slot number) = 1
+asked_code asked.Ran = 2
+asked_code asked.NotYet = 3
+asked_code asked.WornOut = 4
+asked_code _ = 5
+
+abbrev pub begun_code : Begun → ℕ
+begun_code (begun.Handle handle) = 6
+begun_code begun.Done = 7
+begun_code begun.TooMany = 8
+begun_code (begun.BadArg part) = 5
+
+abbrev pub synced_code : Synced → ℕ
+synced_code synced.Ok = 9
+synced_code synced.NotReady = 10
+synced_code (synced.WornOut to) = 4
+synced_code _ = 5
+
+abbrev pub region_code : Region → ℕ
+region_code (region.Handle handle) = 6
+region_code region.Begun = 7
+region_code region.Done = 7
+region_code _ = 5
+
+abbrev pub notified_code : Notified → ℕ
+notified_code notified.Ok = 9
+notified_code _ = 5
+
+abbrev pub barrier_code : BarrierAnswer → ℕ
+barrier_code barrier.Ok = 9
+barrier_code barrier.NotReady = 10
+barrier_code barrier.Mismatch = 11
+barrier_code (barrier.WornOut to) = 4
+barrier_code _ = 5
+
+abbrev pub delivered_code : Delivered → ℕ
+delivered_code (delivered.Ran at) = 12
+delivered_code (delivered.Noted at note) = 13
+delivered_code (delivered.Again at) = 14
+delivered_code delivered.Stale = 15
+delivered_code (delivered.Returned to slot number) = 16
+delivered_code delivered.Late = 17
+delivered_code (delivered.Deferred lock) = 18
+delivered_code (delivered.Refused why) = 19
+
+abbrev pub ticked_code : Ticked → ℕ
+ticked_code ticked.Nothing = 20
+ticked_code (ticked.Resend at) = 21
+ticked_code (ticked.Note at) = 24
+ticked_code (ticked.Chunk at) = 25
+
+abbrev pub code_of : Answer → ℕ
+code_of (answers.Asked x) = asked_code x
+code_of (answers.Begun x) = begun_code x
+code_of (answers.Started x) = begun_code x
+code_of (answers.Synced x) = synced_code x
+code_of (answers.Region x) = region_code x
+code_of (answers.Notified x) = notified_code x
+code_of (answers.Barrier x) = barrier_code x
+code_of (answers.Delivered x) = delivered_code x
+code_of (answers.Ticked x) = ticked_code x
+code_of (answers.Forbidden x) = 22
+code_of _ = 23
+
+-- the handle of a transfer or of a region, or 0
+abbrev pub value_of : Answer → ℕ
+value_of (answers.Begun (begun.Handle handle)) = handle.serial
+value_of (answers.Started (begun.Handle handle)) = handle.serial
+value_of (answers.Region (region.Handle handle)) = handle.serial
+value_of _ = 0
+
+-- the slot of the datagram that is sent, or of the request that is back
+abbrev pub place_of : Answer → Option SlotRef
+place_of (answers.Delivered (delivered.Returned to slot number)) = Some (request_slot to slot)
+place_of answer = sends answer
+
+-- its node and its number; zeros where there is none
+abbrev pub told_at : Option SlotRef → ℕ × ℕ
+told_at None = (0, 0)
+told_at (Some at) = (at.peer, at.slot)

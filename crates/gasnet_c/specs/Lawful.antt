@@ -1,0 +1,65 @@
+-- Handlers that are replayed are lawful.
+use Rattle.std.specs.Prelude.{ℕ, ◌≡◌, ◌+◌, ◌==◌, ◌||◌, nat_lt, List, length, Option, Some, None}
+use Rattle.std.specs.Ordering.{int_eq}
+use Rattle.std.proofs.Common.{Bool, true, false, refl, if◌then◌else◌}
+use Rattle.std.proofs.lemmas.Bool.{ltb-false}
+use Rattle.raw_segment.specs.Image.{Write}
+use Rattle.handler_rules.specs.Runs.{Frame, Start, Outcome, IsLawfulRun, untouched}
+use Rattle.handler_rules.proofs.Lawful.{lawful-replying, lawful-untouched, lawful-writing, long_reply-content}
+use Rattle.handler_rules.proofs.Lawful.{medium_reply-content, short_reply-content}
+use Rattle.gasnet_c.specs.declared.replay.Reply.{Reply}
+use Rattle.gasnet_c.specs.declared.replay.Run.{Run}
+use Rattle.gasnet_c.specs.declared.replay.OwnRuns.{OwnRuns}
+use Rattle.gasnet_c.specs.Replayed.{answering, both_replayed, left_write, leaving, mark_of, marked, replayed, writing_if}
+
+lawful-kept : {frame : Frame} {start : Start} {outcome : Outcome} (write : Write) (none far : Bool)
+    → nat_lt (length start.segment) (write.offset + length write.bytes) ≡ far → IsLawfulRun frame start outcome
+    → IsLawfulRun frame start (writing_if (if none || far then None else Some write) outcome)
+lawful-kept write true far test lawful = lawful
+lawful-kept write false true test lawful = lawful
+lawful-kept write false false test lawful = lawful-writing _ _ _ write (ltb-false _ _ test) lawful
+
+lawful-left : (frame : Frame) (start : Start) (place : Option (ℕ × ℕ)) (bytes : List ℕ)
+    → IsLawfulRun frame start (writing_if (left_write (length start.segment) place bytes) (untouched start))
+lawful-left frame start None bytes = lawful-untouched frame start
+lawful-left frame start (Some place) bytes =
+    lawful-kept (record { offset = place.0; bytes = bytes }) _ _ refl (lawful-untouched frame start)
+
+pub leaving_lawful : (left : List ℕ) (frame : Frame) (start : Start) → IsLawfulRun frame start (leaving left frame start)
+leaving_lawful left frame start = lawful-left frame start frame.arrival.place left
+
+lawful-either : {frame : Frame} {start : Start} {one other : Outcome} (test : Bool) → IsLawfulRun frame start one
+    → IsLawfulRun frame start other → IsLawfulRun frame start (if test then one else other)
+lawful-either true one other = one
+lawful-either false one other = other
+
+lawful-answering : (reply : Reply) (frame : Frame) (start : Start) (outcome : Outcome)
+    → IsLawfulRun frame start outcome → IsLawfulRun frame start (answering reply frame outcome)
+lawful-answering reply frame start outcome lawful =
+    let args = reply.args.now in
+    let payload = reply.payload.now in
+    lawful-either (reply.category == 0)
+    (lawful-replying frame start _ outcome (short_reply-content reply.handler args) lawful)
+    (lawful-either (reply.category == 1)
+    (lawful-replying frame start _ outcome (medium_reply-content reply.handler args payload) lawful)
+    (lawful-either (reply.category == 2)
+    (lawful-replying frame start _ outcome (long_reply-content reply.handler args reply.offset payload) lawful) lawful))
+
+pub replayed_lawful : (run : Run) (frame : Frame) (start : Start) → IsLawfulRun frame start (replayed run frame start)
+replayed_lawful run frame start =
+    lawful-answering run.reply frame start _ (leaving_lawful run.left.now frame start)
+
+-- what is lawful from other cells is lawful
+other-cells : {frame : Frame} {start other : Start} {outcome : Outcome} → other.segment ≡ start.segment
+    → other.locks ≡ start.locks → IsLawfulRun frame other outcome → IsLawfulRun frame start outcome
+other-cells segment locks lawful = record {
+  reply = lawful.reply;
+  writes = rw segment at lawful.writes;
+  locks = rw locks at lawful.locks;
+}
+
+pub both_lawful : (it : OwnRuns) (frame : Frame) (start : Start) → IsLawfulRun frame start (both_replayed it frame start)
+both_lawful it frame start =
+    lawful-either (int_eq (mark_of start.cells) it.mark)
+    (other-cells refl refl (replayed_lawful it.request frame (marked it.mark start)))
+    (leaving_lawful it.reply.bytes.now frame start)

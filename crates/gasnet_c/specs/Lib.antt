@@ -1,0 +1,9 @@
+pub mod Held
+pub mod Whole
+pub mod Codes
+pub mod Replayed
+pub mod Lawful
+pub mod Telling
+pub mod Calls
+pub mod Peeking
+pub mod Opening

@@ -1,0 +1,45 @@
+-- How a node opens.
+use Rattle.std.specs.Prelude.{ℕ, ◌≡◌, ◌<◌, ◌⊎◌, [], length, Option, Some, None}
+use Rattle.datagram_grammar.specs.Parameters.{Parameters, AreInRange}
+use Rattle.node_record.specs.Record.{opening_node}
+use Rattle.am_core.specs.Kept.{segment_of}
+use Rattle.endpoint_rules.specs.EndpointLocal.{nothing_begun}
+use Rattle.gas_endpoint.specs.EndpointState.{EndpointState, EndpointStands, ForItsRecord}
+use Rattle.gasnet_c.specs.declared.opening.Setup.{Setup}
+
+-- the settings of the job that C sets up: datagrams of version 1, one thread a node, and all numbers of requests
+abbrev pub settings_of : Setup → Parameters
+settings_of setup = record {
+  version = 1;
+  job = setup.job;
+  nodes = setup.nodes;
+  credits = setup.credits;
+  pairs = [];
+  threads = 1;
+  segment = setup.segment;
+  last = 18446744073709551615;
+  resend = setup.resend;
+}
+
+-- it is the node `me` of such a job, which asked and ran nothing, and began nothing
+pub record IsOpened (settings : Parameters) (me : ℕ) (endpoint : EndpointState) : Type 0 where
+  pub settings_are : endpoint.core.settings ≡ settings
+  pub me_is : endpoint.core.me ≡ me
+  pub stands : EndpointStands endpoint (opening_node (nothing_begun settings))
+
+-- the setup is within its limits
+abbrev pub IsWithin : Setup → Type 0
+IsWithin setup = AreInRange (settings_of setup) × (setup.me < setup.nodes)
+
+-- a dead handle has a node where the setup is within its limits and there is memory; a live one stays as it is
+abbrev pub Opens : Setup → Option EndpointState → (answer : ℕ) → Option EndpointState → Type 0
+Opens setup None answer None = ((answer ≡ 1) × (IsWithin setup → ⊥)) ⊎ ((answer ≡ 2) × IsWithin setup)
+Opens setup None answer (Some endpoint) =
+    (answer ≡ 0) × IsWithin setup × IsOpened (settings_of setup) setup.me endpoint
+Opens setup (Some old) answer new = (answer ≡ 3) × (new ≡ Some old)
+
+-- how many bytes the segment has of a node that is held
+abbrev pub IsSegmentIn : Option EndpointState → (len : ℕ) → Type 0
+IsSegmentIn None len = len ≡ 0
+IsSegmentIn (Some endpoint) len = ForItsRecord endpoint (λ node.
+    len ≡ length (segment_of endpoint.core.settings node.local.core))

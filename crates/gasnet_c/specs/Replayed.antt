@@ -1,0 +1,75 @@
+-- What the runs of handlers give that C ran already.
+use Rattle.std.specs.Prelude.{ℕ, ℤ, pos, ◌+◌, ◌==◌, ◌||◌, nat_lt, if◌then◌else◌, List, length, Option, Some, None}
+use Rattle.std.specs.Prelude.{slice_index_or, slice_set}
+use Rattle.std.specs.Ordering.{int_eq}
+use Rattle.raw_segment.specs.Image.{Write, overwritten}
+use Rattle.datagram_grammar.specs.Content.{short_reply, medium_reply, long_reply}
+use Rattle.handler_rules.specs.Runs.{Frame, Start, Outcome, Meaning, replying, untouched, writing}
+use Rattle.gasnet_c.specs.declared.replay.Reply.{Reply}
+use Rattle.gasnet_c.specs.declared.replay.Run.{Run}
+use Rattle.gasnet_c.specs.declared.replay.OwnRuns.{OwnRuns}
+
+-- these bytes from this offset of a segment of that length, where there are some and they fit
+abbrev pub kept_write : (len offset : ℕ) → List ℕ → Option Write
+kept_write len offset bytes =
+    if (length bytes == 0) || nat_lt len (offset + length bytes) then None
+    else Some (record { offset = offset; bytes = bytes })
+
+-- what was left at a Long's place
+abbrev pub left_write : (len : ℕ) → Option (ℕ × ℕ) → List ℕ → Option Write
+left_write len None bytes = None
+left_write len (Some place) bytes = kept_write len place.0 bytes
+
+abbrev pub writing_if : Option Write → Outcome → Outcome
+writing_if None outcome = outcome
+writing_if (Some write) outcome = writing write outcome
+
+abbrev pub overwritten_if : Option Write → List ℕ → List ℕ
+overwritten_if None segment = segment
+overwritten_if (Some write) segment = overwritten segment write
+
+-- a handler that left these bytes at a Long's place
+abbrev pub leaving : List ℕ → Frame → Start → Outcome
+leaving left frame start = writing_if (left_write (length start.segment) frame.arrival.place left) (untouched start)
+
+-- after the reply that it asked for, if any
+abbrev pub answering : Reply → Frame → Outcome → Outcome
+answering reply frame outcome =
+    if reply.category == 0 then replying frame (short_reply reply.handler reply.args.now) outcome else (
+    if reply.category == 1
+    then replying frame (medium_reply reply.handler reply.args.now reply.payload.now) outcome else (
+    if reply.category == 2
+    then replying frame (long_reply reply.handler reply.args.now reply.offset reply.payload.now) outcome
+    else outcome))
+
+-- the handler did this
+abbrev pub replayed : Run → Frame → Start → Outcome
+replayed run frame start = answering run.reply frame (leaving run.left.now frame start)
+
+-- the handlers mean that, whichever they are
+abbrev pub replayed_by : Run → Meaning
+replayed_by run = λ handler frame start. replayed run frame start
+
+-- ---- a request to the own node
+
+-- the mark
+abbrev pub mark_of : List ℤ → ℤ
+mark_of cells = slice_index_or cells 0 (pos 0)
+
+-- another one
+abbrev pub next_mark : ℤ → ℤ
+next_mark mark = if int_eq mark (pos 0) then pos 1 else pos 0
+
+-- what a handler finds where the mark was changed
+abbrev pub marked : ℤ → Start → Start
+marked mark start = record start { cells = slice_set start.cells 0 (next_mark mark) }
+
+-- the request's handler, which finds the mark, did this; the reply's left those bytes at a Long's place
+abbrev pub both_replayed : OwnRuns → Frame → Start → Outcome
+both_replayed it frame start =
+    if int_eq (mark_of start.cells) it.mark then replayed it.request frame (marked it.mark start)
+    else leaving it.reply.bytes.now frame start
+
+-- the handlers mean that, whichever they are
+abbrev pub both_replayed_by : OwnRuns → Meaning
+both_replayed_by it = λ handler frame start. both_replayed it frame start

@@ -1,0 +1,79 @@
+-- What an export tells of the event that it makes.
+use Rattle.std.specs.Prelude.{ℕ, ℤ, ◌≡◌, ◌<◌, ◌≤◌, List, [], take, length, Option, Some, None}
+use Rattle.std.specs.Borrow.{Bor}
+use Rattle.handler_rules.specs.Runs.{Meaning}
+use Rattle.node_record.specs.SlotMessages.{message_at}
+use Rattle.node_record.specs.declared.answer.SlotRef.{SlotRef}
+use Rattle.endpoint_rules.specs.EndpointRules.{transition}
+use Rattle.endpoint_rules.specs.Sends.{sends}
+use Rattle.endpoint_rules.specs.declared.answer.Answer.{Answer}
+use Rattle.endpoint_rules.specs.declared.call.Call.{Call}
+use Rattle.endpoint_rules.specs.declared.call.Event.{Event}
+use Rattle.endpoint_rules.specs.declared.call.Event.TheVariants as event
+use Rattle.gas_endpoint.specs.EndpointState.{EndpointState, EndpointSteps, ForItsRecord}
+use Rattle.gasnet_c.specs.Codes.{code_of, place_of, told_at, value_of}
+use Rattle.gasnet_c.specs.Replayed.{both_replayed_by, mark_of}
+use Rattle.gasnet_c.specs.declared.replay.Run.{Run}
+use Rattle.gasnet_c.specs.declared.told.Told.{Told}
+
+-- ---- the datagram
+
+-- the buffer begins with these bytes, where they fit in
+pub record BeginsWith (bytes : List ℕ) (len : ℕ) (buffer : List ℕ) : Type 0 where
+  pub whole : length bytes ≤ length buffer → (len ≡ length bytes) × (take len buffer ≡ bytes)
+  pub short : length buffer < length bytes → len ≡ 0
+
+-- so it is of a datagram that is there
+abbrev pub IsCopied : Option (List ℕ) → (len : ℕ) → List ℕ → Type 0
+IsCopied None len buffer = len ≡ 0
+IsCopied (Some bytes) len buffer = BeginsWith bytes len buffer
+
+-- the buffer begins with the message of the slot that sends
+abbrev pub IsSent : EndpointState → Option SlotRef → (len : ℕ) → List ℕ → Type 0
+IsSent endpoint None len buffer = len ≡ 0
+IsSent endpoint (Some at) len buffer = ForItsRecord endpoint (λ node.
+    IsCopied (message_at endpoint.core.settings endpoint.core.me node at) len buffer)
+
+-- ---- what is told
+
+-- C is told this answer, and what it sends
+pub record IsTold (endpoint : EndpointState) (answer : Answer) (told : Told) (buffer : List ℕ) : Type 0 where
+  pub code : told.code ≡ code_of answer
+  pub value : told.value ≡ value_of answer
+  pub place : (told.to, told.slot) ≡ told_at (place_of answer)
+  pub sent : IsSent endpoint (sends answer) told.len buffer
+
+-- C is told that the handle is dead
+pub record IsDead (told : Told) : Type 0 where
+  pub code : told.code ≡ 99
+  pub len : told.len ≡ 0
+
+-- this event happened to the node, its handlers mean this, and C is told the answer
+abbrev pub TellsOf : Meaning → EndpointState → (now : ℕ) → Event → Told → List ℕ → EndpointState → Type 0
+TellsOf meaning old now event told buffer new =
+    (answer : Answer) × EndpointSteps meaning old (transition now event answer) new × IsTold new answer told buffer
+
+-- so it is of a node that is held; else nothing happened
+abbrev pub Tells : Meaning → Option EndpointState → (now : ℕ) → Event → Told → List ℕ → Option EndpointState → Type 0
+Tells meaning (Some old) now event told buffer (Some new) = TellsOf meaning old now event told buffer new
+Tells meaning (Some old) now event told buffer None = ⊥
+Tells meaning None now event told buffer new = IsDead told × (new ≡ None)
+
+-- a request to the own node, whose handlers did this
+pub record OwnAsked : Type 0 where
+  pub call : Call
+  pub run : Run
+  pub reply_left : Bor (List ℕ)
+
+-- this is the mark of the node's record
+abbrev pub IsMark : EndpointState → ℤ → Type 0
+IsMark endpoint mark = ForItsRecord endpoint (λ node. mark ≡ mark_of node.local.core.cells)
+
+-- it happened to the node that is held, and its handlers mean what they did; else nothing happened
+abbrev pub TellsOwn : Option EndpointState → (now : ℕ) → OwnAsked → Told → Option EndpointState → Type 0
+TellsOwn (Some old) now asked told (Some new) =
+    (mark : ℤ) × IsMark old mark × TellsOf
+    (both_replayed_by (record { request = asked.run; reply = record { bytes = asked.reply_left }; mark = mark }))
+    old now (event.Call 0 asked.call) told [] new
+TellsOwn (Some old) now asked told None = ⊥
+TellsOwn None now asked told new = IsDead told × (new ≡ None)

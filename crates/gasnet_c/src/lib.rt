@@ -1,0 +1,39 @@
+//! A node of a GASNet job as a static library for C: bytes and times go in, bytes and answers come out. C has the
+//! socket, the clock and the client's handlers; the library calls nothing back. `c/include/gasnet_c.h` declares it.
+//!
+//! Each export but `gasnet_c_new`, `gasnet_c_free` and `gasnet_c_segment` makes one event of the node's endpoint. Its
+//! clause `tells` says which: the endpoint made that step, with some answer, and C is told the number of this answer and
+//! the datagram that is to be sent (`Tells`). Where no handler of the client's runs the step is one whatever the
+//! handlers mean. Where one runs, C ran it before, and the handlers mean what C says that they did (`replayed_by`).
+//!
+//! A handle is dead or whole, and each call keeps it so. A dead one is told `GASNET_C_DEAD`, and stays as it is. What C
+//! owes beside that, which nothing checks: the handle began as zeros, and C neither copies, reads nor writes it; each
+//! pointer leads to as many values as its length says, and is never null; none of them leads into the handle or into
+//! the segment; calls of a handle are made one at a time, each ordered before the next by a lock, a thread's start or
+//! its join; and what stands at `gasnet_c_new` of the segment's memory.
+#![tactic(auto)]
+
+mod barrier;
+mod coming;
+mod handle;
+mod memory;
+mod messages;
+mod node;
+mod opening;
+mod replay;
+mod slot;
+mod stepping;
+mod told;
+mod transfers;
+
+pub use barrier::{gasnet_c_notify, gasnet_c_try};
+pub use coming::Coming;
+pub use handle::Handle;
+pub use memory::Memory;
+pub use messages::{Ask, gasnet_c_deliver, gasnet_c_peek, gasnet_c_request, gasnet_c_request_own};
+pub use opening::{Setup, gasnet_c_free, gasnet_c_new, gasnet_c_segment};
+pub use replay::{Reply, Run};
+pub use slot::Slot;
+pub use stepping::gasnet_c_tick;
+pub use told::Told;
+pub use transfers::{Move, gasnet_c_begin, gasnet_c_region, gasnet_c_sync, gasnet_c_sync_implicit};

@@ -1,0 +1,111 @@
+//! A node with one thread.
+
+ghost use Rattle.std.specs.Prelude.{◌≡◌, ◌<◌, IfOk, length, replicate};
+ghost use Rattle.handler_rules.specs.Runs.{Meaning};
+ghost use Rattle.node_record.specs.Record.{opening_node};
+ghost use Rattle.am_core.specs.Kept.{segment_of};
+ghost use Rattle.endpoint_rules.specs.EndpointLocal.{nothing_begun};
+ghost use Rattle.gas_endpoint.specs.EndpointState.{EndpointStands, ForItsRecord};
+ghost use Rattle.gas_endpoint.specs.EndpointState.{IsNodeOf, RunsNone};
+ghost use Rattle.gasnet_c.specs.Whole.{IsForOne};
+ghost use Rattle.gasnet_c.specs.Peeking.{Peeks};
+ghost use Rattle.gasnet_c.specs.Telling.{IsMark, TellsOf};
+
+use crate::coming::{Coming, peeked};
+use crate::replay::MARK;
+use crate::told::{Told, tell};
+use datagram_grammar::Settings;
+use endpoint_rules::Event;
+use gas_endpoint::Endpoint;
+use handler_rules::{Handlers, Table};
+use raw_segment::Segment;
+use std::alloc::{AllocError, Global};
+use std::marker::Model;
+
+/// An event, and its time in the unit of the calls' `now`.
+#[derive(Clone, Copy)]
+pub struct Happening<'a> {
+    pub time: u64,
+    pub event: Event<'a>,
+}
+
+/// The endpoint of a node of a job whose nodes have one thread each, and datagrams of version 1.
+#[derive(Drop)]
+pub struct Node {
+    pub(crate) endpoint: Endpoint,
+}
+
+impl Model for Node {
+    ghost use Rattle.std.specs.Prelude.{◌≡◌};
+    ghost use Rattle.gas_endpoint.specs.EndpointState.{EndpointState};
+
+    ghost Value = { EndpointState };
+
+    ghost view = { λ node. node.endpoint };
+
+    ghost invariant = { λ node. (node.endpoint.core.settings.threads ≡ 1)
+        × (node.endpoint.core.settings.version ≡ 1) };
+}
+
+impl Node {
+    /// The node `me`, which did nothing, over a segment of zeros.
+    pub fn open(
+        alloc: Global,
+        settings: &Settings,
+        me: u16,
+        table: &Table,
+        segment: Segment,
+    ) -> Result<Node, AllocError>
+        requires me { me < settings.now.nodes }
+        requires threads { settings.now.threads ≡ 1 }
+        requires version { settings.now.version ≡ 1 }
+        requires zeros { segment ≡ replicate settings.now.segment 0 }
+        ensures node { IfOk result (IsNodeOf settings.now table.now me) }
+        ensures stands { IfOk result (λ node.
+            EndpointStands node (opening_node (nothing_begun settings.now))) }
+    {
+        let endpoint = Endpoint::with_segment(alloc, settings, me, table, segment)?;
+        Ok(Node { endpoint })
+    }
+
+    /// One event. What it sends is copied into the buffer, where it fits.
+    pub fn happen<H: Handlers>(
+        &mut self,
+        handlers: &H,
+        happening: &Happening<'_>,
+        buffer: &mut [u8],
+    ) -> Told
+        requires { IsForOne happening.now.event }
+        ensures tells { TellsOf (H.meaning handlers.now) self.old happening.now.time
+            happening.now.event result buffer.new self.new }
+        ensures quiet { RunsNone self.old happening.now.event → (meaning : Meaning) → TellsOf meaning
+            self.old happening.now.time happening.now.event result buffer.new self.new }
+    {
+        let answer = self
+            .endpoint
+            .step(handlers, happening.time, &happening.event);
+        tell(&self.endpoint, &answer, buffer)
+    }
+
+    /// The mark of the runs of requests to the own node.
+    pub fn mark(&self) -> i32
+        ensures { IsMark self.now result }
+    {
+        self.endpoint.cells().get(MARK)
+    }
+
+    /// What a delivery of these bytes would run.
+    pub fn peek(&self, bytes: &[u8]) -> Coming
+        ensures { Peeks self.now bytes.now result }
+    {
+        peeked(&self.endpoint, bytes)
+    }
+
+    /// How many bytes the segment has.
+    pub fn segment_len(&self) -> u64
+        ensures { ForItsRecord self.now (λ node.
+            result ≡ length (segment_of self.now.core.settings node.local.core)) }
+    {
+        self.endpoint.segment().len()
+    }
+}

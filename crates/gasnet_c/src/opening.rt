@@ -1,0 +1,155 @@
+//! A node is made, and freed.
+
+ghost use Rattle.std.specs.Prelude.{◌≡◌, ◌<◌, None, IfOk, IfSome, MatchOption, replicate};
+ghost use Rattle.datagram_grammar.specs.Parameters.{AreInRange};
+ghost use Rattle.gasnet_c.specs.Whole.{IsWhole};
+ghost use Rattle.gasnet_c.specs.Opening.{IsOpened, IsSegmentIn, Opens, settings_of};
+
+use crate::handle::{Handle, put, taken};
+use crate::memory::Memory;
+use crate::node::Node;
+use datagram_grammar::Settings;
+use handler_rules::{Entry, Serves, Table};
+use std::alloc::{AllocError, Global};
+use std::marker::Send;
+
+/// How a node of a job is set up: `gasnet_c_setup`. All nodes of a job have the same numbers, but for `me`.
+#[repr(C)]
+#[derive(Clone, Copy, Drop)]
+pub struct Setup {
+    /// The job's number: datagrams of another job are refused.
+    pub job: u64,
+    /// How many bytes each segment has: a multiple of 4,096, from 4,096 to 2^40.
+    pub segment: u64,
+    /// After which time a request is sent again, in the unit of the calls' `now`: 1 to 1,000,000.
+    pub resend: u64,
+    /// How many nodes there are: 1 to 64.
+    pub nodes: u16,
+    /// Which of them this is, from 0.
+    pub me: u16,
+    /// How many requests of each ordered pair of nodes may be out: 1 to 32, and at most 65,536 over all pairs.
+    pub credits: u16,
+}
+
+/// The job's settings.
+fn settings_of(setup: &Setup) -> Option<Settings>
+    ensures { MatchOption result (¬ (AreInRange (settings_of setup.now)))
+        (λ settings. (settings ≡ settings_of setup.now) × AreInRange (settings_of setup.now)) }
+{
+    Settings::new(
+        1,
+        setup.job,
+        setup.nodes,
+        setup.credits,
+        1,
+        setup.segment,
+        u64::MAX,
+        setup.resend,
+    )
+}
+
+/// The table of each node: each index of a client's has a handler, for requests and for replies, which lists no lock.
+fn table(alloc: Global) -> Result<Table, AllocError> {
+    let mut table = Table::new(alloc)?;
+    for place in 0..128u8 {
+        // Each index is free in a new table.
+        let _ = table.register(Entry {
+            index: 128 + place,
+            serves: Serves::Both,
+            locks: 0,
+        });
+    }
+    Ok(table)
+}
+
+/// A boxed node, which did nothing.
+fn made(
+    alloc: Global,
+    settings: &Settings,
+    me: u16,
+    memory: Memory,
+) -> Result<Box<Node, Global>, AllocError>
+    requires me { me < settings.now.nodes }
+    requires threads { settings.now.threads ≡ 1 }
+    requires version { settings.now.version ≡ 1 }
+    requires zeros { memory.items ≡ replicate settings.now.segment 0 }
+    ensures { IfOk result (λ node. IsOpened settings.now me node.value) }
+{
+    let table = table(alloc)?;
+    // Its nodes are among the limits, so is its segment.
+    let _nodes = settings.nodes();
+    let segment = memory.into_segment(settings.segment() as usize);
+    let node = Node::open(alloc, settings, me, &table, segment)?;
+    Ok(Box::new(alloc, node)?)
+}
+
+/// It does nothing, and is there for its bound: what C holds may go to another thread.
+fn may_cross<T: Send>(_held: &T) {}
+
+/// Makes a node, which did nothing yet, over the memory of its segment. It answers 0; or 1 where a limit of the setup is
+/// broken, 2 for want of memory, 3 where the handle is live already. After it no call of the handle takes memory.
+///
+/// C owes a handle that it began as zeros, or that this library left, and memory of at least `setup.segment` bytes, all
+/// zeros. From the answer 0 on the library reads and writes that memory while a call of the handle runs, and C between
+/// calls alone. What C writes there is what a call `Set` of the node's thread would write.
+#[tactic(auto, using(crate::proofs::Opened::opens_live, crate::proofs::Opened::opens_beyond, crate::proofs::Opened::opens_nobody, crate::proofs::Opened::opens_poor, crate::proofs::Opened::opens_new))]
+#[unsafe(no_mangle)]
+pub extern "C" fn gasnet_c_new(
+    alloc: Global,
+    handle: &mut Handle,
+    setup: &Setup,
+    memory: Memory,
+) -> u32
+    requires whole { IsWhole handle.old }
+    requires zeros { memory.items ≡ replicate setup.now.segment 0 }
+    ensures whole { IsWhole handle.new }
+    ensures opens { Opens setup.now handle.old.slot.held result handle.new.slot.held }
+{
+    may_cross(&*handle);
+    if handle.live {
+        return 3;
+    }
+    let Some(settings) = settings_of(setup) else {
+        return 1;
+    };
+    if setup.me >= setup.nodes {
+        return 1;
+    }
+    match made(alloc, &settings, setup.me, memory) {
+        Ok(node) => {
+            put(handle, node);
+            0
+        }
+        Err(_) => 2,
+    }
+}
+
+/// Ends a node, and gives all memory back that the library took. The handle is dead then. The segment's memory is that
+/// of whoever reserved it again. A dead handle stays as it is.
+#[unsafe(no_mangle)]
+pub extern "C" fn gasnet_c_free(alloc: Global, handle: &mut Handle)
+    requires { IsWhole handle.old }
+    ensures whole { IsWhole handle.new }
+    ensures empty { handle.new.slot.held ≡ None }
+{
+    if handle.live {
+        drop(taken(handle, alloc));
+    }
+}
+
+/// How many bytes the segment has; 0 of a dead handle. It changes nothing.
+#[unsafe(no_mangle)]
+pub extern "C" fn gasnet_c_segment(alloc: Global, handle: &mut Handle) -> u64
+    requires { IsWhole handle.old }
+    ensures whole { IsWhole handle.new }
+    ensures same { handle.new.slot.held ≡ handle.old.slot.held }
+    ensures len { IsSegmentIn handle.old.slot.held result }
+{
+    if !handle.live {
+        return 0;
+    }
+    let node = taken(handle, alloc);
+    let len = node.segment_len();
+    put(handle, node);
+    len
+}

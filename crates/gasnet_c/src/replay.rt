@@ -1,0 +1,149 @@
+//! Handlers that C ran already: what each of them did, as values that are replayed.
+
+ghost use Rattle.std.specs.Prelude.{◌≡◌, length};
+ghost use Rattle.gasnet_c.specs.Replayed.{left_write, next_mark, overwritten_if};
+
+use handler_rules::{Cells, Desk, Handlers};
+use raw_segment::Segment;
+
+/// The reply that a handler asked for: `gasnet_c_reply`.
+#[repr(C)]
+#[derive(Clone, Copy)]
+pub struct Reply<'a> {
+    /// Its arguments.
+    pub args: &'a [i32],
+    /// Its payload.
+    pub payload: &'a [u8],
+    /// Where a Long's payload goes in the requester's segment.
+    pub offset: u64,
+    /// 0 for a Short, 1 for a Medium, 2 for a Long; else there is none.
+    pub category: u32,
+    /// The index of its handler.
+    pub handler: u8,
+}
+
+/// What a handler did: `gasnet_c_run`.
+#[repr(C)]
+#[derive(Clone, Copy)]
+pub struct Run<'a> {
+    /// The reply that it asked for; a reply's handler asks for none.
+    pub reply: Reply<'a>,
+    /// The bytes that it left at a Long's place; none where the payload stands there as it came.
+    pub left: &'a [u8],
+}
+
+/// Nothing.
+pub const NO_RUN: Run<'static> = Run {
+    reply: Reply {
+        args: &[],
+        payload: &[],
+        offset: 0,
+        category: 3,
+        handler: 0,
+    },
+    left: &[],
+};
+
+/// What the handler of a reply did that came from the own node: the bytes that it left at a Long's place.
+#[derive(Clone, Copy)]
+pub struct Left<'a> {
+    /// The bytes; none where the payload stands there as it came.
+    pub bytes: &'a [u8],
+}
+
+/// What the two handlers of a request to the own node did.
+///
+/// Both run in one event. The request's handler is the one that finds the mark, which it changes.
+#[derive(Clone, Copy)]
+pub struct OwnRuns<'a> {
+    /// What the request's handler did.
+    pub request: Run<'a>,
+    /// What its reply's handler did.
+    pub reply: Left<'a>,
+    /// The mark before the event.
+    pub mark: i32,
+}
+
+/// The cell of the mark. Nothing else uses cells here.
+pub const MARK: u8 = 0;
+
+/// Another mark than this.
+fn next_mark(mark: i32) -> i32
+    ensures { result ≡ next_mark mark }
+{
+    if mark == 0 { 1 } else { 0 }
+}
+
+/// Writes bytes at a Long's place, where there are some and they fit.
+fn leave(segment: &mut Segment, place: Option<(u64, u64)>, left: &[u8])
+    ensures { segment.new ≡ overwritten_if
+        (left_write (length segment.old) place left.now) segment.old }
+{
+    if let Some((offset, _)) = place {
+        let len = left.len() as u64;
+        if len == 0 || !segment.contains(offset, len) {
+            return;
+        }
+        segment.part_mut(offset, len).copy_from_slice(left);
+    }
+}
+
+impl Handlers for Run<'_> {
+    ghost use Rattle.gasnet_c.specs.Replayed.{replayed};
+    ghost use Rattle.gasnet_c.specs.Lawful.{replayed_lawful};
+
+    ghost meaning = { λ it handler frame start. replayed it frame start };
+
+    ghost is_lawful = { λ it handler frame start. replayed_lawful it frame start };
+
+    /// It leaves what C's handler left, and asks for the reply that it asked for.
+    fn run(&self, _handler: u8, segment: &mut Segment, _cells: &mut Cells, desk: &mut Desk<'_>) {
+        leave(segment, desk.place(), self.left);
+        let reply = &self.reply;
+        match reply.category {
+            0 => {
+                let _ = desk.reply_short(reply.handler, reply.args);
+            }
+            1 => {
+                let _ = desk.reply_medium(reply.handler, reply.args, reply.payload);
+            }
+            2 => {
+                let _ = desk.reply_long(reply.handler, reply.args, reply.payload, reply.offset);
+            }
+            _ => {}
+        }
+    }
+}
+
+impl Handlers for Left<'_> {
+    ghost use Rattle.gasnet_c.specs.Replayed.{leaving};
+    ghost use Rattle.gasnet_c.specs.Lawful.{leaving_lawful};
+
+    ghost meaning = { λ it handler frame start. leaving it.bytes.now frame start };
+
+    ghost is_lawful = { λ it handler frame start. leaving_lawful it.bytes.now frame start };
+
+    /// It leaves what C's handler left.
+    fn run(&self, _handler: u8, segment: &mut Segment, _cells: &mut Cells, desk: &mut Desk<'_>) {
+        leave(segment, desk.place(), self.bytes);
+    }
+}
+
+impl Handlers for OwnRuns<'_> {
+    ghost use Rattle.gasnet_c.specs.Replayed.{both_replayed};
+    ghost use Rattle.gasnet_c.specs.Lawful.{both_lawful};
+
+    ghost meaning = { λ it handler frame start. both_replayed it frame start };
+
+    ghost is_lawful = { λ it handler frame start. both_lawful it frame start };
+
+    /// The request's handler changes the mark and does what it did; the reply's leaves what it left.
+    fn run(&self, handler: u8, segment: &mut Segment, cells: &mut Cells, desk: &mut Desk<'_>) {
+        if cells.get(MARK) == self.mark {
+            cells.set(MARK, next_mark(self.mark));
+            self.request.run(handler, segment, cells, desk);
+        } else {
+            self.reply.run(handler, segment, cells, desk);
+        }
+    }
+}

@@ -1,0 +1,166 @@
+//! Transfers between segments.
+
+ghost use Rattle.std.specs.Prelude.{◌≡◌, []};
+ghost use Rattle.handler_rules.specs.Runs.{Meaning};
+ghost use Rattle.endpoint_rules.specs.declared.call.Call.TheVariants as call;
+ghost use Rattle.endpoint_rules.specs.declared.call.Event.TheVariants as event;
+ghost use Rattle.gasnet_c.specs.Calls.{moved_call, region_call, transfer_of, which_of};
+ghost use Rattle.gasnet_c.specs.Telling.{Tells};
+ghost use Rattle.gasnet_c.specs.Whole.{AsksNone, IsForOne, IsWhole};
+
+use crate::handle::Handle;
+use crate::stepping::called;
+use crate::told::Told;
+use endpoint_rules::Call;
+use put_get::{Handle as Operation, Some3, Transfer};
+use std::alloc::Global;
+
+/// A transfer: `gasnet_c_move`. Offsets and lengths are in bytes.
+#[repr(C)]
+#[derive(Clone, Copy, Drop)]
+pub struct Move {
+    /// Where the target's range begins in its segment.
+    pub remote: u64,
+    /// Where the own range begins in the own segment; not read of a memset.
+    pub local: u64,
+    /// How many bytes each range has.
+    pub len: u64,
+    /// 0 for a put, 1 for a get, else a memset.
+    pub kind: u32,
+    /// The target.
+    pub to: u16,
+    /// What a memset writes.
+    pub byte: u8,
+    /// Whether it is synchronised as an implicit one, or by the access region that was begun.
+    pub implicit: bool,
+}
+
+/// What is transferred.
+fn transfer_of(what: &Move) -> Transfer
+    ensures { result ≡ transfer_of what.now }
+{
+    match what.kind {
+        0 => Transfer::Put {
+            to: what.to,
+            remote: what.remote,
+            local: what.local,
+            len: what.len,
+        },
+        1 => Transfer::Get {
+            to: what.to,
+            remote: what.remote,
+            local: what.local,
+            len: what.len,
+        },
+        _ => Transfer::Memset {
+            to: what.to,
+            remote: what.remote,
+            len: what.len,
+            byte: what.byte,
+        },
+    }
+}
+
+/// A transfer as a call.
+fn moved_call(what: &Move) -> Call<'static>
+    ensures call { result ≡ moved_call what.now }
+    ensures may { IsForOne (event.Call 0 result) }
+    ensures asks_none { AsksNone result }
+{
+    let transfer = transfer_of(what);
+    if what.implicit {
+        Call::BeginImplicit { transfer }
+    } else {
+        Call::Begin {
+            reg: None,
+            transfer,
+        }
+    }
+}
+
+/// Begins a transfer. It is `GASNET_C_HANDLE`, and its handle is told; or `GASNET_C_DONE` where it has no bytes or its
+/// target is the own node, `GASNET_C_TOO_MANY` where `GASNET_C_OPERATIONS` stand, and `GASNET_C_BAD` where the target or
+/// a range is bad; of the last two nothing happened. Its chunks are sent by `gasnet_c_tick`: a chunk of a put is read
+/// out of the own segment by the tick that sends it.
+#[unsafe(no_mangle)]
+pub extern "C" fn gasnet_c_begin(alloc: Global, handle: &mut Handle, now: u64, what: &Move) -> Told
+    requires { IsWhole handle.old }
+    ensures whole { IsWhole handle.new }
+    ensures tells { (meaning : Meaning) → Tells meaning handle.old.slot.held now
+        (event.Call 0 (moved_call what.now)) result [] handle.new.slot.held }
+{
+    called(alloc, handle, now, moved_call(what))
+}
+
+/// Tries to synchronise the operation, or the region, with this handle. It is `GASNET_C_OK`, and the handle is used up;
+/// `GASNET_C_NOT_READY`; `GASNET_C_WORN_OUT` where it never will be; or `GASNET_C_BAD` where nothing has the handle.
+#[unsafe(no_mangle)]
+pub extern "C" fn gasnet_c_sync(alloc: Global, handle: &mut Handle, now: u64, serial: u64) -> Told
+    requires { IsWhole handle.old }
+    ensures whole { IsWhole handle.new }
+    ensures tells { (meaning : Meaning) → Tells meaning handle.old.slot.held now
+        (event.Call 0 (call.SyncHandle (record { serial = serial }))) result []
+        handle.new.slot.held }
+{
+    let call = Call::SyncHandle {
+        handle: Operation { serial },
+    };
+    called(alloc, handle, now, call)
+}
+
+/// The implicit operations that C names.
+fn which_of(which: u32) -> Some3
+    ensures { result ≡ which_of which }
+{
+    match which {
+        0 => Some3::Puts,
+        1 => Some3::Gets,
+        _ => Some3::All,
+    }
+}
+
+/// Tries to synchronise the implicit operations: 0 for puts and memsets, 1 for gets, else all. It is answered as
+/// `gasnet_c_sync`; and `GASNET_C_BAD` while an access region is begun.
+#[unsafe(no_mangle)]
+pub extern "C" fn gasnet_c_sync_implicit(
+    alloc: Global,
+    handle: &mut Handle,
+    now: u64,
+    which: u32,
+) -> Told
+    requires { IsWhole handle.old }
+    ensures whole { IsWhole handle.new }
+    ensures tells { (meaning : Meaning) → Tells meaning handle.old.slot.held now
+        (event.Call 0 (call.SyncImplicit (which_of which))) result [] handle.new.slot.held }
+{
+    let call = Call::SyncImplicit {
+        which: which_of(which),
+    };
+    called(alloc, handle, now, call)
+}
+
+/// A begin, or an end, of an access region as a call.
+fn region_call(ends: bool) -> Call<'static>
+    ensures call { result ≡ region_call ends }
+    ensures may { IsForOne (event.Call 0 result) }
+    ensures asks_none { AsksNone result }
+{
+    if ends {
+        Call::RegionEnd { reg: 0 }
+    } else {
+        Call::RegionBegin
+    }
+}
+
+/// Begins an access region, or ends it: implicit operations that begin in between are synchronised by its handle. A begin
+/// is `GASNET_C_DONE`. An end is `GASNET_C_HANDLE`, and its handle is told, or `GASNET_C_DONE` where no operation joined.
+/// `GASNET_C_BAD` is a begin inside a region, or an end outside; then nothing happened.
+#[unsafe(no_mangle)]
+pub extern "C" fn gasnet_c_region(alloc: Global, handle: &mut Handle, now: u64, ends: bool) -> Told
+    requires { IsWhole handle.old }
+    ensures whole { IsWhole handle.new }
+    ensures tells { (meaning : Meaning) → Tells meaning handle.old.slot.held now
+        (event.Call 0 (region_call ends)) result [] handle.new.slot.held }
+{
+    called(alloc, handle, now, region_call(ends))
+}
