@@ -8,7 +8,7 @@
 #include "job.h"
 
 enum { HELLO = 1, END = 2 };                             /* kinds */
-enum { WANTS = 1, IS_PLACED = 2, FORCED = 1, HEARD = 2 }; /* flags of a HELLO, and of an END */
+enum { WANTS = 1, IS_PLACED = 2, FORCED = 1, HEARD = 2, IS_ANSWER = 4 }; /* flags of a HELLO, and of an END */
 enum { AGAIN = 10000, NAP = 2, SECOND = 1000000 };        /* microseconds between two hellos; milliseconds; microseconds */
 
 struct datagram {
@@ -118,10 +118,9 @@ static void take_end(struct gasnetl_job *job, uint16_t from, const struct datagr
     control->has_left[from] = true;
     if (end->flags & HEARD)
         control->knows_we_left[from] = true;
-    if (job->ended || end->flags & FORCED) {
-        struct datagram answer = { .kind = END, .flags = HEARD, .first = (uint64_t)control->code };
-        if (!(end->flags & HEARD))
-            send_datagram(job, from, &answer);
+    if ((job->ended || end->flags & FORCED) && !(end->flags & IS_ANSWER)) {
+        struct datagram answer = { .kind = END, .flags = HEARD | IS_ANSWER, .first = (uint64_t)control->code };
+        send_datagram(job, from, &answer);
     }
     if (end->flags & FORCED && !job->ended)
         gasnetl_end_by_peer(job, (int)end->first);
