@@ -21,14 +21,21 @@ static bool all(const struct gasnetl_job *job, const bool *flags) {
     return true;
 }
 
+/* Whether each peer ends, or knows that it is to. */
+static bool all_know(const struct gasnetl_job *job) {
+    for (uint16_t node = 0; node < job->nodes; node++)
+        if (node != job->me && !job->control.has_left[node] && !job->control.knows_we_left[node])
+            return false;
+    return true;
+}
+
 /* Tells the peers of the end, and serves them, until the time is over, or all that is asked of them came. */
 static bool linger(struct gasnetl_job *job, bool forced, uint64_t time) {
     uint64_t begun = gasnetl_clock(), told = 0, heard = begun;
     for (;;) {
         uint64_t now = gasnetl_clock();
-        bool left = forced || all(job, job->control.has_left);
-        bool confirmed = all(job, job->control.knows_we_left);
-        if (left && (confirmed || (!forced && now - heard > QUIET)))
+        bool left = all(job, job->control.has_left);
+        if (forced ? all_know(job) : left && (all(job, job->control.knows_we_left) || now - heard > QUIET))
             return true;
         if (now - begun > time)
             return false;

@@ -136,6 +136,8 @@ static void note_end(struct run *run, int node, int how) {
         fprintf(stderr, "gasnetrun: node %d ended with status %d; the others are ended\n", node, status);
     if (!run->ends)
         end_more(run);
+    if (WIFSIGNALED(how)) /* it can't have told the others */
+        end_more(run);
 }
 
 static void reap(struct run *run) {
