@@ -4,9 +4,10 @@
  * clock, no thread and no global. It calls nothing back.
  *
  * What a caller owes stands in docs/GASNET.md, "What C owes". In short: a handle begins as zeros, is never copied and
- * is read and written by the library alone; each pointer leads to as many values as its length says; no pointer that is
- * passed leads into the handle or into the node's segment; one call of a handle at a time, each ordered before the next
- * by a lock, a thread's start or its join; the segment is stored to between calls alone, and inside its length.
+ * is read and written by the library alone; each pointer leads to as many values as its length says, and is never null,
+ * not even where there are none; no pointer that is passed leads into the handle or into the node's segment; one call of
+ * a handle at a time, each ordered before the next by a lock, a thread's start or its join; the segment is stored to
+ * between calls alone, and inside its length.
  *
  * A handle is dead or whole. Every call of a dead one does nothing, and is told GASNET_C_DEAD. */
 #ifndef GASNET_C_H
@@ -25,6 +26,23 @@ typedef struct {
     bool live;
     struct { void *at; } slot;
 } gasnet_c_node;
+
+/* The memory of a node's segment: at least as many bytes as the setup says, all zeros, which nobody has touched. Fresh
+ * pages of the system are best: none is written before it is used. */
+typedef struct {
+    uint8_t *at;
+} gasnet_c_memory;
+
+/* Bytes, and arguments, that a record leads to. */
+typedef struct {
+    const uint8_t *at;
+    size_t len;
+} gasnet_c_bytes;
+
+typedef struct {
+    const int32_t *at;
+    size_t len;
+} gasnet_c_args;
 
 /* How a node of a job is set up. All nodes of a job have the same numbers, but for `me`. */
 typedef struct {
@@ -62,10 +80,12 @@ typedef struct {
     uint64_t place;       /* a Long's place: its offset in the own segment */
 } gasnet_c_coming;
 
-/* A request. Where `own` is set its payload are the `source_len` bytes of the own segment from `source` on, and the call
- * gets no other payload; else the payload is the one that the call gets. */
+/* A request. Where `own` is set its payload are the `source_len` bytes of the own segment from `source` on, and
+ * `payload` isn't read; else it is `payload`. */
 typedef struct {
-    uint64_t offset; /* where a Long's payload goes in the target's segment */
+    gasnet_c_args args;     /* at most 16 */
+    gasnet_c_bytes payload; /* at most 8,192 bytes; a Short has none, and this isn't read */
+    uint64_t offset;        /* where a Long's payload goes in the target's segment */
     uint64_t source;
     uint64_t source_len;
     uint32_t category; /* 0: Short; 1: Medium; else Long */
@@ -76,10 +96,19 @@ typedef struct {
 
 /* The reply that a handler asked for. */
 typedef struct {
-    uint64_t offset;   /* where a Long's payload goes in the requester's segment */
-    uint32_t category; /* 0: Short; 1: Medium; 2: Long; else there is none */
-    uint8_t handler;   /* the handler's index, 128 to 255 */
+    gasnet_c_args args;     /* at most 16 */
+    gasnet_c_bytes payload; /* at most 8,192 bytes, outside the segment */
+    uint64_t offset;        /* where a Long's payload goes in the requester's segment */
+    uint32_t category;      /* 0: Short; 1: Medium; 2: Long; else there is none */
+    uint8_t handler;        /* the handler's index, 128 to 255 */
 } gasnet_c_reply;
+
+/* What a handler did that C ran: the reply that it asked for, and the bytes that stood at a Long's place when it was
+ * done, as a copy. Where there are none the payload stands there as it came. */
+typedef struct {
+    gasnet_c_reply reply;
+    gasnet_c_bytes left;
+} gasnet_c_run;
 
 /* A transfer of `len` bytes between the own segment, from `local` on, and that of node `to`, from `remote` on. */
 typedef struct {
@@ -134,14 +163,18 @@ enum {
 };
 
 /* Makes a node: 0; or 1 where a limit is broken, 2 for want of memory, 3 where the handle is live already. Its table has
- * an entry for each index from 128 to 255, which serves requests and replies, and lists no lock. */
-uint32_t gasnet_c_new(gasnet_c_node *node, const gasnet_c_setup *setup);
+ * an entry for each index from 128 to 255, which serves requests and replies, and lists no lock.
+ *
+ * Where it answers 0 the memory is the node's segment until the node is freed: C reads and writes it between calls alone.
+ * Else it is C's again. The library never gives it back to anybody. */
+uint32_t gasnet_c_new(gasnet_c_node *node, const gasnet_c_setup *setup, gasnet_c_memory memory);
 
-/* Gives all memory back. The handle is dead then, as one of zeros. */
+/* Gives all memory back that the library took. The handle is dead then, as one of zeros, and the segment's memory is C's
+ * again. */
 void gasnet_c_free(gasnet_c_node *node);
 
-/* How many bytes the segment has, and where the first of them lies. It stays there until the node is freed. */
-uint64_t gasnet_c_segment(gasnet_c_node *node, const uint8_t **start);
+/* How many bytes the segment has; 0 of a dead handle. */
+uint64_t gasnet_c_segment(gasnet_c_node *node);
 
 /* A tick: at most one datagram that is due goes out. RESENT, NOTE, CHUNK, or NOTHING. */
 gasnet_c_told gasnet_c_tick(gasnet_c_node *node, uint64_t now, uint8_t *buffer, size_t room);
@@ -150,24 +183,18 @@ gasnet_c_told gasnet_c_tick(gasnet_c_node *node, uint64_t now, uint8_t *buffer, 
 gasnet_c_coming gasnet_c_peek(gasnet_c_node *node, const uint8_t *bytes, size_t len);
 
 /* Delivers bytes. Where `gasnet_c_peek` told of a handler that runs, C ran it before this call and made no other call in
- * between; `reply` is what it asked for, and `left` is what stood at a Long's place when it was done (of no bytes: the
- * payload as it came). Else reply, args, payload and left aren't read. */
+ * between, and `run` is what it did. Else `run` isn't read. */
 gasnet_c_told gasnet_c_deliver(gasnet_c_node *node, uint64_t now, const uint8_t *bytes, size_t len,
-                               const gasnet_c_reply *reply, const int32_t *args, size_t count, const uint8_t *payload,
-                               size_t payload_len, const uint8_t *left, size_t left_len, uint8_t *buffer, size_t room);
+                               const gasnet_c_run *run, uint8_t *buffer, size_t room);
 
-/* A request to another node. ACCEPTED, NOT_YET, WORN_OUT, BAD; and BAD for the own node. */
-gasnet_c_told gasnet_c_request(gasnet_c_node *node, uint64_t now, const gasnet_c_ask *ask, const int32_t *args,
-                               size_t count, const uint8_t *payload, size_t payload_len, uint8_t *buffer, size_t room);
+/* A request to another node. ACCEPTED, NOT_YET, WORN_OUT, BAD. */
+gasnet_c_told gasnet_c_request(gasnet_c_node *node, uint64_t now, const gasnet_c_ask *ask, uint8_t *buffer,
+                               size_t room);
 
 /* A request to the own node, which sends nothing: C ran its handler before this call, and then its reply's where it
- * asked for one, and made no other call in between. `reply` is what the request's handler asked for. `left` is what
- * stands at the place of a Long request, and `reply_left` what stands at that of a Long reply, when both handlers are
- * done (of no bytes: the payload as it came). RAN_HERE, BAD. */
-gasnet_c_told gasnet_c_request_own(gasnet_c_node *node, uint64_t now, const gasnet_c_ask *ask, const int32_t *args,
-                                   size_t count, const uint8_t *payload, size_t payload_len, const uint8_t *left,
-                                   size_t left_len, const gasnet_c_reply *reply, const int32_t *reply_args,
-                                   size_t reply_count, const uint8_t *reply_payload, size_t reply_payload_len,
+ * asked for one, and made no other call in between. `run` is what the request's handler did, and `reply_left` are the
+ * bytes at the place of a Long reply. Both are as they stand when both handlers are done. RAN_HERE, BAD. */
+gasnet_c_told gasnet_c_request_own(gasnet_c_node *node, uint64_t now, const gasnet_c_ask *ask, const gasnet_c_run *run,
                                    const uint8_t *reply_left, size_t reply_left_len);
 
 /* Begins a transfer. HANDLE, DONE (no bytes, or the own node), TOO_MANY, BAD. Its chunks are sent by ticks. */

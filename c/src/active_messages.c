@@ -6,8 +6,12 @@
 
 enum { SHORT = 0, MEDIUM = 1, LONG = 2, NONE = 3, POLL_EACH = 32, POLL_MOST = 64 };
 
+/* The endpoint takes no null pointer, not even to nothing. */
 static const gasnet_handlerarg_t no_args[1];
 static const uint8_t no_bytes[1];
+
+#define NOTHING { no_bytes, 0 }
+const gasnet_c_run gasnetl_no_run = { { { no_args, 0 }, NOTHING, 0, NONE, 0 }, NOTHING };
 
 size_t gasnet_AMMaxArgs(void) { return GASNETL_ARGS; }
 size_t gasnet_AMMaxMedium(void) { return GASNET_C_PAYLOAD; }
@@ -67,11 +71,7 @@ static void token_start(gasnet_token_t token, gasnet_node_t from, bool may_reply
     token->from = from;
     token->may_reply = may_reply;
     token->has_replied = false;
-    token->reply.category = NONE;
-    token->reply.offset = 0;
-    token->reply.handler = 0;
-    token->count = 0;
-    token->nbytes = 0;
+    token->done = gasnetl_no_run;
 }
 
 int gasnet_AMGetMsgSource(gasnet_token_t token, gasnet_node_t *srcindex) {
@@ -81,12 +81,13 @@ int gasnet_AMGetMsgSource(gasnet_token_t token, gasnet_node_t *srcindex) {
     return GASNET_OK;
 }
 
-/* What stands at a Long's place when its handlers are done, where that isn't its payload: how many bytes, in `copy`. */
-static size_t what_is_left(const uint8_t *place, const uint8_t *payload, size_t nbytes, uint8_t *copy) {
-    if (!memcmp(place, payload, nbytes))
-        return 0;
-    memcpy(copy, place, nbytes);
-    return nbytes;
+/* What stands at a Long's place when its handlers are done, where that isn't its payload, as a copy; else nothing. */
+static gasnet_c_bytes what_is_left(const struct gasnetl_run *run, const uint8_t *payload, uint8_t *copy) {
+    gasnet_c_bytes left = NOTHING;
+    if (run->category != LONG || !memcmp(run->payload, payload, run->nbytes))
+        return left;
+    memcpy(copy, run->payload, run->nbytes);
+    return (gasnet_c_bytes){ copy, run->nbytes };
 }
 
 /* ---- A message of another node. */
@@ -108,26 +109,26 @@ static uint8_t *payload_for(struct gasnetl_job *job, const gasnet_c_coming *comi
     return seen;
 }
 
+/* The handler of a message that is about to be delivered runs. */
+static void run_coming(struct gasnetl_job *job, gasnet_token_t token, const gasnet_c_coming *coming, uint8_t *bytes) {
+    gasnet_handlerarg_t args[GASNETL_ARGS];
+    uint8_t *payload = bytes + coming->payload_at;
+    const struct gasnetl_run run = { (gasnet_handler_t)coming->handler, coming->category, payload_for(job, coming, payload),
+                                     coming->payload_len, coming->count, args };
+    read_args(args, bytes + coming->args_at, coming->count);
+    run_handler(job, token, &run);
+    token->done.left = what_is_left(&run, payload, job->messages.left);
+}
+
 void gasnetl_message_take(struct gasnetl_job *job, uint8_t *bytes, size_t length) {
     struct gasnetl_token token;
-    gasnet_handlerarg_t args[GASNETL_ARGS];
-    size_t left = 0;
     if (job->ended) /* no handler runs any more */
         return;
     const gasnet_c_coming coming = gasnet_c_peek(&job->node, bytes, length);
     token_start(&token, (gasnet_node_t)coming.from, coming.runs == 1);
-    if (coming.runs) {
-        uint8_t *payload = bytes + coming.payload_at;
-        struct gasnetl_run run = { (gasnet_handler_t)coming.handler, coming.category, payload_for(job, &coming, payload),
-                                   coming.payload_len, coming.count, args };
-        read_args(args, bytes + coming.args_at, coming.count);
-        run_handler(job, &token, &run);
-        if (coming.category == LONG)
-            left = what_is_left(run.payload, payload, run.nbytes, job->messages.left);
-    }
-    const gasnet_c_told told =
-        gasnet_c_deliver(&job->node, job->progress.now, bytes, length, &token.reply, token.args, token.count, job->messages.reply,
-                         token.nbytes, job->messages.left, left, job->progress.outgoing, GASNET_C_ROOM);
+    if (coming.runs)
+        run_coming(job, &token, &coming, bytes);
+    const gasnet_c_told told = gasnet_c_deliver(&job->node, job->progress.now, bytes, length, &token.done, job->progress.outgoing, GASNET_C_ROOM);
     gasnetl_told(job, &told);
     if (coming.runs && told.code != (coming.runs == 1 ? GASNET_C_RAN : GASNET_C_RETURNED))
         gasnetl_stop(GASNETL_BROKEN, "a delivery was answered %u where its handler ran", told.code);
@@ -149,9 +150,7 @@ static int judge(const struct gasnetl_job *job, gasnet_node_t node, const struct
     return GASNET_OK;
 }
 
-int gasnetl_reply(gasnet_token_t token, const struct gasnetl_message *message) {
-    struct gasnetl_job *job = &gasnetl_job;
-    uint64_t offset;
+static void judge_reply(gasnet_token_t token) {
     if (!token || token != gasnetl_thread.token)
         gasnetl_stop(GASNETL_MISUSE, "gasnet_AMReply: the token isn't that of the running handler");
     if (gasnetl_thread.locks)
@@ -160,73 +159,78 @@ int gasnetl_reply(gasnet_token_t token, const struct gasnetl_message *message) {
         gasnetl_stop(GASNETL_MISUSE, "gasnet_AMReply: the handler of a reply may not reply");
     if (token->has_replied)
         gasnetl_stop(GASNETL_MISUSE, "gasnet_AMReply: the handler replied already");
+}
+
+int gasnetl_reply(gasnet_token_t token, const struct gasnetl_message *message) {
+    struct gasnetl_job *job = &gasnetl_job;
+    uint64_t offset;
+    judge_reply(token);
     int code = judge(job, token->from, message, &offset);
     if (code != GASNET_OK)
         return code;
-    token->has_replied = true;
-    token->reply = (gasnet_c_reply){ .offset = offset, .category = (uint32_t)message->category, .handler = message->handler };
-    token->count = message->count;
     memcpy(token->args, message->args, message->count * sizeof *message->args);
-    token->nbytes = message->nbytes;
     if (message->nbytes)
         memcpy(job->messages.reply, message->source, message->nbytes);
+    token->has_replied = true;
+    token->done.reply = (gasnet_c_reply){ { token->args, message->count }, { job->messages.reply, message->nbytes }, offset,
+                                          (uint32_t)message->category, message->handler };
     return GASNET_OK;
 }
 
 /* ---- Requests. */
 
+/* Makes the run of a message to the own node: its payload stands where the handler is to see it. */
+static struct gasnetl_run run_here(struct gasnetl_job *job, gasnet_handler_t handler, uint32_t category, uint64_t offset, gasnet_c_bytes payload, gasnet_c_args args) {
+    void *place = category == LONG ? job->segment.base + offset : job->messages.medium;
+    memcpy(place, payload.at, payload.len);
+    return (struct gasnetl_run){ handler, category, place, payload.len, (unsigned)args.len, args.at };
+}
+
 /* The handlers of a request to the own node run: its own, and then that of its reply. What they did is recorded. */
-static void request_here(struct gasnetl_job *job, const gasnet_c_ask *ask, const struct gasnetl_message *message) {
+static void request_here(struct gasnetl_job *job, gasnet_c_ask *ask, const struct gasnetl_message *message) {
     struct gasnetl_messages *own = &job->messages;
     struct gasnetl_token token, reply_token;
-    struct gasnetl_run run = { message->handler, ask->category, own->medium, message->nbytes, message->count, message->args };
-    struct gasnetl_run back = { 0 };
+    const gasnet_c_reply *reply = &token.done.reply;
+    gasnet_c_bytes reply_left = NOTHING;
     uint8_t payload[GASNET_C_PAYLOAD];
-    size_t left = 0, reply_left = 0;
     if (message->nbytes)
-        memcpy(payload, message->source, message->nbytes);
-    if (ask->category == LONG)
-        run.payload = job->segment.base + ask->offset;
-    memcpy(run.payload, payload, message->nbytes);
+        memcpy(payload, message->source, message->nbytes); /* what the request had, whatever its handlers do */
+    ask->payload = (gasnet_c_bytes){ payload, message->nbytes };
     token_start(&token, job->me, true);
+    const struct gasnetl_run run = run_here(job, ask->handler, ask->category, ask->offset, ask->payload, ask->args);
     run_handler(job, &token, &run);
     if (token.has_replied) {
-        back = (struct gasnetl_run){ token.reply.handler, token.reply.category, own->medium, token.nbytes, token.count, token.args };
-        if (back.category == LONG)
-            back.payload = job->segment.base + token.reply.offset;
-        memcpy(back.payload, own->reply, back.nbytes);
         token_start(&reply_token, job->me, false);
+        const struct gasnetl_run back = run_here(job, reply->handler, reply->category, reply->offset, reply->payload, reply->args);
         run_handler(job, &reply_token, &back);
+        reply_left = what_is_left(&back, own->reply, own->reply_left);
     }
-    if (ask->category == LONG)
-        left = what_is_left(run.payload, payload, run.nbytes, own->left);
-    if (token.has_replied && back.category == LONG)
-        reply_left = what_is_left(back.payload, own->reply, back.nbytes, own->reply_left);
-    gasnet_c_told told =
-        gasnet_c_request_own(&job->node, job->progress.now, ask, message->args, message->count, payload, message->nbytes, own->left,
-                             left, &token.reply, token.args, token.count, own->reply, token.nbytes, own->reply_left, reply_left);
+    token.done.left = what_is_left(&run, payload, own->left);
+    const gasnet_c_told told = gasnet_c_request_own(&job->node, job->progress.now, ask, &token.done, reply_left.at, reply_left.len);
     if (told.code != GASNET_C_RAN_HERE)
         gasnetl_stop(GASNETL_BROKEN, "a request to the own node was answered %u", told.code);
 }
 
-static gasnet_c_told ask_once(struct gasnetl_job *job, const gasnet_c_ask *ask, const struct gasnetl_message *message) {
-    size_t nbytes = ask->category == SHORT || ask->own ? 0 : message->nbytes;
-    const void *source = nbytes ? message->source : no_bytes;
-    const gasnet_handlerarg_t *args = message->count ? message->args : no_args;
-    return gasnet_c_request(&job->node, job->progress.now, ask, args, message->count, source, nbytes, job->progress.outgoing,
-                            GASNET_C_ROOM);
+static gasnet_c_told ask_once(struct gasnetl_job *job, const gasnet_c_ask *ask) {
+    return gasnet_c_request(&job->node, job->progress.now, ask, job->progress.outgoing, GASNET_C_ROOM);
 }
 
-static void request_there(struct gasnetl_job *job, const gasnet_c_ask *ask, const struct gasnetl_message *message) {
+/* A request to another node; it waits for a credit. */
+static void request_there(struct gasnetl_job *job, gasnet_c_ask *ask, const struct gasnetl_message *message) {
     unsigned turn = 0;
-    gasnet_c_told told = ask_once(job, ask, message);
+    if (message->nbytes && gasnetl_far(job, job->me, message->source, message->nbytes, &ask->source)) {
+        ask->own = true;
+        ask->source_len = message->nbytes;
+    } else if (message->nbytes)
+        ask->payload = (gasnet_c_bytes){ message->source, message->nbytes };
+    gasnet_c_told told = ask_once(job, ask);
     if (told.code == GASNET_C_NOT_YET) {
-        job->progress.peers[ask->to].asking++;
+        job->peers.of[ask->to].asking++;
         do {
             gasnetl_wait(job, &turn);
-            told = ask_once(job, ask, message);
+            told = ask_once(job, ask);
         } while (told.code == GASNET_C_NOT_YET);
-        job->progress.peers[ask->to].asking--;
+        job->peers.of[ask->to].asking--;
     }
     if (told.code != GASNET_C_ACCEPTED)
         gasnetl_stop(GASNETL_BROKEN, "a request to node %u was answered %u", ask->to, told.code);
@@ -237,17 +241,14 @@ int gasnetl_request(gasnet_node_t node, const struct gasnetl_message *message) {
     if (!gasnetl_job.attached && !gasnetl_thread.token)
         return gasnetl_refuse(GASNET_ERR_NOT_INIT, "gasnet_AMRequest is called before gasnet_attach");
     struct gasnetl_job *job = gasnetl_enter("gasnet_AMRequest");
-    gasnet_c_ask ask = { .category = (uint32_t)message->category, .to = node, .handler = message->handler };
+    gasnet_c_ask ask = { .args = { message->args, message->count }, .payload = NOTHING, .category = (uint32_t)message->category,
+                         .to = node, .handler = message->handler };
     int code = judge(job, node, message, &ask.offset);
     if (code == GASNET_OK) {
         if (job->progress.since_poll++ >= POLL_EACH)
             gasnetl_poll(job, POLL_MOST);
         else
             job->progress.now = gasnetl_clock();
-        if (message->nbytes && node != job->me && gasnetl_far(job, job->me, message->source, message->nbytes, &ask.source)) {
-            ask.own = true;
-            ask.source_len = message->nbytes;
-        }
         if (node == job->me)
             request_here(job, &ask, message);
         else

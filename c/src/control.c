@@ -55,6 +55,8 @@ static void take_hello(struct gasnetl_job *job, uint16_t from, const struct data
         tell_hello(job, from, false);
 }
 
+void gasnetl_control_ping(struct gasnetl_job *job, uint16_t node) { tell_hello(job, node, true); }
+
 /* A node of which it isn't known, or GASNETL_NO_NODE; asks all of these where it is time to. */
 static uint16_t ask_unknown(struct gasnetl_job *job, const bool *known, bool asks) {
     uint16_t first = GASNETL_NO_NODE;
@@ -69,6 +71,13 @@ static uint16_t ask_unknown(struct gasnetl_job *job, const bool *known, bool ask
     return first;
 }
 
+static _Noreturn void absent(const struct gasnetl_job *job, uint16_t node, uint64_t time) {
+    char address[80];
+    gasnetl_place_write(&job->network.places.of[node].address, address, sizeof address);
+    gasnetl_stop(GASNETL_PEER_GONE, "node %u (%s) didn't come to gasnet_attach for %.1f s, so the job ends (GASNET_PEER_TIMEOUT is how long a node waits)",
+                 node, address, (double)time / SECOND);
+}
+
 static void exchange(struct gasnetl_job *job, const bool *known) {
     uint64_t begun = gasnetl_clock(), asked = 0;
     for (;;) {
@@ -80,7 +89,7 @@ static void exchange(struct gasnetl_job *job, const bool *known) {
         if (asks)
             asked = now;
         if (job->config.peer_timeout && now - begun > job->config.peer_timeout)
-            gasnetl_control_lost(job, missing, now - begun);
+            absent(job, missing, now - begun);
         if (!gasnetl_poll(job, 16))
             gasnetl_sleep(&job->turns, job->network.socket, NAP);
     }
@@ -135,13 +144,4 @@ void gasnetl_control_take(struct gasnetl_job *job, uint16_t from, const uint8_t 
         take_hello(job, from, &datagram);
     else if (datagram.kind == END)
         take_end(job, from, &datagram);
-}
-
-void gasnetl_control_lost(struct gasnetl_job *job, uint16_t peer, uint64_t silent) {
-    char address[80];
-    if (job->ended)
-        return;
-    gasnetl_place_write(&job->network.places.of[peer].address, address, sizeof address);
-    gasnetl_stop(GASNETL_PEER_GONE, "node %u (%s) didn't answer for %.1f s, so the job ends; GASNET_PEER_TIMEOUT is how long a node waits", peer,
-                 address, (double)silent / SECOND);
 }

@@ -33,7 +33,7 @@ void gasnetl_exchange_bases(struct gasnetl_job *job);
 /* Tells the peers that haven't confirmed it that this node ends with its code, and, where it is forced, that all do. */
 void gasnetl_tell_end(struct gasnetl_job *job, bool forced);
 
-/* Ends the job: a peer was silent for so long, in microseconds. */
-void gasnetl_control_lost(struct gasnetl_job *job, uint16_t peer, uint64_t silent);
+/* Asks a peer whether it is there. */
+void gasnetl_control_ping(struct gasnetl_job *job, uint16_t node);
 
 #endif

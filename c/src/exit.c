@@ -21,10 +21,10 @@ static bool all(const struct gasnetl_job *job, const bool *flags) {
     return true;
 }
 
-/* Whether each peer ends, or knows that it is to. */
+/* Whether each peer ends, or knows that it is to, or is gone. */
 static bool all_know(const struct gasnetl_job *job) {
     for (uint16_t node = 0; node < job->nodes; node++)
-        if (node != job->me && !job->control.has_left[node] && !job->control.knows_we_left[node])
+        if (node != job->me && !job->control.has_left[node] && !job->control.knows_we_left[node] && !job->network.is_refused[node])
             return false;
     return true;
 }
@@ -96,8 +96,6 @@ void gasnetl_end_all(struct gasnetl_job *job, int status) {
 
 void gasnetl_end_by_peer(struct gasnetl_job *job, int status) {
     struct sigaction action;
-    for (uint16_t node = 0; node < job->nodes; node++)
-        job->control.has_left[node] = job->control.knows_we_left[node] = true;
     if (!sigaction(SIGQUIT, NULL, &action) && action.sa_handler != SIG_DFL && action.sa_handler != SIG_IGN)
         raise(SIGQUIT); /* the client's handler may call gasnet_exit */
     leave(job, status, true);

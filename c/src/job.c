@@ -56,20 +56,19 @@ static int judge_attach(const struct gasnetl_job *job, uintptr_t segsize) {
 /* Makes the endpoint. All nodes' segments are as long as the longest, and the stage is behind it. */
 static int open_endpoint(struct gasnetl_job *job) {
     uintptr_t longest = 0;
-    const uint8_t *base;
     for (int node = 0; node < job->nodes; node++)
         if (job->segment.sizes[node] > longest)
             longest = job->segment.sizes[node];
     job->segment.stage = longest;
     const gasnet_c_setup setup = { .job = job->start.job, .segment = longest + GASNETL_STAGE, .resend = job->config.resend,
                                    .nodes = job->nodes, .me = job->me, .credits = (uint16_t)job->progress.credits };
-    switch (gasnet_c_new(&job->node, &setup)) {
+    if (!gasnetl_segment_open(&job->segment, setup.segment))
+        return gasnetl_refuse(GASNET_ERR_RESOURCE, "gasnet_attach: the system has no segment of %zu bytes", (size_t)setup.segment);
+    switch (gasnet_c_new(&job->node, &setup, (gasnet_c_memory){ job->segment.base })) {
     case 0:
-        gasnet_c_segment(&job->node, &base);
-        job->segment.base = (uint8_t *)(uintptr_t)base;
         return GASNET_OK;
     case 2:
-        return gasnetl_refuse(GASNET_ERR_RESOURCE, "gasnet_attach: there is no memory for a segment of %zu bytes", (size_t)longest);
+        return gasnetl_refuse(GASNET_ERR_RESOURCE, "gasnet_attach: there is no memory for the messages of %u nodes", job->nodes);
     default:
         return gasnetl_refuse(GASNET_ERR_BAD_ARG, "gasnet_attach: a limit of the endpoint is broken");
     }

@@ -13,6 +13,7 @@
 #include "gasnet_c.h"
 #include "messages.h"
 #include "network.h"
+#include "peers.h"
 #include "progress.h"
 #include "segment.h"
 #include "threads.h"
@@ -27,6 +28,7 @@ struct gasnetl_job {
     gasnet_c_node node; /* the proved endpoint */
     struct gasnetl_segment segment;
     struct gasnetl_turns turns;
+    struct gasnetl_peers peers;
     struct gasnetl_progress progress;
     struct gasnetl_messages messages;
     struct gasnetl_transfers transfers;

@@ -18,9 +18,7 @@ enum { GASNETL_ARGS = 16, GASNETL_FIRST_INDEX = 128, GASNETL_INDEXES = 256 };
 struct gasnetl_token {
     gasnet_node_t from;
     bool may_reply, has_replied;
-    gasnet_c_reply reply;
-    unsigned count; /* of the reply's arguments */
-    size_t nbytes;  /* of its payload, which stands in gasnetl_messages.reply */
+    gasnet_c_run done; /* what it does: its reply, whose payload stands in gasnetl_messages.reply */
     gasnet_handlerarg_t args[GASNETL_ARGS];
 };
 
@@ -31,7 +29,7 @@ struct gasnetl_messages {
     /* Handlers run one at a time, so one of each buffer is enough. */
     alignas(16) uint8_t reply[GASNET_C_PAYLOAD];  /* the payload of the reply that a handler asked for */
     alignas(16) uint8_t medium[GASNET_C_PAYLOAD]; /* the payload of a Medium, where it has to be aligned */
-    uint8_t left[GASNET_C_PAYLOAD];               /* what stands at a Long's place when its handler is done */
+    uint8_t left[GASNET_C_PAYLOAD];               /* what stands at a Long's place when its handlers are done */
     uint8_t reply_left[GASNET_C_PAYLOAD];
 };
 
@@ -44,6 +42,9 @@ struct gasnetl_run {
     unsigned count;
     const gasnet_handlerarg_t *args;
 };
+
+/* What a handler did that didn't run. */
+extern const gasnet_c_run gasnetl_no_run;
 
 /* Registers the client's table, and writes the indexes that it chose into it. GASNET_OK, or the code of what is wrong. */
 int gasnetl_register(struct gasnetl_messages *messages, gasnet_handlerentry_t *table, int entries);

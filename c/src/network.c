@@ -2,6 +2,7 @@
 
 #include <errno.h>
 #include <fcntl.h>
+#include <netinet/in.h>
 #include <stdio.h>
 #include <string.h>
 #include <unistd.h>
@@ -28,14 +29,41 @@ int gasnetl_network_bind(const struct sockaddr *address, socklen_t length) {
     return -1;
 }
 
+/* Takes what hosts told of datagrams that nobody there wanted. */
+static void take_refusals(struct gasnetl_network *network) {
+    for (;;) {
+        struct sockaddr_storage address;
+        char control[512];
+        struct msghdr message = { .msg_name = &address, .msg_namelen = sizeof address, .msg_control = control, .msg_controllen = sizeof control };
+        if (recvmsg(network->socket, &message, MSG_ERRQUEUE | MSG_DONTWAIT) < 0)
+            return;
+        uint16_t node = gasnetl_places_find(&network->places, &address);
+        if (node != GASNETL_NO_NODE)
+            network->is_refused[node] = true;
+    }
+}
+
 static void send_now(void *at, uint16_t to, const void *bytes, size_t length) {
     struct gasnetl_network *network = at;
     const struct gasnetl_place *place = &network->places.of[to];
     ssize_t sent = sendto(network->socket, bytes, length, MSG_DONTWAIT, (const struct sockaddr *)&place->address, place->length);
+    if (sent < 0 && errno != EAGAIN) { /* it may be of an earlier datagram */
+        take_refusals(network);
+        sent = sendto(network->socket, bytes, length, MSG_DONTWAIT, (const struct sockaddr *)&place->address, place->length);
+    }
     if (sent < 0)
         network->unsent++;
     else
         network->sent++;
+}
+
+/* Asks the system to tell what hosts say of datagrams that nobody there wanted. */
+static void tell_refusals(struct gasnetl_network *network) {
+    int yes = 1;
+    if (network->places.of[network->me].address.ss_family == AF_INET6)
+        setsockopt(network->socket, IPPROTO_IPV6, IPV6_RECVERR, &yes, sizeof yes);
+    else
+        setsockopt(network->socket, IPPROTO_IP, IP_RECVERR, &yes, sizeof yes);
 }
 
 static bool take_socket(struct gasnetl_network *network, int socket) {
@@ -59,6 +87,7 @@ bool gasnetl_network_open(struct gasnetl_network *network, const struct gasnetl_
     network->me = me;
     if (!take_socket(network, socket))
         return false;
+    tell_refusals(network);
     if (gasnetl_faults_start(&network->faults, config, me))
         return true;
     fprintf(stderr, "gasnet: node %u has no memory\n", me);
@@ -77,8 +106,12 @@ size_t gasnetl_network_receive(struct gasnetl_network *network, uint8_t *bytes, 
         struct sockaddr_storage address;
         socklen_t length = sizeof address;
         ssize_t got = recvfrom(network->socket, bytes, room, MSG_DONTWAIT, (struct sockaddr *)&address, &length);
-        if (got < 0)
+        if (got < 0 && errno == EAGAIN)
             return 0;
+        if (got < 0) {
+            take_refusals(network);
+            continue;
+        }
         *from = gasnetl_places_find(&network->places, &address);
         if (*from != GASNETL_NO_NODE && *from != network->me && got) {
             network->received++;

@@ -17,6 +17,7 @@ struct gasnetl_network {
     uint16_t me;
     struct gasnetl_places places;
     struct gasnetl_faults faults;
+    bool is_refused[GASNET_C_MAX_NODES]; /* the node's host said that nobody has its socket */
     uint64_t sent, received, strays, unsent;
 };
 

@@ -44,19 +44,9 @@ static void transmit(struct gasnetl_job *job, const gasnet_c_told *told) {
 
 /* A new request is out. */
 static void went_out(struct gasnetl_job *job, const gasnet_c_told *told) {
-    struct gasnetl_peer *peer = &job->progress.peers[told->to];
-    if (!peer->out++)
-        peer->since = job->progress.now;
+    gasnetl_peer_asked(job, told->to);
     job->progress.out++;
     transmit(job, told);
-}
-
-static void went_again(struct gasnetl_job *job, const gasnet_c_told *told) {
-    const struct gasnetl_peer *peer = &job->progress.peers[told->to];
-    uint64_t silent = job->progress.now - peer->since;
-    transmit(job, told);
-    if (job->config.peer_timeout && silent > job->config.peer_timeout)
-        gasnetl_control_lost(job, told->to, silent);
 }
 
 /* Of a request and a chunk that want the same credit, each gets every other one. */
@@ -76,7 +66,7 @@ static bool tick(struct gasnetl_job *job) {
 
 static void came_back(struct gasnetl_job *job, const gasnet_c_told *told) {
     struct gasnetl_progress *progress = &job->progress;
-    progress->peers[told->to].out--;
+    job->peers.of[told->to].out--;
     progress->out--;
     gasnetl_chunk_back(job, told->to, told->slot);
     if (progress->has_notes)
@@ -99,6 +89,7 @@ void gasnetl_told(struct gasnetl_job *job, const gasnet_c_told *told) {
         break;
     case GASNET_C_RAN:
     case GASNET_C_AGAIN:
+    case GASNET_C_RESENT:
         transmit(job, told);
         break;
     case GASNET_C_RETURNED:
@@ -112,9 +103,6 @@ void gasnetl_told(struct gasnetl_job *job, const gasnet_c_told *told) {
     case GASNET_C_NOTE:
         went_out(job, told);
         break;
-    case GASNET_C_RESENT:
-        went_again(job, told);
-        break;
     case GASNET_C_NOTHING:
         nothing_due(&job->progress);
         break;
@@ -126,7 +114,7 @@ void gasnetl_told(struct gasnetl_job *job, const gasnet_c_told *told) {
 }
 
 void gasnetl_send_chunks(struct gasnetl_job *job, uint16_t to) {
-    struct gasnetl_peer *peer = &job->progress.peers[to];
+    struct gasnetl_peer *peer = &job->peers.of[to];
     while (gasnetl_has_chunk(&job->transfers, to) && peer->out < job->progress.credits && chunk_may_go(peer))
         if (!tick(job))
             break;
@@ -140,11 +128,8 @@ void gasnetl_tick(struct gasnetl_job *job) {
 /* ---- What comes. */
 
 static void take(struct gasnetl_job *job, uint16_t from, uint8_t *bytes, size_t length) {
-    static const gasnet_c_reply none = { .category = 3 };
-    static const int32_t no_words[1];
-    static const uint8_t no_bytes[1];
     struct gasnetl_progress *progress = &job->progress;
-    progress->peers[from].since = progress->now;
+    gasnetl_peer_heard(job, from);
     if (gasnetl_control_is(bytes, length)) {
         gasnetl_control_take(job, from, bytes);
         return;
@@ -155,8 +140,7 @@ static void take(struct gasnetl_job *job, uint16_t from, uint8_t *bytes, size_t 
         gasnetl_message_take(job, bytes, length);
         return;
     }
-    gasnet_c_told told = gasnet_c_deliver(&job->node, progress->now, bytes, length, &none, no_words, 0, no_bytes, 0,
-                                          no_bytes, 0, progress->outgoing, GASNET_C_ROOM);
+    gasnet_c_told told = gasnet_c_deliver(&job->node, progress->now, bytes, length, &gasnetl_no_run, progress->outgoing, GASNET_C_ROOM);
     gasnetl_told(job, &told);
 }
 
@@ -174,6 +158,7 @@ bool gasnetl_poll(struct gasnetl_job *job, int most) {
     }
     if (job->attached && (progress->has_notes || (progress->out && progress->now >= progress->next_look)))
         gasnetl_tick(job);
+    gasnetl_peers_look(job);
     if (came)
         gasnetl_wake(&job->turns);
     return came;

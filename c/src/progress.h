@@ -11,14 +11,6 @@
 
 struct gasnetl_job;
 
-/* What is known of a peer. */
-struct gasnetl_peer {
-    unsigned out;   /* the requests to it that aren't back */
-    uint64_t since; /* when it was last heard, or the first of these requests was sent, whichever is later */
-    unsigned asking; /* the threads that wait for a credit to it, for a request */
-    bool chunk_goes; /* whose turn it is where a request and a chunk want the same credit */
-};
-
 struct gasnetl_progress {
     uint64_t now;            /* the time of this round, in microseconds */
     uint64_t next_look;      /* when a tick looks next for what is to be sent again */
@@ -28,7 +20,6 @@ struct gasnetl_progress {
     unsigned since_poll;     /* requests since the last poll */
     int wait_mode;
     unsigned spin;           /* the empty looks of a call that waits, before it sleeps */
-    struct gasnetl_peer peers[GASNET_MAXNODES];
     uint8_t incoming[GASNET_C_ROOM + 8];
     uint8_t outgoing[GASNET_C_ROOM];
 };

@@ -18,6 +18,10 @@ struct gasnetl_segment {
     uintptr_t sizes[GASNET_MAXNODES];
 };
 
+/* Has fresh pages of zeros for the own segment, which cost nothing before they are used. They stay until the process ends,
+ * since a thread may use them until then. False where the system has none. */
+bool gasnetl_segment_open(struct gasnetl_segment *segment, uint64_t length);
+
 /* Where these bytes lie in a node's segment, whose client's part has all of them. False where it hasn't. */
 bool gasnetl_far(const struct gasnetl_job *job, gasnet_node_t node, const void *at, size_t nbytes, uint64_t *offset);
 

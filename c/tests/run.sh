@@ -68,7 +68,7 @@ for rule in request-in-handler put-in-handler get-in-handler poll-in-handler bar
     unlock-out-of-order poll-under-lock destroy-held hold-twice resume-alone poll-in-section put-outside get-before \
     put-to-nobody value-of-9 region-twice region-none sync-in-region notify-twice wait-alone flags-unknown \
     handler-of-nobody put-before-attach; do
-    check "rule $rule" 70 "^gasnet: node" bin/gasnetrun -n 2 out/sanitized/tests/rules "$rule"
+    check "rule $rule" 70 "^gasnet: " bin/gasnetrun -n 2 out/sanitized/tests/rules "$rule"
 done
 
 # How a job ends.
@@ -112,22 +112,25 @@ check "orphans KILL behind a shell" 0 "" bash -c 'ended KILL 137 sh -c '\''"$0" 
 alone() { # RANK COMMAND..: a node that is started by hand
     GASNET_NODES=2 GASNET_RANK=$1 GASNET_JOB=7 GASNET_ADDRESSES=127.0.0.1:$port,127.0.0.1:$((port + 1)) "${@:2}"
 }
-gone() {
+gone() { # SIGNAL
     local port=$((20000 + RANDOM % 10000))
-    export GASNET_PEER_TIMEOUT=2
     alone 1 out/tests/ends sleep gone$port &
-    local other=$!
-    (sleep 1.5; kill -KILL $other) &
-    alone 0 out/sanitized/tests/messages
+    local other=$! got
+    (sleep 1.5; kill "-$1" $other) &
+    alone 0 out/sanitized/tests/ends sleep-not
+    got=$?
+    kill -KILL $other 2>/dev/null
+    return $got
 }
 export -f alone gone
-check "peer gone" 69 "node 1 (127.0.0.1:[0-9]*) didn't answer for [0-9.]* s" bash -c gone
+check "peer killed" 69 "node 1 (127.0.0.1:[0-9]*) is gone" bash -c 'gone KILL'
+check "peer stopped" 69 "node 1 (127.0.0.1:[0-9]*) didn't answer for [0-9.]* s" env GASNET_PEER_TIMEOUT=2 bash -c 'gone STOP'
 absent() {
     local port=$((20000 + RANDOM % 10000))
     GASNET_PEER_TIMEOUT=1 alone 0 out/tests/messages
 }
 export -f absent
-check "peer absent" 70 "node 1 .* didn't answer" bash -c 'absent; [ $? = 69 ] && exit 70'
+check "peer absent" 70 "node 1 .* didn't come to gasnet_attach" bash -c 'absent; [ $? = 69 ] && exit 70'
 
 # A broken environment is told by one line.
 broken() { check "environment $1" 70 "^gasnet: $2" env "$1" "${@:3}" out/tests/barriers; }
