@@ -109,15 +109,15 @@ done
 check "orphans KILL behind a shell" 0 "" bash -c 'ended KILL 137 sh -c '\''"$0" "$@"; :'\'' out/tests/ends'
 
 # A peer that is gone is found by the others alone, where no gasnetrun looks.
-alone() { # RANK COMMAND..: a node that is started by hand
-    GASNET_NODES=2 GASNET_RANK=$1 GASNET_JOB=7 GASNET_ADDRESSES=127.0.0.1:$port,127.0.0.1:$((port + 1)) "${@:2}"
+alone() { # RANK COMMAND..: this process becomes a node that is started by hand
+    exec env GASNET_NODES=2 GASNET_RANK=$1 GASNET_JOB=7 GASNET_ADDRESSES=127.0.0.1:$port,127.0.0.1:$((port + 1)) "${@:2}"
 }
 gone() { # SIGNAL
     local port=$((20000 + RANDOM % 10000))
-    alone 1 out/tests/ends sleep gone$port &
+    (alone 1 out/tests/ends poll) &
     local other=$! got
     (sleep 1.5; kill "-$1" $other) &
-    alone 0 out/sanitized/tests/ends sleep-not
+    (alone 0 out/sanitized/tests/ends poll)
     got=$?
     kill -KILL $other 2>/dev/null
     return $got
@@ -127,7 +127,7 @@ check "peer killed" 69 "node 1 (127.0.0.1:[0-9]*) is gone" bash -c 'gone KILL'
 check "peer stopped" 69 "node 1 (127.0.0.1:[0-9]*) didn't answer for [0-9.]* s" env GASNET_PEER_TIMEOUT=2 bash -c 'gone STOP'
 absent() {
     local port=$((20000 + RANDOM % 10000))
-    GASNET_PEER_TIMEOUT=1 alone 0 out/tests/messages
+    (GASNET_PEER_TIMEOUT=1 alone 0 out/tests/messages)
 }
 export -f absent
 check "peer absent" 70 "node 1 .* didn't come to gasnet_attach" bash -c 'absent; [ $? = 69 ] && exit 70'
@@ -160,7 +160,7 @@ else
     export OMPI_ALLOW_RUN_AS_ROOT=1 OMPI_ALLOW_RUN_AS_ROOT_CONFIRM=1
     check "$launcher hello" 0 "node 3 of 4" mpirun --oversubscribe -n 4 out/hello
     check "$launcher messages" 0 "" mpirun --oversubscribe -n 4 out/tests/messages
-    check "$launcher transfers" 0 "" mpirun --oversubscribe -n 4 out/sanitized/tests/transfers
+    check "$launcher transfers" 0 "" env ASAN_OPTIONS=detect_leaks=0 mpirun --oversubscribe -n 4 out/sanitized/tests/transfers
     check "$launcher ends" 5 "" mpirun --oversubscribe -n 4 out/tests/ends one 5
 fi
 
