@@ -1,0 +1,223 @@
+/* The exports of the proved static library gasnet_c, as C declares them.
+ *
+ * A node is a value behind a handle. Bytes and times go in, bytes and answers come out: the library has no socket, no
+ * clock, no thread and no global. It calls nothing back.
+ *
+ * What a caller owes stands in docs/GASNET.md, "What C owes". In short: a handle begins as zeros, is never copied and
+ * is read and written by the library alone; each pointer leads to as many values as its length says, and is never null,
+ * not even where there are none; no pointer that is passed leads into the handle or into the node's segment; one call of
+ * a handle at a time, each ordered before the next by a lock, a thread's start or its join; the segment is stored to
+ * between calls alone, and inside its length.
+ *
+ * A handle is dead or whole. Every call of a dead one does nothing, and is told GASNET_C_DEAD. */
+#ifndef GASNET_C_H
+#define GASNET_C_H
+
+#include <stdbool.h>
+#include <stddef.h>
+#include <stdint.h>
+
+#ifdef __cplusplus
+extern "C" {
+#endif
+
+/* What C holds of a node. It begins as zeros. */
+typedef struct {
+    bool live;
+    struct { void *at; } slot;
+} gasnet_c_node;
+
+/* The memory of a node's segment: at least as many bytes as the setup says, all zeros, which nobody has touched. Fresh
+ * pages of the system are best: none is written before it is used. */
+typedef struct {
+    uint8_t *at;
+} gasnet_c_memory;
+
+/* Bytes, and arguments, that a record leads to. */
+typedef struct {
+    const uint8_t *at;
+    size_t len;
+} gasnet_c_bytes;
+
+typedef struct {
+    const int32_t *at;
+    size_t len;
+} gasnet_c_args;
+
+/* How a node of a job is set up. All nodes of a job have the same numbers, but for `me`. */
+typedef struct {
+    uint64_t job;      /* the job's number: datagrams of another job are refused */
+    uint64_t segment;  /* the bytes of each segment: a multiple of 4,096, from 4,096 to 2^40 */
+    uint64_t resend;   /* after which time a request is sent again, in the unit of `now`: 1 to 1,000,000 */
+    uint16_t nodes;    /* 1 to 64 */
+    uint16_t me;       /* this node, from 0 */
+    uint16_t credits;  /* how many requests of a pair may be out: 1 to 32, and over all pairs at most 65,536 */
+} gasnet_c_setup;
+
+/* What an event was answered.
+ *
+ * Where it sends a datagram, that is the first `len` bytes of the caller's buffer, for the node `to`, and `slot` is the
+ * slot that it stands in; where it sends none `len` is 0. (Where the buffer has less than GASNET_C_ROOM bytes and the
+ * datagram doesn't fit, `len` is 0 too: the request is sent again in time.)
+ * Of GASNET_C_RETURNED `to` is the node that replied, and `slot` is the slot of the request that is back.
+ * Of GASNET_C_HANDLE `value` is the handle. What isn't named here is 0. */
+typedef struct {
+    uint32_t code;
+    uint16_t to, slot;
+    uint64_t len, value;
+} gasnet_c_told;
+
+/* The client's handler that a delivery would run, and where its message stands in the bytes that were delivered. */
+typedef struct {
+    uint32_t runs;        /* 0: none; 1: a request's; 2: a reply's */
+    uint32_t from;        /* the sender */
+    uint32_t handler;     /* the handler's index, 128 to 255 */
+    uint32_t category;    /* 0: Short; 1: Medium; 2: Long */
+    uint32_t count;       /* how many arguments there are, 0 to 16 */
+    uint64_t args_at;     /* where the first of them stands: 4 bytes each, big-endian */
+    uint64_t payload_at;  /* where the payload stands */
+    uint64_t payload_len; /* how many bytes it has */
+    uint64_t place;       /* a Long's place: its offset in the own segment */
+} gasnet_c_coming;
+
+/* A request. Where `own` is set its payload are the `source_len` bytes of the own segment from `source` on, and
+ * `payload` isn't read; else it is `payload`. */
+typedef struct {
+    gasnet_c_args args;     /* at most 16 */
+    gasnet_c_bytes payload; /* at most 8,192 bytes; a Short has none, and this isn't read */
+    uint64_t offset;        /* where a Long's payload goes in the target's segment */
+    uint64_t source;
+    uint64_t source_len;
+    uint32_t category; /* 0: Short; 1: Medium; else Long */
+    uint16_t to;       /* the node that is to run it */
+    uint8_t handler;   /* the handler's index, 128 to 255 */
+    bool own;
+} gasnet_c_ask;
+
+/* The reply that a handler asked for. */
+typedef struct {
+    gasnet_c_args args;     /* at most 16 */
+    gasnet_c_bytes payload; /* at most 8,192 bytes, outside the segment */
+    uint64_t offset;        /* where a Long's payload goes in the requester's segment */
+    uint32_t category;      /* 0: Short; 1: Medium; 2: Long; else there is none */
+    uint8_t handler;        /* the handler's index, 128 to 255 */
+} gasnet_c_reply;
+
+/* What a handler did that C ran: the reply that it asked for, and the bytes that stood at a Long's place when it was
+ * done, as a copy. Where there are none the payload stands there as it came. */
+typedef struct {
+    gasnet_c_reply reply;
+    gasnet_c_bytes left;
+} gasnet_c_run;
+
+/* A transfer of `len` bytes between the own segment, from `local` on, and that of node `to`, from `remote` on. */
+typedef struct {
+    uint64_t remote, local, len;
+    uint32_t kind; /* 0: a put; 1: a get; else a memset, whose `local` isn't read */
+    uint16_t to;
+    uint8_t byte;  /* what a memset writes */
+    bool implicit; /* whether it is synchronised as an implicit one */
+} gasnet_c_move;
+
+enum {
+    GASNET_C_ROOM = 8296,    /* the bytes that a datagram has at most: give this room */
+    GASNET_C_PAYLOAD = 8192, /* the bytes of a payload, and of a chunk, at most */
+    GASNET_C_MAX_NODES = 64,
+    GASNET_C_MAX_CREDITS = 32,
+    GASNET_C_ALL_CREDITS = 65536, /* over all ordered pairs of nodes */
+    GASNET_C_OPERATIONS = 256,    /* how many transfers of a node may stand, from their beginning to their sync */
+    /* The byte of a datagram that has its handler's index. Where it is below the first of the client's, a delivery runs
+     * no handler of the client's: gasnet_c_peek says so of each, and may be left out. */
+    GASNET_C_HANDLER_AT = 5,
+    GASNET_C_FIRST_HANDLER = 128
+};
+
+/* The answers, by number. */
+enum {
+    GASNET_C_ACCEPTED = 1,  /* a request has a slot, and is to be sent */
+    GASNET_C_RAN_HERE = 2,  /* a request to the own node: its run, and its reply's, are recorded */
+    GASNET_C_NOT_YET = 3,   /* all credits of the pair are out */
+    GASNET_C_WORN_OUT = 4,  /* the numbers of the pair are used up */
+    GASNET_C_BAD = 5,       /* an argument is bad; nothing happened */
+    GASNET_C_HANDLE = 6,    /* a transfer is under way, or a region ended, under the handle `value` */
+    GASNET_C_DONE = 7,      /* it is done, and has no handle */
+    GASNET_C_TOO_MANY = 8,  /* 256 operations stand; nothing happened */
+    GASNET_C_OK = 9,        /* synchronised; notified; the barrier is complete */
+    GASNET_C_NOT_READY = 10,
+    GASNET_C_MISMATCH = 11, /* the barrier is complete, and its notifies don't match */
+    GASNET_C_RAN = 12,      /* a request's handler ran (a client's, or a transfer's at its target); its reply is sent */
+    GASNET_C_NOTED = 13,    /* a note of the barrier came; its reply is sent */
+    GASNET_C_AGAIN = 14,    /* a request came again; its reply is sent again */
+    GASNET_C_STALE = 15,
+    GASNET_C_RETURNED = 16, /* a reply came: the credit of its request is back */
+    GASNET_C_LATE = 17,
+    GASNET_C_DEFERRED = 18,
+    GASNET_C_REFUSED = 19,  /* bytes that are no message for this node */
+    GASNET_C_NOTHING = 20,  /* a tick had nothing to send */
+    GASNET_C_RESENT = 21,   /* a tick sends a request again */
+    GASNET_C_FORBIDDEN = 22,
+    GASNET_C_OTHER = 23,
+    GASNET_C_NOTE = 24,     /* a tick sends a note of the barrier */
+    GASNET_C_CHUNK = 25,    /* a tick sends the next chunk of the oldest transfer whose target has a credit */
+    GASNET_C_DEAD = 99      /* the handle is dead */
+};
+
+/* Makes a node: 0; or 1 where a limit is broken, 2 for want of memory, 3 where the handle is live already. Its table has
+ * an entry for each index from 128 to 255, which serves requests and replies, and lists no lock.
+ *
+ * Where it answers 0 the memory is the node's segment until the node is freed: C reads and writes it between calls alone.
+ * Else it is C's again. The library never gives it back to anybody. */
+uint32_t gasnet_c_new(gasnet_c_node *node, const gasnet_c_setup *setup, gasnet_c_memory memory);
+
+/* Gives all memory back that the library took. The handle is dead then, as one of zeros, and the segment's memory is C's
+ * again. */
+void gasnet_c_free(gasnet_c_node *node);
+
+/* How many bytes the segment has; 0 of a dead handle. */
+uint64_t gasnet_c_segment(gasnet_c_node *node);
+
+/* A tick: at most one datagram that is due goes out. RESENT, NOTE, CHUNK, or NOTHING. */
+gasnet_c_told gasnet_c_tick(gasnet_c_node *node, uint64_t now, uint8_t *buffer, size_t room);
+
+/* Which handler of the client's a delivery of these bytes would run. It changes nothing. */
+gasnet_c_coming gasnet_c_peek(gasnet_c_node *node, const uint8_t *bytes, size_t len);
+
+/* Delivers bytes. Where `gasnet_c_peek` told of a handler that runs, C ran it before this call and made no other call in
+ * between, and `run` is what it did. Else `run` isn't read. */
+gasnet_c_told gasnet_c_deliver(gasnet_c_node *node, uint64_t now, const uint8_t *bytes, size_t len,
+                               const gasnet_c_run *run, uint8_t *buffer, size_t room);
+
+/* A request to another node. ACCEPTED, NOT_YET, WORN_OUT, BAD. */
+gasnet_c_told gasnet_c_request(gasnet_c_node *node, uint64_t now, const gasnet_c_ask *ask, uint8_t *buffer,
+                               size_t room);
+
+/* A request to the own node, which sends nothing: C ran its handler before this call, and then its reply's where it
+ * asked for one, and made no other call in between. `run` is what the request's handler did, and `reply_left` are the
+ * bytes at the place of a Long reply. Both are as they stand when both handlers are done. RAN_HERE, BAD. */
+gasnet_c_told gasnet_c_request_own(gasnet_c_node *node, uint64_t now, const gasnet_c_ask *ask, const gasnet_c_run *run,
+                                   const uint8_t *reply_left, size_t reply_left_len);
+
+/* Begins a transfer. HANDLE, DONE (no bytes, or the own node), TOO_MANY, BAD. Its chunks are sent by ticks. */
+gasnet_c_told gasnet_c_begin(gasnet_c_node *node, uint64_t now, const gasnet_c_move *what);
+
+/* Tries to synchronise the operation with this handle. OK (and the handle is used up), NOT_READY, BAD. */
+gasnet_c_told gasnet_c_sync(gasnet_c_node *node, uint64_t now, uint64_t handle);
+
+/* Tries to synchronise the implicit operations: 0 for puts and memsets, 1 for gets, else all. */
+gasnet_c_told gasnet_c_sync_implicit(gasnet_c_node *node, uint64_t now, uint32_t which);
+
+/* Begins an access region (DONE), or ends it (HANDLE, or DONE where no operation joined). BAD out of turn. */
+gasnet_c_told gasnet_c_region(gasnet_c_node *node, uint64_t now, bool ends);
+
+/* Notifies the barrier: flags are 0 for a named one, 1 for an anonymous one, 2 for a mismatch. OK; BAD out of turn. Its
+ * notes are sent by ticks. */
+gasnet_c_told gasnet_c_notify(gasnet_c_node *node, uint64_t now, int32_t id, uint8_t flags);
+
+/* Tries the barrier. OK, NOT_READY, MISMATCH; BAD out of turn. */
+gasnet_c_told gasnet_c_try(gasnet_c_node *node, uint64_t now, int32_t id, uint8_t flags);
+
+#ifdef __cplusplus
+}
+#endif
+
+#endif

@@ -1,0 +1,276 @@
+#include <inttypes.h>
+#include <string.h>
+
+#include "errors.h"
+#include "job.h"
+
+enum { SHORT = 0, MEDIUM = 1, LONG = 2, NONE = 3, POLL_EACH = 32, POLL_MOST = 64 };
+
+/* The endpoint takes no null pointer, not even to nothing. */
+static const gasnet_handlerarg_t no_args[1];
+static const uint8_t no_bytes[1];
+
+#define NOTHING { no_bytes, 0 }
+const gasnet_c_run gasnetl_no_run = { { { no_args, 0 }, NOTHING, 0, NONE, 0 }, NOTHING };
+
+size_t gasnet_AMMaxArgs(void) { return GASNETL_ARGS; }
+size_t gasnet_AMMaxMedium(void) { return GASNET_C_PAYLOAD; }
+size_t gasnet_AMMaxLongRequest(void) { return GASNET_C_PAYLOAD; }
+size_t gasnet_AMMaxLongReply(void) { return GASNET_C_PAYLOAD; }
+
+/* ---- The table. */
+
+static int register_entry(struct gasnetl_messages *messages, gasnet_handlerentry_t *entry, bool any) {
+    if (any) {
+        int index = GASNETL_INDEXES - 1;
+        while (index >= GASNETL_FIRST_INDEX && messages->handlers[index])
+            index--;
+        if (index < GASNETL_FIRST_INDEX)
+            return gasnetl_refuse(GASNET_ERR_RESOURCE, "gasnet_attach: the indexes from 128 to 255 are used up");
+        entry->index = (gasnet_handler_t)index;
+    }
+    if (entry->index < GASNETL_FIRST_INDEX)
+        return gasnetl_refuse(GASNET_ERR_BAD_ARG, "gasnet_attach: index %u isn't a client's: use 128 to 255, or 0 for any", entry->index);
+    if (messages->handlers[entry->index])
+        return gasnetl_refuse(GASNET_ERR_BAD_ARG, "gasnet_attach: index %u has two handlers", entry->index);
+    if (!entry->fnptr)
+        return gasnetl_refuse(GASNET_ERR_BAD_ARG, "gasnet_attach: index %u has no function", entry->index);
+    messages->handlers[entry->index] = entry->fnptr;
+    return GASNET_OK;
+}
+
+int gasnetl_register(struct gasnetl_messages *messages, gasnet_handlerentry_t *table, int entries) {
+    if (entries < 0 || (entries && !table))
+        return gasnetl_refuse(GASNET_ERR_BAD_ARG, "gasnet_attach: there is no table of handlers");
+    memset(messages->handlers, 0, sizeof messages->handlers);
+    for (int any = 0; any < 2; any++)
+        for (int i = 0; i < entries; i++) {
+            if ((table[i].index == 0) != any)
+                continue;
+            int code = register_entry(messages, &table[i], any);
+            if (code != GASNET_OK)
+                return code;
+        }
+    return GASNET_OK;
+}
+
+/* ---- A handler runs. */
+
+static void run_handler(struct gasnetl_job *job, gasnet_token_t token, const struct gasnetl_run *run) {
+    gasnetl_handler *handler = job->messages.handlers[run->handler];
+    if (!handler)
+        gasnetl_stop(GASNETL_MISUSE, "a message of node %u came for handler %u, which isn't registered here", token->from, run->handler);
+    gasnetl_thread.token = token;
+    gasnetl_call(handler, token, run);
+    gasnetl_thread.token = NULL;
+    if (gasnetl_thread.locks)
+        gasnetl_stop(GASNETL_MISUSE, "handler %u returned while it held a handler-safe lock", run->handler);
+}
+
+static void token_start(gasnet_token_t token, gasnet_node_t from, bool may_reply) {
+    token->from = from;
+    token->may_reply = may_reply;
+    token->has_replied = false;
+    token->done = gasnetl_no_run;
+}
+
+int gasnet_AMGetMsgSource(gasnet_token_t token, gasnet_node_t *srcindex) {
+    if (!token || token != gasnetl_thread.token || !srcindex)
+        return gasnetl_refuse(GASNET_ERR_BAD_ARG, "gasnet_AMGetMsgSource: the token isn't that of the running handler");
+    *srcindex = token->from;
+    return GASNET_OK;
+}
+
+/* What stands at a Long's place when its handlers are done, where that isn't its payload, as a copy; else nothing. */
+static gasnet_c_bytes what_is_left(const struct gasnetl_run *run, const uint8_t *payload, uint8_t *copy) {
+    gasnet_c_bytes left = NOTHING;
+    if (run->category != LONG || !memcmp(run->payload, payload, run->nbytes))
+        return left;
+    memcpy(copy, run->payload, run->nbytes);
+    return (gasnet_c_bytes){ copy, run->nbytes };
+}
+
+/* ---- A message of another node. */
+
+static void read_args(gasnet_handlerarg_t *args, const uint8_t *bytes, uint32_t count) {
+    for (uint32_t i = 0; i < count; i++, bytes += 4)
+        args[i] = (gasnet_handlerarg_t)((uint32_t)bytes[0] << 24 | (uint32_t)bytes[1] << 16 | (uint32_t)bytes[2] << 8 | bytes[3]);
+}
+
+/* The payload as the handler sees it: a Long's at its place; a Medium's where 8 divides its address. */
+static uint8_t *payload_for(struct gasnetl_job *job, const gasnet_c_coming *coming, uint8_t *payload) {
+    uint8_t *seen = payload;
+    if (coming->category == LONG)
+        seen = job->segment.base + coming->place;
+    else if ((uintptr_t)payload % 8)
+        seen = job->messages.medium;
+    if (seen != payload)
+        memcpy(seen, payload, coming->payload_len);
+    return seen;
+}
+
+/* The handler of a message that is about to be delivered runs. */
+static void run_coming(struct gasnetl_job *job, gasnet_token_t token, const gasnet_c_coming *coming, uint8_t *bytes) {
+    gasnet_handlerarg_t args[GASNETL_ARGS];
+    uint8_t *payload = bytes + coming->payload_at;
+    const struct gasnetl_run run = { (gasnet_handler_t)coming->handler, coming->category, payload_for(job, coming, payload),
+                                     coming->payload_len, coming->count, args };
+    read_args(args, bytes + coming->args_at, coming->count);
+    run_handler(job, token, &run);
+    token->done.left = what_is_left(&run, payload, job->messages.left);
+}
+
+void gasnetl_message_take(struct gasnetl_job *job, uint8_t *bytes, size_t length) {
+    struct gasnetl_token token;
+    if (job->ended) /* no handler runs any more */
+        return;
+    const gasnet_c_coming coming = gasnet_c_peek(&job->node, bytes, length);
+    token_start(&token, (gasnet_node_t)coming.from, coming.runs == 1);
+    if (coming.runs)
+        run_coming(job, &token, &coming, bytes);
+    const gasnet_c_told told = gasnet_c_deliver(&job->node, job->progress.now, bytes, length, &token.done, job->progress.outgoing, GASNET_C_ROOM);
+    gasnetl_told(job, &told);
+    if (coming.runs && told.code != (coming.runs == 1 ? GASNET_C_RAN : GASNET_C_RETURNED))
+        gasnetl_stop(GASNETL_BROKEN, "a delivery was answered %u where its handler ran", told.code);
+}
+
+/* ---- Replies. */
+
+/* What is wrong with a message to a node, if anything is; else the offset of a Long's place. */
+static int judge(const struct gasnetl_job *job, gasnet_node_t node, const struct gasnetl_message *message, uint64_t *offset) {
+    *offset = 0;
+    if (node >= job->nodes)
+        return gasnetl_refuse(GASNET_ERR_BAD_ARG, "a message to node %u: there are %u nodes", node, job->nodes);
+    if (message->handler < GASNETL_FIRST_INDEX)
+        return gasnetl_refuse(GASNET_ERR_BAD_ARG, "a message for handler %u: a client's are 128 to 255", message->handler);
+    if (message->nbytes > GASNET_C_PAYLOAD)
+        return gasnetl_refuse(GASNET_ERR_BAD_ARG, "a message of %zu bytes: the most is %d", message->nbytes, GASNET_C_PAYLOAD);
+    if (message->category == LONG && !gasnetl_far(job, node, message->dest, message->nbytes, offset))
+        return gasnetl_refuse(GASNET_ERR_BAD_ARG, "a Long message to %p of node %u: that isn't in its segment", message->dest, node);
+    return GASNET_OK;
+}
+
+static void judge_reply(gasnet_token_t token) {
+    if (!token || token != gasnetl_thread.token)
+        gasnetl_stop(GASNETL_MISUSE, "gasnet_AMReply: the token isn't that of the running handler");
+    if (gasnetl_thread.locks)
+        gasnetl_stop(GASNETL_MISUSE, "gasnet_AMReply: the handler holds a handler-safe lock");
+    if (!token->may_reply)
+        gasnetl_stop(GASNETL_MISUSE, "gasnet_AMReply: the handler of a reply may not reply");
+    if (token->has_replied)
+        gasnetl_stop(GASNETL_MISUSE, "gasnet_AMReply: the handler replied already");
+}
+
+int gasnetl_reply(gasnet_token_t token, const struct gasnetl_message *message) {
+    struct gasnetl_job *job = &gasnetl_job;
+    uint64_t offset;
+    judge_reply(token);
+    int code = judge(job, token->from, message, &offset);
+    if (code != GASNET_OK)
+        return code;
+    memcpy(token->args, message->args, message->count * sizeof *message->args);
+    if (message->nbytes)
+        memcpy(job->messages.reply, message->source, message->nbytes);
+    token->has_replied = true;
+    token->done.reply = (gasnet_c_reply){ { token->args, message->count }, { job->messages.reply, message->nbytes }, offset,
+                                          (uint32_t)message->category, message->handler };
+    return GASNET_OK;
+}
+
+/* ---- Requests. */
+
+/* Makes the run of a message to the own node: its payload stands where the handler is to see it. */
+static struct gasnetl_run run_here(struct gasnetl_job *job, gasnet_handler_t handler, uint32_t category, uint64_t offset, gasnet_c_bytes payload, gasnet_c_args args) {
+    void *place = category == LONG ? job->segment.base + offset : job->messages.medium;
+    memcpy(place, payload.at, payload.len);
+    return (struct gasnetl_run){ handler, category, place, payload.len, (unsigned)args.len, args.at };
+}
+
+/* The handlers of a request to the own node run: its own, and then that of its reply. What they did is recorded. */
+static void request_here(struct gasnetl_job *job, gasnet_c_ask *ask, const struct gasnetl_message *message) {
+    struct gasnetl_messages *own = &job->messages;
+    struct gasnetl_token token, reply_token;
+    const gasnet_c_reply *reply = &token.done.reply;
+    gasnet_c_bytes reply_left = NOTHING;
+    uint8_t payload[GASNET_C_PAYLOAD];
+    if (message->nbytes)
+        memcpy(payload, message->source, message->nbytes); /* what the request had, whatever its handlers do */
+    ask->payload = (gasnet_c_bytes){ payload, message->nbytes };
+    token_start(&token, job->me, true);
+    const struct gasnetl_run run = run_here(job, ask->handler, ask->category, ask->offset, ask->payload, ask->args);
+    run_handler(job, &token, &run);
+    if (token.has_replied) {
+        token_start(&reply_token, job->me, false);
+        const struct gasnetl_run back = run_here(job, reply->handler, reply->category, reply->offset, reply->payload, reply->args);
+        run_handler(job, &reply_token, &back);
+        reply_left = what_is_left(&back, own->reply, own->reply_left);
+    }
+    token.done.left = what_is_left(&run, payload, own->left);
+    const gasnet_c_told told = gasnet_c_request_own(&job->node, job->progress.now, ask, &token.done, reply_left.at, reply_left.len);
+    if (told.code != GASNET_C_RAN_HERE)
+        gasnetl_stop(GASNETL_BROKEN, "a request to the own node was answered %u", told.code);
+}
+
+static gasnet_c_told ask_once(struct gasnetl_job *job, const gasnet_c_ask *ask) {
+    return gasnet_c_request(&job->node, job->progress.now, ask, job->progress.outgoing, GASNET_C_ROOM);
+}
+
+/* A request to another node; it waits for a credit. */
+static void request_there(struct gasnetl_job *job, gasnet_c_ask *ask, const struct gasnetl_message *message) {
+    unsigned turn = 0;
+    if (message->nbytes && gasnetl_far(job, job->me, message->source, message->nbytes, &ask->source)) {
+        ask->own = true;
+        ask->source_len = message->nbytes;
+    } else if (message->nbytes)
+        ask->payload = (gasnet_c_bytes){ message->source, message->nbytes };
+    gasnet_c_told told = ask_once(job, ask);
+    if (told.code == GASNET_C_NOT_YET) {
+        job->peers.of[ask->to].asking++;
+        do {
+            gasnetl_wait(job, &turn);
+            told = ask_once(job, ask);
+        } while (told.code == GASNET_C_NOT_YET);
+        job->peers.of[ask->to].asking--;
+    }
+    if (told.code != GASNET_C_ACCEPTED)
+        gasnetl_stop(GASNETL_BROKEN, "a request to node %u was answered %u", ask->to, told.code);
+    gasnetl_told(job, &told);
+}
+
+int gasnetl_request(gasnet_node_t node, const struct gasnetl_message *message) {
+    if (!gasnetl_job.attached && !gasnetl_thread.token)
+        return gasnetl_refuse(GASNET_ERR_NOT_INIT, "gasnet_AMRequest is called before gasnet_attach");
+    struct gasnetl_job *job = gasnetl_enter("gasnet_AMRequest");
+    gasnet_c_ask ask = { .args = { message->args, message->count }, .payload = NOTHING, .category = (uint32_t)message->category,
+                         .to = node, .handler = message->handler };
+    int code = judge(job, node, message, &ask.offset);
+    if (code == GASNET_OK) {
+        if (job->progress.since_poll++ >= POLL_EACH)
+            gasnetl_poll(job, POLL_MOST);
+        else
+            job->progress.now = gasnetl_clock();
+        if (node == job->me)
+            request_here(job, &ask, message);
+        else
+            request_there(job, &ask, message);
+    }
+    gasnetl_leave(job);
+    return code;
+}
+
+/* ---- Polls. */
+
+int gasnet_AMPoll(void) {
+    if (!gasnetl_job.attached && !gasnetl_thread.token)
+        return gasnetl_refuse(GASNET_ERR_NOT_INIT, "gasnet_AMPoll is called before gasnet_attach");
+    struct gasnetl_job *job = gasnetl_enter("gasnet_AMPoll");
+    gasnetl_poll(job, POLL_MOST);
+    gasnetl_leave(job);
+    return GASNET_OK;
+}
+
+void gasnetl_block(unsigned *turn) {
+    struct gasnetl_job *job = gasnetl_enter("GASNET_BLOCKUNTIL");
+    gasnetl_wait(job, turn);
+    gasnetl_leave(job);
+}

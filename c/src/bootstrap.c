@@ -1,0 +1,77 @@
+#include "bootstrap.h"
+
+#include <fcntl.h>
+#include <signal.h>
+#include <stdio.h>
+#include <stdlib.h>
+#include <string.h>
+#include <sys/prctl.h>
+#include <unistd.h>
+
+#include "config.h"
+
+/* The node ends with whoever started it: as its parent ends, and as the last writer of the lifeline's pipe does. */
+static bool hold_lifeline(void) {
+    uint64_t line;
+    if (!gasnetl_config_number("GASNET_LIFELINE", 0, 1 << 20, 0, &line))
+        return false;
+    if (!line)
+        return true;
+    prctl(PR_SET_PDEATHSIG, SIGKILL);
+    int pipe = (int)line;
+    if (fcntl(pipe, F_SETFD, FD_CLOEXEC) || fcntl(pipe, F_SETOWN, getpid()) || fcntl(pipe, F_SETSIG, SIGKILL) ||
+        fcntl(pipe, F_SETFL, O_ASYNC | O_NONBLOCK)) {
+        fprintf(stderr, "gasnet: GASNET_LIFELINE is %d, which is no pipe: unset it, or start the program by gasnetrun\n", pipe);
+        return false;
+    }
+    char byte;
+    if (read(pipe, &byte, 1) == 0) /* its end came already */
+        raise(SIGKILL);
+    return true;
+}
+
+static bool read_places(struct gasnetl_start *start, struct gasnetl_places *places) {
+    const char *text = getenv("GASNET_ADDRESSES"), *why = "it isn't set";
+    if (text && gasnetl_places_read(places, start->nodes, text, &why))
+        return true;
+    fprintf(stderr, "gasnet: GASNET_ADDRESSES is broken: %s; set it to HOST:PORT,HOST:PORT,.. with one for each of %u nodes\n",
+            why, start->nodes);
+    return false;
+}
+
+static bool start_by_variables(struct gasnetl_start *start, struct gasnetl_places *places) {
+    uint64_t nodes, rank, job, socket;
+    const uint64_t none = 1 << 20;
+    if (!gasnetl_config_number("GASNET_NODES", 1, GASNET_C_MAX_NODES, 1, &nodes) ||
+        !gasnetl_config_number("GASNET_RANK", 0, nodes - 1, 0, &rank) ||
+        !gasnetl_config_number("GASNET_JOB", 0, UINT64_MAX, 0, &job) ||
+        !gasnetl_config_number("GASNET_SOCKET", 0, none - 1, none, &socket) || !hold_lifeline())
+        return false;
+    start->nodes = (uint16_t)nodes;
+    start->me = (uint16_t)rank;
+    start->job = job;
+    start->socket = socket == none ? -1 : (int)socket;
+    return read_places(start, places);
+}
+
+bool gasnetl_bootstrap(struct gasnetl_start *start, struct gasnetl_places *places) {
+    memset(start, 0, sizeof *start);
+    start->socket = -1;
+    if (getenv("GASNET_RANK") || getenv("GASNET_ADDRESSES"))
+        return start_by_variables(start, places);
+    if (getenv("PMIX_RANK") && getenv("PMIX_NAMESPACE"))
+        return gasnetl_pmix_start(start, places);
+    start->nodes = 1;
+    start->neighbours = 1;
+    return true;
+}
+
+void gasnetl_bootstrap_end(const struct gasnetl_start *start) {
+    if (start->by_pmix)
+        gasnetl_pmix_end();
+}
+
+void gasnetl_bootstrap_abort(const struct gasnetl_start *start, int status) {
+    if (start->by_pmix)
+        gasnetl_pmix_abort(status);
+}

@@ -1,0 +1,20 @@
+/* How the layer refuses, and how it ends a job. */
+#ifndef GASNETL_ERRORS_H
+#define GASNETL_ERRORS_H
+
+struct gasnetl_job;
+
+/* The exit statuses that the layer gives itself (as sysexits.h numbers them). */
+enum {
+    GASNETL_PEER_GONE = 69, /* a peer didn't answer in time */
+    GASNETL_MISUSE = 70,    /* the client broke a rule of the specification */
+    GASNETL_BROKEN = 71     /* the system refused something, or there was no memory */
+};
+
+/* Says one line on standard error, with this node's number, and ends the job with the status. */
+_Noreturn void gasnetl_stop(int status, const char *format, ...) __attribute__((format(printf, 2, 3)));
+
+/* Says one line on standard error, with this node's number, and answers the code: for calls that answer one. */
+int gasnetl_refuse(int code, const char *format, ...) __attribute__((format(printf, 2, 3)));
+
+#endif

@@ -1,0 +1,108 @@
+#include "exit.h"
+
+#include <inttypes.h>
+#include <signal.h>
+#include <stdio.h>
+#include <stdlib.h>
+
+#include "errors.h"
+#include "job.h"
+
+enum {
+    AGAIN = 20000,    /* microseconds between two tellings */
+    QUIET = 300000,   /* of a silence after which nobody lacks an answer of ours */
+    CONFIRM = 1000000 /* for which a forced end waits for the peers' answers */
+};
+
+static bool all(const struct gasnetl_job *job, const bool *flags) {
+    for (uint16_t node = 0; node < job->nodes; node++)
+        if (node != job->me && !flags[node])
+            return false;
+    return true;
+}
+
+/* Whether each peer ends, or knows that it is to, or is gone. */
+static bool all_know(const struct gasnetl_job *job) {
+    for (uint16_t node = 0; node < job->nodes; node++)
+        if (node != job->me && !job->control.has_left[node] && !job->control.knows_we_left[node] && !job->network.is_refused[node])
+            return false;
+    return true;
+}
+
+/* Tells the peers of the end, and serves them, until the time is over, or all that is asked of them came. */
+static bool linger(struct gasnetl_job *job, bool forced, uint64_t time) {
+    uint64_t begun = gasnetl_clock(), told = 0, heard = begun;
+    for (;;) {
+        uint64_t now = gasnetl_clock();
+        bool left = all(job, job->control.has_left);
+        if (forced ? all_know(job) : left && (all(job, job->control.knows_we_left) || now - heard > QUIET))
+            return true;
+        if (now - begun > time)
+            return false;
+        if (now - told >= AGAIN) {
+            gasnetl_tell_end(job, forced);
+            told = now;
+        }
+        if (gasnetl_poll(job, 64))
+            heard = now;
+        else
+            gasnetl_sleep(&job->turns, job->network.socket, 2);
+    }
+}
+
+static void tell_counts(const struct gasnetl_job *job) {
+    const struct gasnetl_network *network = &job->network;
+    fprintf(stderr, "gasnet: node %u: sent %" PRIu64 ", unsent %" PRIu64 ", received %" PRIu64 ", strays %" PRIu64 "\n", job->me,
+            network->sent, network->unsent, network->received, network->strays);
+}
+
+/* Leaves the job. It is done once; whatever is called after it finds the job ended. */
+static void leave(struct gasnetl_job *job, int status, bool forced) {
+    if (job->ended || !job->initialised)
+        return;
+    if (!gasnetl_thread.has_turn)
+        gasnetl_take_turn(&job->turns);
+    gasnetl_thread.leaves = true;
+    job->ended = true;
+    job->control.code = status;
+    if (gasnetl_thread.token)
+        job->attached = false; /* its message is never delivered, so the endpoint gets no further event */
+    fflush(NULL);
+    if (job->nodes > 1 && !linger(job, forced, forced ? CONFIRM : job->config.exit_timeout) && !forced)
+        linger(job, true, CONFIRM);
+    if (job->config.tells_counts)
+        tell_counts(job);
+    job->attached = false;
+    gasnetl_transfers_end(&job->transfers);
+    gasnet_c_free(&job->node);
+    gasnetl_network_close(&job->network);
+    if (status)
+        gasnetl_bootstrap_abort(&job->start, status);
+    gasnetl_bootstrap_end(&job->start);
+    gasnetl_give_turn(&job->turns);
+}
+
+static void at_exit(int status, void *nothing) {
+    (void)nothing;
+    leave(&gasnetl_job, status, status != 0);
+}
+
+void gasnetl_exit_start(void) { on_exit(at_exit, NULL); }
+
+void gasnetl_end_all(struct gasnetl_job *job, int status) {
+    leave(job, status, true);
+    exit(status);
+}
+
+void gasnetl_end_by_peer(struct gasnetl_job *job, int status) {
+    struct sigaction action;
+    if (!sigaction(SIGQUIT, NULL, &action) && action.sa_handler != SIG_DFL && action.sa_handler != SIG_IGN)
+        raise(SIGQUIT); /* the client's handler may call gasnet_exit */
+    leave(job, status, true);
+    exit(status);
+}
+
+void gasnet_exit(int exitcode) {
+    leave(&gasnetl_job, exitcode, exitcode != 0);
+    exit(exitcode);
+}

@@ -1,0 +1,197 @@
+/* gasnetrun -n N PROGRAM ARGS: starts N nodes of a GASNet program on this host, and ends with the first status that isn't 0. */
+#include <arpa/inet.h>
+#include <errno.h>
+#include <fcntl.h>
+#include <inttypes.h>
+#include <netinet/in.h>
+#include <signal.h>
+#include <stdbool.h>
+#include <stdio.h>
+#include <stdlib.h>
+#include <string.h>
+#include <sys/prctl.h>
+#include <sys/random.h>
+#include <sys/signalfd.h>
+#include <sys/wait.h>
+#include <poll.h>
+#include <unistd.h>
+
+#include "gasnet_c.h"
+#include "network.h"
+
+enum { NODES = GASNET_C_MAX_NODES, USAGE = 64, REFUSED = 71, GRACE = 1000, LAST = 2000, TEXT = 24 };
+
+struct run {
+    int nodes, alive;
+    int sockets[NODES];
+    char addresses[NODES * TEXT];
+    pid_t children[NODES];
+    int lifeline[2]; /* a pipe whose writing end this process alone has: the nodes end as it does */
+    int signals;
+    int status;      /* the first that isn't 0 */
+    int ends;        /* 0: no; 1: a node failed, the others may end by themselves; 2: TERM was sent; 3: KILL was */
+};
+
+static _Noreturn void fail(const char *what) {
+    fprintf(stderr, "gasnetrun: %s (%s)\n", what, strerror(errno));
+    exit(REFUSED);
+}
+
+static int usage(void) {
+    fprintf(stderr, "usage: gasnetrun -n N PROGRAM ARGS    (N from 1 to %d)\n", NODES);
+    return USAGE;
+}
+
+/* A socket of each node on this host, at any free port. */
+static void make_sockets(struct run *run) {
+    size_t length = 0;
+    for (int node = 0; node < run->nodes; node++) {
+        struct sockaddr_in address = { .sin_family = AF_INET, .sin_addr.s_addr = htonl(INADDR_LOOPBACK) };
+        socklen_t size = sizeof address;
+        run->sockets[node] = gasnetl_network_bind((struct sockaddr *)&address, size);
+        if (run->sockets[node] < 0 || getsockname(run->sockets[node], (struct sockaddr *)&address, &size))
+            fail("no socket can be had");
+        length += (size_t)snprintf(run->addresses + length, TEXT, "%s127.0.0.1:%u", node ? "," : "", ntohs(address.sin_port));
+    }
+}
+
+static void set_number(const char *name, uint64_t value) {
+    char text[TEXT];
+    snprintf(text, sizeof text, "%" PRIu64, value);
+    if (setenv(name, text, 1))
+        fail("there is no memory");
+}
+
+static void set_job(const struct run *run) {
+    uint64_t job;
+    if (getrandom(&job, sizeof job, 0) != sizeof job)
+        fail("no random number can be had");
+    set_number("GASNET_JOB", job);
+    set_number("GASNET_NODES", (uint64_t)run->nodes);
+    set_number("GASNET_LIFELINE", (uint64_t)run->lifeline[0]);
+    if (setenv("GASNET_ADDRESSES", run->addresses, 1))
+        fail("there is no memory");
+}
+
+static _Noreturn void become_node(const struct run *run, int node, pid_t parent, char **words) {
+    sigset_t none;
+    prctl(PR_SET_PDEATHSIG, SIGKILL);
+    if (getppid() != parent)
+        exit(REFUSED);
+    sigemptyset(&none);
+    sigprocmask(SIG_SETMASK, &none, NULL);
+    set_number("GASNET_RANK", (uint64_t)node);
+    set_number("GASNET_SOCKET", (uint64_t)run->sockets[node]);
+    fcntl(run->sockets[node], F_SETFD, 0);
+    fcntl(run->lifeline[0], F_SETFD, 0);
+    execvp(words[0], words);
+    fprintf(stderr, "gasnetrun: %s can't be started (%s)\n", words[0], strerror(errno));
+    _exit(127);
+}
+
+static void start(struct run *run, char **words) {
+    pid_t parent = getpid();
+    for (int node = 0; node < run->nodes; node++) {
+        pid_t child = fork();
+        if (child < 0)
+            fail("no process can be had");
+        if (!child)
+            become_node(run, node, parent, words);
+        run->children[node] = child;
+        run->alive++;
+    }
+    for (int node = 0; node < run->nodes; node++)
+        close(run->sockets[node]);
+    close(run->lifeline[0]);
+}
+
+static void end_all(struct run *run, int signal) {
+    for (int node = 0; node < run->nodes; node++)
+        if (run->children[node])
+            kill(run->children[node], signal);
+}
+
+/* Goes one step further in ending the job. */
+static void end_more(struct run *run) {
+    if (run->ends < 3)
+        run->ends++;
+    if (run->ends == 2)
+        end_all(run, SIGTERM);
+    if (run->ends == 3) {
+        close(run->lifeline[1]);
+        end_all(run, SIGKILL);
+    }
+}
+
+static void note_end(struct run *run, int node, int how) {
+    int status = WIFSIGNALED(how) ? 128 + WTERMSIG(how) : WEXITSTATUS(how);
+    run->children[node] = 0;
+    run->alive--;
+    if (!status || run->status)
+        return;
+    run->status = status;
+    if (WIFSIGNALED(how))
+        fprintf(stderr, "gasnetrun: node %d was ended by signal %d (%s); the others are ended\n", node, WTERMSIG(how), strsignal(WTERMSIG(how)));
+    else
+        fprintf(stderr, "gasnetrun: node %d ended with status %d; the others are ended\n", node, status);
+    if (!run->ends)
+        end_more(run);
+    if (WIFSIGNALED(how)) /* it can't have told the others */
+        end_more(run);
+}
+
+static void reap(struct run *run) {
+    int how;
+    pid_t child;
+    while ((child = waitpid(-1, &how, WNOHANG)) > 0)
+        for (int node = 0; node < run->nodes; node++)
+            if (run->children[node] == child)
+                note_end(run, node, how);
+}
+
+/* Waits for a signal: of a child, or one that ends the job. */
+static void wait_once(struct run *run) {
+    struct pollfd ready = { .fd = run->signals, .events = POLLIN };
+    struct signalfd_siginfo signal;
+    int time = run->ends == 0 ? -1 : run->ends == 1 ? GRACE : LAST;
+    int got = poll(&ready, 1, time);
+    if (got == 0)
+        end_more(run);
+    if (got <= 0 || read(run->signals, &signal, sizeof signal) != sizeof signal || signal.ssi_signo == SIGCHLD)
+        return;
+    if (!run->status)
+        run->status = 128 + (int)signal.ssi_signo;
+    if (run->ends < 2)
+        run->ends = 1;
+    end_more(run);
+}
+
+static void catch_signals(struct run *run) {
+    sigset_t set;
+    sigemptyset(&set);
+    for (int i = 0; i < 4; i++)
+        sigaddset(&set, (const int[]){ SIGCHLD, SIGTERM, SIGINT, SIGHUP }[i]);
+    sigprocmask(SIG_BLOCK, &set, NULL);
+    run->signals = signalfd(-1, &set, SFD_CLOEXEC);
+    if (run->signals < 0 || pipe2(run->lifeline, O_CLOEXEC))
+        fail("no signals can be had");
+}
+
+int main(int argc, char **argv) {
+    static struct run run;
+    char *end;
+    if (argc < 4 || strcmp(argv[1], "-n"))
+        return usage();
+    run.nodes = (int)strtol(argv[2], &end, 10);
+    if (*end || run.nodes < 1 || run.nodes > NODES)
+        return usage();
+    catch_signals(&run);
+    make_sockets(&run);
+    set_job(&run);
+    start(&run, argv + 3);
+    while (run.alive) {
+        wait_once(&run);
+        reap(&run);
+    }
+    return run.status;
+}

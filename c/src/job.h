@@ -1,0 +1,41 @@
+/* The job as this process sees it: all that the layer keeps. GASNet's calls have no parameter for it, so one value of it
+ * exists, in job.c; every other function is handed a pointer. */
+#ifndef GASNETL_JOB_H
+#define GASNETL_JOB_H
+
+#include <stdbool.h>
+#include <stdint.h>
+
+#include "bootstrap.h"
+#include "config.h"
+#include "control.h"
+#include "gasnet.h"
+#include "gasnet_c.h"
+#include "messages.h"
+#include "network.h"
+#include "peers.h"
+#include "progress.h"
+#include "segment.h"
+#include "threads.h"
+#include "transfers.h"
+
+struct gasnetl_job {
+    gasnet_node_t me, nodes;
+    bool initialised, attached, ended;
+    struct gasnetl_start start;
+    struct gasnetl_config config;
+    struct gasnetl_network network;
+    gasnet_c_node node; /* the proved endpoint */
+    struct gasnetl_segment segment;
+    struct gasnetl_turns turns;
+    struct gasnetl_peers peers;
+    struct gasnetl_progress progress;
+    struct gasnetl_messages messages;
+    struct gasnetl_transfers transfers;
+    struct gasnetl_control control;
+};
+
+/* The one job. Only the functions of gasnet.h, and those that end a process, name it. */
+extern struct gasnetl_job gasnetl_job;
+
+#endif

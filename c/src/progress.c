@@ -1,0 +1,187 @@
+#include "progress.h"
+
+#include <time.h>
+#include <unistd.h>
+
+#include "errors.h"
+#include "job.h"
+
+enum {
+    LOOK = 1000,       /* microseconds between two looks for what is to be sent again */
+    TICKS = 64,        /* the datagrams that one round sends at most */
+    SPIN = 400,        /* the empty looks before a call that waits sleeps, where each node has a processor */
+    SLEEP = 100,       /* milliseconds that it sleeps at most, where nothing is out */
+    SLEEP_THREADED = 5 /* the same where another thread may see what it waits for */
+};
+
+uint64_t gasnetl_clock(void) {
+    struct timespec time;
+    clock_gettime(CLOCK_MONOTONIC, &time);
+    return (uint64_t)time.tv_sec * 1000000 + (uint64_t)time.tv_nsec / 1000;
+}
+
+void gasnetl_progress_start(struct gasnetl_job *job) {
+    struct gasnetl_progress *progress = &job->progress;
+    long processors = sysconf(_SC_NPROCESSORS_ONLN);
+    unsigned neighbours = job->start.neighbours ? job->start.neighbours : job->nodes;
+    progress->credits = GASNET_C_MAX_CREDITS;
+    while (progress->credits > 1 && job->nodes * (job->nodes - 1u) * progress->credits > GASNET_C_ALL_CREDITS)
+        progress->credits--;
+    progress->wait_mode = GASNET_WAIT_SPINBLOCK;
+    progress->spin = SPIN;
+    if (job->config.spin >= 0)
+        progress->spin = (unsigned)job->config.spin;
+    else if (processors < 1 || neighbours > (unsigned long)processors)
+        progress->spin = 1;
+}
+
+/* ---- What is sent. */
+
+static void transmit(struct gasnetl_job *job, const gasnet_c_told *told) {
+    if (told->len)
+        gasnetl_network_send(&job->network, told->to, job->progress.outgoing, told->len);
+}
+
+/* A new request is out. */
+static void went_out(struct gasnetl_job *job, const gasnet_c_told *told) {
+    gasnetl_peer_asked(job, told->to);
+    job->progress.out++;
+    transmit(job, told);
+}
+
+/* Of a request and a chunk that want the same credit, each gets every other one. */
+static bool chunk_may_go(struct gasnetl_peer *peer) {
+    if (!peer->asking)
+        return true;
+    peer->chunk_goes = !peer->chunk_goes;
+    return peer->chunk_goes;
+}
+
+static bool tick(struct gasnetl_job *job) {
+    struct gasnetl_progress *progress = &job->progress;
+    gasnet_c_told told = gasnet_c_tick(&job->node, progress->now, progress->outgoing, GASNET_C_ROOM);
+    gasnetl_told(job, &told);
+    return told.code != GASNET_C_NOTHING;
+}
+
+static void came_back(struct gasnetl_job *job, const gasnet_c_told *told) {
+    struct gasnetl_progress *progress = &job->progress;
+    job->peers.of[told->to].out--;
+    progress->out--;
+    gasnetl_chunk_back(job, told->to, told->slot);
+    if (progress->has_notes)
+        tick(job);
+    gasnetl_send_chunks(job, told->to);
+}
+
+/* Nothing is due. A note that is due had no credit, or there is none. */
+static void nothing_due(struct gasnetl_progress *progress) {
+    progress->next_look = progress->now + LOOK;
+    if (progress->out < progress->credits)
+        progress->has_notes = false;
+}
+
+void gasnetl_told(struct gasnetl_job *job, const gasnet_c_told *told) {
+    switch (told->code) {
+    case GASNET_C_NOTED:
+        job->progress.has_notes = true;
+        transmit(job, told);
+        break;
+    case GASNET_C_RAN:
+    case GASNET_C_AGAIN:
+    case GASNET_C_RESENT:
+        transmit(job, told);
+        break;
+    case GASNET_C_RETURNED:
+        came_back(job, told);
+        break;
+    case GASNET_C_CHUNK:
+        gasnetl_chunk_out(job, told->to, told->slot);
+        went_out(job, told);
+        break;
+    case GASNET_C_ACCEPTED:
+    case GASNET_C_NOTE:
+        went_out(job, told);
+        break;
+    case GASNET_C_NOTHING:
+        nothing_due(&job->progress);
+        break;
+    case GASNET_C_DEAD:
+        gasnetl_stop(GASNETL_BROKEN, "the endpoint is gone");
+    default: /* refused, stale, late: nothing happened */
+        break;
+    }
+}
+
+void gasnetl_send_chunks(struct gasnetl_job *job, uint16_t to) {
+    struct gasnetl_peer *peer = &job->peers.of[to];
+    while (gasnetl_has_chunk(&job->transfers, to) && peer->out < job->progress.credits && chunk_may_go(peer))
+        if (!tick(job))
+            break;
+}
+
+void gasnetl_tick(struct gasnetl_job *job) {
+    for (int sent = 0; sent < TICKS && tick(job); sent++)
+        continue;
+}
+
+/* ---- What comes. */
+
+static void take(struct gasnetl_job *job, uint16_t from, uint8_t *bytes, size_t length) {
+    struct gasnetl_progress *progress = &job->progress;
+    gasnetl_peer_heard(job, from);
+    if (gasnetl_control_is(bytes, length)) {
+        gasnetl_control_take(job, from, bytes);
+        return;
+    }
+    if (!job->attached) /* it comes again */
+        return;
+    if (length > GASNET_C_HANDLER_AT && bytes[GASNET_C_HANDLER_AT] >= GASNET_C_FIRST_HANDLER) {
+        gasnetl_message_take(job, bytes, length);
+        return;
+    }
+    gasnet_c_told told = gasnet_c_deliver(&job->node, progress->now, bytes, length, &gasnetl_no_run, progress->outgoing, GASNET_C_ROOM);
+    gasnetl_told(job, &told);
+}
+
+bool gasnetl_poll(struct gasnetl_job *job, int most) {
+    struct gasnetl_progress *progress = &job->progress;
+    int came = 0;
+    size_t length;
+    uint16_t from;
+    progress->now = gasnetl_clock();
+    progress->since_poll = 0;
+    while (job->nodes > 1 && came < most &&
+           (length = gasnetl_network_receive(&job->network, progress->incoming, sizeof progress->incoming, &from))) {
+        take(job, from, progress->incoming, length);
+        came++;
+    }
+    if (job->attached && (progress->has_notes || (progress->out && progress->now >= progress->next_look)))
+        gasnetl_tick(job);
+    gasnetl_peers_look(job);
+    if (came)
+        gasnetl_wake(&job->turns);
+    return came;
+}
+
+/* How long a call that waits may sleep: until a request may be due again. */
+static int sleep_time(const struct gasnetl_job *job) {
+    if (job->progress.out)
+        return 1;
+    return job->turns.threaded ? SLEEP_THREADED : SLEEP;
+}
+
+void gasnetl_wait(struct gasnetl_job *job, unsigned *turn) {
+    const struct gasnetl_progress *progress = &job->progress;
+    if (gasnetl_poll(job, 1)) {
+        *turn = 0;
+        return;
+    }
+    ++*turn;
+    bool sleeps = progress->wait_mode == GASNET_WAIT_BLOCK ||
+                  (progress->wait_mode == GASNET_WAIT_SPINBLOCK && *turn >= progress->spin);
+    if (sleeps)
+        gasnetl_sleep(&job->turns, job->network.socket, sleep_time(job));
+    else if (gasnetl_is_wanted(&job->turns))
+        gasnetl_sleep(&job->turns, job->network.socket, 0);
+}

@@ -1,0 +1,49 @@
+/* Progress: datagrams that came are delivered, and what is due is sent. */
+#ifndef GASNETL_PROGRESS_H
+#define GASNETL_PROGRESS_H
+
+#include <stdbool.h>
+#include <stddef.h>
+#include <stdint.h>
+
+#include "gasnet.h"
+#include "gasnet_c.h"
+
+struct gasnetl_job;
+
+struct gasnetl_progress {
+    uint64_t now;            /* the time of this round, in microseconds */
+    uint64_t next_look;      /* when a tick looks next for what is to be sent again */
+    unsigned out;            /* the requests to all peers that aren't back */
+    unsigned credits;        /* how many may be out to one peer */
+    bool has_notes;          /* a note of the barrier may be due */
+    unsigned since_poll;     /* requests since the last poll */
+    int wait_mode;
+    unsigned spin;           /* the empty looks of a call that waits, before it sleeps */
+    uint8_t incoming[GASNET_C_ROOM + 8];
+    uint8_t outgoing[GASNET_C_ROOM];
+};
+
+/* The time, in microseconds. */
+uint64_t gasnetl_clock(void);
+
+/* Makes ready: how many credits a pair of nodes has, and how calls wait. */
+void gasnetl_progress_start(struct gasnetl_job *job);
+
+/* Takes up to `most` datagrams that came, and sends what is due. Whether any came. */
+bool gasnetl_poll(struct gasnetl_job *job, int most);
+
+/* A round of a call that waits: takes one datagram, or, where none came for a while, sleeps until one comes. `turn` is 0 at
+ * first. Another thread may have its turn meanwhile. */
+void gasnetl_wait(struct gasnetl_job *job, unsigned *turn);
+
+/* Does what an answer of the endpoint wants done: sends its datagram, and counts. */
+void gasnetl_told(struct gasnetl_job *job, const gasnet_c_told *told);
+
+/* Sends chunks of transfers to a node while there are some and it has credits, but for those that requests wait for. */
+void gasnetl_send_chunks(struct gasnetl_job *job, uint16_t to);
+
+/* Ticks until nothing is due. */
+void gasnetl_tick(struct gasnetl_job *job);
+
+#endif

@@ -1,0 +1,21 @@
+#include "segment.h"
+
+#include <sys/mman.h>
+
+#include "job.h"
+
+bool gasnetl_segment_open(struct gasnetl_segment *segment, uint64_t length) {
+    void *pages = mmap(NULL, length, PROT_READ | PROT_WRITE, MAP_PRIVATE | MAP_ANONYMOUS | MAP_NORESERVE, -1, 0);
+    if (pages == MAP_FAILED)
+        return false;
+    segment->base = pages;
+    return true;
+}
+
+bool gasnetl_far(const struct gasnetl_job *job, gasnet_node_t node, const void *at, size_t nbytes, uint64_t *offset) {
+    uintptr_t from = (uintptr_t)at, base = (uintptr_t)job->segment.bases[node], size = job->segment.sizes[node];
+    if (from < base || from - base > size || nbytes > size - (from - base))
+        return false;
+    *offset = from - base;
+    return true;
+}

@@ -1,0 +1,52 @@
+/* How a job ends: the first argument says in which way. */
+#define GASNET_SEQ 1
+#include <signal.h>
+#include <unistd.h>
+
+#include "check.h"
+
+enum { EXIT = 128 };
+
+static void exit_handler(gasnet_token_t token, gasnet_handlerarg_t status) {
+    (void)token;
+    gasnet_exit(status);
+}
+
+static void quit(int signal) {
+    (void)signal;
+    (void)!write(1, "quit\n", 5);
+    gasnet_exit(9);
+}
+
+static _Noreturn void poll_on(void) {
+    for (;;)
+        GASNET_BLOCKUNTIL(false);
+}
+
+int main(int argc, char **argv) {
+    gasnet_handlerentry_t table[] = { { EXIT, exit_handler } };
+    const char *way = argc > 1 ? argv[1] : "";
+    int status = argc > 2 ? atoi(argv[2]) : 0;
+    start(&argc, &argv, table, 1, GASNET_PAGESIZE);
+    barrier();
+    int last = me == nodes - 1;
+    if (!strcmp(way, "all"))
+        gasnet_exit(status);
+    if (!strcmp(way, "return"))
+        return status;
+    if (!strcmp(way, "one") && last)
+        gasnet_exit(status);
+    if (!strcmp(way, "handler") && last)
+        GASNET_SAFE(gasnet_AMRequestShort1(0, EXIT, status));
+    if (!strcmp(way, "signal") && last)
+        raise(status);
+    if (!strcmp(way, "quit")) {
+        if (last)
+            gasnet_exit(status);
+        signal(SIGQUIT, quit);
+    }
+    if (!strcmp(way, "sleep"))
+        for (;;)
+            pause();
+    poll_on();
+}

@@ -1,0 +1,122 @@
+/* Breaks the rule of the specification that its argument names. Each ends the job with status 70 and a line. */
+#define GASNET_SEQ 1
+#include "check.h"
+
+enum { RUN = 128, RUN_REPLY = 129, NOBODY = 222 };
+
+static const char *rule;
+static gasnet_hsl_t first = GASNET_HSL_INITIALIZER, second = GASNET_HSL_INITIALIZER;
+
+static bool is(const char *name) { return !strcmp(rule, name); }
+
+static void run(gasnet_token_t token) {
+    char byte;
+    if (is("request-in-handler"))
+        gasnet_AMRequestShort0(0, RUN);
+    if (is("put-in-handler"))
+        gasnet_put_val(0, at(0, 0), 1, 1);
+    if (is("get-in-handler"))
+        gasnet_get(&byte, 0, at(0, 0), 1);
+    if (is("poll-in-handler"))
+        gasnet_AMPoll();
+    if (is("barrier-in-handler"))
+        gasnet_barrier_notify(0, 0);
+    if (is("sync-in-handler"))
+        gasnet_wait_syncnbi_all();
+    if (is("reply-under-lock") || is("handler-keeps-lock"))
+        gasnet_hsl_lock(&first);
+    if (!is("handler-keeps-lock"))
+        gasnet_AMReplyShort0(token, RUN_REPLY);
+    if (is("second-reply"))
+        gasnet_AMReplyShort0(token, RUN_REPLY);
+}
+
+static void run_reply(gasnet_token_t token) {
+    if (is("reply-in-reply"))
+        gasnet_AMReplyShort0(token, RUN_REPLY);
+}
+
+static void break_lock(void) {
+    if (is("lock-twice")) {
+        gasnet_hsl_lock(&first);
+        gasnet_hsl_lock(&first);
+    }
+    if (is("trylock-twice")) {
+        gasnet_hsl_lock(&first);
+        gasnet_hsl_trylock(&first);
+    }
+    if (is("unlock-free"))
+        gasnet_hsl_unlock(&first);
+    if (is("unlock-out-of-order")) {
+        gasnet_hsl_lock(&first);
+        gasnet_hsl_lock(&second);
+        gasnet_hsl_unlock(&first);
+    }
+    if (is("poll-under-lock")) {
+        gasnet_hsl_lock(&first);
+        gasnet_AMPoll();
+    }
+    if (is("destroy-held")) {
+        gasnet_hsl_lock(&first);
+        gasnet_hsl_destroy(&first);
+    }
+    if (is("hold-twice")) {
+        gasnet_hold_interrupts();
+        gasnet_hold_interrupts();
+    }
+    if (is("resume-alone"))
+        gasnet_resume_interrupts();
+    if (is("poll-in-section")) {
+        gasnet_hold_interrupts();
+        gasnet_AMPoll();
+    }
+}
+
+static void break_transfer(void) {
+    char byte = 0;
+    if (is("put-outside"))
+        gasnet_put(0, at(0, GASNET_PAGESIZE), &byte, 1);
+    if (is("get-before"))
+        gasnet_get(&byte, 0, at(0, 0) - 1, 1);
+    if (is("put-to-nobody"))
+        gasnet_put((gasnet_node_t)nodes, at(0, 0), &byte, 1);
+    if (is("value-of-9"))
+        gasnet_put_val(0, at(0, 0), 1, 9);
+    if (is("region-twice")) {
+        gasnet_begin_nbi_accessregion();
+        gasnet_begin_nbi_accessregion();
+    }
+    if (is("region-none"))
+        gasnet_end_nbi_accessregion();
+    if (is("sync-in-region")) {
+        gasnet_begin_nbi_accessregion();
+        gasnet_wait_syncnbi_all();
+    }
+}
+
+static void break_barrier(void) {
+    if (is("notify-twice")) {
+        gasnet_barrier_notify(1, 0);
+        gasnet_barrier_notify(1, 0);
+    }
+    if (is("wait-alone"))
+        gasnet_barrier_wait(1, 0);
+    if (is("flags-unknown"))
+        gasnet_barrier_notify(1, 8);
+}
+
+int main(int argc, char **argv) {
+    gasnet_handlerentry_t table[] = { { RUN, run }, { RUN_REPLY, run_reply } };
+    if (argc != 2)
+        return 2;
+    rule = argv[1];
+    if (is("put-before-attach"))
+        gasnet_put_val(0, table, 1, 1);
+    start(&argc, &argv, table, 2, GASNET_PAGESIZE);
+    break_lock();
+    break_transfer();
+    break_barrier();
+    gasnet_AMRequestShort0((gasnet_node_t)(nodes - 1), is("handler-of-nobody") ? NOBODY : RUN);
+    for (;;)
+        gasnet_AMPoll();
+}

@@ -1,0 +1,168 @@
+#!/bin/bash
+# Runs the tests: tests/run.sh [WORD], those whose name has the word. Each has a time limit, and a log in out/logs.
+# GASNET_TEST_QUICK=1 leaves out the loss of 10 % and the eight nodes.
+cd "$(dirname "$0")/.." || exit 2
+word=${1:-}
+limit=${GASNET_TEST_LIMIT:-150}
+passed=0 failed=0 skipped=0
+rm -rf out/logs
+mkdir -p out/logs
+export ASAN_OPTIONS=abort_on_error=0 UBSAN_OPTIONS=print_stacktrace=1
+
+wanted() { [[ "$1" == *"$word"* ]]; }
+
+tell() { # NAME BEGUN OUTCOME LOG
+    local took=$(($(date +%s%N) / 1000000 - $2))
+    if [ "$3" = ok ]; then
+        passed=$((passed + 1))
+        echo "ok      $1 ($took ms)"
+    else
+        failed=$((failed + 1))
+        echo "FAILED  $1 ($took ms): $3; $4 ends with"
+        tail -5 "$4" | sed 's/^/        /'
+    fi
+}
+
+# check NAME STATUS PATTERN COMMAND..: the command ends with this status in time, and its output has the pattern.
+check() {
+    local name=$1 status=$2 pattern=$3
+    shift 3
+    wanted "$name" || return
+    local log="out/logs/${name//[ \/]/_}.log" begun=$(($(date +%s%N) / 1000000)) outcome=ok
+    timeout -k 5 "$limit" "$@" >"$log" 2>&1
+    local got=$?
+    [ "$got" = "$status" ] || outcome="status $got where $status is wanted"
+    [ "$outcome" = ok ] && [ -n "$pattern" ] && ! grep -q -e "$pattern" "$log" && outcome="no '$pattern' in its output"
+    tell "$name" "$begun" "$outcome" "$log"
+}
+
+skip() {
+    wanted "$1" || return
+    skipped=$((skipped + 1))
+    echo "skipped $1: $2"
+}
+
+# What the specification says, call by call, over clean and lossy networks, with and without sanitizers.
+sizes="1 2 4 8" losses="0 10 30"
+[ -n "$GASNET_TEST_QUICK" ] && sizes="1 2 4" losses="0 30"
+for build in out out/sanitized; do
+    kind=${build#out}
+    kind=${kind:+ sanitized}
+    for test in queries messages transfers barriers locks threads strangers; do
+        for n in $sizes; do
+            for loss in $losses; do
+                [ "$n" = 1 ] && [ "$loss" != 0 ] && continue
+                [ "$test" = strangers ] && [ "$loss" != 0 ] && continue
+                check "$test n=$n loss=$loss$kind" 0 "" env GASNET_DROP="$loss" GASNET_TWICE="$loss" GASNET_SWAP="$loss" \
+                    GASNET_SEED="$n" bin/gasnetrun -n "$n" "$build/tests/$test"
+            done
+        done
+    done
+done
+
+check "strangers are counted" 0 "strays [1-9]" env GASNET_COUNTS=1 bin/gasnetrun -n 2 out/tests/strangers
+
+# Each rule that is broken ends the job with a line.
+for rule in request-in-handler put-in-handler get-in-handler poll-in-handler barrier-in-handler sync-in-handler \
+    reply-under-lock handler-keeps-lock second-reply reply-in-reply lock-twice trylock-twice unlock-free \
+    unlock-out-of-order poll-under-lock destroy-held hold-twice resume-alone poll-in-section put-outside get-before \
+    put-to-nobody value-of-9 region-twice region-none sync-in-region notify-twice wait-alone flags-unknown \
+    handler-of-nobody put-before-attach; do
+    check "rule $rule" 70 "^gasnet: " bin/gasnetrun -n 2 out/sanitized/tests/rules "$rule"
+done
+
+# How a job ends.
+for build in out out/sanitized; do
+    kind=${build#out}
+    kind=${kind:+ sanitized}
+    check "end all 0$kind" 0 "" bin/gasnetrun -n 3 $build/tests/ends all 0
+    check "end all 3$kind" 3 "" bin/gasnetrun -n 3 $build/tests/ends all 3
+    check "end return 0$kind" 0 "" bin/gasnetrun -n 3 $build/tests/ends return 0
+    check "end return 4$kind" 4 "" bin/gasnetrun -n 3 $build/tests/ends return 4
+    check "end one 5$kind" 5 "" bin/gasnetrun -n 3 $build/tests/ends one 5
+    check "end one 0$kind" 0 "" env GASNET_EXIT_TIMEOUT=1 bin/gasnetrun -n 3 $build/tests/ends one 0
+    check "end handler 6$kind" 6 "" bin/gasnetrun -n 3 $build/tests/ends handler 6
+    check "end quit$kind" 9 "^quit" bin/gasnetrun -n 3 $build/tests/ends quit 5
+done
+check "end one 5 with loss" 5 "" env GASNET_DROP=30 bin/gasnetrun -n 8 out/tests/ends one 5
+check "end all 0 with loss" 0 "" env GASNET_DROP=30 bin/gasnetrun -n 8 out/tests/ends all 0
+check "end signal" 137 "node 2 was ended by signal 9" bin/gasnetrun -n 3 out/tests/ends signal 9
+
+# gasnetrun that is ended leaves no node behind, nor one that its nodes started.
+nodes_of() { pgrep -f "tests/ends sleep $1\$" | wc -l; }
+ended() { # SIGNAL STATUS COMMAND..: 0 where all nodes are gone soon after
+    local signal=$1 status=$2 mark=$RANDOM$RANDOM
+    bin/gasnetrun -n 3 "${@:3}" sleep "$mark" &
+    local runner=$!
+    for _ in $(seq 100); do [ "$(nodes_of "$mark")" -ge 3 ] && break; sleep 0.05; done
+    sleep 0.3
+    kill "-$signal" "$runner"
+    wait "$runner"
+    local got=$?
+    for _ in $(seq 60); do [ "$(nodes_of "$mark")" = 0 ] && break; sleep 0.05; done
+    [ "$(nodes_of "$mark")" = 0 ] && [ "$got" = "$status" ]
+}
+export -f ended nodes_of
+for signal in TERM:143 INT:130 KILL:137 HUP:129; do
+    check "orphans ${signal%:*}" 0 "" bash -c "ended ${signal%:*} ${signal#*:} out/tests/ends"
+done
+check "orphans KILL behind a shell" 0 "" bash -c 'ended KILL 137 sh -c '\''"$0" "$@"; :'\'' out/tests/ends'
+
+# A peer that is gone is found by the others alone, where no gasnetrun looks.
+alone() { # RANK COMMAND..: this process becomes a node that is started by hand
+    exec env GASNET_NODES=2 GASNET_RANK=$1 GASNET_JOB=7 GASNET_ADDRESSES=127.0.0.1:$port,127.0.0.1:$((port + 1)) "${@:2}"
+}
+gone() { # SIGNAL
+    local port=$((20000 + RANDOM % 10000))
+    (alone 1 out/tests/ends poll) &
+    local other=$! got
+    (sleep 1.5; kill "-$1" $other) &
+    (alone 0 out/sanitized/tests/ends poll)
+    got=$?
+    kill -KILL $other 2>/dev/null
+    return $got
+}
+export -f alone gone
+check "peer killed" 69 "node 1 (127.0.0.1:[0-9]*) is gone" bash -c 'gone KILL'
+check "peer stopped" 69 "node 1 (127.0.0.1:[0-9]*) didn't answer for [0-9.]* s" env GASNET_PEER_TIMEOUT=2 bash -c 'gone STOP'
+absent() {
+    local port=$((20000 + RANDOM % 10000))
+    (GASNET_PEER_TIMEOUT=1 alone 0 out/tests/messages)
+}
+export -f absent
+check "peer absent" 70 "node 1 .* didn't come to gasnet_attach" bash -c 'absent; [ $? = 69 ] && exit 70'
+
+# A broken environment is told by one line.
+broken() { check "environment $1" 70 "^gasnet: $2" env "$1" "${@:3}" out/tests/barriers; }
+broken GASNET_DROP=101 "GASNET_DROP is '101'"
+broken GASNET_RESEND=soon "GASNET_RESEND is 'soon'"
+broken GASNET_MAX_SEGSIZE=7Q "GASNET_MAX_SEGSIZE is '7Q'"
+broken GASNET_NODES=65 "GASNET_NODES is '65'" GASNET_RANK=0
+broken GASNET_RANK=2 "GASNET_RANK is '2'" GASNET_NODES=2
+broken GASNET_RANK=1 "GASNET_ADDRESSES is broken: it isn't set" GASNET_NODES=2
+broken GASNET_ADDRESSES=127.0.0.1:5 "GASNET_ADDRESSES is broken: it has fewer" GASNET_NODES=2 GASNET_RANK=0
+broken GASNET_ADDRESSES=here "GASNET_ADDRESSES is broken: an address" GASNET_NODES=1 GASNET_RANK=0
+broken GASNET_ADDRESSES=127.0.0.1:5,127.0.0.1:5 "GASNET_ADDRESSES is broken: two of" GASNET_NODES=2 GASNET_RANK=0
+broken GASNET_ADDRESSES=192.0.2.1:5000,127.0.0.1:5 "node 0 can't have the address 192.0.2.1:5000" GASNET_NODES=2 GASNET_RANK=0
+check "gasnetrun usage" 64 "usage" bin/gasnetrun -n 65 out/tests/barriers
+check "gasnetrun of no program" 127 "can't be started" bin/gasnetrun -n 2 out/tests/no-such-program
+
+# The compiler, the example, and other launchers.
+check "gasnetcc" 0 "" bin/gasnetcc -Wall -Wextra -Werror examples/hello.c -o out/hello
+check "hello" 0 "node 3 of 4: the squares' sum is 86" bin/gasnetrun -n 4 out/hello
+check "hello alone" 0 "node 0 of 1" out/hello
+launcher="mpirun -n 4"
+if ! command -v mpirun >/dev/null; then
+    skip "$launcher" "there is no mpirun (Debian: openmpi-bin)"
+elif ! grep -q pmix out/gasnet.pc; then
+    skip "$launcher" "libgasnet was built without PMIx (Debian: libpmix-dev)"
+else
+    export OMPI_ALLOW_RUN_AS_ROOT=1 OMPI_ALLOW_RUN_AS_ROOT_CONFIRM=1
+    check "$launcher hello" 0 "node 3 of 4" mpirun --oversubscribe -n 4 out/hello
+    check "$launcher messages" 0 "" mpirun --oversubscribe -n 4 out/tests/messages
+    check "$launcher transfers" 0 "" env ASAN_OPTIONS=detect_leaks=0 mpirun --oversubscribe -n 4 out/sanitized/tests/transfers
+    check "$launcher ends" 5 "" mpirun --oversubscribe -n 4 out/tests/ends one 5
+fi
+
+echo "$passed passed, $failed failed, $skipped skipped"
+[ "$failed" = 0 ]
