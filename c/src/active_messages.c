@@ -97,22 +97,18 @@ static void read_args(gasnet_handlerarg_t *args, const uint8_t *bytes, uint32_t 
         args[i] = (gasnet_handlerarg_t)((uint32_t)bytes[0] << 24 | (uint32_t)bytes[1] << 16 | (uint32_t)bytes[2] << 8 | bytes[3]);
 }
 
-/* The payload as the handler sees it: a Long's at its place; a Medium's where 8 divides its address. */
-static uint8_t *payload_for(struct gasnetl_job *job, const gasnet_c_coming *coming, uint8_t *payload) {
-    uint8_t *seen = payload;
-    if (coming->category == LONG)
-        seen = job->segment.base + coming->place;
-    else if ((uintptr_t)payload % 8)
-        seen = job->messages.medium;
-    if (seen != payload)
-        memcpy(seen, payload, coming->payload_len);
+/* The payload as the handler sees it: a Long's at its place, a Medium's in a buffer. Both are copies, since the handler may
+ * change them, and the datagram is delivered as it came. */
+static uint8_t *payload_for(struct gasnetl_job *job, const gasnet_c_coming *coming, const uint8_t *payload) {
+    uint8_t *seen = coming->category == LONG ? job->segment.base + coming->place : job->messages.medium;
+    memcpy(seen, payload, coming->payload_len);
     return seen;
 }
 
 /* The handler of a message that is about to be delivered runs. */
-static void run_coming(struct gasnetl_job *job, gasnet_token_t token, const gasnet_c_coming *coming, uint8_t *bytes) {
+static void run_coming(struct gasnetl_job *job, gasnet_token_t token, const gasnet_c_coming *coming, const uint8_t *bytes) {
     gasnet_handlerarg_t args[GASNETL_ARGS];
-    uint8_t *payload = bytes + coming->payload_at;
+    const uint8_t *payload = bytes + coming->payload_at;
     const struct gasnetl_run run = { (gasnet_handler_t)coming->handler, coming->category, payload_for(job, coming, payload),
                                      coming->payload_len, coming->count, args };
     read_args(args, bytes + coming->args_at, coming->count);
@@ -120,7 +116,7 @@ static void run_coming(struct gasnetl_job *job, gasnet_token_t token, const gasn
     token->done.left = what_is_left(&run, payload, job->messages.left);
 }
 
-void gasnetl_message_take(struct gasnetl_job *job, uint8_t *bytes, size_t length) {
+void gasnetl_message_take(struct gasnetl_job *job, const uint8_t *bytes, size_t length) {
     struct gasnetl_token token;
     if (job->ended) /* no handler runs any more */
         return;

@@ -78,7 +78,7 @@ static bool read_spin(int *spin) {
 
 bool gasnetl_config_read(struct gasnetl_config *config) {
     config->tells_counts = getenv("GASNET_COUNTS") != NULL;
-    if (!read_time("GASNET_RESEND", 1000, 5, MICROSECONDS, &config->resend))
+    if (!read_time("GASNET_RESEND", 1000, 20, MICROSECONDS, &config->resend))
         return false;
     if (!config->resend)
         config->resend = 1;

@@ -9,7 +9,7 @@
 struct gasnetl_config {
     unsigned drop, twice, swap;    /* GASNET_DROP, GASNET_TWICE, GASNET_SWAP: percent of the datagrams that are sent */
     uint64_t seed;                 /* GASNET_SEED, 1 where it isn't set */
-    uint64_t resend;               /* GASNET_RESEND, in milliseconds: 5 */
+    uint64_t resend;               /* GASNET_RESEND, in milliseconds: 20 */
     uint64_t peer_timeout;         /* GASNET_PEER_TIMEOUT, in seconds: 300; 0 for never */
     uint64_t exit_timeout;         /* GASNET_EXIT_TIMEOUT, in seconds: 20 */
     uint64_t max_segment;          /* GASNET_MAX_SEGSIZE, in bytes, or with K, M, G or T; 0 where it isn't set */

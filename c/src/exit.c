@@ -52,8 +52,8 @@ static bool linger(struct gasnetl_job *job, bool forced, uint64_t time) {
 
 static void tell_counts(const struct gasnetl_job *job) {
     const struct gasnetl_network *network = &job->network;
-    fprintf(stderr, "gasnet: node %u: sent %" PRIu64 ", unsent %" PRIu64 ", received %" PRIu64 ", strays %" PRIu64 "\n", job->me,
-            network->sent, network->unsent, network->received, network->strays);
+    fprintf(stderr, "gasnet: node %u: sent %" PRIu64 ", resent %" PRIu64 ", unsent %" PRIu64 ", received %" PRIu64 ", strays %" PRIu64 "\n", job->me,
+            network->sent, job->progress.resent, network->unsent, network->received, network->strays);
 }
 
 /* Leaves the job. It is done once; whatever is called after it finds the job ended. */

@@ -28,7 +28,7 @@ struct gasnetl_messages {
     gasnetl_handler *handlers[GASNETL_INDEXES];
     /* Handlers run one at a time, so one of each buffer is enough. */
     alignas(16) uint8_t reply[GASNET_C_PAYLOAD];  /* the payload of the reply that a handler asked for */
-    alignas(16) uint8_t medium[GASNET_C_PAYLOAD]; /* the payload of a Medium, where it has to be aligned */
+    alignas(16) uint8_t medium[GASNET_C_PAYLOAD]; /* the payload of a Medium, as its handler sees it */
     uint8_t left[GASNET_C_PAYLOAD];               /* what stands at a Long's place when its handlers are done */
     uint8_t reply_left[GASNET_C_PAYLOAD];
 };
@@ -50,7 +50,7 @@ extern const gasnet_c_run gasnetl_no_run;
 int gasnetl_register(struct gasnetl_messages *messages, gasnet_handlerentry_t *table, int entries);
 
 /* Takes a datagram whose delivery may run a handler of the client's: runs it, and delivers the datagram with what it did. */
-void gasnetl_message_take(struct gasnetl_job *job, uint8_t *bytes, size_t length);
+void gasnetl_message_take(struct gasnetl_job *job, const uint8_t *bytes, size_t length);
 
 /* Calls a handler with as many arguments as the run has. */
 void gasnetl_call(gasnetl_handler *handler, gasnet_token_t token, const struct gasnetl_run *run);

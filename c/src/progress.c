@@ -87,9 +87,12 @@ void gasnetl_told(struct gasnetl_job *job, const gasnet_c_told *told) {
         job->progress.has_notes = true;
         transmit(job, told);
         break;
+    case GASNET_C_RESENT:
+        job->progress.resent++;
+        transmit(job, told);
+        break;
     case GASNET_C_RAN:
     case GASNET_C_AGAIN:
-    case GASNET_C_RESENT:
         transmit(job, told);
         break;
     case GASNET_C_RETURNED:
@@ -127,7 +130,7 @@ void gasnetl_tick(struct gasnetl_job *job) {
 
 /* ---- What comes. */
 
-static void take(struct gasnetl_job *job, uint16_t from, uint8_t *bytes, size_t length) {
+static void take(struct gasnetl_job *job, uint16_t from, const uint8_t *bytes, size_t length) {
     struct gasnetl_progress *progress = &job->progress;
     gasnetl_peer_heard(job, from);
     if (gasnetl_control_is(bytes, length)) {
@@ -166,9 +169,10 @@ bool gasnetl_poll(struct gasnetl_job *job, int most) {
 
 /* How long a call that waits may sleep: until a request may be due again. */
 static int sleep_time(const struct gasnetl_job *job) {
-    if (job->progress.out)
-        return 1;
-    return job->turns.threaded ? SLEEP_THREADED : SLEEP;
+    int resend = (int)(job->config.resend / 4000), most = job->turns.threaded ? SLEEP_THREADED : SLEEP;
+    if (!job->progress.out || resend > most)
+        return most;
+    return resend ? resend : 1;
 }
 
 void gasnetl_wait(struct gasnetl_job *job, unsigned *turn) {

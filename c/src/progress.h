@@ -15,6 +15,7 @@ struct gasnetl_progress {
     uint64_t now;            /* the time of this round, in microseconds */
     uint64_t next_look;      /* when a tick looks next for what is to be sent again */
     unsigned out;            /* the requests to all peers that aren't back */
+    uint64_t resent;         /* how often a request was sent again */
     unsigned credits;        /* how many may be out to one peer */
     bool has_notes;          /* a note of the barrier may be due */
     unsigned since_poll;     /* requests since the last poll */

@@ -54,7 +54,7 @@ for build in out out/sanitized; do
                 [ "$n" = 1 ] && [ "$loss" != 0 ] && continue
                 [ "$test" = strangers ] && [ "$loss" != 0 ] && continue
                 check "$test n=$n loss=$loss$kind" 0 "" env GASNET_DROP="$loss" GASNET_TWICE="$loss" GASNET_SWAP="$loss" \
-                    GASNET_SEED="$n" bin/gasnetrun -n "$n" "$build/tests/$test"
+                    GASNET_SEED="$n" GASNET_RESEND=5 bin/gasnetrun -n "$n" "$build/tests/$test"
             done
         done
     done
