@@ -80,6 +80,8 @@ static _Noreturn void become_node(const struct run *run, int node, pid_t parent,
         exit(REFUSED);
     sigemptyset(&none);
     sigprocmask(SIG_SETMASK, &none, NULL);
+    if (node && !freopen("/dev/null", "r", stdin)) /* the standard input is node 0's */
+        exit(REFUSED);
     set_number("GASNET_RANK", (uint64_t)node);
     set_number("GASNET_SOCKET", (uint64_t)run->sockets[node]);
     fcntl(run->sockets[node], F_SETFD, 0);

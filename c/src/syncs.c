@@ -72,32 +72,36 @@ static int try_handles(const char *call, syncs *sync, gasnet_handle_t *handles, 
     return code;
 }
 
-static void wait_handles(const char *call, syncs *sync, gasnet_handle_t *handles, size_t count) {
-    struct gasnetl_job *job = gasnetl_enter(call);
-    unsigned turn = 0;
-    while (sync(job, handles, count) != GASNET_OK)
-        gasnetl_wait(job, &turn);
-    gasnetl_leave(job);
-}
-
 int gasnet_try_syncnb_all(gasnet_handle_t *handles, size_t numhandles) {
     return try_handles("gasnet_try_syncnb_all", sync_all, handles, numhandles);
 }
 void gasnet_wait_syncnb_all(gasnet_handle_t *handles, size_t numhandles) {
-    wait_handles("gasnet_wait_syncnb_all", sync_all, handles, numhandles);
+    struct gasnetl_job *job = gasnetl_enter("gasnet_wait_syncnb_all");
+    unsigned turn = 0;
+    for (size_t i = 0; i < numhandles; i++) {
+        while (sync_one(job, handles[i]) != GASNET_OK)
+            gasnetl_wait(job, &turn);
+        handles[i] = GASNET_INVALID_HANDLE;
+    }
+    gasnetl_leave(job);
 }
 int gasnet_try_syncnb_some(gasnet_handle_t *handles, size_t numhandles) {
     return try_handles("gasnet_try_syncnb_some", sync_some, handles, numhandles);
 }
 void gasnet_wait_syncnb_some(gasnet_handle_t *handles, size_t numhandles) {
-    wait_handles("gasnet_wait_syncnb_some", sync_some, handles, numhandles);
+    struct gasnetl_job *job = gasnetl_enter("gasnet_wait_syncnb_some");
+    unsigned turn = 0;
+    while (sync_some(job, handles, numhandles) != GASNET_OK)
+        gasnetl_wait(job, &turn);
+    gasnetl_leave(job);
 }
 
 /* ---- Of the thread's implicit operations. */
 
 /* Whether one of its puts, where these are asked for, or its gets isn't complete. */
 static bool is_open(bool puts, bool gets) {
-    return (puts && gasnetl_thread.puts.open) || (gets && gasnetl_thread.gets.open);
+    const struct gasnetl_thread *self = &gasnetl_thread;
+    return (puts && self->puts && self->puts->open) || (gets && self->gets && self->gets->open);
 }
 
 static struct gasnetl_job *enter_implicit(const char *call) {

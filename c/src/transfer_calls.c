@@ -87,11 +87,20 @@ static gasnet_handle_t explicit(const struct asked *asked) {
     return op;
 }
 
+/* Where the thread's implicit transfers of this kind are counted. */
+static struct gasnetl_op *implicit_op(struct gasnetl_job *job, enum gasnetl_kind kind) {
+    struct gasnetl_thread *self = &gasnetl_thread;
+    struct gasnetl_op **op = kind == GASNETL_GET ? &self->gets : &self->puts;
+    if (self->region)
+        return self->region;
+    if (!*op)
+        *op = gasnetl_op_new(&job->transfers.ops);
+    return *op;
+}
+
 static void implicit(const struct asked *asked) {
     struct gasnetl_job *job = gasnetl_enter(asked->call);
-    struct gasnetl_thread *self = &gasnetl_thread;
-    struct gasnetl_op *op = asked->kind == GASNETL_GET ? &self->gets : &self->puts;
-    begin(job, self->region ? self->region : op, asked);
+    begin(job, implicit_op(job, asked->kind), asked);
     gasnetl_leave(job);
 }
 
