@@ -61,7 +61,7 @@ for build in out out/sanitized; do
 done
 
 check "large segments" 0 "" env GASNET_MAX_SEGSIZE=100G bin/gasnetrun -n 2 out/tests/large
-check "many nodes" 0 "" bin/gasnetrun -n 64 out/tests/locks
+check "many nodes" 0 "" bin/gasnetrun -n 64 out/tests/queries
 check "strangers are counted" 0 "strays [1-9]" env GASNET_COUNTS=1 bin/gasnetrun -n 2 out/tests/strangers
 
 # Each rule that is broken ends the job with a line.
