@@ -27,6 +27,8 @@ int main(int argc, char **argv) {
     gasnet_handlerentry_t table[] = { { EXIT, exit_handler } };
     const char *way = argc > 1 ? argv[1] : "";
     int status = argc > 2 ? atoi(argv[2]) : 0;
+    if (!strcmp(way, "quit"))
+        signal(SIGQUIT, quit);
     start(&argc, &argv, table, 1, GASNET_PAGESIZE);
     barrier();
     int last = me == nodes - 1;
@@ -40,11 +42,8 @@ int main(int argc, char **argv) {
         GASNET_SAFE(gasnet_AMRequestShort1(0, EXIT, status));
     if (!strcmp(way, "signal") && last)
         raise(status);
-    if (!strcmp(way, "quit")) {
-        if (last)
-            gasnet_exit(status);
-        signal(SIGQUIT, quit);
-    }
+    if (!strcmp(way, "quit") && last)
+        gasnet_exit(status);
     if (!strcmp(way, "sleep"))
         for (;;)
             pause();

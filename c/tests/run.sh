@@ -60,6 +60,8 @@ for build in out out/sanitized; do
     done
 done
 
+check "large segments" 0 "" env GASNET_MAX_SEGSIZE=100G bin/gasnetrun -n 2 out/tests/large
+check "many nodes" 0 "" bin/gasnetrun -n 64 out/tests/queries
 check "strangers are counted" 0 "strays [1-9]" env GASNET_COUNTS=1 bin/gasnetrun -n 2 out/tests/strangers
 
 # Each rule that is broken ends the job with a line.
@@ -82,7 +84,8 @@ for build in out out/sanitized; do
     check "end one 5$kind" 5 "" bin/gasnetrun -n 3 $build/tests/ends one 5
     check "end one 0$kind" 0 "" env GASNET_EXIT_TIMEOUT=1 bin/gasnetrun -n 3 $build/tests/ends one 0
     check "end handler 6$kind" 6 "" bin/gasnetrun -n 3 $build/tests/ends handler 6
-    check "end quit$kind" 9 "^quit" bin/gasnetrun -n 3 $build/tests/ends quit 5
+    # The node that ends the job has 5, those that handle SIGQUIT have 9: the first of them to end decides.
+    check "end quit$kind" 0 "^quit" bash -c "bin/gasnetrun -n 3 $build/tests/ends quit 5; case \$? in 5 | 9) ;; *) false ;; esac"
 done
 check "end one 5 with loss" 5 "" env GASNET_DROP=30 bin/gasnetrun -n 8 out/tests/ends one 5
 check "end all 0 with loss" 0 "" env GASNET_DROP=30 bin/gasnetrun -n 8 out/tests/ends all 0
