@@ -2,7 +2,7 @@
 //!
 //! A test has its nodes in a list: what has a node as a local of its own is proved in minutes.
 
-ghost use Rattle.std.specs.Prelude.{◌≡◌, ◌<◌, ℕ, IsTrue, false};
+ghost use Rattle.std.specs.Prelude.{◌≡◌, ◌<◌, ℕ, IfOk, IsTrue, false};
 ghost use Rattle.datagram_grammar.specs.Parameters.{Parameters};
 ghost use Rattle.gas_endpoint.specs.EndpointState.{MayBeCalled, MayHappen};
 
@@ -11,26 +11,38 @@ use am_core::SlotRef;
 use datagram_grammar::Settings;
 use endpoint_rules::{Answer, Call, Event};
 use gas_endpoint::Endpoint;
+use gas_strided::{Indexed, Plan, PlanFault, Strided, Vis};
+use node_caller::AtEndpoint;
 use std::alloc::Global;
 use std::marker::Model;
 use std::test::Fail;
+
+/// A transfer of many pieces.
+#[derive(Clone, Copy)]
+pub enum Pieces<'a> {
+    Strided(Strided<'a>),
+    Indexed(Indexed<'a>),
+}
 
 /// An endpoint of a job with two threads, and the slot of the message that its last event sent.
 #[derive(Drop)]
 pub struct Node {
     pub endpoint: Endpoint,
+    settings: Settings,
     sent: Option<SlotRef>,
 }
 
 impl Model for Node {
-    ghost use Rattle.std.specs.Prelude.{◌≡◌};
+    ghost use Rattle.std.specs.Prelude.{◌≡◌, ◌<◌};
     ghost use Rattle.gas_endpoint.specs.EndpointState.{EndpointState};
 
     ghost Value = { EndpointState };
 
     ghost view = { λ node. node.endpoint };
 
-    ghost invariant = { λ node. node.endpoint.core.settings.threads ≡ 2 };
+    ghost invariant = { λ node. (node.endpoint.core.settings.threads ≡ 2)
+        × (node.endpoint.core.settings ≡ node.settings)
+        × (node.endpoint.core.me < node.endpoint.core.settings.nodes) };
 }
 
 /// Whether the call has a list of registers.
@@ -62,8 +74,37 @@ impl Node {
         let endpoint = Endpoint::new(alloc, &settings, me, &table)?;
         Ok(Node {
             endpoint,
+            settings,
             sent: None,
         })
+    }
+
+    /// The plan of a transfer of this node.
+    fn plan(&self, alloc: Global, transfer: &Pieces<'_>) -> Result<Plan, PlanFault>
+        ensures { IfOk result (λ plan. plan.settings ≡ self.now.core.settings) }
+    {
+        match transfer {
+            Pieces::Strided(strided) => Plan::strided(alloc, &self.settings, strided),
+            Pieces::Indexed(indexed) => Plan::indexed(alloc, &self.settings, indexed),
+        }
+    }
+
+    /// Thread 0 begins the pieces of a transfer from `from` on at time 0; the register gets their handle.
+    pub fn begin(
+        &mut self,
+        alloc: Global,
+        transfer: &Pieces<'_>,
+        from: usize,
+        reg: u8,
+    ) -> Result<Vis, PlanFault> {
+        let plan = self.plan(alloc, transfer)?;
+        let mut caller = AtEndpoint {
+            endpoint: &mut self.endpoint,
+            handlers: &Adds,
+            now: 0,
+        };
+        let from = from.min(plan.pieces());
+        Ok(plan.begin(&mut caller, 0, from, reg))
     }
 
     /// An event at time 0; none where it isn't plain.

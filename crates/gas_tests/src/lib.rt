@@ -13,4 +13,6 @@ mod endpoints;
 #[cfg(test)]
 mod gas_endpoint_tests;
 #[cfg(test)]
+mod gas_strided_tests;
+#[cfg(test)]
 mod handlers;

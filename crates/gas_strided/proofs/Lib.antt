@@ -1,0 +1,14 @@
+mod Cutting
+mod Growing
+mod Adding
+mod Counting
+mod Walking
+mod Judging
+mod Fitting
+mod LevelPairs
+mod RangePairs
+mod Planning
+mod Bytes
+mod Covering
+mod Ascending
+mod Trying

@@ -1,0 +1,12 @@
+use Rattle.std.proofs.Common.{length}
+use Rattle.gas_strided.specs.Runs.{Adds}
+use Rattle.gas_strided.specs.Pairs.{joined}
+use Rattle.gas_strided.proofs.Counting.{at_index}
+use Rattle.gas_strided.proofs.levels.+add_levels.Given as goal
+
+abbrev pub decreases-add_levels : goal.decreases-add_levels
+decreases-add_levels l = length l.levels.now
+
+abbrev pub invariant-loop-index : goal.invariant-loop-index
+invariant-loop-index l =
+    Adds l.fn.runs (joined (at_index l.level l.deeper l.first.remote l.first.local l.first.len) l.index) l.runs

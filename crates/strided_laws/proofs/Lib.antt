@@ -1,0 +1,3 @@
+mod Located
+mod PairsDone
+mod UnderWay
