@@ -1,0 +1,36 @@
+-- What it means that a thread asks a batch, and what a request asks.
+use Rattle.std.specs.Prelude.{ℕ, ◌==◌, if◌then◌else◌, Option, None, Some}
+use Rattle.datagram_grammar.specs.Content.{Content}
+use Rattle.datagram_grammar.specs.Parameters.{Parameters}
+use Rattle.node_record.specs.Behaviour.{Asking, Lent}
+use Rattle.am_core.specs.ClientRules.{medium_asking}
+use Rattle.am_core.specs.HandlerRuns.{shown_payload}
+use Rattle.endpoint_rules.specs.Called.{Requests}
+use Rattle.endpoint_rules.specs.declared.answer.Answer.{Answer}
+use Rattle.node_caller.specs.Sites.{ThreadCall}
+use Rattle.node_caller.specs.declared.caller.Called.{Called}
+use Rattle.node_caller.specs.declared.caller.Called.TheVariants as called
+use Rattle.gas_atomic.specs.BatchRequests.{BatchRequest, batch_arguments, batch_handler, request_said, spelled_ops}
+use Rattle.gas_atomic.specs.Batches.{BatchState}
+use Rattle.gas_atomic.specs.Served.{if_placed}
+
+-- the Medium request of a batch, as a thread asks it
+abbrev pub batch_asking : BatchRequest → Asking
+batch_asking request =
+    medium_asking batch_handler (batch_arguments request.local request.tag) (Lent (spelled_ops request.ops))
+
+-- the call: that request, of the batch's target
+abbrev pub batch_call : (thread : ℕ) → BatchState → ThreadCall
+batch_call thread batch = record { thread = thread; call = Requests batch.to (batch_asking batch.request) }
+
+-- how the call is answered; none where memory ran out
+abbrev pub answer_of : Called → Option Answer
+answer_of (called.Answer answer) = Some answer
+answer_of called.NoMemory = None
+
+-- what a request with this content asks, if it is one of a batch whose places are all good
+abbrev pub batch_of : Parameters → Content → Option BatchRequest
+batch_of settings content =
+    if content.handler == batch_handler
+    then if_placed settings.segment (request_said content.args (shown_payload content))
+    else None

@@ -1,0 +1,5 @@
+pub mod Words
+pub mod BatchRequests
+pub mod Served
+pub mod Batches
+pub mod Asking

@@ -1,0 +1,6 @@
+pub mod Ranges
+pub mod Steps
+pub mod Events
+pub mod Requests
+pub mod Accepted
+pub mod Laws

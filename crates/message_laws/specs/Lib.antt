@@ -1,0 +1,5 @@
+pub mod Ranges
+pub mod Steps
+pub mod Events
+pub mod Requests
+pub mod MessageLaws
