@@ -1,0 +1,3 @@
+pub mod Stamping
+pub mod Places
+pub mod Bytes

@@ -1,0 +1,4 @@
+pub mod Phases
+pub mod Groups
+pub mod CollectiveLaws
+pub mod Invariant

@@ -1,0 +1,15 @@
+use Rattle.std.proofs.Common.{◌≡◌, ◌<◌, ap, sym, ◌∙◌, arith}
+use Rattle.gas_collectives.specs.Progress.{is_exchanged}
+use Rattle.gas_collectives.specs.CollectivesState.{CollectivesState, progress_of}
+use Rattle.gas_collectives.proofs.Searching.{ready_on}
+use Rattle.gas_collectives.proofs.collectives.Collectives.is_ready.Goals as goal
+
+pub loop-node-preserved : goal.loop-node-preserved
+loop-node-preserved c =
+    let it = c.args.self.now in
+    let nodes : c.nodes-node-end.result ≡ it.area.nodes =
+    c.nodes-node-end.ensures.nodes ∙ ap (λ (one : CollectivesState). one.area.nodes) c.self.view_is in
+    let low : c.loop-node.node < it.area.nodes = omega (arith, nodes) in
+    c.loop-node.invariant
+    ∙ ready_on (is_exchanged it.area it.me (progress_of it) c.args.bytes.now) c.loop-node.node it.area.nodes low
+    (sym c.is_exchanged.ensures ∙ c.if-not-is_exchanged.false)

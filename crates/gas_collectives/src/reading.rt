@@ -1,0 +1,261 @@
+//! What stands in the parts of the own segment.
+
+ghost use Rattle.std.specs.Prelude.{◌≡◌, ◌≢◌, ◌<◌, ◌≤◌, ◌+◌, ◌*◌, ◌%◌, length, true, IfSome, IfNone, ℕ, List, Some};
+ghost use Rattle.std.specs.Prelude.{slice_get, take};
+ghost use Rattle.std.specs.Int.{w64, from_le_bytes};
+ghost use Rattle.raw_segment.specs.Bytes.{part};
+ghost use Rattle.collective_area.specs.Area.{stamp_in, word_in, data_in};
+ghost use Rattle.collective_area.specs.Shapes.{is_reduction};
+ghost use Rattle.collective_area.specs.Results.{combined, together, together_at, word_at};
+ghost use Rattle.gas_collectives.specs.Progress.{data_of_all, end_answer, is_exchanged, is_other};
+ghost use Rattle.gas_collectives.specs.Progress.{is_ready, is_worn, other_shape, worn_node};
+ghost use Rattle.gas_collectives.specs.CollectivesState.{progress_of};
+ghost use Rattle.gas_collectives.specs.Ends.{giver_by, result_in};
+
+use crate::answers::EndAnswer;
+use crate::collectives::Collectives;
+use collective_area::CollectiveKind;
+use raw_segment::{Plain, Segment};
+
+/// The number whose bytes begin at an offset, little-endian.
+fn word(bytes: &[u8], offset: u64) -> u64
+    requires { offset + 8 ≤ length bytes.now }
+    ensures { result ≡ from_le_bytes w64 (part bytes.now offset 8) }
+{
+    let at = offset as usize;
+    u64::read(&bytes[at..at + 8])
+}
+
+impl Collectives {
+    /// The bytes of a segment that is as long as the settings say; none of any other.
+    pub(crate) fn bytes<'s>(&self, segment: &'s Segment) -> Option<&'s [u8]>
+        ensures some { IfSome result (λ bytes. (bytes.now ≡ segment.now)
+            × (length segment.now ≡ self.now.settings.segment)) }
+        ensures none { IfNone result (length segment.now ≢ self.now.settings.segment) }
+    {
+        if segment.len() != self.settings.segment() {
+            return None;
+        }
+        Some(segment.bytes())
+    }
+
+    /// The stamp in the part of a node, of the phase that is open.
+    fn stamp(&self, bytes: &[u8], node: u16) -> u64
+        requires long { length bytes.now ≡ self.now.settings.segment }
+        requires node { node < self.now.area.nodes }
+        ensures { result ≡ stamp_in bytes.now self.now.area (self.now.ended % 2) node }
+    {
+        word(bytes, self.part(self.ended % 2, node))
+    }
+
+    /// The word of a shape there.
+    fn shape_there(&self, bytes: &[u8], node: u16) -> u64
+        requires long { length bytes.now ≡ self.now.settings.segment }
+        requires node { node < self.now.area.nodes }
+        ensures { result ≡ word_in bytes.now self.now.area (self.now.ended % 2) node }
+    {
+        word(bytes, self.part(self.ended % 2, node) + 8)
+    }
+
+    /// The data there, of as many bytes as each node gives.
+    fn data<'s>(&self, bytes: &'s [u8], node: u16) -> &'s [u8]
+        requires long { length bytes.now ≡ self.now.settings.segment }
+        requires node { node < self.now.area.nodes }
+        ensures data { result.now
+            ≡ data_in bytes.now self.now.area (self.now.ended % 2) node self.now.shape.len }
+        ensures len { length result.now ≡ self.now.shape.len }
+    {
+        let at = (self.part(self.ended % 2, node) + 16) as usize;
+        &bytes[at..at + self.shape.len as usize]
+    }
+
+    /// Whether it has sent to all others, and all parts of the phase have its stamp.
+    fn is_ready(&self, bytes: &[u8]) -> bool
+        requires opened { self.now.ended < self.now.started }
+        requires long { length bytes.now ≡ self.now.settings.segment }
+        ensures { result ≡ is_ready self.now.area self.now.me (progress_of self.now) bytes.now }
+    {
+        for node in 0..self.settings.nodes() {
+            if !self.is_exchanged(bytes, node) {
+                return false;
+            }
+        }
+        true
+    }
+
+    /// Whether messages of the phase went both ways: the node was sent to, and its part has the stamp.
+    fn is_exchanged(&self, bytes: &[u8], node: u16) -> bool
+        requires opened { self.now.ended < self.now.started }
+        requires long { length bytes.now ≡ self.now.settings.segment }
+        requires node { node < self.now.area.nodes }
+        ensures { result ≡ is_exchanged self.now.area self.now.me (progress_of self.now) bytes.now node }
+    {
+        (self.sent[usize::from(node)] || node == self.me)
+            && self.stamp(bytes, node) == self.ended + 1
+    }
+
+    /// The first node whose part says another shape than the own one.
+    fn other_shape(&self, bytes: &[u8]) -> Option<u16>
+        requires long { length bytes.now ≡ self.now.settings.segment }
+        ensures { result ≡ other_shape self.now.area (progress_of self.now) bytes.now }
+    {
+        for node in 0..self.settings.nodes() {
+            if self.is_other(bytes, node) {
+                return Some(node);
+            }
+        }
+        None
+    }
+
+    /// Whether the part of a node says another shape than the own one.
+    fn is_other(&self, bytes: &[u8], node: u16) -> bool
+        requires long { length bytes.now ≡ self.now.settings.segment }
+        requires node { node < self.now.area.nodes }
+        ensures { result ≡ is_other self.now.area (progress_of self.now) bytes.now node }
+    {
+        self.shape_there(bytes, node) != self.shape.word()
+    }
+
+    /// The first node that wasn't sent to and for which no number was left.
+    fn worn_node(&self) -> Option<u16>
+        ensures { result ≡ worn_node self.now.area self.now.me (progress_of self.now) }
+    {
+        for node in 0..self.settings.nodes() {
+            if self.is_worn(node) {
+                return Some(node);
+            }
+        }
+        None
+    }
+
+    /// Whether a node wasn't sent to, and no number was left for it.
+    fn is_worn(&self, node: u16) -> bool
+        requires { node < self.now.settings.nodes }
+        ensures { result ≡ is_worn self.now.me (progress_of self.now) node }
+    {
+        self.is_left(node) && self.worn[usize::from(node)]
+    }
+
+    /// How a try to end is answered whose poll is allowed.
+    pub(crate) fn end_answer(&self, bytes: &[u8]) -> EndAnswer
+        requires opened { self.now.ended < self.now.started }
+        requires long { length bytes.now ≡ self.now.settings.segment }
+        ensures { result ≡ end_answer self.now.area self.now.me (progress_of self.now) bytes.now }
+    {
+        if self.is_ready(bytes) {
+            match self.other_shape(bytes) {
+                Some(node) => EndAnswer::Mismatch(node),
+                None => EndAnswer::Ended,
+            }
+        } else {
+            match self.worn_node() {
+                Some(node) => EndAnswer::WornOut(node),
+                None => EndAnswer::NotReady,
+            }
+        }
+    }
+
+    /// Two words, taken together.
+    fn combine(&self, one: u64, other: u64) -> u64
+        ensures { result ≡ combined self.now.shape.kind one other }
+    {
+        match self.shape.kind {
+            CollectiveKind::Min | CollectiveKind::AllMin => one.min(other),
+            CollectiveKind::Max | CollectiveKind::AllMax => one.max(other),
+            CollectiveKind::Sum
+            | CollectiveKind::AllSum
+            | CollectiveKind::Broadcast
+            | CollectiveKind::Gather
+            | CollectiveKind::AllGather => one.wrapping_add(other),
+        }
+    }
+
+    /// The word at a place of a node's data.
+    fn data_word(&self, bytes: &[u8], node: u16, place: u64) -> u64
+        requires long { length bytes.now ≡ self.now.settings.segment }
+        requires node { node < self.now.area.nodes }
+        requires place { 8 * place + 8 ≤ self.now.shape.len }
+        ensures { result ≡ word_at place
+            (data_in bytes.now self.now.area (self.now.ended % 2) node self.now.shape.len) }
+    {
+        word(self.data(bytes, node), 8 * place)
+    }
+
+    /// The words of all nodes at a place, taken together.
+    fn word_of_all(&self, bytes: &[u8], place: u64) -> u64
+        requires long { length bytes.now ≡ self.now.settings.segment }
+        requires place { 8 * place + 8 ≤ self.now.shape.len }
+        ensures { result ≡ together_at (combined self.now.shape.kind)
+            (data_of_all self.now.area (progress_of self.now) bytes.now 0 self.now.area.nodes) place }
+    {
+        let nodes = self.settings.nodes();
+        let mut all = self.data_word(bytes, 0, place);
+        for node in 1..nodes {
+            all = self.combine(all, self.data_word(bytes, node, place));
+        }
+        all
+    }
+
+    /// The bytes of all nodes, taken together word by word.
+    fn reduce(&self, bytes: &[u8], piece: &mut [u8])
+        requires long { length bytes.now ≡ self.now.settings.segment }
+        requires reduction { is_reduction self.now.shape.kind ≡ true }
+        requires len { length piece.old ≡ self.now.shape.len }
+        ensures { piece.new ≡ together (combined self.now.shape.kind) self.now.shape.len
+            (data_of_all self.now.area (progress_of self.now) bytes.now 0 self.now.area.nodes) }
+    {
+        for place in 0..self.shape.len / 8 {
+            let at = (8 * place) as usize;
+            let word = self.word_of_all(bytes, place);
+            piece[at..at + 8].copy_from_slice(&word.to_le_bytes());
+        }
+    }
+
+    /// In how many pieces the result is written.
+    pub(crate) fn pieces(&self) -> u16
+        ensures { (bytes : List ℕ) → result ≡ length (result_in self.now bytes) }
+    {
+        match self.shape.kind {
+            CollectiveKind::AllGather => self.settings.nodes(),
+            CollectiveKind::Gather if self.me == self.shape.root => self.settings.nodes(),
+            _ if self.shape.has_result(self.me) => 1,
+            _ => 0,
+        }
+    }
+
+    /// A piece of the result, in the first bytes.
+    pub(crate) fn piece(&self, bytes: &[u8], index: u16) -> [u8; 8192]
+        requires long { length bytes.now ≡ self.now.settings.segment }
+        requires index { index < length (result_in self.now bytes.now) }
+        ensures { slice_get (result_in self.now bytes.now) index
+            ≡ Some (take self.now.shape.len result) }
+    {
+        let mut piece = [0; 8192];
+        self.fill_piece(bytes, index, &mut piece[..self.shape.len as usize]);
+        piece
+    }
+
+    /// Fills in a piece of the result.
+    fn fill_piece(&self, bytes: &[u8], index: u16, piece: &mut [u8])
+        requires long { length bytes.now ≡ self.now.settings.segment }
+        requires index { index < length (result_in self.now bytes.now) }
+        requires len { length piece.old ≡ self.now.shape.len }
+        ensures { slice_get (result_in self.now bytes.now) index ≡ Some piece.new }
+    {
+        if self.shape.kind.is_reduction() {
+            self.reduce(bytes, piece);
+        } else {
+            piece.copy_from_slice(self.data(bytes, self.giver(index)));
+        }
+    }
+
+    /// The node whose data is a piece of a result that takes no words together.
+    fn giver(&self, index: u16) -> u16
+        ensures { result ≡ giver_by self.now.shape.kind self.now.shape.root index }
+    {
+        match self.shape.kind {
+            CollectiveKind::Broadcast => self.shape.root,
+            _ => index,
+        }
+    }
+}

@@ -1,0 +1,151 @@
+//! The start of a collective.
+
+ghost use Rattle.std.specs.Prelude.{◌≡◌, ◌<◌, ◌^◌, ◌-◌, Some, unwrap_or, IfSome, IfNone};
+ghost use Rattle.collective_area.specs.Served.{header_arguments};
+ghost use Rattle.node_caller.specs.Sites.{IsThere};
+ghost use Rattle.gas_collectives.specs.Progress.{start_refusal};
+ghost use Rattle.gas_collectives.specs.CollectivesState.{IsSameNode, progress_of};
+ghost use Rattle.gas_collectives.specs.Starts.{CallsOne, Starts, Passes, IsNoStart, start_call, start_told};
+
+use crate::answers::{Argument, StartAnswer};
+use crate::calling::call_one;
+use crate::collectives::{Collectives, no_nodes};
+use am_core::{Asked, Payload};
+use collective_area::Shape;
+use datagram_grammar::{high_half, low_half};
+use endpoint_rules::{Answer, Call};
+use node_caller::Caller;
+
+/// The index of the handler of collectives.
+pub(crate) const HANDLER: u8 = 254;
+
+/// The arguments that bring a stamp and the word of a shape.
+pub(crate) fn header(stamp: u64, word: u64) -> [i32; 4]
+    ensures { result ≡ header_arguments stamp word }
+{
+    [
+        high_half(stamp),
+        low_half(stamp),
+        high_half(word),
+        low_half(word),
+    ]
+}
+
+/// How a start is answered whose call was answered so; None where the phase is started.
+fn refusal_of(answer: &Answer) -> Option<StartAnswer>
+    ensures answer { start_told (Some answer.now) ≡ unwrap_or result StartAnswer.Started }
+    ensures kept { IfSome result IsNoStart }
+{
+    match answer {
+        Answer::Forbidden(forbidden) => Some(StartAnswer::Forbidden(*forbidden)),
+        Answer::Asked(Asked::LockBusy(lock)) => Some(StartAnswer::LockBusy(*lock)),
+        _ => None,
+    }
+}
+
+impl Collectives {
+    /// Starts the next phase with the bytes at `from`: brings them to the own part, by a Long request to the own node.
+    ///
+    /// The answer is the first of these that applies; of a refusal, nothing changed.
+    /// - `Busy`: the phase before isn't ended.
+    /// - `BadArg(Root)`: the root isn't a node, or it isn't 0 for a kind without a root.
+    /// - `BadArg(Length)`: the length is above the room of a part, or for a reduction isn't a multiple of 8.
+    /// - `BadArg(Source)`: the bytes pass the end of the segment.
+    /// - `WornOut`: 2^64 - 1 phases were started.
+    /// - `Forbidden`, `LockBusy`, `NoMemory`: so it is of the request.
+    /// - `Started`: else.
+    ///
+    /// The caller is at this node of a job with these settings, and the thread is one of its.
+    pub fn start<K: Caller>(
+        &mut self,
+        caller: &mut K,
+        thread: u16,
+        shape: Shape,
+        from: u64,
+    ) -> StartAnswer
+        requires settings { self.old.settings ≡ (K.site caller.old).settings }
+        requires me { self.old.me ≡ (K.site caller.old).node }
+        requires thread { thread < (K.site caller.old).settings.threads }
+        ensures starts { Starts K.Caller self.old caller.old (record {
+          thread = thread;
+          shape = shape;
+          from = from;
+        }) result self.new caller.new }
+        ensures same_reference { K.lent caller.new ≡ K.lent caller.old }
+        ensures same_site { K.site caller.new ≡ K.site caller.old }
+        ensures same_node { IsSameNode self.old self.new }
+    {
+        if let Some(refusal) = self.start_refusal(shape, from) {
+            return refusal;
+        }
+        let Some(answer) = self.put_part(caller, thread, shape, from) else {
+            return StartAnswer::NoMemory;
+        };
+        if let Some(refusal) = refusal_of(&answer) {
+            return refusal;
+        }
+        self.started += 1;
+        self.shape = shape;
+        self.sent = no_nodes();
+        self.worn = no_nodes();
+        StartAnswer::Started
+    }
+
+    /// The first refusal of a start that comes before any call.
+    fn start_refusal(&self, shape: Shape, from: u64) -> Option<StartAnswer>
+        ensures refusal { result ≡
+            start_refusal self.now.area self.now.settings.segment (progress_of self.now) shape from }
+        ensures passes { IfNone result (Passes self.now shape from) }
+    {
+        if self.ended < self.started {
+            return Some(StartAnswer::Busy);
+        }
+        if shape.root >= self.settings.nodes() || (!shape.kind.has_root() && shape.root != 0) {
+            return Some(StartAnswer::BadArg(Argument::Root));
+        }
+        if shape.len > self.room || (shape.kind.is_reduction() && shape.len % 8 != 0) {
+            return Some(StartAnswer::BadArg(Argument::Length));
+        }
+        if shape.len > self.settings.segment() || from > self.settings.segment() - shape.len {
+            return Some(StartAnswer::BadArg(Argument::Source));
+        }
+        if self.started == u64::MAX {
+            return Some(StartAnswer::WornOut);
+        }
+        None
+    }
+
+    /// The request of a start, to the own node.
+    fn put_part<K: Caller>(
+        &self,
+        caller: &mut K,
+        thread: u16,
+        shape: Shape,
+        from: u64,
+    ) -> Option<Answer>
+        requires there { IsThere (K.site caller.old) }
+        requires thread { thread < (K.site caller.old).settings.threads }
+        requires left { self.now.started < 2 ^ 64 - 1 }
+        requires short { shape.len < 2 ^ 32 }
+        ensures { CallsOne K.Caller caller.old (start_call self.now (record {
+          thread = thread;
+          shape = shape;
+          from = from;
+        })) result caller.new }
+    {
+        let stamp = self.started + 1;
+        let word = shape.word();
+        let args = header(stamp, word);
+        let call = Call::Long {
+            to: self.me,
+            handler: HANDLER,
+            args: &args,
+            payload: Payload::Own {
+                offset: from,
+                len: shape.len,
+            },
+            offset: self.part(self.started % 2, self.me) + 16,
+        };
+        call_one(caller, thread, &call)
+    }
+}
