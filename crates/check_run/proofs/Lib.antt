@@ -1,3 +1,4 @@
+pub mod Struck
 pub mod Names
 pub mod Fronts
 pub mod Replays

@@ -8,12 +8,15 @@
 //!   or the source failed, or memory ran out.
 //! - `first_failed` [`IsFirstFailed`, `AreOver`] is the smallest rank of a node that ended with a status other than 0
 //!   and 1.
-//! - `run_traces` [`EndsTraces`]: it ends as `NotARun` only where the traces are no run (`AreNoRun`), with the smallest
-//!   node with an entry left at the one stuck front. Else it ends as `Done`, and what is written is the text of the run
-//!   (`run_lines`: the answer of each step of a script, where it ended, and the lines of each node), or as the sink
-//!   failed, a front of it, or as memory ran out. Then the traces are a run of the world (`RunOfTraces`, with all that
-//!   `IsWorldRun` of `node_runs` says: the headline, the laws of transfers and of the barrier), and the endpoints that
-//!   are given stand for the records that this run leaves its nodes (`AreNodesAfter`).
+//! - `run_traces` [`EndsTraces`]: bytes that their node refuses, whatever it did before, are struck from the traces first
+//!   (`struck_traces`): an entry that got such bytes is one that got nothing. It ends as `NotARun` only where the struck
+//!   traces are no run (`AreNoRun`), with the smallest node with an entry left at the one stuck front. Else it ends as
+//!   `Done`, and what is written is the text of the run (`run_lines`: the answer of each step of a script, where it
+//!   ended, and the lines of each node), or as the sink failed, a front of it, or as memory ran out. Then the struck
+//!   traces are a run of the world (`RunOfTraces`, with all that `IsWorldRun` of `node_runs` says: the headline, the laws
+//!   of transfers and of the barrier), and the endpoints that are given stand for the records that this run leaves its
+//!   nodes [`nodes_of_run`]. By the law of `struck_laws` these are the records that each node's trace leaves as it was
+//!   read [`nodes_after`: `AreNodesAfter`].
 //!
 //! Each node's trace is replayed once, in the merge, where entries of all nodes go as they can: its machine records the
 //! lines of its steps (`Recorder`), which are written once the traces are known to be a run.
@@ -26,6 +29,7 @@ mod machines;
 mod recorder;
 mod run;
 mod steps;
+mod striking;
 
 pub use checks::{Failed, first_failed, traces_of};
 pub use input::{CheckInput, InputFault, read_input};

@@ -4,8 +4,10 @@ ghost use Rattle.std.specs.Prelude.{◌≡◌, All, IfOk, length};
 ghost use Rattle.job_text.specs.JobText.{IsJob};
 ghost use Rattle.check_run.specs.CheckInputs.{IsTraceOf};
 ghost use Rattle.check_run.specs.Merging.{AreFirstRecorders, ClosesAll, MergesTraces};
+ghost use Rattle.check_run.specs.Struck.{struck_traces};
 
 use crate::recorder::{NodeReport, Recorder};
+use crate::striking::struck_traces;
 use gas_endpoint::Endpoint;
 use gasnet_trace::{MergeFault, Trace, merge};
 use node_machine::traces_law;
@@ -48,18 +50,25 @@ fn close_all(alloc: Global, recorders: Vec<Recorder<'_>>) -> Result<RunReport, A
     Ok(RunReport { nodes, reports })
 }
 
-/// The nodes of a job after their traces, where these are a run.
-pub fn merge_traces(alloc: Global, job: &Script, traces: &[Trace]) -> Result<RunReport, MergeFault>
+/// The nodes of a job after their traces, where these are a run without the bytes that their nodes refuse.
+pub fn merge_traces(
+    alloc: Global,
+    job: &Script,
+    traces: Vec<Trace>,
+) -> Result<RunReport, MergeFault>
     requires job { IsJob job.now }
-    requires count { length traces.now ≡ job.now.settings.nodes }
-    requires traces { All (IsTraceOf job.now) traces.now }
-    ensures { MergesTraces job.now traces.now result }
+    requires count { length traces.items ≡ job.now.settings.nodes }
+    requires traces { All (IsTraceOf job.now) traces.items }
+    ensures { MergesTraces job.now (struck_traces job.now traces.items) result }
 {
     traces_law();
     let Ok(mut recorders) = new_recorders(alloc, job) else {
         return Err(MergeFault::NoMemory);
     };
-    match merge(alloc, recorders.as_mut_slice(), traces) {
+    let Ok(judged) = struck_traces(alloc, &recorders, traces) else {
+        return Err(MergeFault::NoMemory);
+    };
+    match merge(alloc, recorders.as_mut_slice(), &judged) {
         Ok(_) => {}
         Err(fault) => return Err(fault),
     }

@@ -1,9 +1,11 @@
 //! The machine of a node that records what is written of it: the lines of its steps, and the most that it held.
 
-ghost use Rattle.std.specs.Prelude.{◌≡◌, ◌<◌, IfOk, true};
+ghost use Rattle.std.specs.Prelude.{◌≡◌, ◌<◌, ℕ, IfOk, true};
 ghost use Rattle.job_text.specs.JobText.{IsJob};
+ghost use Rattle.job_text.specs.declared.job.Job.{Job as JobState};
 ghost use Rattle.check_run.specs.Merging.{ClosesRecorder};
 ghost use Rattle.check_run.specs.Recording.{RecorderStands, opening_record, text_of};
+ghost use Rattle.check_run.specs.Struck.{IsEndpointAt};
 
 use crate::steps::{StepAt, tell_step};
 use gas_endpoint::Endpoint;
@@ -88,6 +90,14 @@ impl<'a> Recorder<'a> {
             whole: true,
             most: 0,
         })
+    }
+
+    /// The endpoint of the node.
+    pub fn endpoint(&self) -> &Endpoint
+        ensures { (job : JobState) (rank : ℕ) → RecorderStands self.now (opening_record job rank)
+            → IsEndpointAt job rank result.now }
+    {
+        self.node.endpoint()
     }
 
     /// The endpoint of the node, and what was recorded of it.

@@ -7,6 +7,7 @@ ghost use Rattle.job_text.specs.JobText.{IsJob};
 ghost use Rattle.job_text.specs.declared.job.Job.{Job as JobState};
 ghost use Rattle.check_run.specs.CheckInputs.{IsTraceOf};
 ghost use Rattle.check_run.specs.Merging.{CanBeWritten, IsMerged};
+ghost use Rattle.check_run.specs.Struck.{struck_traces};
 ghost use Rattle.check_run.specs.TracesEnds.{EndsTraces};
 
 use crate::ending::{any_violation, write_ends, write_texts};
@@ -43,7 +44,8 @@ pub enum TracesEnd {
 /// Writes the lines of traces that are a run, which left these nodes.
 fn tell_run<K: Sink>(report: RunReport, sink: &mut BufferedSink<K>) -> TracesEnd
     requires { CanBeWritten report }
-    ensures { (job : JobState) (traces : List TraceState) → IsMerged job traces report
+    ensures { (job : JobState) (traces : List TraceState)
+        → IsMerged job (struck_traces job traces) report
         → EndsTraces job traces (outbox K.taken K.faults sink.old)
         (outbox K.taken K.faults sink.new) result }
 {
@@ -63,16 +65,19 @@ fn tell_run<K: Sink>(report: RunReport, sink: &mut BufferedSink<K>) -> TracesEnd
 /// Checks whether the traces of the nodes of a job, in rising order of ranks, are a run of the world, and writes the
 /// lines of that run: for each node and each of its entries, where a step of a script ended in it, the rank, the thread
 /// and the answer of the step; then the lines of each node at the end.
+///
+/// Bytes that their node refuses, whatever it did before, are struck from the traces before: an entry that got such bytes
+/// is read as one that got nothing. Each node that is left is the one that its trace leaves, read so or as it is.
 pub fn run_traces<K: Sink>(
     alloc: Global,
     job: &Script,
-    traces: &[Trace],
+    traces: Vec<Trace>,
     sink: &mut BufferedSink<K>,
 ) -> TracesEnd
     requires job { IsJob job.now }
-    requires count { length traces.now ≡ job.now.settings.nodes }
-    requires traces { All (IsTraceOf job.now) traces.now }
-    ensures { EndsTraces job.now traces.now
+    requires count { length traces.items ≡ job.now.settings.nodes }
+    requires traces { All (IsTraceOf job.now) traces.items }
+    ensures { EndsTraces job.now traces.items
         (outbox K.taken K.faults sink.old) (outbox K.taken K.faults sink.new) result }
 {
     match merge_traces(alloc, job, traces) {

@@ -1,6 +1,8 @@
 //! The real ones of the traits of `gas_outside`: a link over a UDP socket, a clock of the system, a gate that watches
 //! the link's socket, and a spawner of processes.
 //!
+//! `Hosts` has the addresses of a job's nodes. A link receives what comes from these addresses alone.
+//!
 //! Each holds the handle by which it asks the system, so that the traits' calls need none. What the system does is its
 //! own: nothing tells what was sent, received, waits, or what a child gave. So what is proved is little:
 //!
@@ -15,12 +17,14 @@
 //! What each does with the system is tested in `real_tests`.
 #![tactic(auto)]
 
+mod hosts;
 mod link_socket;
 mod process_spawner;
 mod socket_gate;
 mod system_clock;
 mod udp_link;
 
+pub use hosts::Hosts;
 pub use link_socket::LinkSocket;
 pub use process_spawner::ProcessSpawner;
 pub use socket_gate::SocketGate;

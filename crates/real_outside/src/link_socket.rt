@@ -1,12 +1,16 @@
 //! The socket of a link.
 
-use std::net::UdpSocket;
+use std::net::{SocketAddr, UdpSocket};
 use std::sync::OnceLock;
+use std::sync::atomic::{AtomicU64, Ordering};
 
 /// Where a link keeps its socket, once it is bound, so that a gate can watch it.
 #[derive(Drop)]
 pub struct LinkSocket {
     socket: OnceLock<UdpSocket>,
+    strays: AtomicU64,
+    sender: AtomicU64,
+    orphaned: AtomicU64,
 }
 
 impl LinkSocket {
@@ -14,7 +18,40 @@ impl LinkSocket {
     pub fn new() -> LinkSocket {
         LinkSocket {
             socket: OnceLock::new(),
+            strays: AtomicU64::new(0),
+            sender: AtomicU64::new(0),
+            orphaned: AtomicU64::new(0),
         }
+    }
+
+    /// The address of the socket, if there is one and the system tells it.
+    pub fn address(&self) -> Option<SocketAddr> {
+        self.socket.get()?.local_addr().ok()
+    }
+
+    /// How many datagrams were dropped that no peer sent.
+    pub fn strays(&self) -> u64 {
+        self.strays.load(Ordering::SeqCst)
+    }
+
+    /// Where the rank of the peer stands whose datagram was received last, at first 0.
+    pub fn sender(&self) -> &AtomicU64 {
+        &self.sender
+    }
+
+    /// One more was dropped.
+    pub(crate) fn count_stray(&self) {
+        self.strays.fetch_add(1, Ordering::SeqCst);
+    }
+
+    /// Notes that nobody reads standard output any more. From now on the link fails.
+    pub(crate) fn orphan(&self) {
+        self.orphaned.store(1, Ordering::SeqCst);
+    }
+
+    /// Whether that was noted.
+    pub(crate) fn is_orphaned(&self) -> bool {
+        self.orphaned.load(Ordering::SeqCst) != 0
     }
 
     /// The socket, if there is one.

@@ -7,12 +7,16 @@ ghost use Rattle.gas_outside.specs.Spawner.{AppendsOutput};
 use gas_outside::{Finished, Got, MAX_OUTPUT, ReadAll, Source, Spawner, Started, read_all};
 use std::alloc::Global;
 use std::io::{ErrorKind, Read, Write};
-use std::process::{Child, Command, OpenProcess, Processes, Stdio};
+use std::process::{Child, Command, ExitStatus, OpenProcess, Processes, Stdio};
 use std::rt::Files;
-use std::{env, io};
+use std::{env, fs, io};
 
 /// A spawner that starts a program once for each rank, with the words `node RANK PORT` and the bytes on its standard
 /// input.
+///
+/// Where it was given a folder it keeps what each child wrote there as `RANK.out`, and how it ended as `RANK.end`: a
+/// line `exit status: CODE` or `signal: NUMBER (NAME)`. It makes the folder where there is none. A file that can't be written is left out, which is no fault.
+/// So are the files of a child whose output couldn't be read to its end.
 ///
 /// A child that ends before it has read all its input is no fault: its end tells why. A start of a rank whose child
 /// runs, a finish of a rank without a child, an output over the limit and an end by a signal are faults, and so is each
@@ -22,6 +26,7 @@ pub struct ProcessSpawner<R: Processes> {
     rt: R,
     alloc: Global,
     program: String,
+    folder: Option<String>,
     children: Vec<(u16, Child<R::Started>)>,
     faults: u64,
 }
@@ -50,9 +55,15 @@ impl<R: Processes> ProcessSpawner<R> {
             rt,
             alloc,
             program,
+            folder: None,
             children: Vec::new(alloc),
             faults: 0,
         }
+    }
+
+    /// Gives it a folder for the files of its children.
+    pub fn keep_in(&mut self, folder: String) {
+        self.folder = Some(folder);
     }
 
     /// The place of the child of a rank.
@@ -135,41 +146,58 @@ impl<O: Read> Source for OutputSource<O> {
     }
 }
 
-/// Waits for a child's exit status. None where it can't be had, or a signal ended the child.
-fn status_of<P: OpenProcess>(child: &mut Child<P>) -> Option<u8> {
-    let code = child.wait().ok()?.code()?;
-    u8::try_from(code).ok()
-}
-
-/// Waits until a child ends, and appends its output.
-fn end<P: OpenProcess>(alloc: Global, child: &mut Child<P>, into: &mut Vec<u8>) -> Finished
-    ensures { AppendsOutput result into.old.items into.new.items }
-{
-    let Some(pipe) = child.stdout.take() else {
-        stop(child);
-        return Finished::Failed;
-    };
-    let output = match read_all(alloc, &mut OutputSource { pipe, faults: 0 }, MAX_OUTPUT) {
-        ReadAll::Bytes(output) => output,
-        ReadAll::NoMemory => {
-            stop(child);
-            return Finished::NoMemory;
-        }
-        ReadAll::TooLong | ReadAll::Fault => {
+impl<R: Processes + Files> ProcessSpawner<R> {
+    /// Waits until a child ends, and appends its output.
+    fn end(&self, rank: u16, child: &mut Child<R::Started>, into: &mut Vec<u8>) -> Finished
+        ensures { AppendsOutput result into.old.items into.new.items }
+    {
+        let Some(pipe) = child.stdout.take() else {
             stop(child);
             return Finished::Failed;
+        };
+        let mut source = OutputSource { pipe, faults: 0 };
+        let output = match read_all(self.alloc, &mut source, MAX_OUTPUT) {
+            ReadAll::Bytes(output) => output,
+            ReadAll::NoMemory => {
+                stop(child);
+                return Finished::NoMemory;
+            }
+            ReadAll::TooLong | ReadAll::Fault => {
+                stop(child);
+                return Finished::Failed;
+            }
+        };
+        let Some(status) = self.status_of(rank, child, &output) else {
+            return Finished::Failed;
+        };
+        if into.extend_from_slice(&output).is_err() {
+            return Finished::NoMemory;
         }
-    };
-    let Some(status) = status_of(child) else {
-        return Finished::Failed;
-    };
-    if into.extend_from_slice(&output).is_err() {
-        return Finished::NoMemory;
+        Finished::Ended(status)
     }
-    Finished::Ended(status)
+
+    /// Waits for a child's exit status, and keeps its files. None where the status can't be had, or a signal ended the
+    /// child.
+    fn status_of(&self, rank: u16, child: &mut Child<R::Started>, output: &[u8]) -> Option<u8> {
+        let status = child.wait().ok()?;
+        if let Some(folder) = &self.folder {
+            let _ = self.keep(folder.as_str(), rank, output, status);
+        }
+        u8::try_from(status.code()?).ok()
+    }
+
+    /// Keeps the files of a child.
+    fn keep(&self, folder: &str, rank: u16, output: &[u8], status: ExitStatus) -> io::Result<()> {
+        fs::create_dir_all(&self.rt, folder)?;
+        let path = format!(in self.alloc; "{folder}/{rank}.out")?;
+        fs::write(&self.rt, path.as_str(), output)?;
+        let path = format!(in self.alloc; "{folder}/{rank}.end")?;
+        let text = format!(in self.alloc; "{status}\n")?;
+        fs::write(&self.rt, path.as_str(), text.as_bytes())
+    }
 }
 
-impl<R: Processes> Spawner for ProcessSpawner<R> {
+impl<R: Processes + Files> Spawner for ProcessSpawner<R> {
     ghost use Rattle.std.specs.Prelude.{None};
 
     ghost told = { λ _. None };
@@ -190,7 +218,10 @@ impl<R: Processes> Spawner for ProcessSpawner<R> {
     /// system does so.
     fn finish(&mut self, rank: u16, into: &mut Vec<u8>) -> Finished {
         let end = match self.place(rank) {
-            Some(place) => end(self.alloc, &mut self.children.swap_remove(place).1, into),
+            Some(place) => {
+                let (_, mut child) = self.children.swap_remove(place);
+                self.end(rank, &mut child, into)
+            }
             None => Finished::Failed,
         };
         if end == Finished::Failed {

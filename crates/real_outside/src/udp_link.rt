@@ -1,36 +1,54 @@
 //! A link over a UDP socket.
 
 ghost use Rattle.std.specs.Prelude.{◌≡◌, ◌≤◌};
+ghost use Rattle.std.specs.Io.{ReadsAtMost};
 ghost use Rattle.gas_outside.specs.Faults.{Rose};
 
+use crate::hosts::Hosts;
 use crate::link_socket::LinkSocket;
 use gas_outside::{Link, LinkAnswer, Received};
 use std::io;
 use std::io::ErrorKind;
-use std::net::{Ipv4Addr, Net, SocketAddr, SocketAddrV4, UdpSocket};
+use std::net::{Net, SocketAddr, UdpSocket};
+use std::os::fd::AsRawFd;
+use std::sync::atomic::Ordering;
 
 /// The system's number for want of room in its queues.
 const NO_ROOM: i32 = 105;
 
-/// A link over a UDP socket that doesn't wait. The node of rank r has the port `port + r` of 127.0.0.1.
+/// How many strays a call of `receive` drops, at most.
+const DROPS: u32 = 64;
+
+/// The bytes that are asked of the system for the receive buffer.
+const RECEIVE_BYTES: i32 = 4_194_304;
+
+/// A link over a UDP socket that doesn't wait. The node of rank r has the port `port + r` at the address of its host.
+///
+/// It receives what its peers sent, the other nodes of the job: a datagram counts as a peer's where its source is that
+/// node's address and port. Any other one is a stray, which is dropped and counted. Where 64 strays came in a row
+/// `receive` answers `Empty`.
 ///
 /// A datagram that the socket can't take now is lost, and so is one to a port that isn't open yet. Any other error of
-/// the system is a fault. The link can be bound once; a call before, and a second `bind`, is a fault. It tells what it
-/// was bound to, and nothing of datagrams.
+/// the system is a fault. The link can be bound once; a call before, and a second `bind`, is a fault. So is each call
+/// once nobody reads standard output any more, which the gate notes. It tells what it was bound to, and nothing of
+/// datagrams.
 #[derive(Drop)]
 pub struct UdpLink<'a, R: Net> {
     rt: R,
     socket: &'a LinkSocket,
+    hosts: &'a Hosts,
     bound: Option<(u16, u16, u16)>,
     faults: u64,
 }
 
 impl<'a, R: Net> UdpLink<'a, R> {
-    /// A link that isn't bound. It keeps its socket there; that place is for this link alone.
-    pub fn new(rt: R, socket: &'a LinkSocket) -> UdpLink<'a, R> {
+    /// A link to the nodes at these hosts, which isn't bound. It keeps its socket there; that place is for this link
+    /// alone.
+    pub fn new(rt: R, socket: &'a LinkSocket, hosts: &'a Hosts) -> UdpLink<'a, R> {
         UdpLink {
             rt,
             socket,
+            hosts,
             bound: None,
             faults: 0,
         }
@@ -38,15 +56,47 @@ impl<'a, R: Net> UdpLink<'a, R> {
 
     /// Opens the socket of a rank.
     fn open(&self, rank: u16, nodes: u16, port: u16) -> io::Result<()> {
-        if rank >= nodes || port.checked_add(nodes - 1).is_none() {
+        if rank >= nodes || port.checked_add(nodes - 1).is_none() || !self.hosts.fits(nodes) {
             return Err(io::Error::from(ErrorKind::InvalidInput));
         }
-        let socket = UdpSocket::bind(&self.rt, address(port, rank)?)?;
+        let socket = UdpSocket::bind(&self.rt, self.address(port, rank)?)?;
         socket.set_nonblocking(true)?;
+        widen(&socket);
         if !self.socket.keep(socket) {
             return Err(io::Error::from(ErrorKind::AlreadyExists));
         }
         Ok(())
+    }
+
+    /// The address of the node of a rank, where `port` is that of rank 0.
+    fn address(&self, port: u16, rank: u16) -> io::Result<SocketAddr> {
+        match self.hosts.address(port, rank) {
+            Some(own) => Ok(own),
+            None => Err(io::Error::from(ErrorKind::InvalidInput)),
+        }
+    }
+
+    /// Takes the first datagram at the socket that a peer sent. The strays before it are dropped and counted.
+    fn take(&self, buf: &mut [u8]) -> io::Result<usize>
+        ensures { ReadsAtMost result buf.new }
+    {
+        let (Some(socket), Some((rank, nodes, port))) = (self.socket.get(), self.bound) else {
+            return Err(io::Error::from(ErrorKind::NotConnected));
+        };
+        if self.socket.is_orphaned() {
+            return Err(io::Error::from(ErrorKind::BrokenPipe));
+        }
+        for _ in 0..DROPS {
+            let (len, from) = socket.recv_from(buf)?;
+            if let Some(peer) = self.hosts.peer(from, rank, nodes, port) {
+                self.socket
+                    .sender()
+                    .store(u64::from(peer), Ordering::SeqCst);
+                return Ok(len);
+            }
+            self.socket.count_stray();
+        }
+        Err(io::Error::from(ErrorKind::WouldBlock))
     }
 
     /// Hands a datagram to the socket.
@@ -54,19 +104,26 @@ impl<'a, R: Net> UdpLink<'a, R> {
         let (Some(socket), Some((_, _, port))) = (self.socket.get(), self.bound) else {
             return Err(io::Error::from(ErrorKind::NotConnected));
         };
-        match socket.send_to(bytes, address(port, to)?) {
+        match socket.send_to(bytes, self.address(port, to)?) {
             Err(error) if !is_loss(&error) => Err(error),
             _ => Ok(()),
         }
     }
 }
 
-/// The address of the node of a rank, where `port` is that of rank 0.
-fn address(port: u16, rank: u16) -> io::Result<SocketAddr> {
-    match port.checked_add(rank) {
-        Some(own) => Ok(SocketAddr::V4(SocketAddrV4::new(Ipv4Addr::LOCALHOST, own))),
-        None => Err(io::Error::from(ErrorKind::InvalidInput)),
-    }
+/// Asks the system for a wide receive buffer. It may give less.
+fn widen(socket: &UdpSocket) {
+    let mut value = [0u8; 16];
+    value[..4].copy_from_slice(&RECEIVE_BYTES.to_ne_bytes());
+    let _ = unsafe {
+        libc::net::setsockopt(
+            socket.as_raw_fd(),
+            libc::net::SOL_SOCKET,
+            libc::net::SO_RCVBUF,
+            &value,
+            4,
+        )
+    };
 }
 
 /// Whether an error says that a datagram was lost, or that none is there: the socket can't do it now, or a peer's port
@@ -91,8 +148,8 @@ impl<R: Net> Link for UdpLink<'_, R> {
 
     ghost faults = { λ l. l.faults };
 
-    /// Opens the port of this rank. A port that another socket has, and a job whose ports don't end by 65,535, is a
-    /// fault.
+    /// Opens the port of this rank at the address of its host. It is a fault where another socket has that port, this
+    /// host hasn't that address, there aren't as many hosts as nodes, or a port would be past 65,535.
     fn bind(&mut self, rank: u16, nodes: u16, port: u16) -> LinkAnswer {
         if self.open(rank, nodes, port).is_err() {
             self.faults = self.faults.saturating_add(1);
@@ -111,14 +168,12 @@ impl<R: Net> Link for UdpLink<'_, R> {
         LinkAnswer::Done
     }
 
-    /// Takes a datagram that waits at the socket.
+    /// Takes the first datagram at the socket that a peer sent.
     fn receive(&mut self, buf: &mut [u8]) -> Received {
-        if let Some(socket) = self.socket.get() {
-            match socket.recv(buf) {
-                Ok(len) => return Received::Got(len),
-                Err(error) if is_loss(&error) => return Received::Empty,
-                Err(_) => {}
-            }
+        match self.take(buf) {
+            Ok(len) => return Received::Got(len),
+            Err(error) if is_loss(&error) => return Received::Empty,
+            Err(_) => {}
         }
         self.faults = self.faults.saturating_add(1);
         Received::Failed

@@ -4,7 +4,7 @@ ghost use Rattle.endpoint_lock.specs.StationState.{opened, opening_of};
 use endpoint_lock::{End, Station, run_threads};
 use gas_outside::{Clock, Gate, Link, LinkAnswer};
 use machine::Entry;
-use real_outside::{LinkSocket, SocketGate, SystemClock, UdpLink};
+use real_outside::{Hosts, LinkSocket, SocketGate, SystemClock, UdpLink};
 use station_tests::TwoThreads;
 use std::alloc::Global;
 use std::test::Fail;
@@ -40,7 +40,8 @@ fn are_turns_of(entries: &[Entry], threads: &[u16]) -> bool {
 fn runs_threads_over_a_socket(rt: HostRuntime) -> Result<(), Fail> {
     let alloc = rt.alloc();
     let socket = LinkSocket::new();
-    let mut link = UdpLink::new(rt, &socket);
+    let hosts = Hosts::local(alloc);
+    let mut link = UdpLink::new(rt, &socket, &hosts);
     for step in 0..400 {
         if link.bind(0, 3, 26_000 + 3 * step) == LinkAnswer::Done {
             break;

@@ -9,6 +9,7 @@ use Rattle.job_text.specs.declared.fault.JobWhy.{JobWhy}
 use Rattle.job_text.specs.declared.job.Job.{Job as JobState}
 use Rattle.check_run.specs.CheckInputs.{InputText, IsUnread, TakesInput, TakesNone, traces_in}
 use Rattle.check_run.specs.Statuses.{AreOver, IsFirstFailed, is_over}
+use Rattle.check_run.specs.Struck.{struck_traces}
 use Rattle.check_run.specs.TracesRun.{AreARun}
 use Rattle.check_run.specs.declared.input.InputFault.{InputFault}
 use Rattle.check_run.specs.declared.input.InputFault.TheVariants as inputs
@@ -194,14 +195,14 @@ same_input bytes (Some rest) job other outputs others text takes =
 
 -- so its nodes ended with status 0 or 1, and their traces are a run, where those of that one are
 read_run : (source : Input) (left : Option (List ℕ)) (job : JobState) (outputs : List Output) → HoldsRun source
-    → TakesInput source.left left job outputs → AreOver outputs × AreARun job (traces_in outputs)
+    → TakesInput source.left left job outputs → AreOver outputs × AreARun job (struck_traces job (traces_in outputs))
 read_run source left job outputs run takes =
     let holds = run.holds in
     let same = same_input holds.bytes left holds.job job holds.outputs outputs holds.text
     (subst (λ (before : Option (List ℕ)). TakesInput before left job outputs) holds.told takes) in (
       subst AreOver same.1 run.over,
-      subst (λ (all : List Output). AreARun job (traces_in all)) same.1
-          (subst (λ (it : JobState). AreARun it (traces_in holds.outputs)) same.0 run.run),
+      subst (λ (all : List Output). AreARun job (struck_traces job (traces_in all))) same.1
+          (subst (λ (it : JobState). AreARun it (struck_traces it (traces_in holds.outputs))) same.0 run.run),
     )
 
 -- among nodes that all ended with status 0 or 1 none failed

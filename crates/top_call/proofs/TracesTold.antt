@@ -8,6 +8,7 @@ use Rattle.job_text.specs.declared.job.Job.{Job as JobState}
 use Rattle.node_script.specs.Lines.{spell, line_text}
 use Rattle.world_run.proofs.LinesWritten.{one_more}
 use Rattle.check_run.specs.StepLines.{is_violated, run_lines}
+use Rattle.check_run.specs.Struck.{struck_traces}
 use Rattle.check_run.specs.TracesEnds.{EndsTraces}
 use Rattle.check_run.specs.declared.run.TracesEnd.{TracesEnd}
 use Rattle.check_run.specs.declared.run.TracesEnd.TheVariants as traces
@@ -22,9 +23,21 @@ use Rattle.top_call.proofs.RunTold.{end_said}
 
 pub weak_traces : (job : JobState) (these : List Trace) → Weakens (TracesEnds job these)
 weak_traces job these ends.Done given said h =
-    record { run = h.run; violated_is = h.violated_is; said_is = h.said_is; nodes_after = tt }
+    record {
+      run = h.run;
+      violated_is = h.violated_is;
+      said_is = h.said_is;
+      nodes_of_run = tt;
+      nodes_after = tt;
+    }
 weak_traces job these ends.Violations given said h =
-    record { run = h.run; violated_is = h.violated_is; said_is = h.said_is; nodes_after = tt }
+    record {
+      run = h.run;
+      violated_is = h.violated_is;
+      said_is = h.said_is;
+      nodes_of_run = tt;
+      nodes_after = tt;
+    }
 weak_traces job these ends.NoMemory given said (inl alone) = inl (weak_alone ends.NoMemory given said alone)
 weak_traces job these ends.NoMemory given said (inr left) = inr (record {
   run = left.run;
@@ -64,12 +77,14 @@ pub traces_told : (job : JobState) (these : List Trace) (old middle new : Outbox
     → EndsTraces job these old middle end → SaysTraces end middle new ended
     → EndsBy (TracesEnds job these) old new ended
 traces_told job these old middle new (traces.Done violated nodes) ended told says =
-    says_last (TracesEnds job these) old middle new (run_lines job these) (end_of violated) (nodes_given nodes) ended
+    says_last (TracesEnds job these) old middle new (run_lines job (struck_traces job these)) (end_of violated) (nodes_given nodes) ended
     (weak_traces job these) (end_said violated)
-    (by_end job these violated (gives (nodes_given nodes)) (said_last (run_lines job these) (end_of violated)) (record {
+    (by_end job these violated (gives (nodes_given nodes))
+    (said_last (run_lines job (struck_traces job these)) (end_of violated)) (record {
       run = told.run;
       violated_is = sym told.violated_is;
       said_is = refl;
+      nodes_of_run = record { nodes = nodes; given_is = refl; nodes_after = told.nodes_of_run };
       nodes_after = record { nodes = nodes; given_is = refl; nodes_after = told.nodes_after };
     })) told.lines says
 traces_told job these old middle new (traces.NotARun node entry) ended told says =
@@ -77,15 +92,16 @@ traces_told job these old middle new (traces.NotARun node entry) ended told says
     (record { none = told.none; alone = alone (ends.NotARun node entry) })
     (subst (λ (out : Outbox). Says (ends.NotARun node entry) nothing out new ended) told.same says)
 traces_told job these old middle new traces.Fault ended told says =
-    let end = end_of (is_violated job these) in
-    let lines = run_lines job these in
+    let violated = is_violated job (struck_traces job these) in
+    let end = end_of violated in
+    let lines = run_lines job (struck_traces job these) in
     let went : GathersAll old new (spell lines) wrote.Fault =
     subst (λ (out : Outbox). GathersAll old out (spell lines) wrote.Fault) (sym says.1) told.lines in
     subst (λ (e : Ended). EndsBy (TracesEnds job these) old new e) (sym says.0) (record {
       end = end;
       said = said_last lines end;
-      ends = by_end job these (is_violated job these) unasked (said_last lines end)
-          (record { run = told.run; violated_is = refl; said_is = refl; nodes_after = tt });
+      ends = by_end job these violated unasked (said_last lines end)
+          (record { run = told.run; violated_is = refl; said_is = refl; nodes_of_run = tt; nodes_after = tt });
       cut = rw (one_more lines (status_line end))
           (gathers_first old new (spell lines) (line_text (status_line end)) went);
       nothing_given = refl;

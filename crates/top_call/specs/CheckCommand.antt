@@ -6,6 +6,7 @@ use Rattle.job_text.specs.declared.fault.JobWhy.{JobWhy}
 use Rattle.job_text.specs.declared.job.Job.{Job as JobState}
 use Rattle.check_run.specs.CheckInputs.{InputText, TakesInput, TakesNone, traces_in}
 use Rattle.check_run.specs.Statuses.{AreOver, IsFirstFailed}
+use Rattle.check_run.specs.Struck.{struck_traces}
 use Rattle.check_run.specs.TracesRun.{AreARun}
 use Rattle.top_call.specs.Outsides.{Call, Input, IsFaultless, Reading, read_in}
 use Rattle.top_call.specs.HowEnds.{After, EndsHow, SaysAlone}
@@ -69,11 +70,12 @@ pub record HoldsInput (source : Input) : Type 0 where
   pub told : source.left ≡ Some bytes
   pub text : InputText job outputs bytes
 
--- moreover each of its nodes ended with status 0 or 1, and their traces are a run
+-- moreover each of its nodes ended with status 0 or 1, and their traces are a run, without the bytes that their nodes
+-- refuse
 pub record HoldsRun (source : Input) : Type 0 where
   pub holds : HoldsInput source
   pub over : AreOver holds.outputs
-  pub run : AreARun holds.job (traces_in holds.outputs)
+  pub run : AreARun holds.job (struck_traces holds.job (traces_in holds.outputs))
 
 -- where no count of faults rose, such an input was judged, or memory ran out; one whose traces are a run was judged to
 -- be so, or memory ran out

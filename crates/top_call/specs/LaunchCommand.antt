@@ -7,6 +7,7 @@ use Rattle.gas_outside.specs.Spawner.{ChildEnd, SpawnTold}
 use Rattle.gasnet_trace.specs.declared.output.Output.{Output}
 use Rattle.job_text.specs.declared.job.Job.{Job as JobState}
 use Rattle.check_run.specs.CheckInputs.{traces_in}
+use Rattle.check_run.specs.Struck.{struck_traces}
 use Rattle.check_run.specs.TracesRun.{AreARun}
 use Rattle.launch_run.specs.Children.{NoneFinished}
 use Rattle.launch_run.specs.LaunchEnds.{FailsToSpawn, GivesOutputs, Launch, LosesChild, RunsShort}
@@ -106,7 +107,8 @@ pub record HoldsLaunch (port : ℕ) (source : Input) : Type 0 where
   pub ports : has_ports port holds.job.settings.nodes ≡ true
 
 -- the spawner told no finish of the ranks of the job, and after the call it tells, behind the ends told before, those
--- of children that each gave an output of its node, with status 0 or 1; and the traces in these are a run
+-- of children that each gave an output of its node, with status 0 or 1; and the traces in these are a run, without the
+-- bytes that their nodes refuse
 pub record TellsRun (job : JobState) (spawning : Spawning) : Type 0 where
   pub before : SpawnTold
   pub before_is : spawning.before.told ≡ Some before
@@ -117,7 +119,7 @@ pub record TellsRun (job : JobState) (spawning : Spawning) : Type 0 where
   pub ended : after.ended ≡ before.ended ++ ends
   pub outputs : List Output
   pub given : AreGiven job ends outputs
-  pub run : AreARun job (traces_in outputs)
+  pub run : AreARun job (struck_traces job (traces_in outputs))
 
 -- where no count of faults rose, the nodes of a job that could be read were judged, or memory ran out; those whose
 -- traces are a run were judged to be so, or memory ran out

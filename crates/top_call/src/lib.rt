@@ -24,11 +24,13 @@
 //!     only where the link's count of faults rose, or stands at its last value, 9 and 10 by the cause of that end. 2
 //!     comes also where a job was read that has no node of this rank, or no port for each node; 3 and 4 as above.
 //!   - `check` (`CheckMeans`): with 0 and 1 the bytes read are the text of a job with an output of each of its nodes
-//!     behind it (`InputText`), and of no others, each node ended with 0 or 1, their traces are a run of the world
-//!     (`RunOfTraces`: the headline, the laws of transfers and of the barrier hold of it), the bytes written are its
-//!     text (`run_lines` of `check_run`) and the status line, and the nodes that the call returns stand for its end.
-//!     It is 1 exactly where one of them noted a violation; with 11 each node ended with 0 or 1, and their traces are
-//!     no run (`AreNoRun`); 12 names the smallest rank of a node that ended otherwise, and the status in its output.
+//!     behind it (`InputText`), and of no others, each node ended with 0 or 1, their traces, without the bytes that
+//!     their nodes refuse (`struck_traces` of `check_run`), are a run of the world (`RunOfTraces`: the headline, the
+//!     laws of transfers and of the barrier hold of it), the bytes written are its text (`run_lines` of `check_run`)
+//!     and the status line, and the nodes that the call returns stand for its end, which is what the traces leave as
+//!     they were read. It is 1 exactly where one of them noted a violation; with 11 each node ended with 0 or 1, and
+//!     their struck traces are no run (`AreNoRun`); 12 names the smallest rank of a node that ended otherwise, and the
+//!     status in its output.
 //!     3 comes only where no job with outputs has the bytes read as its text, and its line and word are the first bad
 //!     line and the first reason that applies to it, in the job's text with what that means, behind it by the reader
 //!     alone (`TakesNone`), or `0 size` for more than 67,108,864 bytes; 4 as above.
@@ -52,8 +54,8 @@
 //!   8; `node` has 0, 1, 8, 9 or 10 where that job has a place for it, and the link's count didn't rise either;
 //!   `launch` has 0, 1, 8, 11 or 12 where it has a port for each node, and the spawner's count didn't rise either. The
 //!   drill has 0 or 8. Where they are the text of a job with outputs, `check` has 0, 1, 8, 11 or 12; it has 0, 1 or 8
-//!   where moreover each of these nodes ended with 0 or 1, and their traces are a run (`AreARun`), and so has `launch`
-//!   where the spawner tells such outputs of its children, and told no finish of their ranks before (`TellsRun`).
+//!   where moreover each of these nodes ended with 0 or 1, and their struck traces are a run (`AreARun`), and so has
+//!   `launch` where the spawner tells such outputs of its children, and told no finish of their ranks before (`TellsRun`).
 //! - **What a call leaves alone** [`leaves`: `LeavesAlone`]. What is seen of the spawner stands after the call as it
 //!   stood before, unless the words are those of `launch`; so does what is seen of link and clock, unless they are
 //!   those of `node`; and what is seen of the source, where they are those of `drill`, or of no command.

@@ -39,13 +39,13 @@ fn say_traces<K: Sink>(sink: &mut BufferedSink<K>, end: TracesEnd) -> Ended
 fn check_traces<K: Sink>(
     alloc: Global,
     job: Job,
-    traces: &[Trace],
+    traces: Vec<Trace>,
     sink: &mut BufferedSink<K>,
 ) -> Ended
     requires job { IsJob job }
-    requires count { length traces.now ≡ job.settings.nodes }
-    requires traces { All (IsTraceOf job) traces.now }
-    ensures { EndsBy (TracesEnds job traces.now) (outbox K.taken K.faults sink.old)
+    requires count { length traces.items ≡ job.settings.nodes }
+    requires traces { All (IsTraceOf job) traces.items }
+    ensures { EndsBy (TracesEnds job traces.items) (outbox K.taken K.faults sink.old)
         (outbox K.taken K.faults sink.new) result }
 {
     match Script::new(alloc, job) {
@@ -71,7 +71,7 @@ pub fn check_outputs<K: Sink>(
         (outbox K.taken K.faults sink.new) result }
 {
     match traces_of(alloc, outputs) {
-        Ok(traces) => check_traces(alloc, job, &traces, sink),
+        Ok(traces) => check_traces(alloc, job, traces, sink),
         Err(AllocError) => say(sink, End::NoMemory, Given::nothing()),
     }
 }

@@ -1,6 +1,8 @@
 -- The nodes that the merge leaves, or why there are none.
 use Rattle.std.proofs.Common.{refl, sym, ◌∙◌, arith, inl}
+use Rattle.check_run.specs.Struck.{struck_traces}
 use Rattle.check_run.proofs.Ends.{nodes_ranked}
+use Rattle.check_run.proofs.Struck.{length-struck}
 use Rattle.check_run.proofs.run.run_traces.Goals as goal
 
 pub merge_traces-requires : goal.merge_traces-requires
@@ -9,14 +11,21 @@ merge_traces-requires g c = record { job = c.requires.job; count = c.requires.co
 pub tell_run-requires : goal.tell_run-requires
 tell_run-requires g c =
     let merged = c.in-Ok.ensures in
+    let judged = struck_traces c.args.job.now c.args.traces.items in
     record {
-      few = omega (arith, merged.nodes_after.count, c.requires.count, c.requires.job.settings.nodes);
+      few = omega (
+        arith,
+        merged.nodes_after.count,
+        length-struck c.args.job.now 0 c.args.traces.items,
+        c.requires.count,
+        c.requires.job.settings.nodes,
+      );
       count = merged.reports.count ∙ sym merged.nodes_after.count;
-      ranks = nodes_ranked c.args.job.now c.args.traces.now c.in-Ok.report.nodes.items merged.nodes_after;
+      ranks = nodes_ranked c.args.job.now judged c.in-Ok.report.nodes.items merged.nodes_after;
     }
 
 pub returns-in-Ok : goal.returns-in-Ok
-returns-in-Ok g c = c.tell_run.ensures c.args.job.now c.args.traces.now c.in-Ok.ensures
+returns-in-Ok g c = c.tell_run.ensures c.args.job.now c.args.traces.items c.in-Ok.ensures
 
 pub returns-in-Err-NotARun : goal.returns-in-Err-NotARun
 returns-in-Err-NotARun g c = record {

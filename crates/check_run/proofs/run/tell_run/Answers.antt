@@ -6,10 +6,12 @@ use Rattle.gas_outside.specs.declared.writing.Wrote.TheVariants as wrote
 use Rattle.world_run.proofs.LinesWritten.{both_said}
 use Rattle.check_run.specs.Merging.{AreReports, texts_of}
 use Rattle.check_run.specs.StepLines.{ends_from, steps_from}
+use Rattle.check_run.specs.Struck.{struck_traces}
 use Rattle.check_run.specs.TracesRun.{AreNodesAfter, AreRanked}
 use Rattle.check_run.specs.declared.recorder.NodeReport.{NodeReport}
 use Rattle.check_run.proofs.Ends.{texts_same}
 use Rattle.check_run.proofs.RunLines.{fault_before_ends}
+use Rattle.check_run.proofs.Struck.{unstruck}
 use Rattle.check_run.proofs.run.tell_run.Goals as goal
 
 pub write_ends-requires : goal.write_ends-requires
@@ -24,10 +26,11 @@ write_ends-requires g c =
 
 pub returns-in-Fault : goal.returns-in-Fault
 returns-in-Fault g c = λ job traces merged.
-    let texts = ap texts_of c.deref.ensures.value ∙ texts_same job traces c.args.report.reports.items merged.reports in
+    let judged = struck_traces job traces in
+    let texts = ap texts_of c.deref.ensures.value ∙ texts_same job judged c.args.report.reports.items merged.reports in
     record {
       run = merged.run;
-      lines = fault_before_ends job traces (outbox g.K.Sink.taken g.K.Sink.faults c.args.sink.now)
+      lines = fault_before_ends job judged (outbox g.K.Sink.taken g.K.Sink.faults c.args.sink.now)
           (outbox g.K.Sink.taken g.K.Sink.faults c.write_texts.new.sink)
           (subst (GathersFront (outbox g.K.Sink.taken g.K.Sink.faults c.args.sink.now)
           (outbox g.K.Sink.taken g.K.Sink.faults c.write_texts.new.sink)) texts c.in-Fault.ensures);
@@ -35,37 +38,40 @@ returns-in-Fault g c = λ job traces merged.
 
 pub returns-in-Done : goal.returns-in-Done
 returns-in-Done g c = λ job traces merged.
-    let texts = ap texts_of c.deref.ensures.value ∙ texts_same job traces c.args.report.reports.items merged.reports in
-    let Nodes : List EndpointState → Type 0 = λ nodes. AreNodesAfter job traces nodes in
-    let Reports : List NodeReport → Type 0 = λ reports. AreReports job traces reports in
+    let judged = struck_traces job traces in
+    let texts = ap texts_of c.deref.ensures.value ∙ texts_same job judged c.args.report.reports.items merged.reports in
+    let Nodes : List EndpointState → Type 0 = λ nodes. AreNodesAfter job judged nodes in
+    let Reports : List NodeReport → Type 0 = λ reports. AreReports job judged reports in
     record {
       run = merged.run;
       lines = both_said (outbox g.K.Sink.taken g.K.Sink.faults c.args.sink.now)
           (outbox g.K.Sink.taken g.K.Sink.faults c.write_texts.new.sink)
-          (outbox g.K.Sink.taken g.K.Sink.faults c.write_ends.new.sink) (steps_from job 0 traces)
-          (ends_from job 0 traces) wrote.Done
+          (outbox g.K.Sink.taken g.K.Sink.faults c.write_ends.new.sink) (steps_from job 0 judged)
+          (ends_from job 0 judged) wrote.Done
           (subst (Gathers (outbox g.K.Sink.taken g.K.Sink.faults c.args.sink.now)
           (outbox g.K.Sink.taken g.K.Sink.faults c.write_texts.new.sink)) texts c.in_default.ensures)
-          (c.in-Done.ensures job traces (subst Nodes (sym c.deref-2.ensures.value) merged.nodes_after)
+          (c.in-Done.ensures job judged (subst Nodes (sym c.deref-2.ensures.value) merged.nodes_after)
           (subst Reports (sym c.deref-3.ensures.value) merged.reports));
-      violated_is = c.any_violation-violated.ensures job traces
+      violated_is = c.any_violation-violated.ensures job judged
           (subst Nodes (sym c.deref-in-Done.ensures.value) merged.nodes_after);
-      nodes_after = merged.nodes_after;
+      nodes_of_run = merged.nodes_after;
+      nodes_after = unstruck job traces c.args.report.nodes.items merged.nodes_after;
     }
 
 pub returns-in-Fault-write_ends : goal.returns-in-Fault-write_ends
 returns-in-Fault-write_ends g c = λ job traces merged.
-    let texts = ap texts_of c.deref.ensures.value ∙ texts_same job traces c.args.report.reports.items merged.reports in
-    let Nodes : List EndpointState → Type 0 = λ nodes. AreNodesAfter job traces nodes in
-    let Reports : List NodeReport → Type 0 = λ reports. AreReports job traces reports in
+    let judged = struck_traces job traces in
+    let texts = ap texts_of c.deref.ensures.value ∙ texts_same job judged c.args.report.reports.items merged.reports in
+    let Nodes : List EndpointState → Type 0 = λ nodes. AreNodesAfter job judged nodes in
+    let Reports : List NodeReport → Type 0 = λ reports. AreReports job judged reports in
     record {
       run = merged.run;
       lines = both_said (outbox g.K.Sink.taken g.K.Sink.faults c.args.sink.now)
           (outbox g.K.Sink.taken g.K.Sink.faults c.write_texts.new.sink)
-          (outbox g.K.Sink.taken g.K.Sink.faults c.write_ends.new.sink) (steps_from job 0 traces)
-          (ends_from job 0 traces) wrote.Fault
+          (outbox g.K.Sink.taken g.K.Sink.faults c.write_ends.new.sink) (steps_from job 0 judged)
+          (ends_from job 0 judged) wrote.Fault
           (subst (Gathers (outbox g.K.Sink.taken g.K.Sink.faults c.args.sink.now)
           (outbox g.K.Sink.taken g.K.Sink.faults c.write_texts.new.sink)) texts c.in_default.ensures)
-          (c.in-Fault-write_ends.ensures job traces (subst Nodes (sym c.deref-2.ensures.value) merged.nodes_after)
+          (c.in-Fault-write_ends.ensures job judged (subst Nodes (sym c.deref-2.ensures.value) merged.nodes_after)
           (subst Reports (sym c.deref-3.ensures.value) merged.reports));
     }

@@ -9,7 +9,7 @@ use Rattle.top_call.proofs.traces.check_outputs.Goals as goal
 
 pub check_traces-requires : goal.check_traces-requires
 check_traces-requires g c =
-    let these = c.deref.ensures.value ∙ c.in-Ok.ensures in
+    let these = c.in-Ok.ensures in
     record {
       job = c.requires.job;
       count = ap length these ∙ length-map c.args.outputs.items (λ (output : Output). output.trace)
@@ -20,8 +20,8 @@ check_traces-requires g c =
 
 pub returns-in-Ok : goal.returns-in-Ok
 returns-in-Ok g c =
-    same_told c.args.job c.deref.result.now (traces_in c.args.outputs.items) _ _ c.check_traces.result
-    (c.deref.ensures.value ∙ c.in-Ok.ensures) c.check_traces.ensures
+    same_told c.args.job c.in-Ok.traces.items (traces_in c.args.outputs.items) _ _ c.check_traces.result
+    c.in-Ok.ensures c.check_traces.ensures
 
 pub returns-in-Err : goal.returns-in-Err
 returns-in-Err g c =
