@@ -3,7 +3,9 @@
 //!     use gasnet::{Call, Endpoint, Event, Settings};
 //!
 //!     // A job of two nodes with one thread each: 4 credits a pair, 65,536 bytes of segment, resending after 10 units.
-//!     let settings = Settings::new(1, job, 2, 4, 1, 65_536, u64::MAX, 10)?;
+//!     let Some(settings) = Settings::new(1, job, 2, 4, 1, 65_536, u64::MAX, 10) else {
+//!         return Ok(());
+//!     };
 //!     let mut node = Endpoint::new(alloc, &settings, 0, &table)?;
 //!
 //!     // A thread asks node 1 to run its handler 128 with one argument.
@@ -11,13 +13,18 @@
 //!     let answer = node.step(&handlers, now, &Event::Call { thread: 0, call });
 //!
 //!     // An event sends at most one message, and the answer names its slot.
-//!     if let Some(slot) = answer.sends() {
-//!         network.send(slot.peer, node.message(slot));
+//!     if let Some(slot) = answer.sends()
+//!         && let Some(bytes) = node.message(slot)
+//!     {
+//!         network.send(slot.peer, bytes);
 //!     }
 //!
 //!     // What comes from the network is an event, too, and so is time that passes.
 //!     node.step(&handlers, now, &Event::Deliver { bytes: &datagram });
 //!     node.step(&handlers, now, &Event::Tick);
+//!
+//! A layer of its own takes a `Caller` for the calls of a node's threads, as `Plan::begin` does, which begins the pieces
+//! of a strided or indexed transfer; `AtEndpoint` is the caller at an endpoint.
 //!
 //! `docs/LIBRARY.md` is the guide, and `crates/gas_ring` a whole program. A program lists this crate in `crates.txt`, and
 //! imports its types from here, the definitions that its clauses cite from `Rattle.gasnet.specs`, and the lemmas for its
@@ -26,14 +33,16 @@
 #![tactic(auto)]
 
 pub use am_core::{Asked, Delivered, Payload, Side, SlotRef, Why};
-pub use datagram_grammar::Settings;
+pub use datagram_grammar::{BarrierNote, PairCredits, Refused, Settings};
 pub use endpoint_rules::{Answer, Begun, Call, Event, Local, Region, Ticked};
 pub use gas_endpoint::Endpoint;
+pub use gas_strided::{Indexed, Level, Piece, Plan, PlanFault, Strided, Vis, Way};
 pub use handler_rules::{
     CallKind, Cells, Context, Desk, Entry, EntryFault, Fault, Forbidden, Handlers, Incoming, Log,
     Replied, Reply, Role, Serves, Table, Violation, Which,
 };
 pub use hsl_locks::{LockAnswer, LockFault, UnlockAnswer};
 pub use named_barrier::{BarrierAnswer, Notified};
+pub use node_caller::{AtEndpoint, Called, Caller, make_call};
 pub use put_get::{Handle, Some3, Synced, Transfer};
 pub use raw_segment::{Bytes, Offset, Outside, PartFault, Plain, Segment, TypedFault};

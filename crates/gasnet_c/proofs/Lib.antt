@@ -3,3 +3,4 @@ pub mod Telling
 pub mod Peeked
 pub mod Opened
 mod Crosses
+mod Registering

@@ -6,7 +6,6 @@ use Rattle.std.specs.Prelude.{Ok}
 use Rattle.datagram_grammar.specs.Message.{Message, Spells}
 use Rattle.datagram_grammar.specs.Reading.{Shows, integers_of, viewed_message}
 use Rattle.datagram_grammar.specs.Refusals.{first_refusal}
-use Rattle.datagram_grammar.specs.declared.refused.Refused.{Refused}
 use Rattle.datagram_grammar.specs.declared.viewed.View.{View}
 use Rattle.datagram_grammar.proofs.Laws.{length-spelling}
 use Rattle.node_record.specs.declared.answer.Delivered.{Delivered}

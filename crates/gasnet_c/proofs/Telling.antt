@@ -1,8 +1,8 @@
 -- What an export tells, from what its event did.
-use Rattle.std.proofs.Common.{◌≡◌, ◌≢◌, ℕ, Bool, true, false, List, Option, Some, None, is_some, refl, sym, ap, ◌∙◌, subst}
+use Rattle.std.proofs.Common.{◌≡◌, ℕ, Bool, true, false, List, Option, Some, None, is_some, refl, sym, ap, ◌∙◌, subst}
 use Rattle.std.proofs.Common.{[], ◌∷◌, ℤ, length, arith}
 use Rattle.std.specs.Borrow.{Bor}
-use Rattle.std.specs.Prelude.{◌==◌, if◌then◌else◌}
+use Rattle.std.specs.Prelude.{◌==◌}
 use Rattle.std.proofs.lemmas.Bool.{false≢true}
 use Rattle.handler_rules.specs.Runs.{Meaning}
 use Rattle.endpoint_rules.specs.declared.call.Call.{Call}
@@ -10,7 +10,7 @@ use Rattle.endpoint_rules.specs.declared.call.Event.{Event}
 use Rattle.endpoint_rules.specs.declared.call.Event.TheVariants as event
 use Rattle.endpoint_rules.specs.Called.{HasTarget}
 use Rattle.gas_endpoint.specs.EndpointState.{EndpointState, RunsNone}
-use Rattle.gasnet_c.specs.Calls.{asked_call, payload_of, IsToAnother}
+use Rattle.gasnet_c.specs.Calls.{asked_call, IsToAnother}
 use Rattle.gasnet_c.specs.Replayed.{both_replayed_by}
 use Rattle.gasnet_c.specs.Telling.{IsDead, IsMark, OwnAsked, Tells, TellsOf, TellsOwn}
 use Rattle.gasnet_c.specs.Whole.{AsksNone, RunsNoneIn}

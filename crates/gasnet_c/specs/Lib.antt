@@ -7,3 +7,4 @@ pub mod Telling
 pub mod Calls
 pub mod Peeking
 pub mod Opening
+pub mod Batches

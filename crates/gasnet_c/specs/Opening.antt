@@ -1,6 +1,9 @@
 -- How a node opens.
-use Rattle.std.specs.Prelude.{ℕ, ◌≡◌, ◌<◌, ◌⊎◌, [], length, Option, Some, None}
+use Rattle.std.specs.Prelude.{ℕ, ◌≡◌, ◌<◌, ◌≤◌, ◌⊎◌, List, [], length, Option, Some, None}
 use Rattle.datagram_grammar.specs.Parameters.{Parameters, AreInRange}
+use Rattle.handler_rules.specs.Registered.{entry_at}
+use Rattle.handler_rules.specs.declared.serves.Serves.TheVariants as served
+use Rattle.handler_rules.specs.declared.table.Entry.{Entry}
 use Rattle.node_record.specs.Record.{opening_node}
 use Rattle.am_core.specs.Kept.{segment_of}
 use Rattle.endpoint_rules.specs.EndpointLocal.{nothing_begun}
@@ -21,10 +24,19 @@ settings_of setup = record {
   resend = setup.resend;
 }
 
--- it is the node `me` of such a job, which asked and ran nothing, and began nothing
+-- the handler of an index of a client's: it runs for requests and for replies, and lists no lock
+abbrev pub client_entry : (index : ℕ) → Entry
+client_entry index = record { index = index; serves = served.Both; locks = 0 }
+
+-- each index of a client's has it, from 128 to 255
+abbrev pub ServesAll : List (Option Entry) → Type 0
+ServesAll table = (index : ℕ) → 128 ≤ index → index < 256 → entry_at table index ≡ Some (client_entry index)
+
+-- it is the node `me` of such a job, which serves each index, asked and ran nothing, and began nothing
 pub record IsOpened (settings : Parameters) (me : ℕ) (endpoint : EndpointState) : Type 0 where
   pub settings_are : endpoint.core.settings ≡ settings
   pub me_is : endpoint.core.me ≡ me
+  pub serves : ServesAll endpoint.core.table
   pub stands : EndpointStands endpoint (opening_node (nothing_begun settings))
 
 -- the setup is within its limits

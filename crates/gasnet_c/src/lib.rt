@@ -1,10 +1,13 @@
 //! A node of a GASNet job as a static library for C: bytes and times go in, bytes and answers come out. C has the
 //! socket, the clock and the client's handlers; the library calls nothing back. `c/include/gasnet_c.h` declares it.
 //!
-//! Each export but `gasnet_c_new`, `gasnet_c_free` and `gasnet_c_segment` makes one event of the node's endpoint. Its
-//! clause `tells` says which: the endpoint made that step, with some answer, and C is told the number of this answer and
-//! the datagram that is to be sent (`Tells`). Where no handler of the client's runs the step is one whatever the
-//! handlers mean. Where one runs, C ran it before, and the handlers mean what C says that they did (`replayed_by`).
+//! Each export but `gasnet_c_new`, `gasnet_c_free`, `gasnet_c_segment` and `gasnet_c_peek` makes one event of the node's
+//! endpoint. Its clause `tells` says which: the endpoint made that step, with some answer, and C is told the number of
+//! this answer and the datagram that is to be sent (`Tells`). A tick, a request to another node and a call that is no
+//! request is that step whatever the handlers mean. Of a delivery, and of a request to the own node, C ran the handlers
+//! before, and they mean what C says that they did (`replayed_by`). Operations on words are batches of one, which the
+//! library serves itself (`serving`): `gasnet_c_atomic` asks one [`TellsBatch`], and `gasnet_c_serve` delivers what is for
+//! the handlers of batches.
 //!
 //! A handle is dead or whole, and each call keeps it so. A dead one is told `GASNET_C_DEAD`, and stays as it is. What C
 //! owes beside that, which nothing checks: the handle began as zeros, and C neither copies, reads nor writes it; each
@@ -13,6 +16,7 @@
 //! its join; and what stands at `gasnet_c_new` of the segment's memory.
 #![tactic(auto)]
 
+mod atomics;
 mod barrier;
 mod coming;
 mod handle;
@@ -26,6 +30,7 @@ mod stepping;
 mod told;
 mod transfers;
 
+pub use atomics::{Operation, gasnet_c_atomic, gasnet_c_serve};
 pub use barrier::{gasnet_c_notify, gasnet_c_try};
 pub use coming::Coming;
 pub use handle::Handle;

@@ -7,13 +7,15 @@ ghost use Rattle.am_core.specs.Kept.{segment_of};
 ghost use Rattle.endpoint_rules.specs.EndpointLocal.{nothing_begun};
 ghost use Rattle.gas_endpoint.specs.EndpointState.{EndpointStands, ForItsRecord};
 ghost use Rattle.gas_endpoint.specs.EndpointState.{IsNodeOf, RunsNone};
+ghost use Rattle.gasnet_c.specs.Batches.{AsksBatch, batch_for};
 ghost use Rattle.gasnet_c.specs.Whole.{IsForOne};
 ghost use Rattle.gasnet_c.specs.Peeking.{Peeks};
 ghost use Rattle.gasnet_c.specs.Telling.{IsMark, TellsOf};
 
+use crate::atomics::{Batches, Operation, batch_for, request};
 use crate::coming::{Coming, peeked};
 use crate::replay::MARK;
-use crate::told::{Told, tell};
+use crate::told::{Told, bad, tell};
 use datagram_grammar::Settings;
 use endpoint_rules::Event;
 use gas_endpoint::Endpoint;
@@ -33,6 +35,7 @@ pub struct Happening<'a> {
 #[derive(Drop)]
 pub struct Node {
     pub(crate) endpoint: Endpoint,
+    settings: Settings,
 }
 
 impl Model for Node {
@@ -44,7 +47,8 @@ impl Model for Node {
     ghost view = { λ node. node.endpoint };
 
     ghost invariant = { λ node. (node.endpoint.core.settings.threads ≡ 1)
-        × (node.endpoint.core.settings.version ≡ 1) };
+        × (node.endpoint.core.settings.version ≡ 1)
+        × (node.settings ≡ node.endpoint.core.settings) };
 }
 
 impl Node {
@@ -65,7 +69,8 @@ impl Node {
             EndpointStands node (opening_node (nothing_begun settings.now))) }
     {
         let endpoint = Endpoint::with_segment(alloc, settings, me, table, segment)?;
-        Ok(Node { endpoint })
+        let settings = *settings;
+        Ok(Node { endpoint, settings })
     }
 
     /// One event. What it sends is copied into the buffer, where it fits.
@@ -85,6 +90,21 @@ impl Node {
             .endpoint
             .step(handlers, happening.time, &happening.event);
         tell(&self.endpoint, &answer, buffer)
+    }
+
+    /// Its thread asks an operation on a word. What it sends is copied into the buffer, where it fits.
+    pub fn ask(&mut self, now: u64, what: &Operation, buffer: &mut [u8]) -> Told
+        ensures { AsksBatch (batch_for self.old.core.settings what.now) self.old now result buffer.new
+            self.new }
+    {
+        let Some(batch) = batch_for(&self.settings, what) else {
+            return bad();
+        };
+        let args = batch.arguments();
+        let payload = batch.payload();
+        let call = request(batch.to(), &args, &payload);
+        let event = Event::Call { thread: 0, call };
+        self.happen(&Batches, &Happening { time: now, event }, buffer)
     }
 
     /// The mark of the runs of requests to the own node.

@@ -3,7 +3,7 @@
 ghost use Rattle.std.specs.Prelude.{◌≡◌, ◌<◌, None, IfOk, IfSome, MatchOption, replicate};
 ghost use Rattle.datagram_grammar.specs.Parameters.{AreInRange};
 ghost use Rattle.gasnet_c.specs.Whole.{IsWhole};
-ghost use Rattle.gasnet_c.specs.Opening.{IsOpened, IsSegmentIn, Opens, settings_of};
+ghost use Rattle.gasnet_c.specs.Opening.{IsOpened, IsSegmentIn, Opens, ServesAll, settings_of};
 
 use crate::handle::{Handle, put, taken};
 use crate::memory::Memory;
@@ -49,7 +49,9 @@ fn settings_of(setup: &Setup) -> Option<Settings>
 }
 
 /// The table of each node: each index of a client's has a handler, for requests and for replies, which lists no lock.
-fn table(alloc: Global) -> Result<Table, AllocError> {
+fn table(alloc: Global) -> Result<Table, AllocError>
+    ensures { IfOk result (λ table. ServesAll table) }
+{
     let mut table = Table::new(alloc)?;
     for place in 0..128u8 {
         // Each index is free in a new table.

@@ -1,6 +1,7 @@
 //! What an export tells C of an event.
 
 ghost use Rattle.std.specs.Prelude.{◌≡◌, option_copied};
+ghost use Rattle.gasnet_c.specs.Batches.{IsBad};
 ghost use Rattle.gasnet_c.specs.Codes.{asked_code, barrier_code, begun_code, code_of, delivered_code};
 ghost use Rattle.gasnet_c.specs.Codes.{notified_code, place_of, region_code, synced_code, ticked_code};
 ghost use Rattle.gasnet_c.specs.Codes.{told_at, value_of};
@@ -37,6 +38,19 @@ pub fn dead() -> Told
 {
     Told {
         code: DEAD,
+        to: 0,
+        slot: 0,
+        len: 0,
+        value: 0,
+    }
+}
+
+/// What an operation tells that isn't asked: a part of it is bad.
+pub fn bad() -> Told
+    ensures { IsBad result }
+{
+    Told {
+        code: 5,
         to: 0,
         slot: 0,
         len: 0,
