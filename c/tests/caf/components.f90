@@ -1,0 +1,89 @@
+! Polymorphic components and pointers of coarrays, an allocatable polymorphic coarray's sections, co_broadcast of objects, and
+! complex scalars.
+module parts
+  type b
+    integer :: i = 0
+  contains
+    procedure :: hello
+  end type
+  type, extends(b) :: c
+    real :: z(3) = 0
+  end type
+  type h
+    class(b), allocatable :: p
+    class(b), allocatable :: pa(:)
+    type(c), pointer :: cp => null()
+    real, pointer :: rp => null()
+  end type
+  type plain
+    integer :: number
+    integer, allocatable :: list(:), one
+  end type
+contains
+  integer function hello(this)
+   class(b), intent(in) :: this
+   hello = this%i
+  end function
+end module
+program o
+  use parts
+  implicit none
+  type(h), save :: x[*]
+  class(c), allocatable :: z(:)[:]
+  integer :: me, n, k
+  real, target :: tr
+  type(plain) :: object
+  me = this_image(); n = mod(me, num_images())+1
+  allocate(c :: x%p)
+  x%p%i = me
+  allocate(x%cp)
+  x%cp%i = 3*me
+  x%cp%z = me*[1.,2.,3.]
+  tr = me*1.25
+  x%rp => tr
+  sync all
+  k = x[n]%p%i
+  call check(.not. (k /= n), 'poly comp')
+  call check(.not. (x[n]%cp%i /= 3*n), 'ptr comp')
+  call check(.not. (any(x[n]%cp%z(1:3:2) /= n*[1.,3.])), 'ptr comp arr')
+  call check(.not. (x[n]%rp /= n*1.25), 'real ptr')
+  x[n]%rp = -1
+  x[n]%p%i = 77
+  sync all
+  call check(.not. (tr /= -1), 'send ptr')
+  call check(.not. (x%p%i /= 77), 'send poly')
+  allocate(z(4)[*])
+  z%i = [1,2,3,4]*me
+  sync all
+  call check(.not. (any(z(2:3)[n]%i /= n*[2,3])), 'z')
+  call check(.not. (z(2)[n]%z(2) /= 0), 'zz')
+  object%number = me
+  allocate (object%list(3), object%one)
+  object%list = me*[1, 2, 3]
+  object%one = me
+  call co_broadcast(object, num_images())
+  call check(object%number == num_images() .and. all(object%list == num_images()*[1, 2, 3]) .and. object%one == num_images(), &
+             'co_broadcast of an object')
+  call complex_scalars(me, n)
+  if (me == 1) print *, 'components: done'
+contains
+  ! gfortran takes a copy of a complex scalar coarray, and assigns to the copy too; so each value is sent.
+  subroutine complex_scalars(me, n)
+    integer, intent(in) :: me, n
+    complex(4), save :: short[*]
+    complex(16), save :: longest[*]
+    real(8) :: x
+    short[me] = cmplx(me, -me)
+    longest[me] = cmplx(me, -me)/4
+    sync all
+    x = short[n]
+    call check(short[n] == cmplx(n, -n) .and. x == n, 'a get of a complex scalar')
+    call check(4*longest[n] + short[n] == 2*cmplx(n, -n), 'complex scalars in an expression')
+    sync all
+    short[n] = longest[n]
+    longest[n] = (1.5, 2.5)
+    sync all
+    call check(short == cmplx(me, -me)/4 .and. longest == (1.5, 2.5), 'a send to a complex scalar')
+  end subroutine
+  include 'checks.inc'
+end program

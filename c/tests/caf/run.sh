@@ -1,0 +1,146 @@
+#!/bin/bash
+# Runs the tests of coarrays: tests/caf/run.sh [WORD], those whose name has the word. Each has a time limit, and a log in
+# out/logs/caf. GASNET_TEST_QUICK=1 leaves out the eight images.
+# Nothing is promised of time, so a test that fails is run once more, with a line that says so; the last line counts those.
+cd "$(dirname "$0")/../.." || exit 2
+word=${1:-}
+limit=${GASNET_TEST_LIMIT:-150}
+passed=0 failed=0 skipped=0 repeated=0
+rm -rf out/logs/caf
+mkdir -p out/logs/caf
+# gfortran leaves what a program's own arrays hold, and what an inquiry of no image answers.
+printf 'leak:allocate_here\nleak:list_images\n' >out/logs/caf/leaks
+export ASAN_OPTIONS=abort_on_error=0 UBSAN_OPTIONS=print_stacktrace=1 LSAN_OPTIONS=suppressions=out/logs/caf/leaks:print_suppressions=0
+export GASNET_PEER_TIMEOUT=60
+
+wanted() { [[ "caf $1" == *"$word"* ]]; }
+
+# check NAME STATUS PATTERN COMMAND..: the command ends with this status in time, and its output has the pattern.
+check() {
+    local name=$1 status=$2 pattern=$3
+    shift 3
+    wanted "$name" || return
+    local log="out/logs/caf/${name//[ \/]/_}.log" begun=$(($(date +%s%N) / 1000000)) outcome
+    try_once "$@"
+    if [ "$outcome" != ok ]; then
+        repeated=$((repeated + 1))
+        echo "again   caf $name: $outcome"
+        mv "$log" "$log.first"
+        try_once "$@"
+    fi
+    local took=$(($(date +%s%N) / 1000000 - begun))
+    if [ "$outcome" = ok ]; then
+        passed=$((passed + 1))
+        echo "ok      caf $name ($took ms)"
+    else
+        failed=$((failed + 1))
+        echo "FAILED  caf $name ($took ms): $outcome; $log ends with"
+        tail -5 "$log" | sed 's/^/        /'
+    fi
+}
+
+# try_once COMMAND..: runs it within the limit into `log`, and sets `outcome` by `status` and `pattern`.
+try_once() {
+    timeout -k 5 "$limit" "$@" >"$log" 2>&1
+    local got=$?
+    outcome=ok
+    [ "$got" = "$status" ] || outcome="status $got where $status is wanted"
+    [ "$outcome" = ok ] && [ -n "$pattern" ] && ! grep -q -e "$pattern" "$log" && outcome="no '$pattern' in its output"
+}
+
+if ! command -v gfortran >/dev/null; then
+    echo "skipped caf: there is no gfortran (Debian: gfortran)"
+    exit 0
+fi
+
+# What the standard says, statement by statement.
+sizes="1 2 3 4 8"
+[ -n "$GASNET_TEST_QUICK" ] && sizes="1 3 4"
+for build in out out/sanitized; do
+    kind=${build#out}
+    kind=${kind:+ sanitized}
+    for test in sections conversions references collectives locks synchronise teams polymorphic components classes memory random failed stopped; do
+        for n in $sizes; do
+            for loss in 0 20; do
+                [ "$n" = 1 ] && [ "$loss" != 0 ] && continue
+                pattern="$test: done"
+                [ "$n" = 1 ] && [[ "$test" = failed || "$test" = stopped ]] && pattern=
+                check "$test n=$n loss=$loss$kind" 0 "$pattern" env GASNET_DROP="$loss" GASNET_TWICE="$loss" GASNET_SWAP="$loss" \
+                    GASNET_SEED="$n" bin/cafrun -n "$n" "$build/tests/caf/$test"
+            done
+        done
+    done
+done
+
+# The examples print what their page says.
+for example in heat pi queue; do
+    for n in 1 2 4 8; do
+        for loss in 0 20; do
+            [ "$n" = 1 ] && [ "$loss" != 0 ] && continue
+            line="$(grep "^    $example of 4" ../docs/COARRAYS.md | sed 's/^ *//')"
+            line="${line/of 4 images/of $n images}"
+            [ "$n" = 1 ] && line="${line/images: the tenth/images: the tenth}"
+            check "example $example n=$n loss=$loss" 0 "${line:-no line}" env GASNET_DROP="$loss" bin/cafrun -n "$n" "out/tests/caf/$example"
+        done
+    done
+done
+
+# With one image a program prints what it prints with -fcoarray=single.
+for test in sections conversions references collectives polymorphic single heat queue; do
+    check "one image $test" 0 "" bash -c "diff <(out/tests/caf/$test.single 2>&1) <(bin/cafrun -n 1 out/tests/caf/$test 2>&1)"
+done
+
+# How images end: the texts are GCC's, the code is cafrun's, and an end takes less than a second, on a busy
+# machine a few.
+ends() { # NAME STATUS PATTERN MILLISECONDS ARGS..
+    local name=$1 status=$2 pattern=$3 most=$4
+    shift 4
+    check "end $name" "$status" "$pattern" bash -c '
+        begun=$(date +%s%N)
+        "${@:2}"
+        status=$?
+        took=$((($(date +%s%N) - begun) / 1000000))
+        [ $took -le $1 ] || { echo "it took $took ms"; exit 99; }
+        exit $status' - "$most" bin/cafrun -n 3 out/tests/caf/ends "$@"
+}
+ends "program" 0 "image 3" 8000 end
+ends "stop" 0 "image 3" 8000 stop
+ends "stop 0" 0 "^STOP 0$" 8000 "stop 0"
+ends "stop 7" 7 "^STOP 7$" 8000 "stop 7"
+ends "stop text" 0 "^STOP a text$" 8000 "stop text"
+ends "stop quiet" 7 "" 8000 "stop quiet" 2
+ends "one stops" 1 "sync all: an image has stopped" 8000 "stop 7" 2
+ends "late stop" 3 "^STOP 3$" 8000 late 2
+ends "error stop" 1 "^ERROR STOP" 5000 "error stop"
+ends "error stop of one" 9 "^ERROR STOP 9$" 5000 "error stop 9" 2
+ends "error stop 0 of one" 0 "^ERROR STOP 0$" 5000 "error stop 0" 2
+ends "error stop of one, the others compute" 1 "^ERROR STOP an error$" 5000 "error stop text" 2
+ends "error stop quiet" 9 "" 5000 "error stop quiet" 3
+ends "exit" 5 "" 5000 "exit 5" 1
+ends "error of libgfortran" 2 "Fortran runtime error" 5000 twice 3
+ends "no such image" 1 "Fortran runtime error on image 2: image 4" 5000 "no image" 2
+ends "outside of a coarray" 1 "Fortran runtime error on image 1: elements outside" 5000 outside 1
+ends "a text of deferred length" 1 "Fortran runtime error on image 1: a component is referred to that is a text" 5000 deferred 1
+ends "lock twice" 1 "Fortran runtime error on image 1: lock" 5000 "lock twice" 1
+ends "abort" 134 "was ended by signal" 8000 abort 2
+
+# The commands.
+check "cafrun usage" 64 "usage" bin/cafrun
+check "caf --show" 0 "gfortran -fcoarray=lib" bin/caf --show x.f90 -o x
+check "caf -c" 0 "" bash -c 'bin/caf -c ../examples/coarrays/heat.f90 -o out/heat.o && bin/caf out/heat.o -o out/heat && bin/cafrun -n 2 out/heat'
+check "alone" 0 "heat of 1 images" out/tests/caf/heat
+if ! command -v mpirun >/dev/null; then
+    skipped=$((skipped + 1))
+    echo "skipped caf mpirun: there is no mpirun (Debian: openmpi-bin)"
+elif ! grep -q pmix out/gasnet.pc; then
+    skipped=$((skipped + 1))
+    echo "skipped caf mpirun: libgasnet was built without PMIx (Debian: libpmix-dev)"
+else
+    export OMPI_ALLOW_RUN_AS_ROOT=1 OMPI_ALLOW_RUN_AS_ROOT_CONFIRM=1
+    check "mpirun heat" 0 "heat of 4 images" mpirun --oversubscribe -n 4 out/tests/caf/heat
+    check "mpirun references" 0 "references: done" mpirun --oversubscribe -n 3 out/tests/caf/references
+    check "mpirun error stop" 9 "ERROR STOP 9" mpirun --oversubscribe -n 3 out/tests/caf/ends "error stop 9" 2
+fi
+
+echo "coarrays: $passed passed, $failed failed, $skipped skipped, $repeated run twice"
+[ "$failed" = 0 ]
