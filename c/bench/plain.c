@@ -84,7 +84,7 @@ static void measure(void) {
         if (i < STREAM)
             give(LARGE);
     }
-    printf("plain stream %.0f MB/s of 8 KiB payloads\n", STREAM * 8192.0 / (seconds() - begun) / 1e6);
+    printf("plain stream %.0f MB/s, of 8 KiB payloads\n", STREAM * 8192.0 / (seconds() - begun) / 1e6);
 }
 
 int main(void) {

@@ -49,7 +49,8 @@ extern "C" {
 #define GASNET_CORE_NAME_STR "YUSPELGNA"
 #define GASNET_EXTENDED_NAME YUSPELGNA
 #define GASNET_EXTENDED_NAME_STR "YUSPELGNA"
-#define GASNET_CONFIG_STRING "YUSPELGNA,SPEC=1.8," GASNETL_MODE_NAME ",SEGMENT=LARGE,PTR=64bit,nodebug,notrace,nostats"
+#define GASNETL_CONFIG(mode) "YUSPELGNA,SPEC=1.8," mode ",SEGMENT=LARGE,PTR=64bit,nodebug,notrace,nostats"
+#define GASNET_CONFIG_STRING GASNETL_CONFIG(GASNETL_MODE_NAME)
 
 #define GASNET_SEGMENT_LARGE 1
 #define GASNET_ALIGNED_SEGMENTS 0
@@ -85,14 +86,15 @@ typedef struct {
 const char *gasnet_ErrorName(int code);
 const char *gasnet_ErrorDesc(int code);
 
-/* Calls, and where the answer isn't GASNET_OK says so on standard error and ends the job. */
+/* This implementation's own, for programs without a macro like it: calls, and where the answer isn't GASNET_OK says so on standard error and ends the job. */
+#ifndef GASNET_SAFE
 #define GASNET_SAFE(call)                                              \
     do {                                                               \
         int gasnetl_code_ = (call);                                    \
         if (gasnetl_code_ != GASNET_OK)                                \
             gasnetl_unsafe(gasnetl_code_, #call, __FILE__, __LINE__);  \
     } while (0)
-#define GASNET_Safe(call) GASNET_SAFE(call)
+#endif
 
 void gasnetl_unsafe(int code, const char *call, const char *file, int line);
 
@@ -148,7 +150,7 @@ size_t gasnet_AMMaxLongReply(void);
 int gasnet_AMPoll(void);
 int gasnet_AMGetMsgSource(gasnet_token_t token, gasnet_node_t *srcindex);
 
-/* Waits until the condition holds, and polls meanwhile. */
+/* Waits until the condition holds, and polls meanwhile. What was written before it came to hold is read after it. */
 #define GASNET_BLOCKUNTIL(condition)          \
     do {                                      \
         if (!(condition)) {                   \
@@ -157,6 +159,7 @@ int gasnet_AMGetMsgSource(gasnet_token_t token, gasnet_node_t *srcindex);
                 gasnetl_block(&gasnetl_turn_); \
             while (!(condition));             \
         }                                     \
+        __atomic_thread_fence(__ATOMIC_ACQUIRE); \
     } while (0)
 void gasnetl_block(unsigned *turn);
 
@@ -223,6 +226,8 @@ int gasnet_barrier_wait(int id, int flags);
 int gasnet_barrier_try(int id, int flags);
 
 #include "gasnet_messages.h"
+#include "gasnet_vis.h"
+#include "gasnet_atomics.h"
 
 #ifdef __cplusplus
 }

@@ -60,7 +60,8 @@ typedef struct {
  * slot that it stands in; where it sends none `len` is 0. (Where the buffer has less than GASNET_C_ROOM bytes and the
  * datagram doesn't fit, `len` is 0 too: the request is sent again in time.)
  * Of GASNET_C_RETURNED `to` is the node that replied, and `slot` is the slot of the request that is back.
- * Of GASNET_C_HANDLE `value` is the handle. What isn't named here is 0. */
+ * Of GASNET_C_HANDLE `value` is the handle; of an implicit transfer it is its number, and the transfer is synchronised by
+ * gasnet_c_sync_implicit, or with the access region that is begun. What isn't named here is 0. */
 typedef struct {
     uint32_t code;
     uint16_t to, slot;
@@ -80,11 +81,11 @@ typedef struct {
     uint64_t place;       /* a Long's place: its offset in the own segment */
 } gasnet_c_coming;
 
-/* A request. Where `own` is set its payload are the `source_len` bytes of the own segment from `source` on, and
- * `payload` isn't read; else it is `payload`. */
+/* A request. Where `own` is set its payload are the `source_len` bytes of the own segment from `source` on; else it is
+ * `payload`. Pointers are right whatever is read of them. */
 typedef struct {
     gasnet_c_args args;     /* at most 16 */
-    gasnet_c_bytes payload; /* at most 8,192 bytes; a Short has none, and this isn't read */
+    gasnet_c_bytes payload; /* at most 8,192 bytes; a Short has none, whatever this is */
     uint64_t offset;        /* where a Long's payload goes in the target's segment */
     uint64_t source;
     uint64_t source_len;
@@ -119,6 +120,31 @@ typedef struct {
     bool implicit; /* whether it is synchronised as an implicit one */
 } gasnet_c_move;
 
+/* An operation on a word of 64 bits in a node's segment, little-endian. */
+typedef struct {
+    uint64_t offset; /* where the word stands in that segment: a multiple of 8 */
+    uint64_t a, b;   /* its operands; only a compare-and-swap reads b */
+    uint64_t local;  /* where the 16 bytes of the reply go in the own segment, a multiple of 8: what the word was, and the
+                        tag, 8 bytes each, little-endian */
+    uint64_t tag;    /* a number that comes back behind the word */
+    uint32_t op;     /* what it does: GASNET_C_OP_GET to GASNET_C_OP_MAX */
+    uint16_t to;     /* the node whose word it is; the own one too */
+} gasnet_c_operation;
+
+/* The operations, by number: what the word becomes. */
+enum {
+    GASNET_C_OP_GET = 0,          /* what it was */
+    GASNET_C_OP_SWAP = 1,         /* a */
+    GASNET_C_OP_COMPARE_SWAP = 2, /* b where it was a, else what it was */
+    GASNET_C_OP_ADD = 3,          /* what it was plus a, modulo 2^64 */
+    GASNET_C_OP_SUB = 4,          /* what it was less a, modulo 2^64 */
+    GASNET_C_OP_AND = 5,          /* its bits with those of a */
+    GASNET_C_OP_OR = 6,
+    GASNET_C_OP_XOR = 7,
+    GASNET_C_OP_MIN = 8,          /* the smaller of what it was and a, unsigned */
+    GASNET_C_OP_MAX = 9           /* the greater */
+};
+
 enum {
     GASNET_C_ROOM = 8296,    /* the bytes that a datagram has at most: give this room */
     GASNET_C_PAYLOAD = 8192, /* the bytes of a payload, and of a chunk, at most */
@@ -129,7 +155,10 @@ enum {
     /* The byte of a datagram that has its handler's index. Where it is below the first of the client's, a delivery runs
      * no handler of the client's: gasnet_c_peek says so of each, and may be left out. */
     GASNET_C_HANDLER_AT = 5,
-    GASNET_C_FIRST_HANDLER = 128
+    GASNET_C_FIRST_HANDLER = 128,
+    /* The handlers of operations on words: datagrams for them are delivered by gasnet_c_serve. */
+    GASNET_C_BATCH_HANDLER = 252,
+    GASNET_C_BLOCK_HANDLER = 253
 };
 
 /* The answers, by number. */
@@ -138,10 +167,10 @@ enum {
     GASNET_C_RAN_HERE = 2,  /* a request to the own node: its run, and its reply's, are recorded */
     GASNET_C_NOT_YET = 3,   /* all credits of the pair are out */
     GASNET_C_WORN_OUT = 4,  /* the numbers of the pair are used up */
-    GASNET_C_BAD = 5,       /* an argument is bad; nothing happened */
+    GASNET_C_BAD = 5,       /* an argument is bad, or the call is out of turn; nothing happened */
     GASNET_C_HANDLE = 6,    /* a transfer is under way, or a region ended, under the handle `value` */
     GASNET_C_DONE = 7,      /* it is done, and has no handle */
-    GASNET_C_TOO_MANY = 8,  /* 256 operations stand; nothing happened */
+    GASNET_C_TOO_MANY = 8,  /* 256 operations stand, or the last number was given; nothing happened */
     GASNET_C_OK = 9,        /* synchronised; notified; the barrier is complete */
     GASNET_C_NOT_READY = 10,
     GASNET_C_MISMATCH = 11, /* the barrier is complete, and its notifies don't match */
@@ -169,7 +198,7 @@ enum {
  * Else it is C's again. The library never gives it back to anybody. */
 uint32_t gasnet_c_new(gasnet_c_node *node, const gasnet_c_setup *setup, gasnet_c_memory memory);
 
-/* Gives all memory back that the library took. The handle is dead then, as one of zeros, and the segment's memory is C's
+/* Gives the memory back that the library took. The handle is dead then, as one of zeros, and the segment's memory is C's
  * again. */
 void gasnet_c_free(gasnet_c_node *node);
 
@@ -183,7 +212,8 @@ gasnet_c_told gasnet_c_tick(gasnet_c_node *node, uint64_t now, uint8_t *buffer, 
 gasnet_c_coming gasnet_c_peek(gasnet_c_node *node, const uint8_t *bytes, size_t len);
 
 /* Delivers bytes. Where `gasnet_c_peek` told of a handler that runs, C ran it before this call and made no other call in
- * between, and `run` is what it did. Else `run` isn't read. */
+ * between, and `run` is what it did. Else it doesn't matter what `run` says, but its pointers are right. RAN, NOTED, AGAIN,
+ * RETURNED; STALE, LATE or REFUSED, and nothing happened. */
 gasnet_c_told gasnet_c_deliver(gasnet_c_node *node, uint64_t now, const uint8_t *bytes, size_t len,
                                const gasnet_c_run *run, uint8_t *buffer, size_t room);
 
@@ -197,23 +227,36 @@ gasnet_c_told gasnet_c_request(gasnet_c_node *node, uint64_t now, const gasnet_c
 gasnet_c_told gasnet_c_request_own(gasnet_c_node *node, uint64_t now, const gasnet_c_ask *ask, const gasnet_c_run *run,
                                    const uint8_t *reply_left, size_t reply_left_len);
 
+/* Asks an operation on a word of a node. ACCEPTED; RAN_HERE where the node is the own one, and it is done; NOT_YET,
+ * WORN_OUT; BAD where no operation has the number, the node isn't there, or a place isn't inside a segment or isn't a
+ * multiple of 8. The word and the tag stand at `local` when the request is RETURNED, or when it is RAN_HERE. */
+gasnet_c_told gasnet_c_atomic(gasnet_c_node *node, uint64_t now, const gasnet_c_operation *what, uint8_t *buffer,
+                              size_t room);
+
+/* Delivers bytes for one of the two handlers of operations, which run in the call: C runs nothing before it. It is
+ * answered as gasnet_c_deliver. */
+gasnet_c_told gasnet_c_serve(gasnet_c_node *node, uint64_t now, const uint8_t *bytes, size_t len, uint8_t *buffer,
+                             size_t room);
+
 /* Begins a transfer. HANDLE, DONE (no bytes, or the own node), TOO_MANY, BAD. Its chunks are sent by ticks. */
 gasnet_c_told gasnet_c_begin(gasnet_c_node *node, uint64_t now, const gasnet_c_move *what);
 
-/* Tries to synchronise the operation with this handle. OK (and the handle is used up), NOT_READY, BAD. */
+/* Tries to synchronise the operation or region with this handle. OK (and the handle is used up; of handle 0 always),
+ * NOT_READY, WORN_OUT, BAD. */
 gasnet_c_told gasnet_c_sync(gasnet_c_node *node, uint64_t now, uint64_t handle);
 
-/* Tries to synchronise the implicit operations: 0 for puts and memsets, 1 for gets, else all. */
+/* Tries to synchronise the implicit operations: 0 for puts and memsets, 1 for gets, else all. OK, NOT_READY, WORN_OUT; BAD
+ * while a region is begun. */
 gasnet_c_told gasnet_c_sync_implicit(gasnet_c_node *node, uint64_t now, uint32_t which);
 
 /* Begins an access region (DONE), or ends it (HANDLE, or DONE where no operation joined). BAD out of turn. */
 gasnet_c_told gasnet_c_region(gasnet_c_node *node, uint64_t now, bool ends);
 
-/* Notifies the barrier: flags are 0 for a named one, 1 for an anonymous one, 2 for a mismatch. OK; BAD out of turn. Its
- * notes are sent by ticks. */
+/* Notifies the barrier: flags are 0 for a named one, 1 for an anonymous one, 2 for a mismatch, 3 for both. OK; BAD out of
+ * turn, for other flags, and where the last phase was reached. Its notes are sent by ticks. */
 gasnet_c_told gasnet_c_notify(gasnet_c_node *node, uint64_t now, int32_t id, uint8_t flags);
 
-/* Tries the barrier. OK, NOT_READY, MISMATCH; BAD out of turn. */
+/* Tries the barrier. OK, NOT_READY, MISMATCH, WORN_OUT; BAD out of turn. */
 gasnet_c_told gasnet_c_try(gasnet_c_node *node, uint64_t now, int32_t id, uint8_t flags);
 
 #ifdef __cplusplus

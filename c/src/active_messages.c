@@ -4,7 +4,7 @@
 #include "errors.h"
 #include "job.h"
 
-enum { SHORT = 0, MEDIUM = 1, LONG = 2, NONE = 3, POLL_EACH = 32, POLL_MOST = 64 };
+enum { SHORT = 0, MEDIUM = 1, LONG = 2, NONE = 3, POLL_MOST = 64 };
 
 /* The endpoint takes no null pointer, not even to nothing. */
 static const gasnet_handlerarg_t no_args[1];
@@ -20,15 +20,18 @@ size_t gasnet_AMMaxLongReply(void) { return GASNET_C_PAYLOAD; }
 
 /* ---- The table. */
 
+/* The index of an entry that takes any: the highest free one, those of operations on words last. 0 where none is free. */
+static gasnet_handler_t free_index(const struct gasnetl_messages *messages) {
+    for (int own = 0; own < 2; own++)
+        for (int index = GASNETL_INDEXES - 1; index >= GASNETL_FIRST_INDEX; index--)
+            if (gasnetl_is_atomic(index) == own && !messages->handlers[index])
+                return (gasnet_handler_t)index;
+    return 0;
+}
+
 static int register_entry(struct gasnetl_messages *messages, gasnet_handlerentry_t *entry, bool any) {
-    if (any) {
-        int index = GASNETL_INDEXES - 1;
-        while (index >= GASNETL_FIRST_INDEX && messages->handlers[index])
-            index--;
-        if (index < GASNETL_FIRST_INDEX)
-            return gasnetl_refuse(GASNET_ERR_RESOURCE, "gasnet_attach: the indexes from 128 to 255 are used up");
-        entry->index = (gasnet_handler_t)index;
-    }
+    if (any && !(entry->index = free_index(messages)))
+        return gasnetl_refuse(GASNET_ERR_RESOURCE, "gasnet_attach: the indexes from 128 to 255 are used up");
     if (entry->index < GASNETL_FIRST_INDEX)
         return gasnetl_refuse(GASNET_ERR_BAD_ARG, "gasnet_attach: index %u isn't a client's: use 128 to 255, or 0 for any", entry->index);
     if (messages->handlers[entry->index])
@@ -141,6 +144,8 @@ static int judge(const struct gasnetl_job *job, gasnet_node_t node, const struct
         return gasnetl_refuse(GASNET_ERR_BAD_ARG, "a message for handler %u: a client's are 128 to 255", message->handler);
     if (message->nbytes > GASNET_C_PAYLOAD)
         return gasnetl_refuse(GASNET_ERR_BAD_ARG, "a message of %zu bytes: the most is %d", message->nbytes, GASNET_C_PAYLOAD);
+    if (message->nbytes && (!message->source || gasnetl_straddles(job, message->source, message->nbytes)))
+        return gasnetl_refuse(GASNET_ERR_BAD_ARG, "a message whose payload is at %p: that is NULL, or only in part in the own segment", message->source);
     if (message->category == LONG && !gasnetl_far(job, node, message->dest, message->nbytes, offset))
         return gasnetl_refuse(GASNET_ERR_BAD_ARG, "a Long message to %p of node %u: that isn't in its segment", message->dest, node);
     return GASNET_OK;
@@ -241,10 +246,7 @@ int gasnetl_request(gasnet_node_t node, const struct gasnetl_message *message) {
                          .to = node, .handler = message->handler };
     int code = judge(job, node, message, &ask.offset);
     if (code == GASNET_OK) {
-        if (job->progress.since_poll++ >= POLL_EACH)
-            gasnetl_poll(job, POLL_MOST);
-        else
-            job->progress.now = gasnetl_clock();
+        gasnetl_request_begins(job);
         if (node == job->me)
             request_here(job, &ask, message);
         else

@@ -87,5 +87,6 @@ bool gasnetl_config_read(struct gasnetl_config *config) {
            gasnetl_config_number("GASNET_SEED", 0, UINT64_MAX, 1, &config->seed) &&
            read_time("GASNET_PEER_TIMEOUT", 1000000, 300, SECONDS, &config->peer_timeout) &&
            read_time("GASNET_EXIT_TIMEOUT", 1000000, 20, SECONDS, &config->exit_timeout) &&
+           read_time("GASNET_END_TIMEOUT", 1000000, 1000, MICROSECONDS, &config->end_timeout) &&
            read_size("GASNET_MAX_SEGSIZE", &config->max_segment) && read_spin(&config->spin);
 }

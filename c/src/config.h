@@ -12,6 +12,7 @@ struct gasnetl_config {
     uint64_t resend;               /* GASNET_RESEND, in milliseconds: 20 */
     uint64_t peer_timeout;         /* GASNET_PEER_TIMEOUT, in seconds: 300; 0 for never */
     uint64_t exit_timeout;         /* GASNET_EXIT_TIMEOUT, in seconds: 20 */
+    uint64_t end_timeout;          /* GASNET_END_TIMEOUT, in milliseconds: 1000 */
     uint64_t max_segment;          /* GASNET_MAX_SEGSIZE, in bytes, or with K, M, G or T; 0 where it isn't set */
     int spin;                      /* GASNET_SPIN: how many empty looks a call that waits takes before it sleeps; -1 where it isn't set */
     bool tells_counts;             /* GASNET_COUNTS is set: the node tells its counts on standard error at its end */

@@ -4,14 +4,14 @@
 #include <signal.h>
 #include <stdio.h>
 #include <stdlib.h>
+#include <unistd.h>
 
 #include "errors.h"
 #include "job.h"
 
 enum {
-    AGAIN = 20000,    /* microseconds between two tellings */
-    QUIET = 300000,   /* of a silence after which nobody lacks an answer of ours */
-    CONFIRM = 1000000 /* for which a forced end waits for the peers' answers */
+    AGAIN = 20000, /* microseconds between two tellings */
+    QUIET = 300000 /* of a silence after which nobody lacks an answer of ours */
 };
 
 static bool all(const struct gasnetl_job *job, const bool *flags) {
@@ -52,29 +52,32 @@ static bool linger(struct gasnetl_job *job, bool forced, uint64_t time) {
 
 static void tell_counts(const struct gasnetl_job *job) {
     const struct gasnetl_network *network = &job->network;
-    fprintf(stderr, "gasnet: node %u: sent %" PRIu64 ", resent %" PRIu64 ", unsent %" PRIu64 ", received %" PRIu64 ", strays %" PRIu64 "\n", job->me,
-            network->sent, job->progress.resent, network->unsent, network->received, network->strays);
+    fprintf(stderr, "gasnet: node %u: sent %" PRIu64 ", resent %" PRIu64 ", unsent %" PRIu64 ", received %" PRIu64 ", strays %" PRIu64 ", unsealed %" PRIu64 "\n", job->me,
+            network->sent, job->progress.resent, network->unsent, network->received, network->strays, network->unsealed);
 }
 
 /* Leaves the job. It is done once; whatever is called after it finds the job ended. */
 static void leave(struct gasnetl_job *job, int status, bool forced) {
     if (job->ended || !job->initialised)
         return;
+    bool interrupts = gasnetl_thread.has_turn && !gasnetl_thread.token && !gasnetl_thread.ends_itself;
     if (!gasnetl_thread.has_turn)
         gasnetl_take_turn(&job->turns);
     gasnetl_thread.leaves = true;
     job->ended = true;
     job->control.code = status;
-    if (gasnetl_thread.token)
-        job->attached = false; /* its message is never delivered, so the endpoint gets no further event */
+    if (gasnetl_thread.token || interrupts)
+        job->attached = false; /* its message is never delivered, or its call never ends: the endpoint gets no further event */
     fflush(NULL);
-    if (job->nodes > 1 && !linger(job, forced, forced ? CONFIRM : job->config.exit_timeout) && !forced)
-        linger(job, true, CONFIRM);
+    if (job->nodes > 1 && !linger(job, forced, forced ? job->config.end_timeout : job->config.exit_timeout) && !forced)
+        linger(job, true, job->config.end_timeout);
     if (job->config.tells_counts)
         tell_counts(job);
     job->attached = false;
-    gasnetl_transfers_end(&job->transfers);
-    gasnet_c_free(&job->node);
+    if (!interrupts) { /* a call that a signal interrupted still uses these */
+        gasnetl_transfers_end(&job->transfers);
+        gasnet_c_free(&job->node);
+    }
     gasnetl_network_close(&job->network);
     if (status)
         gasnetl_bootstrap_abort(&job->start, status);
@@ -82,22 +85,29 @@ static void leave(struct gasnetl_job *job, int status, bool forced) {
     gasnetl_give_turn(&job->turns);
 }
 
-static void at_exit(int status, void *nothing) {
-    (void)nothing;
-    leave(&gasnetl_job, status, status != 0);
+/* Not in a child that the client forked: the node is its parent. */
+static void at_exit(int status, void *parent) {
+    if ((intptr_t)parent == getpid())
+        leave(&gasnetl_job, status, status != 0);
 }
 
-void gasnetl_exit_start(void) { on_exit(at_exit, NULL); }
+void gasnetl_exit_start(void) { on_exit(at_exit, (void *)(intptr_t)getpid()); }
 
 void gasnetl_end_all(struct gasnetl_job *job, int status) {
+    gasnetl_thread.ends_itself = true;
     leave(job, status, true);
     exit(status);
 }
 
-void gasnetl_end_by_peer(struct gasnetl_job *job, int status) {
+void gasnetl_raise_quit(void) {
+    gasnetl_thread.ends_itself = true;
     struct sigaction action;
     if (!sigaction(SIGQUIT, NULL, &action) && action.sa_handler != SIG_DFL && action.sa_handler != SIG_IGN)
         raise(SIGQUIT); /* the client's handler may call gasnet_exit */
+}
+
+void gasnetl_end_by_peer(struct gasnetl_job *job, int status) {
+    gasnetl_raise_quit();
     leave(job, status, true);
     exit(status);
 }

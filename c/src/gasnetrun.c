@@ -19,10 +19,11 @@
 #include "gasnet_c.h"
 #include "network.h"
 
-enum { NODES = GASNET_C_MAX_NODES, USAGE = 64, REFUSED = 71, GRACE = 1000, LAST = 2000, TEXT = 24 };
+enum { NODES = GASNET_C_MAX_NODES, USAGE = 64, REFUSED = 71, GRACE = 1000, MOST_GRACE = 1000000, LAST = 2000, TEXT = 24 };
 
 struct run {
     int nodes, alive;
+    int grace;       /* the milliseconds that the others have where a node failed: GASNET_GRACE */
     int sockets[NODES];
     char addresses[NODES * TEXT];
     pid_t children[NODES];
@@ -155,7 +156,7 @@ static void reap(struct run *run) {
 static void wait_once(struct run *run) {
     struct pollfd ready = { .fd = run->signals, .events = POLLIN };
     struct signalfd_siginfo signal;
-    int time = run->ends == 0 ? -1 : run->ends == 1 ? GRACE : LAST;
+    int time = run->ends == 0 ? -1 : run->ends == 1 ? run->grace : LAST;
     int got = poll(&ready, 1, time);
     if (got == 0)
         end_more(run);
@@ -179,6 +180,19 @@ static void catch_signals(struct run *run) {
         fail("no signals can be had");
 }
 
+/* Answers the milliseconds of GASNET_GRACE, or those that hold without it; where it is broken it says so, and ends. */
+static int read_grace(void) {
+    const char *text = getenv("GASNET_GRACE");
+    char *end;
+    if (!text)
+        return GRACE;
+    long value = strtol(text, &end, 10);
+    if (*text && !*end && value >= 0 && value <= MOST_GRACE)
+        return (int)value;
+    fprintf(stderr, "gasnetrun: GASNET_GRACE is '%s': set it to a number from 0 to %d, or unset it\n", text, MOST_GRACE);
+    exit(USAGE);
+}
+
 int main(int argc, char **argv) {
     static struct run run;
     char *end;
@@ -187,6 +201,7 @@ int main(int argc, char **argv) {
     run.nodes = (int)strtol(argv[2], &end, 10);
     if (*end || run.nodes < 1 || run.nodes > NODES)
         return usage();
+    run.grace = read_grace();
     catch_signals(&run);
     make_sockets(&run);
     set_job(&run);

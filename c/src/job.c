@@ -9,6 +9,9 @@
 
 struct gasnetl_job gasnetl_job = { .network = { .socket = -1 }, .turns = { .alarm = -1 } };
 
+/* The configuration, to be found in a program's file: `strings PROGRAM | grep GASNetConfig`. */
+__attribute__((used)) static const char configuration[] = "$GASNetConfig: (libgasnet) " GASNETL_CONFIG("SEQ|PARSYNC|PAR") " $";
+
 enum { PAGE = GASNET_PAGESIZE };
 
 static uintptr_t pages(uintptr_t bytes) { return bytes / PAGE * PAGE; }
@@ -53,17 +56,25 @@ static int judge_attach(const struct gasnetl_job *job, uintptr_t segsize) {
     return GASNET_OK;
 }
 
-/* Makes the endpoint. All nodes' segments are as long as the longest, and the stage is behind it. */
-static int open_endpoint(struct gasnetl_job *job) {
+/* Whether there is as much room above the heap as the client asks for. */
+static bool leaves_heap(const struct gasnetl_job *job, uintptr_t minheapoffset) {
+    uintptr_t end = (uintptr_t)sbrk(0), base = (uintptr_t)job->segment.base;
+    return base < end || base - end >= minheapoffset;
+}
+
+/* Makes the endpoint. All nodes' segments are as long as the longest, and the layer's part is behind it. */
+static int open_endpoint(struct gasnetl_job *job, uintptr_t minheapoffset) {
     uintptr_t longest = 0;
     for (int node = 0; node < job->nodes; node++)
         if (job->segment.sizes[node] > longest)
             longest = job->segment.sizes[node];
     job->segment.stage = longest;
-    const gasnet_c_setup setup = { .job = job->start.job, .segment = longest + GASNETL_STAGE, .resend = job->config.resend,
+    const gasnet_c_setup setup = { .job = job->start.job, .segment = longest + GASNETL_OWN, .resend = job->config.resend,
                                    .nodes = job->nodes, .me = job->me, .credits = (uint16_t)job->progress.credits };
     if (!gasnetl_segment_open(&job->segment, setup.segment))
         return gasnetl_refuse(GASNET_ERR_RESOURCE, "gasnet_attach: the system has no segment of %zu bytes", (size_t)setup.segment);
+    if (!leaves_heap(job, minheapoffset))
+        return gasnetl_refuse(GASNET_ERR_RESOURCE, "gasnet_attach: the segment is nearer than %zu bytes above the heap", (size_t)minheapoffset);
     switch (gasnet_c_new(&job->node, &setup, (gasnet_c_memory){ job->segment.base })) {
     case 0:
         return GASNET_OK;
@@ -74,12 +85,6 @@ static int open_endpoint(struct gasnetl_job *job) {
     }
 }
 
-/* Whether there is as much room above the heap as the client asks for. */
-static bool leaves_heap(const struct gasnetl_job *job, uintptr_t minheapoffset) {
-    uintptr_t end = (uintptr_t)sbrk(0), base = (uintptr_t)job->segment.base;
-    return base < end || base - end >= minheapoffset;
-}
-
 int gasnet_attach(gasnet_handlerentry_t *table, int numentries, uintptr_t segsize, uintptr_t minheapoffset) {
     struct gasnetl_job *job = &gasnetl_job;
     int code = judge_attach(job, segsize);
@@ -87,12 +92,11 @@ int gasnet_attach(gasnet_handlerentry_t *table, int numentries, uintptr_t segsiz
         code = gasnetl_register(&job->messages, table, numentries);
     if (code != GASNET_OK)
         return code;
+    gasnetl_atomics_start(&job->atomics, &job->messages);
     gasnetl_take_turn(&job->turns);
     job->segment.size = segsize;
     gasnetl_exchange_sizes(job);
-    code = open_endpoint(job);
-    if (code == GASNET_OK && !leaves_heap(job, minheapoffset))
-        code = gasnetl_refuse(GASNET_ERR_RESOURCE, "gasnet_attach: the segment is nearer than %zu bytes above the heap", (size_t)minheapoffset);
+    code = open_endpoint(job, minheapoffset);
     if (code == GASNET_OK) {
         gasnetl_exchange_bases(job);
         job->attached = true;
@@ -112,7 +116,7 @@ char *gasnet_getenv(const char *s) { return getenv(s); }
 /* Half of the host's memory, in equal parts for its nodes, where GASNET_MAX_SEGSIZE doesn't say otherwise. */
 uintptr_t gasnet_getMaxLocalSegmentSize(void) {
     const struct gasnetl_job *job = &gasnetl_job;
-    const uintptr_t most = ((uintptr_t)1 << 40) - GASNETL_STAGE;
+    const uintptr_t most = ((uintptr_t)1 << 40) - GASNETL_OWN;
     unsigned neighbours = job->start.neighbours ? job->start.neighbours : job->nodes ? job->nodes : 1;
     long count = sysconf(_SC_PHYS_PAGES), size = sysconf(_SC_PAGESIZE);
     uintptr_t share = count > 0 && size > 0 ? (uintptr_t)count * (uintptr_t)size / 2 / neighbours : most;

@@ -6,6 +6,7 @@
 #include <stdbool.h>
 #include <stdint.h>
 
+#include "atomics.h"
 #include "bootstrap.h"
 #include "config.h"
 #include "control.h"
@@ -32,6 +33,7 @@ struct gasnetl_job {
     struct gasnetl_progress progress;
     struct gasnetl_messages messages;
     struct gasnetl_transfers transfers;
+    struct gasnetl_atomics atomics;
     struct gasnetl_control control;
 };
 

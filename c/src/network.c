@@ -46,6 +46,11 @@ static void take_refusals(struct gasnetl_network *network) {
 static void send_now(void *at, uint16_t to, const void *bytes, size_t length) {
     struct gasnetl_network *network = at;
     const struct gasnetl_place *place = &network->places.of[to];
+    if (network->key.is_set) {
+        memcpy(network->sealed, bytes, length);
+        bytes = network->sealed;
+        length = gasnetl_seal(&network->key, network->sealed, length);
+    }
     ssize_t sent = sendto(network->socket, bytes, length, MSG_DONTWAIT, (const struct sockaddr *)&place->address, place->length);
     if (sent < 0 && errno != EAGAIN) { /* it may be of an earlier datagram */
         take_refusals(network);
@@ -85,7 +90,7 @@ static bool take_socket(struct gasnetl_network *network, int socket) {
 
 bool gasnetl_network_open(struct gasnetl_network *network, const struct gasnetl_config *config, uint16_t me, int socket) {
     network->me = me;
-    if (!take_socket(network, socket))
+    if (!gasnetl_key_read(&network->key) || !take_socket(network, socket))
         return false;
     tell_refusals(network);
     if (gasnetl_faults_start(&network->faults, config, me))
@@ -101,11 +106,27 @@ void gasnetl_network_send(struct gasnetl_network *network, uint16_t to, const vo
         send_now(network, to, bytes, length);
 }
 
+/* What a peer sent, without its tag where a key is set, as far as there is room for it. How many bytes that are; 0 where
+ * the key didn't seal it. */
+static size_t opened(struct gasnetl_network *network, uint8_t *bytes, size_t room, size_t got) {
+    if (!network->key.is_set)
+        return got;
+    size_t length = gasnetl_open(&network->key, network->sealed, got);
+    if (length > room)
+        length = room;
+    memcpy(bytes, network->sealed, length);
+    if (!length)
+        network->unsealed++;
+    return length;
+}
+
 size_t gasnetl_network_receive(struct gasnetl_network *network, uint8_t *bytes, size_t room, uint16_t *from) {
+    uint8_t *into = network->key.is_set ? network->sealed : bytes;
+    size_t most = network->key.is_set ? sizeof network->sealed : room;
     for (int stray = 0; stray < GASNETL_STRAYS; stray++) {
         struct sockaddr_storage address;
         socklen_t length = sizeof address;
-        ssize_t got = recvfrom(network->socket, bytes, room, MSG_DONTWAIT, (struct sockaddr *)&address, &length);
+        ssize_t got = recvfrom(network->socket, into, most, MSG_DONTWAIT, (struct sockaddr *)&address, &length);
         if (got < 0 && errno == EAGAIN)
             return 0;
         if (got < 0) {
@@ -113,11 +134,15 @@ size_t gasnetl_network_receive(struct gasnetl_network *network, uint8_t *bytes, 
             continue;
         }
         *from = gasnetl_places_find(&network->places, &address);
-        if (*from != GASNETL_NO_NODE && *from != network->me && got) {
-            network->received++;
-            return (size_t)got;
+        if (*from == GASNETL_NO_NODE || *from == network->me || !got) {
+            network->strays++;
+            continue;
         }
-        network->strays++;
+        size_t given = opened(network, bytes, room, (size_t)got);
+        if (given) {
+            network->received++;
+            return given;
+        }
     }
     return 0;
 }

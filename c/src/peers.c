@@ -1,6 +1,9 @@
 #include "peers.h"
 
+#include <stdio.h>
+
 #include "errors.h"
+#include "exit.h"
 #include "job.h"
 
 enum { LOOK = 500000, SILENT = 1000000, SECOND = 1000000, REFUSALS = 2 }; /* microseconds, and looks in a row */
@@ -23,29 +26,34 @@ static void write_address(const struct gasnetl_job *job, uint16_t node, char *te
     gasnetl_place_write(&job->network.places.of[node].address, text, room);
 }
 
+/* Ends the job, since a peer is gone. The client hears of it by SIGQUIT, as of a peer's exit. */
+static _Noreturn void end_without(struct gasnetl_job *job, uint16_t node, const char *why) {
+    char address[80];
+    write_address(job, node, address, sizeof address);
+    gasnetl_refuse(GASNETL_PEER_GONE, "node %u (%s) %s", node, address, why);
+    gasnetl_raise_quit();
+    gasnetl_end_all(job, GASNETL_PEER_GONE);
+}
+
 static void check_refusals(struct gasnetl_job *job, uint16_t node) {
     struct gasnetl_peer *peer = &job->peers.of[node];
-    char address[80];
     peer->refusals = job->network.is_refused[node] ? peer->refusals + 1 : 0;
     job->network.is_refused[node] = false;
-    if (peer->refusals < REFUSALS)
-        return;
-    write_address(job, node, address, sizeof address);
-    gasnetl_stop(GASNETL_PEER_GONE, "node %u (%s) is gone: its process ended without gasnet_exit, so the job ends", node, address);
+    if (peer->refusals >= REFUSALS)
+        end_without(job, node, "is gone: its process ended without gasnet_exit, so the job ends");
 }
 
 static void check_silence(struct gasnetl_job *job, uint16_t node) {
     struct gasnetl_peer *peer = &job->peers.of[node];
     uint64_t now = job->progress.now, silent = now - peer->since;
-    char address[80];
+    char why[120];
     if (silent < SILENT)
         return;
     if (!peer->out && !peer->is_pinged)
         peer->since = now;
     else if (job->config.peer_timeout && silent > job->config.peer_timeout) {
-        write_address(job, node, address, sizeof address);
-        gasnetl_stop(GASNETL_PEER_GONE, "node %u (%s) didn't answer for %.1f s, so the job ends (GASNET_PEER_TIMEOUT is how long a node waits)",
-                     node, address, (double)silent / SECOND);
+        snprintf(why, sizeof why, "didn't answer for %.1f s, so the job ends (GASNET_PEER_TIMEOUT is how long a node waits)", (double)silent / SECOND);
+        end_without(job, node, why);
     }
     peer->is_pinged = true;
     gasnetl_control_ping(job, node);

@@ -10,6 +10,8 @@ enum {
     LOOK = 1000,       /* microseconds between two looks for what is to be sent again */
     TICKS = 64,        /* the datagrams that one round sends at most */
     SPIN = 400,        /* the empty looks before a call that waits sleeps, where each node has a processor */
+    POLL_EACH = 32,  /* requests between two polls */
+    POLL_MOST = 64,
     SLEEP = 100,       /* milliseconds that it sleeps at most, where nothing is out */
     SLEEP_THREADED = 5 /* the same where another thread may see what it waits for */
 };
@@ -69,6 +71,7 @@ static void came_back(struct gasnetl_job *job, const gasnet_c_told *told) {
     job->peers.of[told->to].out--;
     progress->out--;
     gasnetl_chunk_back(job, told->to, told->slot);
+    gasnetl_atomic_back(job, told->to, told->slot);
     if (progress->has_notes)
         tick(job);
     gasnetl_send_chunks(job, told->to);
@@ -139,6 +142,8 @@ static void take(struct gasnetl_job *job, uint16_t from, const uint8_t *bytes, s
     }
     if (!job->attached) /* it comes again */
         return;
+    if (gasnetl_atomic_take(job, bytes, length))
+        return;
     if (length > GASNET_C_HANDLER_AT && bytes[GASNET_C_HANDLER_AT] >= GASNET_C_FIRST_HANDLER) {
         gasnetl_message_take(job, bytes, length);
         return;
@@ -165,6 +170,13 @@ bool gasnetl_poll(struct gasnetl_job *job, int most) {
     if (came)
         gasnetl_wake(&job->turns);
     return came;
+}
+
+void gasnetl_request_begins(struct gasnetl_job *job) {
+    if (++job->progress.since_poll >= POLL_EACH)
+        gasnetl_poll(job, POLL_MOST);
+    else
+        job->progress.now = gasnetl_clock();
 }
 
 /* How long a call that waits may sleep: until a request may be due again. */

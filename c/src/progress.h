@@ -34,6 +34,9 @@ void gasnetl_progress_start(struct gasnetl_job *job);
 /* Takes up to `most` datagrams that came, and sends what is due. Whether any came. */
 bool gasnetl_poll(struct gasnetl_job *job, int most);
 
+/* A request of the client's begins: it reads the clock, and polls at each 32nd one. */
+void gasnetl_request_begins(struct gasnetl_job *job);
+
 /* A round of a call that waits: takes one datagram, or, where none came for a while, sleeps until one comes. `turn` is 0 at
  * first. Another thread may have its turn meanwhile. */
 void gasnetl_wait(struct gasnetl_job *job, unsigned *turn);

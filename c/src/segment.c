@@ -19,3 +19,10 @@ bool gasnetl_far(const struct gasnetl_job *job, gasnet_node_t node, const void *
     *offset = from - base;
     return true;
 }
+
+bool gasnetl_straddles(const struct gasnetl_job *job, const void *at, size_t nbytes) {
+    uintptr_t from = (uintptr_t)at, base = (uintptr_t)job->segment.base, length = job->segment.stage + GASNETL_OWN;
+    uint64_t offset;
+    bool meets = from < base ? nbytes > base - from : from - base < length;
+    return nbytes && meets && !gasnetl_far(job, job->me, at, nbytes, &offset);
+}

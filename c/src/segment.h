@@ -25,4 +25,7 @@ bool gasnetl_segment_open(struct gasnetl_segment *segment, uint64_t length);
 /* Where these bytes lie in a node's segment, whose client's part has all of them. False where it hasn't. */
 bool gasnetl_far(const struct gasnetl_job *job, gasnet_node_t node, const void *at, size_t nbytes, uint64_t *offset);
 
+/* Whether some of these bytes lie in the own segment, but not all in its client's part. The library takes no pointer there. */
+bool gasnetl_straddles(const struct gasnetl_job *job, const void *at, size_t nbytes);
+
 #endif

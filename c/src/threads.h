@@ -27,6 +27,7 @@ struct gasnetl_thread {
     unsigned sections;              /* 1 inside a section without interrupts */
     bool has_turn;
     bool leaves;                    /* it ends the process: the others get no turn any more */
+    bool ends_itself;               /* the layer ends the job: no signal of the client's interrupted a call */
     struct gasnetl_op *puts, *gets; /* its implicit operations, or NULL; they outlive it, as pieces lead to them */
     struct gasnetl_op *region;      /* the access region that it has begun */
 };

@@ -3,31 +3,21 @@
 
 #include "errors.h"
 #include "job.h"
+#include "transfer_calls.h"
 
 _Static_assert(__BYTE_ORDER__ == __ORDER_LITTLE_ENDIAN__, "a value's low bytes come first");
 
 /* ---- What they have in common. */
 
-/* What a client asks for. */
-struct asked {
-    const char *call;
-    enum gasnetl_kind kind;
-    gasnet_node_t node;
-    void *far, *near;
-    size_t nbytes;
-    int byte;
-    bool may_wait_for_near; /* a put's source may be read until the sync, as of bulk and blocking ones */
-};
-
-static void judge(const struct gasnetl_job *job, const struct asked *asked, uint64_t *remote) {
+static void judge(const struct gasnetl_job *job, const struct gasnetl_asked *asked, uint64_t *remote) {
     if (asked->node >= job->nodes)
         gasnetl_stop(GASNETL_MISUSE, "%s to node %u: there are %u nodes", asked->call, asked->node, job->nodes);
-    if (!gasnetl_far(job, asked->node, asked->far, asked->nbytes, remote))
+    if (asked->nbytes && !gasnetl_far(job, asked->node, asked->far, asked->nbytes, remote))
         gasnetl_stop(GASNETL_MISUSE, "%s of %zu bytes at %p: that isn't in the segment of node %u", asked->call, asked->nbytes,
                      asked->far, asked->node);
 }
 
-static void move_here(const struct asked *asked) {
+static void move_here(const struct gasnetl_asked *asked) {
     if (asked->kind == GASNETL_PUT)
         memmove(asked->far, asked->near, asked->nbytes);
     else if (asked->kind == GASNETL_GET)
@@ -36,8 +26,7 @@ static void move_here(const struct asked *asked) {
         memset(asked->far, asked->byte, asked->nbytes);
 }
 
-/* Begins it for an operation. Returns as its near side may be changed, where that mayn't wait for the sync. */
-static void begin(struct gasnetl_job *job, struct gasnetl_op *op, const struct asked *asked) {
+void gasnetl_begin(struct gasnetl_job *job, struct gasnetl_op *op, const struct gasnetl_asked *asked) {
     struct gasnetl_move move = { .kind = asked->kind, .node = asked->node, .byte = (uint8_t)asked->byte, .near = asked->near, .nbytes = asked->nbytes };
     uint64_t own;
     judge(job, asked, &move.remote);
@@ -60,35 +49,33 @@ static void begin(struct gasnetl_job *job, struct gasnetl_op *op, const struct a
         gasnetl_wait(job, &turn);
 }
 
-static void blocking(const struct asked *asked) {
+static void blocking(const struct gasnetl_asked *asked) {
     struct gasnetl_job *job = gasnetl_enter(asked->call);
     struct gasnetl_op op = { 0 };
     unsigned turn = 0;
-    begin(job, &op, asked);
+    gasnetl_begin(job, &op, asked);
     while (op.open)
         gasnetl_wait(job, &turn);
     gasnetl_leave(job);
 }
 
-/* The operation, or NULL where it is complete already. */
-static struct gasnetl_op *settled(struct gasnetl_job *job, struct gasnetl_op *op) {
+struct gasnetl_op *gasnetl_settled(struct gasnetl_job *job, struct gasnetl_op *op) {
     if (op->open)
         return op;
     gasnetl_op_free(&job->transfers.ops, op);
     return GASNET_INVALID_HANDLE;
 }
 
-static gasnet_handle_t explicit(const struct asked *asked) {
+static gasnet_handle_t explicit(const struct gasnetl_asked *asked) {
     struct gasnetl_job *job = gasnetl_enter(asked->call);
     struct gasnetl_op *op = gasnetl_op_new(&job->transfers.ops);
-    begin(job, op, asked);
-    op = settled(job, op);
+    gasnetl_begin(job, op, asked);
+    op = gasnetl_settled(job, op);
     gasnetl_leave(job);
     return op;
 }
 
-/* Where the thread's implicit transfers of this kind are counted. */
-static struct gasnetl_op *implicit_op(struct gasnetl_job *job, enum gasnetl_kind kind) {
+struct gasnetl_op *gasnetl_implicit_op(struct gasnetl_job *job, enum gasnetl_kind kind) {
     struct gasnetl_thread *self = &gasnetl_thread;
     struct gasnetl_op **op = kind == GASNETL_GET ? &self->gets : &self->puts;
     if (self->region)
@@ -98,16 +85,16 @@ static struct gasnetl_op *implicit_op(struct gasnetl_job *job, enum gasnetl_kind
     return *op;
 }
 
-static void implicit(const struct asked *asked) {
+static void implicit(const struct gasnetl_asked *asked) {
     struct gasnetl_job *job = gasnetl_enter(asked->call);
-    begin(job, implicit_op(job, asked->kind), asked);
+    gasnetl_begin(job, gasnetl_implicit_op(job, asked->kind), asked);
     gasnetl_leave(job);
 }
 
 /* What each call asks for. A value's call reads its source at once, whatever the way. */
-#define PUT(call, waits) (&(struct asked){ call, GASNETL_PUT, node, dest, src, nbytes, 0, waits })
-#define GET(call) (&(struct asked){ call, GASNETL_GET, node, src, dest, nbytes, 0, true })
-#define MEMSET(call) (&(struct asked){ call, GASNETL_MEMSET, node, dest, NULL, nbytes, val, true })
+#define PUT(call, waits) (&(struct gasnetl_asked){ call, GASNETL_PUT, node, dest, src, nbytes, 0, waits })
+#define GET(call) (&(struct gasnetl_asked){ call, GASNETL_GET, node, src, dest, nbytes, 0, true })
+#define MEMSET(call) (&(struct gasnetl_asked){ call, GASNETL_MEMSET, node, dest, NULL, nbytes, val, true })
 
 /* ---- Blocking. */
 
@@ -161,7 +148,7 @@ gasnet_handle_t gasnet_end_nbi_accessregion(void) {
     struct gasnetl_job *job = gasnetl_enter("gasnet_end_nbi_accessregion");
     if (!gasnetl_thread.region)
         gasnetl_stop(GASNETL_MISUSE, "gasnet_end_nbi_accessregion: the thread has begun none");
-    gasnet_handle_t handle = settled(job, gasnetl_thread.region);
+    gasnet_handle_t handle = gasnetl_settled(job, gasnetl_thread.region);
     gasnetl_thread.region = NULL;
     gasnetl_leave(job);
     return handle;
@@ -206,7 +193,7 @@ gasnet_valget_handle_t gasnet_get_nb_val(gasnet_node_t node, void *src, size_t n
     struct gasnetl_op *op = gasnetl_op_new(&job->transfers.ops);
     void *dest = &op->value;
     op->value = 0;
-    begin(job, op, GET("gasnet_get_nb_val"));
+    gasnetl_begin(job, op, GET("gasnet_get_nb_val"));
     gasnetl_leave(job);
     return op;
 }

@@ -1,6 +1,7 @@
 /* How a job ends: the first argument says in which way. */
 #define GASNET_SEQ 1
 #include <signal.h>
+#include <sys/wait.h>
 #include <unistd.h>
 
 #include "check.h"
@@ -27,7 +28,7 @@ int main(int argc, char **argv) {
     gasnet_handlerentry_t table[] = { { EXIT, exit_handler } };
     const char *way = argc > 1 ? argv[1] : "";
     int status = argc > 2 ? atoi(argv[2]) : 0;
-    if (!strcmp(way, "quit"))
+    if (!strcmp(way, "quit") || !strcmp(way, "watch"))
         signal(SIGQUIT, quit);
     start(&argc, &argv, table, 1, GASNET_PAGESIZE);
     barrier();
@@ -44,6 +45,13 @@ int main(int argc, char **argv) {
         raise(status);
     if (!strcmp(way, "quit") && last)
         gasnet_exit(status);
+    if (!strcmp(way, "fork")) { /* a child that the client forked is no node */
+        if (!fork())
+            exit(3);
+        wait(NULL);
+        barrier();
+        gasnet_exit(status);
+    }
     if (!strcmp(way, "sleep"))
         for (;;)
             pause();

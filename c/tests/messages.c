@@ -174,6 +174,7 @@ static void test_refusals(void) {
     CHECK(gasnet_AMRequestShort0((gasnet_node_t)nodes, TELL) == GASNET_ERR_BAD_ARG);
     CHECK(gasnet_AMRequestShort0(0, 127) == GASNET_ERR_BAD_ARG);
     CHECK(gasnet_AMRequestMedium0(0, TELL_BUF, bytes, PLACE + 1) == GASNET_ERR_BAD_ARG);
+    CHECK(gasnet_AMRequestMedium0(0, TELL_BUF, NULL, 1) == GASNET_ERR_BAD_ARG);
     CHECK(gasnet_AMRequestLong0(0, TELL_BUF, bytes, 9, at(0, SEGMENT - 8)) == GASNET_ERR_BAD_ARG);
     CHECK(gasnet_AMRequestLong0(0, TELL_BUF, bytes, 1, bytes) == GASNET_ERR_BAD_ARG);
     CHECK(gasnet_AMGetMsgSource(NULL, NULL) == GASNET_ERR_BAD_ARG);

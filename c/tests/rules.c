@@ -5,12 +5,15 @@
 enum { RUN = 128, RUN_REPLY = 129, NOBODY = 222 };
 
 static const char *rule;
+static gex_AD_t domain;
 static gasnet_hsl_t first = GASNET_HSL_INITIALIZER, second = GASNET_HSL_INITIALIZER;
 
 static bool is(const char *name) { return !strcmp(rule, name); }
 
 static void run(gasnet_token_t token) {
     char byte;
+    if (is("atomic-in-handler"))
+        gex_AD_OpNB_U64(domain, NULL, 0, at(0, 0), GEX_OP_INC, 0, 0, 0);
     if (is("request-in-handler"))
         gasnet_AMRequestShort0(0, RUN);
     if (is("put-in-handler"))
@@ -94,6 +97,16 @@ static void break_transfer(void) {
     }
 }
 
+static void break_atomic(void) {
+    const bool is_signed = is("atomic-min-of-signed");
+    if (strncmp(rule, "atomic-", 7))
+        return;
+    gex_AD_Create(&domain, NULL, is("atomic-of-32-bits") ? 1 : is_signed ? GEX_DT_I64 : GEX_DT_U64, is_signed ? GEX_OP_MIN : GEX_OP_INC, 0);
+    gex_AD_OpNB_U64(domain, NULL, is("atomic-to-nobody") ? (gex_Rank_t)nodes : 0,
+                    at(0, is("atomic-outside") ? GASNET_PAGESIZE : is("atomic-unaligned") ? 4 : 0),
+                    is("atomic-not-in-domain") ? GEX_OP_DEC : GEX_OP_INC, 0, 0, 0);
+}
+
 static void break_barrier(void) {
     if (is("notify-twice")) {
         gasnet_barrier_notify(1, 0);
@@ -106,15 +119,16 @@ static void break_barrier(void) {
 }
 
 int main(int argc, char **argv) {
-    gasnet_handlerentry_t table[] = { { RUN, run }, { RUN_REPLY, run_reply } };
+    gasnet_handlerentry_t table[] = { { RUN, run }, { RUN_REPLY, run_reply }, { 252, run_reply } };
     if (argc != 2)
         return 2;
     rule = argv[1];
     if (is("put-before-attach"))
         gasnet_put_val(0, table, 1, 1);
-    start(&argc, &argv, table, 2, GASNET_PAGESIZE);
+    start(&argc, &argv, table, is("atomic-own-252") ? 3 : 2, GASNET_PAGESIZE);
     break_lock();
     break_transfer();
+    break_atomic();
     break_barrier();
     gasnet_AMRequestShort0((gasnet_node_t)(nodes - 1), is("handler-of-nobody") ? NOBODY : RUN);
     for (;;)

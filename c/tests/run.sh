@@ -1,10 +1,11 @@
 #!/bin/bash
 # Runs the tests: tests/run.sh [WORD], those whose name has the word. Each has a time limit, and a log in out/logs.
+# Nothing is promised of time, so a test that fails is run once more, with a line that says so; the last line counts those.
 # GASNET_TEST_QUICK=1 leaves out the loss of 10 % and the eight nodes.
 cd "$(dirname "$0")/.." || exit 2
 word=${1:-}
 limit=${GASNET_TEST_LIMIT:-150}
-passed=0 failed=0 skipped=0
+passed=0 failed=0 skipped=0 repeated=0
 rm -rf out/logs
 mkdir -p out/logs
 export ASAN_OPTIONS=abort_on_error=0 UBSAN_OPTIONS=print_stacktrace=1
@@ -28,12 +29,24 @@ check() {
     local name=$1 status=$2 pattern=$3
     shift 3
     wanted "$name" || return
-    local log="out/logs/${name//[ \/]/_}.log" begun=$(($(date +%s%N) / 1000000)) outcome=ok
+    local log="out/logs/${name//[ \/]/_}.log" begun=$(($(date +%s%N) / 1000000)) outcome
+    try_once "$@"
+    if [ "$outcome" != ok ]; then
+        repeated=$((repeated + 1))
+        echo "again   $name: $outcome"
+        mv "$log" "$log.first"
+        try_once "$@"
+    fi
+    tell "$name" "$begun" "$outcome" "$log"
+}
+
+# try_once COMMAND..: runs it within the limit into `log`, and sets `outcome` by `status` and `pattern`.
+try_once() {
     timeout -k 5 "$limit" "$@" >"$log" 2>&1
     local got=$?
+    outcome=ok
     [ "$got" = "$status" ] || outcome="status $got where $status is wanted"
     [ "$outcome" = ok ] && [ -n "$pattern" ] && ! grep -q -e "$pattern" "$log" && outcome="no '$pattern' in its output"
-    tell "$name" "$begun" "$outcome" "$log"
 }
 
 skip() {
@@ -48,7 +61,7 @@ sizes="1 2 4 8" losses="0 10 30"
 for build in out out/sanitized; do
     kind=${build#out}
     kind=${kind:+ sanitized}
-    for test in queries messages transfers barriers locks threads strangers; do
+    for test in queries messages transfers pieces atomics barriers locks threads strangers; do
         for n in $sizes; do
             for loss in $losses; do
                 [ "$n" = 1 ] && [ "$loss" != 0 ] && continue
@@ -64,12 +77,25 @@ check "large segments" 0 "" env GASNET_MAX_SEGSIZE=100G bin/gasnetrun -n 2 out/t
 check "many nodes" 0 "" bin/gasnetrun -n 64 out/tests/queries
 check "strangers are counted" 0 "strays [1-9]" env GASNET_COUNTS=1 bin/gasnetrun -n 2 out/tests/strangers
 
+# Sealed: with one key all goes as without, over a lossy network too; with two keys the nodes don't hear each other.
+check "codes of RFC 4231" 0 "" out/sanitized/tests/seals
+(umask 077; printf '6b%.0s' {1..32} >out/key; printf '7c%.0s' {1..32} >out/other-key; cp out/key out/open-key; chmod 640 out/open-key)
+for test in messages transfers barriers; do
+    check "sealed $test" 0 "" env GASNET_KEY_FILE=out/key GASNET_DROP=10 GASNET_TWICE=10 GASNET_SWAP=10 \
+        bin/gasnetrun -n 2 out/tests/$test
+done
+check "sealed strangers are counted" 0 "unsealed [0-9]" env GASNET_KEY_FILE=out/key GASNET_COUNTS=1 bin/gasnetrun -n 2 out/tests/strangers
+check "sealed by two keys" 69 "didn.t come to gasnet_attach" env GASNET_PEER_TIMEOUT=2 bin/gasnetrun -n 2 \
+    bash -c '[ "$GASNET_RANK" = 0 ] && key=out/key || key=out/other-key; GASNET_KEY_FILE=$key exec out/tests/messages'
+check "sealed by an open key" 0 "others than its owner" bash -c 'GASNET_KEY_FILE=out/open-key bin/gasnetrun -n 2 out/tests/messages; [ $? != 0 ]; echo'
+
 # Each rule that is broken ends the job with a line.
 for rule in request-in-handler put-in-handler get-in-handler poll-in-handler barrier-in-handler sync-in-handler \
     reply-under-lock handler-keeps-lock second-reply reply-in-reply lock-twice trylock-twice unlock-free \
     unlock-out-of-order poll-under-lock destroy-held hold-twice resume-alone poll-in-section put-outside get-before \
     put-to-nobody value-of-9 region-twice region-none sync-in-region notify-twice wait-alone flags-unknown \
-    handler-of-nobody put-before-attach; do
+    handler-of-nobody put-before-attach atomic-outside atomic-unaligned atomic-to-nobody atomic-not-in-domain \
+    atomic-min-of-signed atomic-of-32-bits atomic-in-handler atomic-own-252; do
     check "rule $rule" 70 "^gasnet: " bin/gasnetrun -n 2 out/sanitized/tests/rules "$rule"
 done
 
@@ -83,6 +109,7 @@ for build in out out/sanitized; do
     check "end return 4$kind" 4 "" bin/gasnetrun -n 3 $build/tests/ends return 4
     check "end one 5$kind" 5 "" bin/gasnetrun -n 3 $build/tests/ends one 5
     check "end one 0$kind" 0 "" env GASNET_EXIT_TIMEOUT=1 bin/gasnetrun -n 3 $build/tests/ends one 0
+    check "end fork$kind" 0 "" bin/gasnetrun -n 3 $build/tests/ends fork 0
     check "end handler 6$kind" 6 "" bin/gasnetrun -n 3 $build/tests/ends handler 6
     # The node that ends the job has 5, those that handle SIGQUIT have 9: the first of them to end decides.
     check "end quit$kind" 0 "^quit" bash -c "bin/gasnetrun -n 3 $build/tests/ends quit 5; case \$? in 5 | 9) ;; *) false ;; esac"
@@ -115,18 +142,19 @@ check "orphans KILL behind a shell" 0 "" bash -c 'ended KILL 137 sh -c '\''"$0" 
 alone() { # RANK COMMAND..: this process becomes a node that is started by hand
     exec env GASNET_NODES=2 GASNET_RANK=$1 GASNET_JOB=7 GASNET_ADDRESSES=127.0.0.1:$port,127.0.0.1:$((port + 1)) "${@:2}"
 }
-gone() { # SIGNAL
+gone() { # SIGNAL WAY
     local port=$((20000 + RANDOM % 10000))
     (alone 1 out/tests/ends poll) &
     local other=$! got
     (sleep 1.5; kill "-$1" $other) &
-    (alone 0 out/sanitized/tests/ends poll)
+    (alone 0 out/sanitized/tests/ends "${2:-poll}")
     got=$?
     kill -KILL $other 2>/dev/null
     return $got
 }
 export -f alone gone
 check "peer killed" 69 "node 1 (127.0.0.1:[0-9]*) is gone" bash -c 'gone KILL'
+check "peer killed, SIGQUIT" 9 "^quit" bash -c 'gone KILL watch'
 check "peer stopped" 69 "node 1 (127.0.0.1:[0-9]*) didn't answer for [0-9.]* s" env GASNET_PEER_TIMEOUT=2 bash -c 'gone STOP'
 absent() {
     local port=$((20000 + RANDOM % 10000))
@@ -167,5 +195,5 @@ else
     check "$launcher ends" 5 "" mpirun --oversubscribe -n 4 out/tests/ends one 5
 fi
 
-echo "$passed passed, $failed failed, $skipped skipped"
+echo "$passed passed, $failed failed, $skipped skipped, $repeated run twice"
 [ "$failed" = 0 ]

@@ -1,12 +1,14 @@
-/* Four threads of each node at once (GASNET_PARSYNC): requests, puts, gets and locks, each thread with what is its own. */
+/* Four threads of each node at once (GASNET_PARSYNC): requests, puts, gets, locks and
+ * operations on one word, each thread with what is its own. */
 #define GASNET_PARSYNC 1
 #include <pthread.h>
 #include <stdatomic.h>
 
 #include "check.h"
 
-enum { THREADS = 4, ADD = 128, ADDED = 129, WAKE = 130, TURNS = 100, PART = 20000, SEGMENT = 1 << 20 };
+enum { THREADS = 4, ADD = 128, ADDED = 129, WAKE = 130, TURNS = 100, PART = 20000, SEGMENT = 1 << 20, WORD = SEGMENT - 8 };
 
+static gex_AD_t words;
 static gasnet_hsl_t lock = GASNET_HSL_INITIALIZER;
 static int sum, added[THREADS];        /* under the lock */
 static atomic_int woken[THREADS];
@@ -59,6 +61,20 @@ static void move(int thread) {
     }
 }
 
+/* All threads of all nodes add to one word, four times at once. */
+static void count(void) {
+    gex_Event_t events[4];
+    uint64_t was[4];
+    for (int turn = 0; turn < TURNS; turn += 4) {
+        for (int i = 0; i < 4; i++)
+            events[i] = gex_AD_OpNB_U64(words, &was[i], 0, at(0, WORD), GEX_OP_FADD, 3, 0, 0);
+        for (int i = 0; i < 4; i++) {
+            gex_Event_Wait(events[i]);
+            CHECK(was[i] % 3 == 0 && was[i] < 3u * TURNS * THREADS * (unsigned)nodes);
+        }
+    }
+}
+
 /* A thread that waits is woken by what another thread's poll brings. */
 static void call_round(int thread) {
     for (int turn = 1; turn <= 20; turn++) {
@@ -71,6 +87,7 @@ static void *work(void *which) {
     int thread = (int)(intptr_t)which;
     ask(thread);
     move(thread);
+    count();
     call_round(thread);
     return NULL;
 }
@@ -79,12 +96,16 @@ int main(int argc, char **argv) {
     gasnet_handlerentry_t table[] = { { ADD, add }, { ADDED, is_added }, { WAKE, wake } };
     pthread_t threads[THREADS];
     start(&argc, &argv, table, 3, SEGMENT);
+    gex_AD_Create(&words, NULL, GEX_DT_U64, GEX_OP_FADD | GEX_OP_GET, 0);
     for (intptr_t i = 1; i < THREADS; i++)
         CHECK(!pthread_create(&threads[i], NULL, work, (void *)i));
     work(NULL);
     for (int i = 1; i < THREADS; i++)
         pthread_join(threads[i], NULL);
     barrier();
+    uint64_t total = 0;
+    gex_Event_Wait(gex_AD_OpNB_U64(words, &total, 0, at(0, WORD), GEX_OP_GET, 0, 0, 0));
+    CHECK(total == 3u * TURNS * THREADS * (unsigned)nodes);
     CHECK(sum == THREADS * TURNS * (TURNS - 1) / 2 || nodes > 1);
     gasnet_exit(0);
 }
