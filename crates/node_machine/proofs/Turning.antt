@@ -26,6 +26,7 @@ use Rattle.job_text.specs.declared.job.ScriptStep.{ScriptStep}
 use Rattle.node_runs.specs.Actions.{Progress, OwnScripts, tried_step}
 use Rattle.node_runs.specs.Laws.{GotBytes}
 use Rattle.node_runs.specs.Outgoing.{slot_of, SentStands}
+use Rattle.node_runs.specs.declared.script_answer.ScriptAnswer.{ScriptAnswer}
 use Rattle.node_runs.specs.Scripts.{NodeJob, Tried as FormTried, TryContext}
 use Rattle.node_runs.specs.Turn.{MachineState, before_try, first_events, as_tried, turn_events, tried_answer}
 use Rattle.node_runs.specs.Turn.{node_run, is_some_there, datagram, receiver, message_of}
@@ -226,8 +227,8 @@ state_goes meaning old mid new taken state slots tried done lawful bytes stands 
         ∙ (ap (λ (t : FormTried (Progress ScriptStep)). t.ended) went ∙ none))
 
 -- what can be said of a script can be said of its rest
-rest_said : (step : ScriptStep) (rest : List ScriptStep) (began : Option Answer) (ended : Option Answer)
-    (later : Option Answer) → AllByRecursion IsStep (step ∷ rest)
+rest_said : (step : ScriptStep) (rest : List ScriptStep) (began : Option Answer)
+    (ended : Option ScriptAnswer) (later : Option Answer) → AllByRecursion IsStep (step ∷ rest)
     → AllByRecursion IsStep (cond {A = Progress ScriptStep} (is_some ended) (record { left = rest; began = None })
     (record { left = step ∷ rest; began = later })).left
 rest_said step rest began None later said = said

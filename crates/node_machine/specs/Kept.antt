@@ -5,7 +5,7 @@ use Rattle.std.specs.List.{AllByRecursion, list_all}
 use Rattle.hsl_locks.specs.declared.answer.Owner.TheVariants as owner
 use Rattle.hsl_locks.specs.Locks.{holds}
 use Rattle.node_record.specs.declared.answer.SlotRef.{SlotRef}
-use Rattle.endpoint_rules.specs.declared.answer.Answer.{Answer}
+use Rattle.node_runs.specs.declared.script_answer.ScriptAnswer.{ScriptAnswer}
 use Rattle.gas_endpoint.specs.EndpointState.{EndpointState, IsNodeOf}
 use Rattle.gas_endpoint.specs.Parts.{HasRecord}
 use Rattle.job_text.specs.JobText.{IsJob}
@@ -23,7 +23,7 @@ pub record MachineKept : Type 0 where
   pub scripts : List (Progress ScriptStep)
   -- the slots of the messages that its last turn sent which wasn't empty, in order
   pub outgoing : List SlotRef
-  pub answer : Option Answer  -- of the script step that ended in that turn
+  pub answer : Option ScriptAnswer  -- of the script step that ended in that turn
 
 -- ---- scripts
 

@@ -12,10 +12,10 @@ ghost use Rattle.node_machine.specs.Turns.{TakesTurn, slots_of};
 use crate::cursor::Cursor;
 use crate::outgoing::Outgoing;
 use crate::parts::before_try;
-use endpoint_rules::Answer;
 use gas_endpoint::Endpoint;
 use handler_rules::Handlers;
 use hsl_locks::Owner;
+use node_runs::ScriptAnswer;
 use script_steps::{Trial, Tried, attempt};
 
 /// Which thread takes a turn, and when.
@@ -35,7 +35,7 @@ pub struct Done {
     /// The messages that it sent.
     pub outgoing: Outgoing,
     /// The answer of the script step that it ended.
-    pub ended: Option<Answer>,
+    pub ended: Option<ScriptAnswer>,
     /// It began a script step, and didn't end it.
     pub began: bool,
 }

@@ -3,7 +3,7 @@
 use Rattle.std.specs.Prelude.{ℕ, ℤ, int_le, ◌≡◌, Bool, true, false, not, ◌&&◌, if◌then◌else◌, List, [], ◌∷◌}
 use Rattle.std.specs.Prelude.{Option, None, Some, is_some, is_none}
 use Rattle.std.specs.List.{AllByRecursion}
-use Rattle.std.specs.Option.{option_to_list}
+use Rattle.std.specs.Option.{option_map, option_to_list}
 use Rattle.lists.specs.Put.{put}
 use Rattle.node_record.specs.Record.{Node}
 use Rattle.endpoint_rules.specs.Called.{Performs}
@@ -12,6 +12,8 @@ use Rattle.endpoint_rules.specs.EndpointRules.{OnCore}
 use Rattle.endpoint_rules.specs.declared.answer.Answer.{Answer}
 use Rattle.endpoint_rules.specs.declared.answer.Answer.TheVariants as answers
 use Rattle.endpoint_rules.specs.declared.answer.Local.TheVariants as local
+use Rattle.node_runs.specs.declared.script_answer.ScriptAnswer.{ScriptAnswer}
+use Rattle.node_runs.specs.declared.script_answer.ScriptAnswer.TheVariants as said
 use Rattle.node_runs.specs.Scripts.{ThreadCall, Tried, TryContext, Scripts}
 
 -- how a step is tried
@@ -33,7 +35,7 @@ pub data Form (Kept : Type 0) : Type 0 where
   Looks : (begin : ThreadCall) → (ready : Answer → Node Kept → Bool) → Form Kept
   -- these calls in one try, in this order, whatever their answers, which an action that is read so knows by the context
   -- and the record of the try: `says` is the answer of the step, which ends
-  Several : (calls : List ThreadCall) → (says : Answer) → Form Kept
+  Several : (calls : List ThreadCall) → (says : ScriptAnswer) → Form Kept
 
 -- the calls of a try, in order, by the answer with which the step began
 abbrev pub calls_of : {Kept : Type 0} → Form Kept → (began : Option Answer) → List ThreadCall
@@ -47,20 +49,20 @@ calls_of (Looks begin ready) (Some answer) = []
 calls_of (Several calls says) began = calls
 
 -- ok, where the cell that was read is at least the value
-abbrev pub reached : (value : ℤ) → Answer → Option Answer
+abbrev pub reached : (value : ℤ) → Answer → Option ScriptAnswer
 reached value (answers.Local (local.Cell number)) =
-    if int_le value number then Some (answers.Local local.Done) else None
+    if int_le value number then Some (said.Call (answers.Local local.Done)) else None
 reached value _ = None
 
 -- the answer, unless it is one to wait at
-abbrev pub unless : Bool → Answer → Option Answer
+abbrev pub unless : Bool → Answer → Option ScriptAnswer
 unless true answer = None
-unless false answer = Some answer
+unless false answer = Some (said.Call answer)
 
 -- the answer of the step, where a try ended it whose first call had this answer, and whose calls left this record
 abbrev pub ended_by : {Kept : Type 0}
-    → Form Kept → (began : Option Answer) → (after : Node Kept) → (answer : Option Answer) → Option Answer
-ended_by (Once call) began after answer = answer
+    → Form Kept → (began : Option Answer) → (after : Node Kept) → (answer : Option Answer) → Option ScriptAnswer
+ended_by (Once call) began after answer = option_map (λ one. said.Call one) answer
 ended_by (Again waits call) began after None = None
 ended_by (Again waits call) began after (Some answer) = unless (waits answer) answer
 ended_by (Until cell value) began after None = None
@@ -106,8 +108,8 @@ next_calls form at began (action ∷ rest) node = calls_of (form action at node)
 
 -- the script after a try of this form: it goes on, or its step has begun, or it is as it was
 abbrev pub progress_after : {Kept Action : Type 0}
-    → Form Kept → (action : Action) → (rest : List Action) → (began : Option Answer) → (ended answer : Option Answer)
-    → Progress Action
+    → Form Kept → (action : Action) → (rest : List Action) → (began : Option Answer) → (ended : Option ScriptAnswer)
+    → (answer : Option Answer) → Progress Action
 progress_after form action rest began ended answer =
     if is_some ended then record { left = rest; began = None }
     else (if begins form && is_none began then record { left = action ∷ rest; began = answer }

@@ -28,6 +28,7 @@ use Rattle.node_runs.specs.Actions.{Form, Once, Again, Until, Twice, Looks, Seve
 use Rattle.node_runs.specs.Actions.{begins}
 use Rattle.node_runs.specs.Actions.{progress_after, tried_form}
 use Rattle.node_runs.specs.Outgoing.{slot_of, StaysWell}
+use Rattle.node_runs.specs.declared.script_answer.ScriptAnswer.{ScriptAnswer}
 use Rattle.node_runs.specs.Scripts.{ThreadCall, Tried as FormTried}
 use Rattle.node_runs.specs.Turn.{node_run, node_sends, events_of, first_answer}
 use Rattle.script_steps.specs.Tries.{EndpointJob, Happening, HasHappened, Happen, Made, made_happening, Makes}
@@ -203,7 +204,8 @@ first_call (Several calls says) starts = absurd (true≢false (sym starts))
 
 -- how a try went by whether it begins something, the answer with which its step began, whether and how it ended it, and
 -- the answer of its call
-went_by : (step : ScriptStep) (rest : List ScriptStep) (starts : Bool) (began ended answer : Option Answer)
+went_by : (step : ScriptStep) (rest : List ScriptStep) (starts : Bool) (began : Option Answer)
+    (ended : Option ScriptAnswer) (answer : Option Answer)
     → (starts ≡ true → began ≡ None → (said : Answer) × (answer ≡ Some said))
     → ◌≡◌ {A = FormTried (Progress ScriptStep)}
     (record {
@@ -242,13 +244,13 @@ told_so : (form : Form EndpointLocal) (trial : Trial) (tried : Tried) (after : N
     → tried_form form trial.step.now rest trial.began after answer ≡ as_tried trial tried rest
 told_so form trial tried after answer ended began says rest =
     let step = trial.step.now in
-    let by_end : Option Answer → FormTried (Progress ScriptStep) = λ end.
+    let by_end : Option ScriptAnswer → FormTried (Progress ScriptStep) = λ end.
     record {
       left = progress_after form step rest trial.began end answer;
       ended = end;
       began = begins form && is_none trial.began && is_none end;
     } in
-    let as_told : (end begun : Option Answer) → FormTried (Progress ScriptStep) = λ end begun.
+    let as_told : (end : Option ScriptAnswer) (begun : Option Answer) → FormTried (Progress ScriptStep) = λ end begun.
     record {
       left = cond {A = Progress ScriptStep} (is_some end) (record { left = rest; began = None })
           (record { left = step ∷ rest; began = option_or begun trial.began });

@@ -17,6 +17,7 @@ use Rattle.gas_endpoint.specs.EndpointState.{EndpointState, EndpointStands, ForI
 use Rattle.job_text.specs.declared.job.ScriptStep.{ScriptStep}
 use Rattle.node_runs.specs.Actions.{Form, Progress, calls_of, ended_by, begins, tried_form, unless}
 use Rattle.node_runs.specs.Outgoing.{slot_of, StaysWell}
+use Rattle.node_runs.specs.declared.script_answer.ScriptAnswer.{ScriptAnswer}
 use Rattle.node_runs.specs.Scripts.{ThreadCall, Tried as FormTried, TryContext}
 use Rattle.node_runs.specs.Turn.{node_run, node_sends, events_of, first_answer}
 use Rattle.script_steps.specs.Forms.{is_sent, step_form}
@@ -98,7 +99,8 @@ abbrev pub trial_after : EndpointJob → (me : ℕ) → FormTrial → Node Endpo
 trial_after job me trial node = node_run job me trial.now (trial_events trial node) node
 
 -- the answer with which a try of this form began its step, where it began it and didn't end it
-abbrev pub begun_by : Form EndpointLocal → (began ended answer : Option Answer) → Option Answer
+abbrev pub begun_by : Form EndpointLocal
+    → (began : Option Answer) → (ended : Option ScriptAnswer) → (answer : Option Answer) → Option Answer
 begun_by form began ended answer = if begins form && is_none began && is_none ended then answer else None
 
 -- how the try went, of a record that it found

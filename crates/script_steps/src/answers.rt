@@ -10,6 +10,7 @@ use endpoint_rules::{Answer, Begun, Local};
 use hsl_locks::LockAnswer;
 use job_text::ScheduledCall;
 use named_barrier::BarrierAnswer;
+use node_runs::ScriptAnswer;
 use put_get::{Handle, Synced};
 
 /// Whether a request can't go now.
@@ -51,11 +52,13 @@ pub(crate) fn waits_at(call: &ScheduledCall, answer: &Answer) -> bool
 }
 
 /// The answer of the step of an `until`, where the number of the cell that was read ends it.
-pub(crate) fn reached(value: i32, answer: &Answer) -> Option<Answer>
+pub(crate) fn reached(value: i32, answer: &Answer) -> Option<ScriptAnswer>
     ensures { result ≡ reached value answer.now }
 {
     match answer {
-        Answer::Local(Local::Cell(number)) if value <= *number => Some(Answer::Local(Local::Done)),
+        Answer::Local(Local::Cell(number)) if value <= *number => {
+            Some(ScriptAnswer::Call(Answer::Local(Local::Done)))
+        }
         _ => None,
     }
 }
