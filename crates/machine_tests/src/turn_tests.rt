@@ -53,11 +53,11 @@ done
 /// What each turn is, and what the last step ended with after it; 67,305,985 are the bytes 1, 2, 3, 4 and four zeros, the
 /// least first.
 const FIVE_TURNS: &str = "\
-Some((Turned { changed: true, stepped: true, sends: 0 }, Some(Local(Done))))
-Some((Turned { changed: true, stepped: true, sends: 0 }, Some(Synced(Ok))))
-Some((Turned { changed: true, stepped: true, sends: 0 }, Some(Local(Shown { offset: 104, len: 4 }))))
-Some((Turned { changed: true, stepped: true, sends: 0 }, Some(Local(Number(67305985)))))
-Some((Turned { changed: false, stepped: false, sends: 0 }, Some(Local(Number(67305985)))))
+Some((Turned { changed: true, stepped: true, sends: 0 }, Some(Call(Local(Done)))))
+Some((Turned { changed: true, stepped: true, sends: 0 }, Some(Call(Synced(Ok)))))
+Some((Turned { changed: true, stepped: true, sends: 0 }, Some(Call(Local(Shown { offset: 104, len: 4 })))))
+Some((Turned { changed: true, stepped: true, sends: 0 }, Some(Call(Local(Number(67305985))))))
+Some((Turned { changed: false, stepped: false, sends: 0 }, Some(Call(Local(Number(67305985))))))
 ";
 
 #[test]

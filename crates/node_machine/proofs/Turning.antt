@@ -16,7 +16,6 @@ use Rattle.node_record.specs.Record.{Node}
 use Rattle.node_record.specs.SlotMessages.{message_at}
 use Rattle.node_record.specs.declared.answer.SlotRef.{SlotRef}
 use Rattle.plain_world.specs.Sent.{Packet, Asking, Replying}
-use Rattle.am_core.specs.CoreContracts.{IsSameNode}
 use Rattle.endpoint_rules.specs.EndpointLocal.{EndpointLocal, IsEndpointKept}
 use Rattle.endpoint_rules.specs.declared.answer.Answer.{Answer}
 use Rattle.endpoint_rules.proofs.Sound.{rules_sound}
@@ -32,7 +31,7 @@ use Rattle.node_runs.specs.Turn.{MachineState, before_try, first_events, as_trie
 use Rattle.node_runs.specs.Turn.{node_run, is_some_there, datagram, receiver, message_of}
 use Rattle.node_runs.proofs.Outgoings.{sent_stand, turns_come_first}
 use Rattle.script_steps.specs.Forms.{step_form}
-use Rattle.script_steps.specs.Tries.{HasHappened, Happen, context_here}
+use Rattle.script_steps.specs.Tries.{HasHappened, Happen, IsAtSameNode, context_here}
 use Rattle.script_steps.specs.declared.trial.Tried.{Tried}
 use Rattle.node_machine.specs.Kept.{CanBeSaid}
 use Rattle.node_machine.specs.Parts.{at_once}
@@ -40,9 +39,8 @@ use Rattle.node_machine.specs.Scripted.{NextTrial, TriesNext, events_of_next, tr
 use Rattle.node_machine.specs.NodeState.{datagram_at, as_there}
 use Rattle.node_machine.specs.Turns.{slots_of, job_at, TurnTaken, turn_by, GoesAsTurn, TakesTurn}
 use Rattle.node_machine.specs.declared.turn.Done.{Done}
-use Rattle.node_machine.proofs.Happening.{happen_then, at_same, run-append}
+use Rattle.node_machine.proofs.Happening.{happen_then, at_same, run-append, same_then}
 use Rattle.node_machine.proofs.Locks.{turn_keeps}
-use Rattle.gas_endpoint.proofs.Stepping.{same_node}
 
 -- ---- the slots of packets
 
@@ -108,7 +106,7 @@ tried_is meaning old mid new taken state slots tried stands before tries =
 
 -- what the try did at the node after the events before it, as at the node before them
 try_at : (meaning : Meaning) (old mid new : EndpointState) (trial : NextTrial) (slots : List SlotRef)
-    → IsSameNode old.core mid.core
+    → IsAtSameNode old.core mid.core
     → Happen meaning mid (record {
       now = trial.now;
       events = events_of_next (context_here meaning mid trial.thread trial.now) trial.progress;
@@ -255,7 +253,7 @@ pub turn_goes : (meaning : Meaning) (old mid new : EndpointState) (taken : TurnT
 turn_goes meaning old mid new taken progress polls slots tried done lawful bytes polled before tries slots_is ended_is
     began_is =
     record {
-      same = same_node old.core mid.core new.core before.same tries.happen.same;
+      same = same_then old.core mid.core new.core before.same tries.happen.same;
       said = progress_said progress tried;
       goes = λ state stands own.
           let version = old.core.settings.version in

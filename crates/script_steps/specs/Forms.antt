@@ -1,6 +1,6 @@
 -- How each step of a script is tried, and where it ends.
 -- Origin: this project's profile; waiting is that of the blocking calls of GASNet 1.8.1.
-use Rattle.std.specs.Prelude.{ℤ, Bool, true, false, not, List, [], Option, None, Some}
+use Rattle.std.specs.Prelude.{ℕ, ℤ, Bool, true, false, not, List, [], map, Option, None, Some}
 use Rattle.std.specs.Option.{option_map}
 use Rattle.hsl_locks.specs.declared.answer.LockAnswer.TheVariants as locking
 use Rattle.named_barrier.specs.declared.answer.BarrierAnswer.TheVariants as barrier
@@ -29,8 +29,12 @@ use Rattle.job_text.specs.declared.job.WaitingStep.{WaitingStep}
 use Rattle.job_text.specs.declared.job.WaitingStep.TheVariants as waiting
 use Rattle.node_script.specs.Bodies.{operand_value}
 use Rattle.node_script.specs.ScheduledCalls.{meant_by, transfer_of, some_of}
-use Rattle.node_runs.specs.Actions.{Form, Once, Again, Until, Twice, Looks, Reading}
-use Rattle.node_runs.specs.Scripts.{ThreadCall}
+use Rattle.gas_strided.specs.Beginning.{BeginCall, calls_made, vis_answer}
+use Rattle.gas_strided.specs.Plans.{PlanState}
+use Rattle.node_caller.specs.Sites.{Site, ThreadCall as CallerCall}
+use Rattle.node_runs.specs.Actions.{Form, Once, Again, Until, Twice, Looks, Several, Reading}
+use Rattle.node_runs.specs.Scripts.{ThreadCall, TryContext}
+use Rattle.node_runs.specs.declared.script_answer.ScriptAnswer.TheVariants as said
 
 -- ---- answers at which a step waits
 
@@ -109,6 +113,30 @@ is_sent first node = is_issued (begun_handle first) node
 -- the transfer of a put of a script alone
 abbrev pub put_of : PutText → Transfer
 put_of put = transfers.Put put.to put.remote put.local put.len
+
+-- ---- transfers of many pieces
+
+-- in which job, at which node and when, as a caller has it
+abbrev pub site_of : TryContext → Site
+site_of at = record {
+  settings = at.settings;
+  table = at.table;
+  meaning = at.meaning;
+  node = at.me;
+  now = at.now;
+}
+
+-- the calls of a thread
+abbrev pub calls_of_all : List CallerCall → List ThreadCall
+calls_of_all calls = map (λ (one : CallerCall). one.call) calls
+
+-- the pieces of a plan from one on are begun in a region of the thread, whose handle goes into the register. The calls
+-- and the answer are those of that beginning, of the record that the try finds
+abbrev pub plan_form : (plan : PlanState) → (from register : ℕ) → TryContext → Node EndpointLocal → Form EndpointLocal
+plan_form plan from register at node =
+    let asked : BeginCall = record { plan = plan; thread = at.thread; from = from; register = register } in
+    let answer = vis_answer (site_of at) node asked in
+    Several (calls_of_all (calls_made asked answer)) (said.Vis answer)
 
 -- ---- steps
 

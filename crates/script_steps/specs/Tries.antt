@@ -7,7 +7,7 @@ use Rattle.handler_rules.specs.Runs.{Meaning}
 use Rattle.node_record.specs.Record.{Node}
 use Rattle.node_record.specs.NodeStep.{Job, node_answer}
 use Rattle.node_record.specs.declared.answer.SlotRef.{SlotRef}
-use Rattle.am_core.specs.CoreContracts.{IsSameNode}
+use Rattle.am_core.specs.CoreState.{CoreState}
 use Rattle.endpoint_rules.specs.Called.{node_event}
 use Rattle.endpoint_rules.specs.EndpointLocal.{EndpointLocal, IsEndpointKept}
 use Rattle.endpoint_rules.specs.EndpointRules.{OtherCall, RecordEvent, told}
@@ -45,10 +45,16 @@ pub record HasHappened
     pub slots_are : happening.slots ≡ map slot_of (node_sends job me happening.now (happening.events node) node)
     pub well : StaysWell job (IsEndpointKept job.settings) me happening.now (happening.events node) node
 
+-- the core of the same node of the same job, with the same table
+pub record IsAtSameNode (old new : CoreState) : Type 0 where
+  pub settings : new.settings ≡ old.settings
+  pub me_is : new.me ≡ old.me
+  pub table : new.table ≡ old.table
+
 -- these events happened to the endpoint, of every record for which it stood
 pub record Happen (meaning : Meaning) (old : EndpointState) (happening : Happening) (new : EndpointState) : Type 0
   where
-    pub same : IsSameNode old.core new.core
+    pub same : IsAtSameNode old.core new.core
     pub happened : ForItsRecord old (λ node. HasHappened (job_here meaning old) old.core.me happening node new)
 
 -- a call of a thread at a time, with its answer

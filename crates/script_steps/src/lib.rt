@@ -22,6 +22,7 @@ mod answers;
 mod calls;
 mod laws;
 mod making;
+mod many;
 mod trial;
 mod tries;
 mod waiting;
