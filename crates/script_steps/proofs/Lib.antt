@@ -2,4 +2,4 @@ mod Trying
 mod Forming
 pub mod Fits
 pub mod Calm
-mod Many
+mod BegunPieces

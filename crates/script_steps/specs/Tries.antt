@@ -20,7 +20,10 @@ use Rattle.node_runs.specs.Outgoing.{slot_of, StaysWell}
 use Rattle.node_runs.specs.declared.script_answer.ScriptAnswer.{ScriptAnswer}
 use Rattle.node_runs.specs.Scripts.{ThreadCall, Tried as FormTried, TryContext}
 use Rattle.node_runs.specs.Turn.{node_run, node_sends, events_of, first_answer}
-use Rattle.script_steps.specs.Forms.{is_sent, step_form}
+use Rattle.gas_strided.specs.Beginning.{BeginCall, calls_made, vis_answer}
+use Rattle.gas_strided.specs.declared.shapes.Vis.{Vis}
+use Rattle.node_caller.specs.Sites.{node_in_the_end}
+use Rattle.script_steps.specs.Forms.{is_sent, site_of, step_form}
 use Rattle.script_steps.specs.declared.trial.Trial.{Trial}
 use Rattle.script_steps.specs.declared.trial.Tried.{Tried}
 
@@ -188,3 +191,16 @@ pub record Tries (meaning : Meaning) (old : EndpointState) (trial : Trial) (trie
     : Type 0 where
   pub happen : Happen meaning old (trial_happening (as_form meaning old trial) tried) new
   pub tried_so : ForItsRecord old (IsTriedSo meaning old trial tried)
+
+-- ---- the beginning of a plan's pieces
+
+-- the endpoint stands for what the calls leave, and the answer is the one that they give
+pub record HasBegun
+    (old : EndpointState) (at : TryContext) (asked : BeginCall) (answer : Vis) (new : EndpointState) : Type 0
+  where
+  pub settings : new.core.settings ≡ old.core.settings
+  pub me_is : new.core.me ≡ old.core.me
+  pub table : new.core.table ≡ old.core.table
+  pub answered : ForItsRecord old (λ node. answer ≡ vis_answer (site_of at) node asked)
+  pub leaves : ForItsRecord old (λ node.
+      EndpointStands new (node_in_the_end (site_of at) node (calls_made asked answer)))

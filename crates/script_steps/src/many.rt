@@ -2,11 +2,11 @@
 
 ghost use Rattle.std.specs.Prelude.{◌≡◌, ◌<◌, ◌≤◌, length};
 ghost use Rattle.script_steps.specs.Forms.{plan_form};
-ghost use Rattle.script_steps.specs.Tries.{TriesForm, context_here, read_as};
+ghost use Rattle.script_steps.specs.Tries.{HasBegun, TriesForm, context_here, read_as};
 
 use crate::trial::{Trial, Tried};
 use gas_endpoint::Endpoint;
-use gas_strided::Plan;
+use gas_strided::{Plan, Vis};
 use handler_rules::Handlers;
 use node_caller::AtEndpoint;
 use node_runs::ScriptAnswer;
@@ -22,19 +22,43 @@ pub(crate) struct Pieces<'a> {
     pub reg: u8,
 }
 
+/// Begins these pieces in one region of the thread. The caller keeps the reference that it was lent.
+fn begin_pieces<H: Handlers>(
+    caller: &mut AtEndpoint<'_, H>,
+    thread: u16,
+    pieces: &Pieces<'_>,
+) -> Vis
+    requires there { caller.old.endpoint.now.core.me < caller.old.endpoint.now.core.settings.nodes }
+    requires thread { thread < caller.old.endpoint.now.core.settings.threads }
+    requires from { pieces.now.from ≤ length pieces.now.plan.now.pieces }
+    requires settings { pieces.now.plan.now.settings ≡ caller.old.endpoint.now.core.settings }
+    ensures same_reference { caller.new.endpoint.ghost_name ≡ caller.old.endpoint.ghost_name }
+    ensures begun { HasBegun caller.old.endpoint.now
+        (context_here (H.meaning caller.old.handlers.now) caller.old.endpoint.now thread
+        caller.old.now)
+        (record {
+          plan = pieces.now.plan.now;
+          thread = thread;
+          from = pieces.now.from;
+          register = pieces.now.reg;
+        }) result caller.new.endpoint.now }
+{
+    pieces.plan.begin(caller, thread, pieces.from, pieces.reg)
+}
+
 /// The try of a step that begins these pieces: it begins them in one region, and ends.
 pub(crate) fn try_pieces<H: Handlers>(
     endpoint: &mut Endpoint,
     handlers: &H,
     trial: &Trial<'_>,
-    pieces: Pieces<'_>,
+    pieces: &Pieces<'_>,
 ) -> Tried
     requires there { endpoint.old.core.me < endpoint.old.core.settings.nodes }
     requires thread { trial.now.thread < endpoint.old.core.settings.threads }
-    requires from { pieces.from ≤ length pieces.plan.now.pieces }
-    requires settings { pieces.plan.now.settings ≡ endpoint.old.core.settings }
+    requires from { pieces.now.from ≤ length pieces.now.plan.now.pieces }
+    requires settings { pieces.now.plan.now.settings ≡ endpoint.old.core.settings }
     ensures { TriesForm (H.meaning handlers.now) endpoint.old
-        (read_as trial.now (plan_form pieces.plan.now pieces.from pieces.reg
+        (read_as trial.now (plan_form pieces.now.plan.now pieces.now.from pieces.now.reg
         (context_here (H.meaning handlers.now) endpoint.old trial.now.thread trial.now.time)))
         result endpoint.new }
 {
@@ -43,9 +67,7 @@ pub(crate) fn try_pieces<H: Handlers>(
         handlers,
         now: trial.time,
     };
-    let answer = pieces
-        .plan
-        .begin(&mut caller, trial.thread, pieces.from, pieces.reg);
+    let answer = begin_pieces(&mut caller, trial.thread, pieces);
     Tried {
         sent: None,
         ended: Some(ScriptAnswer::Vis(answer)),

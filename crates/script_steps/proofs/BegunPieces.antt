@@ -25,7 +25,7 @@ use Rattle.node_runs.specs.Scripts.{TryContext}
 use Rattle.node_runs.specs.Turn.{events_of, node_run, node_sends}
 use Rattle.node_runs.specs.declared.script_answer.ScriptAnswer.TheVariants as said
 use Rattle.script_steps.specs.Forms.{site_of, calls_of_all, plan_form}
-use Rattle.script_steps.specs.Tries.{FormTrial, TriesForm, context_here, read_as}
+use Rattle.script_steps.specs.Tries.{FormTrial, HasBegun, TriesForm, context_here, read_as}
 use Rattle.script_steps.specs.declared.trial.Trial.{Trial}
 use Rattle.script_steps.specs.declared.trial.Tried.{Tried}
 use Rattle.script_steps.proofs.Trying.{CallsOf, goes_so, well_of}
@@ -70,7 +70,7 @@ all_well at node (call ∷ calls) sound well = (
 -- ---- the calls of a beginning
 
 -- the pieces, and the end of the region
-pieces_then : PlanState → (register : ℕ) → List Piece → List TransferCall
+abbrev pieces_then : PlanState → (register : ℕ) → List Piece → List TransferCall
 pieces_then plan register [] = RegionEnd register ∷ []
 pieces_then plan register (piece ∷ pieces) =
     BeginImplicit (transfer_of plan piece) ∷ pieces_then plan register pieces
@@ -128,20 +128,9 @@ made_do at node asked answer same sound well =
 
 -- ---- the try
 
--- the endpoint stands for what the calls leave, and the answer is the one that they give
-pub record HasBegun
-    (meaning : Meaning) (old : EndpointState) (at : TryContext) (asked : BeginCall) (answer : Vis)
-    (new : EndpointState) : Type 0 where
-  pub settings : new.core.settings ≡ old.core.settings
-  pub me_is : new.core.me ≡ old.core.me
-  pub table : new.core.table ≡ old.core.table
-  pub answered : ForItsRecord old (λ node. answer ≡ vis_answer (site_of at) node asked)
-  pub leaves : ForItsRecord old (λ node.
-      EndpointStands new (node_in_the_end (site_of at) node (calls_made asked answer)))
-
 pub pieces_tried : (meaning : Meaning) (old new : EndpointState) (trial : Trial) (plan : PlanState)
     (from register : ℕ) (answer : Vis) → IsLawfulMeaning meaning
-    → HasBegun meaning old (context_here meaning old trial.thread trial.time)
+    → HasBegun old (context_here meaning old trial.thread trial.time)
     (record { plan = plan; thread = trial.thread; from = from; register = register }) answer new
     → TriesForm meaning old
     (read_as trial (plan_form plan from register (context_here meaning old trial.thread trial.time)))
