@@ -68,6 +68,7 @@ pub(crate) fn try_pieces<H: Handlers>(
         now: trial.time,
     };
     let answer = begin_pieces(&mut caller, trial.thread, pieces);
+    drop(caller);
     Tried {
         sent: None,
         ended: Some(ScriptAnswer::Vis(answer)),
