@@ -11,6 +11,7 @@ pub mod FormLaws
 pub mod WholeNumbers
 pub mod Names
 pub mod CallLaws
+pub mod VisLaws
 pub mod EventLaws
 pub mod BodyLaws
 pub mod ScriptLaws
@@ -34,3 +35,4 @@ pub mod Walks
 pub mod Refusing
 pub mod Completeness
 pub mod Meanings
+pub mod Upgrading

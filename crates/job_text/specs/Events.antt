@@ -5,47 +5,57 @@ use Rattle.job_text.specs.Lines.{Word, ◌>>=◌, back, spaced}
 use Rattle.job_text.specs.Forms.{Number, Shape, End, ◌▸◌, Inner, Maker, Values, Row, Entry}
 use Rattle.job_text.specs.Forms.{word_at, table_at, entry_text, IsOf, U64, Below}
 use Rattle.job_text.specs.Reasons.{table_form, behind}
-use Rattle.job_text.specs.Calls.{call_at, call_form, call_text, IsCall}
-use Rattle.job_text.specs.declared.job.ScheduledCall.{ScheduledCall}
+use Rattle.job_text.specs.Asked.{asked_at, asked_form, asked_text, IsAsked}
+use Rattle.job_text.specs.declared.vis_lines.Asked.{Asked}
+use Rattle.job_text.specs.declared.vis_lines.Asked.TheVariants as asked
+use Rattle.job_text.specs.declared.scope.Scope.{Scope}
 use Rattle.job_text.specs.declared.job.ScheduledEvent.{ScheduledEvent}
 use Rattle.job_text.specs.declared.job.ScheduledEvent.TheVariants as event
 use Rattle.job_text.specs.declared.job.TimedEvent.{TimedEvent}
 
 -- a form of event
-abbrev pub form : Word → (shape : Shape) → Maker ScheduledCall shape ScheduledEvent → Row ScheduledCall ScheduledEvent
+abbrev pub form : Word → (shape : Shape) → Maker Asked shape ScheduledEvent → Row Asked ScheduledEvent
 form name shape make = record { name = name; shape = shape; make = make }
 
-abbrev pub call_row : (nodes threads : ℕ) → Row ScheduledCall ScheduledEvent
-call_row nodes threads = form (codes "call") (Below nodes ▸ Below threads ▸ Inner) event.Call
+-- what a thread of a node does
+abbrev pub event_of : (node thread : ℕ) → Asked → ScheduledEvent
+event_of node thread (asked.Call call) = event.Call node thread call
+event_of node thread (asked.Vis vis) = event.Vis node thread vis
 
-abbrev pub request_row : (nodes : ℕ) → Row ScheduledCall ScheduledEvent
+abbrev pub call_row : (nodes threads : ℕ) → Row Asked ScheduledEvent
+call_row nodes threads = form (codes "call") (Below nodes ▸ Below threads ▸ Inner) event_of
+
+abbrev pub request_row : (nodes : ℕ) → Row Asked ScheduledEvent
 request_row nodes = form (codes "request") (Below nodes ▸ Below nodes ▸ Number 1 (2 ^ 64 - 1) ▸ End) event.Request
 
-abbrev pub reply_row : (nodes : ℕ) → Row ScheduledCall ScheduledEvent
+abbrev pub reply_row : (nodes : ℕ) → Row Asked ScheduledEvent
 reply_row nodes = form (codes "reply") (Below nodes ▸ Below nodes ▸ Number 1 (2 ^ 64 - 1) ▸ End) event.Reply
 
-abbrev pub tick_row : (nodes : ℕ) → Row ScheduledCall ScheduledEvent
+abbrev pub tick_row : (nodes : ℕ) → Row Asked ScheduledEvent
 tick_row nodes = form (codes "tick") (Below nodes ▸ End) event.Tick
 
-abbrev pub settle_row : Row ScheduledCall ScheduledEvent
+abbrev pub settle_row : Row Asked ScheduledEvent
 settle_row = form (codes "settle") (Number 1 4096 ▸ End) event.Settle
 
 -- from `tick` on
-abbrev pub later_events : (nodes : ℕ) → List (Row ScheduledCall ScheduledEvent)
+abbrev pub later_events : (nodes : ℕ) → List (Row Asked ScheduledEvent)
 later_events nodes = tick_row nodes ∷ settle_row ∷ []
 
 -- the forms of events
-abbrev pub events : (nodes threads : ℕ) → List (Row ScheduledCall ScheduledEvent)
+abbrev pub events : (nodes threads : ℕ) → List (Row Asked ScheduledEvent)
 events nodes threads = call_row nodes threads ∷ request_row nodes ∷ reply_row nodes ∷ later_events nodes
 
 -- the words of an event
-abbrev pub words : (row : Row ScheduledCall ScheduledEvent) → Values ScheduledCall row.shape
-    → Entry ScheduledCall ScheduledEvent
+abbrev pub words : (row : Row Asked ScheduledEvent) → Values Asked row.shape
+    → Entry Asked ScheduledEvent
 words row values = record { row = row; values = values }
 
 -- how an event is written
-abbrev pub event_entry : (nodes threads : ℕ) → ScheduledEvent → Entry ScheduledCall ScheduledEvent
-event_entry nodes threads (event.Call node thread call) = words (call_row nodes threads) (node, (thread, call))
+abbrev pub event_entry : (nodes threads : ℕ) → ScheduledEvent → Entry Asked ScheduledEvent
+event_entry nodes threads (event.Call node thread call) =
+    words (call_row nodes threads) (node, (thread, asked.Call call))
+event_entry nodes threads (event.Vis node thread vis) =
+    words (call_row nodes threads) (node, (thread, asked.Vis vis))
 event_entry nodes threads (event.Request from to number) = words (request_row nodes) (from, (to, (number, tt)))
 event_entry nodes threads (event.Reply from to number) = words (reply_row nodes) (from, (to, (number, tt)))
 event_entry nodes threads (event.Tick node) = words (tick_row nodes) (node, tt)
@@ -58,40 +68,43 @@ is_apart (event.Reply from to number) = not (from == to)
 is_apart event = true
 
 -- what reads an event from `tick` on
-abbrev pub later_event_at : (nodes : ℕ) → List ℕ → Option (ScheduledEvent × List ℕ)
-later_event_at nodes bytes = table_at call_at (later_events nodes) is_apart bytes
+abbrev pub later_event_at : Scope → List ℕ → Option (ScheduledEvent × List ℕ)
+later_event_at scope bytes = table_at (asked_at scope) (later_events scope.settings.nodes) is_apart bytes
 
 -- what reads an event
-unfoldable pub event_at : (nodes threads : ℕ) → List ℕ → Option (ScheduledEvent × List ℕ)
-event_at nodes threads bytes = table_at call_at (events nodes threads) is_apart bytes
+unfoldable pub event_at : Scope → List ℕ → Option (ScheduledEvent × List ℕ)
+event_at scope bytes =
+    table_at (asked_at scope) (events scope.settings.nodes scope.settings.threads) is_apart bytes
 
 -- whether bytes have the form of an event
-unfoldable pub event_form : (nodes threads : ℕ) → List ℕ → Bool
-event_form nodes threads bytes = table_form call_form (events nodes threads) bytes
+unfoldable pub event_form : Scope → List ℕ → Bool
+event_form scope bytes =
+    table_form (asked_form scope) (events scope.settings.nodes scope.settings.threads) bytes
 
 -- whether bytes have the form of a line of a schedule: the time is any word
-unfoldable pub timed_form : (nodes threads : ℕ) → List ℕ → Bool
-timed_form nodes threads bytes = behind (event_form nodes threads) (spaced (back bytes))
+unfoldable pub timed_form : Scope → List ℕ → Bool
+timed_form scope bytes = behind (event_form scope) (spaced (back bytes))
 
 -- what reads a line of a schedule
-unfoldable pub timed_at : (nodes threads : ℕ) → List ℕ → Option (TimedEvent × List ℕ)
-timed_at nodes threads bytes =
-    word_at U64 bytes >>= λ time. spaced time.1 >>= λ rest. event_at nodes threads rest >>= λ event.
+unfoldable pub timed_at : Scope → List ℕ → Option (TimedEvent × List ℕ)
+timed_at scope bytes =
+    word_at U64 bytes >>= λ time. spaced time.1 >>= λ rest. event_at scope rest >>= λ event.
     Some (record { time = time.0; event = event.0 }, event.1)
 
 -- the text of an event
 abbrev pub event_text : (nodes threads : ℕ) → ScheduledEvent → List ℕ
-event_text nodes threads event = entry_text call_text (event_entry nodes threads event)
+event_text nodes threads event = entry_text asked_text (event_entry nodes threads event)
 
--- an event whose words can be said
-abbrev pub IsEvent : (nodes threads : ℕ) → ScheduledEvent → Type 0
-IsEvent nodes threads event = IsOf IsCall (event_entry nodes threads) is_apart event
+-- an event whose words can be said, and which may stand in the job
+abbrev pub IsEvent : Scope → ScheduledEvent → Type 0
+IsEvent scope event =
+    IsOf (IsAsked scope) (event_entry scope.settings.nodes scope.settings.threads) is_apart event
 
 -- the text of a line of a schedule
 abbrev pub timed_text : (nodes threads : ℕ) → TimedEvent → List ℕ
 timed_text nodes threads timed = decimal timed.time ++ (32 ∷ event_text nodes threads timed.event)
 
--- a line of a schedule whose words can be said
-pub record IsTimed (nodes threads : ℕ) (timed : TimedEvent) : Type 0 where
+-- a line of a schedule whose words can be said, and which may stand in the job
+pub record IsTimed (scope : Scope) (timed : TimedEvent) : Type 0 where
   pub time : timed.time < 2 ^ 64
-  pub event : IsEvent nodes threads timed.event
+  pub event : IsEvent scope timed.event

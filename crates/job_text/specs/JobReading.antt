@@ -3,11 +3,15 @@ use Rattle.std.specs.Prelude.{ℕ, ◌+◌, ◌-◌, ◌*◌, List, [], ◌∷�
 use Rattle.std.specs.Prelude.{Bool, true, false}
 use Rattle.std.specs.Prelude.{not, ◌&&◌, ◌||◌, nat_le, nat_lt, ◌==◌, if◌then◌else◌}
 use Rattle.std.specs.List.{list_any}
-use Rattle.datagram_grammar.specs.Parameters.{Parameters, with_pair}
+use Rattle.datagram_grammar.specs.Parameters.{with_pair}
 use Rattle.datagram_grammar.specs.declared.pairs.PairCredits.{PairCredits}
+use Rattle.gas_atomic.specs.BatchRequests.{batch_handler, block_handler}
 use Rattle.job_text.specs.Lines.{◌>>=◌, ended}
 use Rattle.job_text.specs.Reasons.{reason}
 use Rattle.job_text.specs.Places.{Setting, Version, Nodes, Credits, Threads, Segment, Last, Resend, Patience}
+use Rattle.job_text.specs.Scopes.{scope_of}
+use Rattle.job_text.specs.declared.scope.Scope.{Scope}
+use Rattle.job_text.specs.Places.{AtAtomics}
 use Rattle.job_text.specs.Places.{Place, AtSetting, AtSieve, AtPairs, AtHandlers, AtBody, AtScripts, AtSteps}
 use Rattle.job_text.specs.Places.{AtSchedule, AtDone, Over, NamedOr, Named, Other, Item, item_at, item_form}
 use Rattle.job_text.specs.Places as places
@@ -49,6 +53,7 @@ least_job = record {
   };
   patience = 1;
   sieve = record { lose = 0; repeat = 0; swap = 0 };
+  atomics = false;
   handlers = [];
   scripts = [];
   schedule = None;
@@ -60,6 +65,7 @@ job_of_head head = record {
   settings = head.settings;
   patience = head.patience;
   sieve = head.sieve;
+  atomics = head.atomics;
   handlers = [];
   scripts = [];
   schedule = None;
@@ -98,6 +104,10 @@ behind_setting Patience = AtSieve
 -- a pair
 abbrev pub with_own : PairCredits → Job → Job
 with_own pair job = record job { settings = with_pair job.settings pair }
+
+-- the line of atomics
+abbrev pub with_atomics : Job → Job
+with_atomics job = record job { atomics = true }
 
 -- an action
 abbrev pub with_action : Action → HandlerText → HandlerText
@@ -142,6 +152,14 @@ abbrev pub has_index : List HandlerText → ℕ → Bool
 has_index handlers index = not (index == 0) && list_any (λ other. other == index) (map
     (λ handler. handler.index) handlers)
 
+-- an index that the handlers of batches have
+abbrev pub is_reserved : (atomics : Bool) → (index : ℕ) → Bool
+is_reserved atomics index = atomics && ((index == batch_handler) || (index == block_handler))
+
+-- how many handlers a job may have beside those of batches
+abbrev pub most_handlers : (atomics : Bool) → ℕ
+most_handlers atomics = if atomics then 126 else 128
+
 -- whether a thread of a node has a script
 abbrev pub has_thread : List NodeScript → (node thread : ℕ) → Bool
 has_thread scripts node thread = list_any (λ script. (script.node == node) && (script.thread == thread)) scripts
@@ -156,22 +174,57 @@ abbrev pub total_rounds : List TimedEvent → ℕ
 total_rounds [] = 0
 total_rounds (timed ∷ others) = rounds_of timed.event + total_rounds others
 
+-- the pieces of the plans of a line, and of all lines
+abbrev pub pieces_of : ScheduledEvent → ℕ
+pieces_of (event.Vis node thread vis) = pieces_of_vis vis
+pieces_of other = 0
+
+abbrev pub line_pieces : List TimedEvent → ℕ
+line_pieces [] = 0
+line_pieces (timed ∷ others) = pieces_of timed.event + line_pieces others
+
+-- those of a step, of all steps, and of all scripts
+abbrev pub pieces_of_step : ScriptStep → ℕ
+pieces_of_step (step.Vis vis) = pieces_of_vis vis
+pieces_of_step other = 0
+
+abbrev pub step_pieces : List ScriptStep → ℕ
+step_pieces [] = 0
+step_pieces (step ∷ others) = pieces_of_step step + step_pieces others
+
+abbrev pub script_pieces : List NodeScript → ℕ
+script_pieces [] = 0
+script_pieces (script ∷ others) = step_pieces script.steps + script_pieces others
+
+-- the most pieces of all plans of a job
+abbrev pub most_pieces : ℕ
+most_pieces = 65536
+
 -- whether rounds of that many nodes are too many in all
 abbrev pub are_too_many : (nodes rounds : ℕ) → Bool
 are_too_many nodes rounds = nat_lt 4096 rounds || nat_lt 262144 (rounds * nodes)
 
--- whether there is no room for the event behind so many lines and rounds
-abbrev pub is_full : (nodes lines rounds : ℕ) → ScheduledEvent → Bool
-is_full nodes lines rounds event = nat_le 65536 lines || are_too_many nodes (rounds + rounds_of event)
+-- how much stands in a schedule so far, and in the scripts before it: lines, rounds, and pieces of plans
+pub record Amounts : Type 0 where
+  pub lines : ℕ
+  pub rounds : ℕ
+  pub pieces : ℕ
+
+-- whether there is no room for the event behind so much
+abbrev pub is_full : (nodes : ℕ) → Amounts → ScheduledEvent → Bool
+is_full nodes so_far event =
+    (nat_le 65536 so_far.lines || are_too_many nodes (so_far.rounds + rounds_of event))
+    || nat_lt most_pieces (so_far.pieces + pieces_of event)
 
 -- the line where there is room for it
-abbrev pub admitted : (nodes lines rounds : ℕ) → TimedEvent → Option TimedEvent
-admitted nodes lines rounds timed = if is_full nodes lines rounds timed.event then None else Some timed
+abbrev pub admitted : (nodes : ℕ) → Amounts → TimedEvent → Option TimedEvent
+admitted nodes so_far timed = if is_full nodes so_far timed.event then None else Some timed
 
 -- why a handler with this index may not stand behind these
-abbrev pub handler_why : List HandlerText → (index : ℕ) → Option JobWhy
-handler_why handlers index =
-    if has_index handlers index then Some Entry else (if nat_le 128 (length handlers) then Some Count else None)
+abbrev pub handler_why : (atomics : Bool) → List HandlerText → (index : ℕ) → Option JobWhy
+handler_why atomics handlers index =
+    if has_index handlers index || is_reserved atomics index then Some Entry
+    else (if nat_le (most_handlers atomics) (length handlers) then Some Count else None)
 
 -- why a pair may not
 abbrev pub pair_why : List PairCredits → PairCredits → Option JobWhy
@@ -232,14 +285,20 @@ opened job section = unless (section_why job.scripts section) (behind_section jo
 -- behind the first line of a handler, or such a line
 abbrev pub headed : Job → NamedOr HandlerHeader Section → Result State JobWhy
 headed job (Named header) =
-    unless (handler_why job.handlers header.index) (record { place = AtBody (begun header); job = job })
+    unless (handler_why job.atomics job.handlers header.index) (record { place = AtBody (begun header); job = job })
 headed job (Other section) = opened job section
 
+-- behind the line of atomics, or one of these
+abbrev pub served : Job → NamedOr (Unit {0}) (NamedOr HandlerHeader Section) → Result State JobWhy
+served job (Named line) = Ok (record { place = AtHandlers; job = with_atomics job })
+served job (Other item) = headed job item
+
 -- behind a pair, or one of these
-abbrev pub paired : Job → NamedOr PairCredits (NamedOr HandlerHeader Section) → Result State JobWhy
+abbrev pub paired : Job → NamedOr PairCredits (NamedOr (Unit {0}) (NamedOr HandlerHeader Section))
+    → Result State JobWhy
 paired job (Named pair) = unless (pair_why job.settings.pairs pair)
     (record { place = AtPairs; job = with_own pair job })
-paired job (Other item) = headed job item
+paired job (Other item) = served job item
 
 -- behind an action, or the line `end`
 abbrev pub acted : HandlerText → Job → Option Action → Result State JobWhy
@@ -268,6 +327,7 @@ next (AtSetting setting) job number = Ok (record {
 })
 next AtSieve job rule = Ok (record { place = AtPairs; job = record job { sieve = rule } })
 next AtPairs job item = paired job item
+next AtAtomics job item = served job item
 next AtHandlers job item = headed job item
 next (AtBody handler) job item = acted handler job item
 next AtScripts job section = opened job section
@@ -280,12 +340,12 @@ next Over job item = absurd item
 abbrev pub lined : {A : Type 0} → (at : List ℕ → Option (A × List ℕ)) → List ℕ → Option (A × List ℕ)
 lined at bytes = at bytes >>= λ item. ended item.1 >>= λ rest. Some (item.0, rest)
 
-abbrev pub line_at : (place : Place) → Parameters → List ℕ → Option (Item place × List ℕ)
-line_at place settings bytes = lined (item_at place settings) bytes
+abbrev pub line_at : (place : Place) → Scope → List ℕ → Option (Item place × List ℕ)
+line_at place scope bytes = lined (item_at place scope) bytes
 
 -- why it says nothing
-abbrev pub why_at : (place : Place) → Parameters → List ℕ → JobWhy
-why_at place settings bytes = reason (item_form place settings) bytes
+abbrev pub why_at : (place : Place) → Scope → List ℕ → JobWhy
+why_at place scope bytes = reason (item_form place scope) bytes
 
 -- what was read, with the bytes after it
 abbrev pub onward : List ℕ → Result State JobWhy → Result (State × List ℕ) JobWhy
@@ -299,8 +359,8 @@ stepped place job why (Some item) = onward item.1 (next place job item.0)
 -- what was read with the first line, and the bytes after it; or the first reason that applies to that line
 unfoldable pub step : State → List ℕ → Result (State × List ℕ) JobWhy
 step state bytes =
-    stepped state.place state.job (why_at state.place state.job.settings bytes)
-    (line_at state.place state.job.settings bytes)
+    stepped state.place state.job (why_at state.place (scope_of state.job) bytes)
+    (line_at state.place (scope_of state.job) bytes)
 
 -- ---- line by line
 

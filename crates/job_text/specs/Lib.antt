@@ -2,9 +2,13 @@ pub mod Lines
 pub mod Words
 pub mod Payloads
 pub mod Locks
+pub mod Batches
+pub mod Scopes
 pub mod Forms
 pub mod Reasons
 pub mod Calls
+pub mod VisLines
+pub mod Asked
 pub mod Events
 pub mod Bodies
 pub mod Scripts
