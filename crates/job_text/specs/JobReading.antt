@@ -24,7 +24,9 @@ use Rattle.job_text.specs.declared.job.Job.{Job}
 use Rattle.job_text.specs.declared.job.NodeScript.{NodeScript}
 use Rattle.job_text.specs.declared.job.ScheduledEvent.{ScheduledEvent}
 use Rattle.job_text.specs.declared.job.ScheduledEvent.TheVariants as event
+use Rattle.job_text.specs.VisLines.{pieces_of_vis}
 use Rattle.job_text.specs.declared.job.ScriptStep.{ScriptStep}
+use Rattle.job_text.specs.declared.job.ScriptStep.TheVariants as step
 use Rattle.job_text.specs.declared.job.TimedEvent.{TimedEvent}
 use Rattle.job_text.specs.declared.sections.HandlerHeader.{HandlerHeader}
 use Rattle.job_text.specs.declared.sections.Section.{Section}
@@ -241,12 +243,24 @@ section_why scripts (section.Script node thread) = if has_thread scripts node th
 section_why scripts other = None
 
 -- why a step may not
-abbrev pub step_why : List ScriptStep → Option JobWhy
-step_why steps = if nat_le 4096 (length steps) then Some Count else None
+abbrev pub is_full_script : (before : ℕ) → List ScriptStep → ScriptStep → Bool
+is_full_script before steps step =
+    nat_le 4096 (length steps) || nat_lt most_pieces (before + step_pieces steps + pieces_of_step step)
+
+abbrev pub step_why : (before : ℕ) → List ScriptStep → ScriptStep → Option JobWhy
+step_why before steps step = if is_full_script before steps step then Some Count else None
 
 -- why a line of the schedule may not
-abbrev pub line_why : (nodes : ℕ) → List TimedEvent → TimedEvent → Option JobWhy
-line_why nodes lines timed = if is_full nodes (length lines) (total_rounds lines) timed.event then Some Count else None
+abbrev pub amounts_of : List NodeScript → List TimedEvent → Amounts
+amounts_of scripts lines = record {
+  lines = length lines;
+  rounds = total_rounds lines;
+  pieces = script_pieces scripts + line_pieces lines;
+}
+
+abbrev pub line_why : (nodes : ℕ) → List NodeScript → List TimedEvent → TimedEvent → Option JobWhy
+line_why nodes scripts lines timed =
+    if is_full nodes (amounts_of scripts lines) timed.event then Some Count else None
 
 -- ---- a line
 
@@ -310,13 +324,13 @@ acted handler job (Some action) =
 abbrev pub scripted : NodeScript → Job → Option ScriptStep → Result State JobWhy
 scripted script job None = Ok (record { place = AtScripts; job = with_script script job })
 scripted script job (Some step) =
-    unless (step_why script.steps) (record { place = AtSteps (with_step step script); job = job })
+    unless (step_why (script_pieces job.scripts) script.steps step) (record { place = AtSteps (with_step step script); job = job })
 
 -- behind a line of the schedule, or the line `end`
 abbrev pub scheduled : Job → Option TimedEvent → Result State JobWhy
 scheduled job None = Ok (record { place = AtDone; job = job })
 scheduled job (Some timed) =
-    unless (line_why job.settings.nodes (lines_of job.schedule) timed)
+    unless (line_why job.settings.nodes job.scripts (lines_of job.schedule) timed)
     (record { place = AtSchedule; job = with_line timed job })
 
 -- what a line says adds to what was read

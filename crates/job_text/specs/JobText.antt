@@ -15,6 +15,7 @@ use Rattle.job_text.specs.Locks.{are_listed}
 use Rattle.job_text.specs.Scopes.{scope_of}
 use Rattle.job_text.specs.declared.scope.Scope.{Scope}
 use Rattle.job_text.specs.JobReading.{has_thread, total_rounds, limit, is_reserved, most_handlers}
+use Rattle.job_text.specs.JobReading.{line_pieces, lines_of, most_pieces, script_pieces}
 use Rattle.job_text.specs.declared.job.HandlerText.{HandlerText}
 use Rattle.job_text.specs.declared.job.Job.{Job}
 use Rattle.job_text.specs.declared.job.NodeScript.{NodeScript}
@@ -176,6 +177,7 @@ pub record IsJob (job : Job) : Type 0 where
   pub scripts : AllByRecursion (IsNodeScript (scope_of job)) job.scripts
   pub threads : AreThreads job.scripts
   pub schedule : IsScheduleOrNone (scope_of job) job.schedule
+  pub pieces : script_pieces job.scripts + line_pieces (lines_of job.schedule) ≤ most_pieces
 
 -- the text of a job
 abbrev pub job_text : Job → List ℕ

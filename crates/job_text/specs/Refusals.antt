@@ -105,10 +105,10 @@ IsFull AtPairs job (Other item) = IsFullLater job item
 IsFull AtAtomics job item = IsFullLater job item
 IsFull AtHandlers job item = IsFullOfHandlers job item
 IsFull (AtBody handler) job item = 64 ≤ length handler.body
-IsFull (AtSteps script) job item = 4096 ≤ length script.steps
+IsFull (AtSteps script) job (Some step) =
+    is_full_script (script_pieces job.scripts) script.steps step ≡ true
 IsFull AtSchedule job (Some timed) =
-    is_full job.settings.nodes (length (lines_of job.schedule)) (total_rounds (lines_of job.schedule)) timed.event
-    ≡ true
+    is_full job.settings.nodes (amounts_of job.scripts (lines_of job.schedule)) timed.event ≡ true
 IsFull place job item = ⊥
 
 -- what is wrong with a line, where this was read before it
