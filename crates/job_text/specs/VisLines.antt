@@ -1,6 +1,6 @@
 -- The forms of lines that begin transfers of many pieces.
 -- Origin: this project's profile, over the implicit transfers of GASNet 1.8.1, extended API.
-use Rattle.std.specs.Prelude.{◌≡◌, ℕ, List, [], ◌∷◌, Option, Some, None, Bool, false, ◌&&◌, nat_le, is_none, length, codes}
+use Rattle.std.specs.Prelude.{◌≡◌, ℕ, List, [], ◌∷◌, Option, Some, None, Bool, false, ◌&&◌, nat_le, is_none, if◌then◌else◌, length, codes}
 use Rattle.datagram_grammar.specs.Parameters.{Parameters}
 use Rattle.gas_strided.specs.declared.shapes.Indexed.{Indexed}
 use Rattle.gas_strided.specs.declared.shapes.Level.{Level}
@@ -124,9 +124,14 @@ vis_fits scope said =
     (is_second scope && is_none (shape_fault scope.settings said.way said.to said.shape))
     && nat_le said.from (length (vis_plan scope.settings said).pieces)
 
+-- the same where it may
+abbrev pub planned_in : Scope → VisWords → Option VisText
+planned_in scope said = if vis_fits scope said then Some (planned scope.settings said) else None
+
 -- what reads such a line
 unfoldable pub vis_at : Scope → List ℕ → Option (VisText × List ℕ)
-vis_at scope bytes = table_at none_at vis_rows (vis_fits scope) bytes >>= λ x. Some (planned scope.settings x.0, x.1)
+vis_at scope bytes =
+    table_at none_at vis_rows (vis_fits scope) bytes >>= λ x. Some (planned scope.settings x.0, x.1)
 
 -- whether bytes have the form of one
 unfoldable pub vis_form : Scope → List ℕ → Bool

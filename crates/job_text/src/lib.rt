@@ -39,6 +39,7 @@ mod scope;
 mod script_lines;
 mod sections;
 mod transfer_calls;
+mod vis_lines;
 mod waiting_steps;
 mod words;
 
