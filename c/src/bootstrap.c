@@ -9,6 +9,7 @@
 #include <unistd.h>
 
 #include "config.h"
+#include "hosts.h"
 
 /* The node ends with whoever started it: as its parent ends, and as the last writer of the lifeline's pipe does. */
 static bool hold_lifeline(void) {
@@ -30,19 +31,24 @@ static bool hold_lifeline(void) {
     return true;
 }
 
-static bool read_places(struct gasnetl_start *start, struct gasnetl_places *places) {
-    const char *text = getenv("GASNET_ADDRESSES"), *why = "it isn't set";
-    if (text && gasnetl_places_read(places, start->nodes, text, &why))
+/* Reads the addresses of all nodes. */
+static bool read_places(const struct gasnetl_hosts *hosts, struct gasnetl_places *places, uint16_t nodes) {
+    const char *why;
+    if (gasnetl_places_read(places, nodes, hosts->addresses, &why))
         return true;
-    fprintf(stderr, "gasnet: GASNET_ADDRESSES is broken: %s; set it to HOST:PORT,HOST:PORT,.. with one for each of %u nodes\n",
-            why, start->nodes);
+    fprintf(stderr, "gasnet: %s is broken: %s; ", hosts->variable, why);
+    if (hosts->count)
+        fprintf(stderr, "set it to a host for each of %u nodes\n", nodes);
+    else
+        fprintf(stderr, "set it to HOST:PORT,HOST:PORT,.. with one for each of %u nodes\n", nodes);
     return false;
 }
 
-static bool start_by_variables(struct gasnetl_start *start, struct gasnetl_places *places) {
+/* Reads what is said of this node, where all nodes are known. */
+static bool read_start(struct gasnetl_start *start, const struct gasnetl_hosts *hosts) {
     uint64_t nodes, rank, job, socket;
     const uint64_t none = 1 << 20;
-    if (!gasnetl_config_number("GASNET_NODES", 1, GASNET_C_MAX_NODES, 1, &nodes) ||
+    if (!gasnetl_config_number("GASNET_NODES", 1, GASNET_C_MAX_NODES, hosts->count ? hosts->count : 1, &nodes) ||
         !gasnetl_config_number("GASNET_RANK", 0, nodes - 1, 0, &rank) ||
         !gasnetl_config_number("GASNET_JOB", 0, UINT64_MAX, 0, &job) ||
         !gasnetl_config_number("GASNET_SOCKET", 0, none - 1, none, &socket) || !hold_lifeline())
@@ -51,7 +57,20 @@ static bool start_by_variables(struct gasnetl_start *start, struct gasnetl_place
     start->me = (uint16_t)rank;
     start->job = job;
     start->socket = socket == none ? -1 : (int)socket;
-    return read_places(start, places);
+    return true;
+}
+
+static bool start_by_variables(struct gasnetl_start *start, struct gasnetl_places *places) {
+    struct gasnetl_hosts hosts;
+    bool is_read = gasnetl_hosts_ask(&hosts) && read_start(start, &hosts);
+    if (is_read && !hosts.variable) {
+        fprintf(stderr, "gasnet: neither GASNET_ADDRESSES nor GASNET_HOSTS is set: set one, to where each of %u nodes is\n",
+                start->nodes);
+        is_read = false;
+    }
+    is_read = is_read && read_places(&hosts, places, start->nodes);
+    free(hosts.addresses);
+    return is_read;
 }
 
 bool gasnetl_bootstrap(struct gasnetl_start *start, struct gasnetl_places *places) {

@@ -15,10 +15,10 @@ struct gasnetl_start {
     bool by_pmix;
 };
 
-/* Asks the environment: GASNET_NODES, GASNET_RANK, GASNET_ADDRESSES, GASNET_JOB, GASNET_SOCKET and GASNET_LIFELINE, as
- * gasnetrun sets them; else a process manager by PMIx, where this was built with it; else there is one node. It reads the
- * places where there are several nodes. False where what it is told is broken: a line on standard error has said what,
- * and what to do. */
+/* Asks the environment, where it has GASNET_RANK or GASNET_ADDRESSES: GASNET_NODES, GASNET_RANK, GASNET_JOB, GASNET_SOCKET
+ * and GASNET_LIFELINE, as gasnetrun sets them, and where the nodes are (hosts.h); else a process manager by PMIx, where
+ * this was built with it; else there is one node. It reads the places where there are several nodes. False where what it
+ * is told is broken: a line on standard error has said what, and what to do. */
 bool gasnetl_bootstrap(struct gasnetl_start *start, struct gasnetl_places *places);
 
 /* Tells the process manager, if there is one, that this node ends well. */

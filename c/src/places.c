@@ -86,7 +86,7 @@ bool gasnetl_places_read(struct gasnetl_places *places, uint16_t nodes, const ch
         *why = "it has fewer addresses than nodes";
         if (!*text)
             return false;
-        *why = "an address of it isn't HOST:PORT, or its host isn't known";
+        *why = "an address of it is none, or its host isn't known";
         if (first_word(&text, word) >= WORD || !read_place(&places->of[node], word))
             return false;
         *why = "two of its addresses are the same";

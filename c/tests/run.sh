@@ -163,6 +163,19 @@ absent() {
 export -f absent
 check "peer absent" 70 "node 1 .* didn't come to gasnet_attach" bash -c 'absent; [ $? = 69 ] && exit 70'
 
+# Nodes that are started one by one, each by a list of the hosts.
+by_hosts() { # VARIABLE TEXT
+    local port=$((20000 + RANDOM % 10000)) first
+    (exec env GASNET_PORT=$port GASNET_RANK=0 "$1=$2" out/sanitized/tests/messages) &
+    first=$!
+    (exec env GASNET_PORT=$port GASNET_RANK=1 "$1=$2" out/tests/messages) && wait $first
+}
+export -f by_hosts
+check "hosts" 0 "" bash -c 'by_hosts GASNET_HOSTS "127.0.0.1, 127.0.0.1"'
+check "hosts of IPv6" 0 "" bash -c 'by_hosts GASNET_HOSTS "::1 ::1"'
+printf '127.0.0.2\n127.0.0.3\n' >out/hosts
+check "hosts of a file" 0 "" bash -c 'by_hosts GASNET_HOSTS_FILE out/hosts'
+
 # A broken environment is told by one line.
 broken() { check "environment $1" 70 "^gasnet: $2" env "$1" "${@:3}" out/tests/barriers; }
 broken GASNET_DROP=101 "GASNET_DROP is '101'"
@@ -170,7 +183,12 @@ broken GASNET_RESEND=soon "GASNET_RESEND is 'soon'"
 broken GASNET_MAX_SEGSIZE=7Q "GASNET_MAX_SEGSIZE is '7Q'"
 broken GASNET_NODES=65 "GASNET_NODES is '65'" GASNET_RANK=0
 broken GASNET_RANK=2 "GASNET_RANK is '2'" GASNET_NODES=2
-broken GASNET_RANK=1 "GASNET_ADDRESSES is broken: it isn't set" GASNET_NODES=2
+broken GASNET_RANK=1 "neither GASNET_ADDRESSES nor GASNET_HOSTS is set" GASNET_NODES=2
+broken GASNET_HOSTS=" , " "GASNET_HOSTS is broken: it has no host" GASNET_RANK=0
+broken GASNET_HOSTS=127.0.0.1 "GASNET_HOSTS is broken: it has fewer" GASNET_RANK=0 GASNET_NODES=2
+broken GASNET_HOSTS="127.0.0.1 nowhere.invalid" "GASNET_HOSTS is broken: an address of it is none" GASNET_RANK=0
+broken GASNET_HOSTS_FILE=/no/such/file "GASNET_HOSTS_FILE is broken: No such file" GASNET_RANK=0
+broken GASNET_PORT=80 "GASNET_PORT is '80'" GASNET_RANK=0 GASNET_HOSTS=127.0.0.1
 broken GASNET_ADDRESSES=127.0.0.1:5 "GASNET_ADDRESSES is broken: it has fewer" GASNET_NODES=2 GASNET_RANK=0
 broken GASNET_ADDRESSES=here "GASNET_ADDRESSES is broken: an address" GASNET_NODES=1 GASNET_RANK=0
 broken GASNET_ADDRESSES=127.0.0.1:5,127.0.0.1:5 "GASNET_ADDRESSES is broken: two of" GASNET_NODES=2 GASNET_RANK=0
