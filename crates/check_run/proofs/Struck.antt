@@ -44,7 +44,8 @@ use Rattle.struck_laws.specs.Struck.{is_refused, struck_entry}
 use Rattle.struck_laws.specs.Struck.{unless_refused as unless_refused_got}
 use Rattle.check_run.specs.CheckInputs.{IsTraceOf}
 use Rattle.check_run.specs.Recording.{RecorderKept, RecorderStands, opening_record}
-use Rattle.check_run.specs.Struck.{IsEndpointAt, is_refusal, refuses_at, refuses_got, struck_entries, struck_from}
+use Rattle.check_run.specs.Struck.{IsEndpointAt, is_refusal, refused_turns, refuses_at, refuses_got}
+use Rattle.check_run.specs.Struck.{struck_entries, struck_from}
 use Rattle.check_run.specs.Struck.{struck_trace, struck_traces}
 use Rattle.check_run.specs.TracesRun.{AreNodesAfter, IsNodeAfter, first_machine, last_record}
 use Rattle.struck_laws.proofs.Striking.{replay_same}
@@ -195,20 +196,50 @@ entries_more job rank entries index entry low is made one so_far last =
     ∙ sym (map-append (struck_entry (script_job job).job rank) (take index entries) (entry ∷ []))
     ∙ ap (struck_entries job rank) (sym (with_next entries index entry low is))
 
--- one more stays as it is
-pub kept_more : (job : JobState) (rank : ℕ) (entries : List Entry) (index : ℕ) (entry : Entry)
-    → index < length entries → entry ≡ get_or entries index entry → refuses_got job rank entry.got ≡ false
-    → struck_entries job rank (take index entries) ≡ take index entries
-    → struck_entries job rank (take (index + 1) entries) ≡ take (index + 1) entries
-kept_more job rank entries index entry low is fine so_far =
-    sym (entries_more job rank entries index entry low is (take index entries) entry (sym so_far)
-    (entry_kept job rank entry fine))
-    ∙ sym (with_next entries index entry low is)
+-- ---- how many are refused
 
--- all of them, as they are seen in a slice
+-- one entry more
+pub refused_more : (job : JobState) (rank : ℕ) (entries : List Entry) (index : ℕ) (entry : Entry)
+    → index < length entries → entry ≡ get_or entries index entry
+    → refused_turns job rank (take (index + 1) entries)
+    ≡ (if refuses_got job rank entry.got then refused_turns job rank (take index entries) + 1
+    else refused_turns job rank (take index entries))
+refused_more job rank entries index entry low is =
+    ap (refused_turns job rank) (with_next entries index entry low is) ∙ last (take index entries)
+  where
+    either : (first other : Bool) (more count : ℕ) → more ≡ (if other then count + 1 else count)
+        → (if first then more + 1 else more)
+        ≡ (if other then (if first then count + 1 else count) + 1 else (if first then count + 1 else count))
+    either true true more count is = ap (λ (n : ℕ). n + 1) is
+    either true false more count is = ap (λ (n : ℕ). n + 1) is
+    either false true more count is = is
+    either false false more count is = is
+
+    last : (front : List Entry) → refused_turns job rank (front ++ entry ∷ [])
+        ≡ (if refuses_got job rank entry.got then refused_turns job rank front + 1 else refused_turns job rank front)
+    last [] = refl
+    last (first ∷ front) =
+        either (refuses_got job rank first.got) (refuses_got job rank entry.got) _ _ (last front)
+
+-- where none is, they stay as they are
+none_refused : (job : JobState) (rank : ℕ) (entries : List Entry) → refused_turns job rank entries ≡ 0
+    → struck_entries job rank entries ≡ entries
+none_refused job rank [] none = refl
+none_refused job rank (entry ∷ entries) none = by (refuses_got job rank entry.got) refl none
+  where
+    by : (refused : Bool) → refuses_got job rank entry.got ≡ refused
+        → (if refused then refused_turns job rank entries + 1 else refused_turns job rank entries) ≡ 0
+        → struck_entries job rank (entry ∷ entries) ≡ entry ∷ entries
+    by true is some = absurd (omega (arith, some))
+    by false is none =
+        ap₂ (λ (first : Entry) (rest : List Entry). first ∷ rest) (sym (entry_kept job rank entry is))
+        (none_refused job rank entries none)
+
+-- so in a trace, as its entries are seen in a slice
 pub untouched : (job : JobState) (rank : ℕ) (entries shown : List Entry) → shown ≡ entries
-    → struck_entries job rank shown ≡ shown → entries ≡ struck_entries job rank entries
-untouched job rank entries shown same kept = sym same ∙ sym kept ∙ ap (struck_entries job rank) same
+    → refused_turns job rank shown ≡ 0 → entries ≡ struck_entries job rank entries
+untouched job rank entries shown same none =
+    sym (none_refused job rank entries (ap (refused_turns job rank) (sym same) ∙ none))
 
 -- ---- recorders
 

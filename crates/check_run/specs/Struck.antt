@@ -1,6 +1,6 @@
 -- The traces of the nodes of a job without the bytes that these nodes refuse.
 -- Origin: this project's profile.
-use Rattle.std.specs.Prelude.{ℕ, ◌+◌, Bool, true, false, List, [], ◌∷◌, Option, None, Some}
+use Rattle.std.specs.Prelude.{ℕ, ◌+◌, Bool, true, false, if◌then◌else◌, List, [], ◌∷◌, Option, None, Some}
 use Rattle.gas_endpoint.specs.EndpointState.{EndpointState, IsNodeOf}
 use Rattle.gas_endpoint.specs.Parts.{HasRecord}
 use Rattle.gasnet_trace.specs.declared.trace.Trace.{Trace}
@@ -49,6 +49,12 @@ refuses_at job rank bytes = is_refused (script_job job).job rank bytes
 abbrev pub refuses_got : JobState → (rank : ℕ) → (got : Option (List ℕ)) → Bool
 refuses_got job rank None = false
 refuses_got job rank (Some bytes) = refuses_at job rank bytes
+
+-- how many of the entries got what the node of this rank refuses
+abbrev pub refused_turns : JobState → (rank : ℕ) → List Entry → ℕ
+refused_turns job rank [] = 0
+refused_turns job rank (entry ∷ entries) =
+    if refuses_got job rank entry.got then refused_turns job rank entries + 1 else refused_turns job rank entries
 
 -- the delivery was refused
 abbrev pub is_refusal : Delivered → Bool

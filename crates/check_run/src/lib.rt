@@ -9,7 +9,8 @@
 //! - `first_failed` [`IsFirstFailed`, `AreOver`] is the smallest rank of a node that ended with a status other than 0
 //!   and 1.
 //! - `run_traces` [`EndsTraces`]: bytes that their node refuses, whatever it did before, are struck from the traces first
-//!   (`struck_traces`): an entry that got such bytes is one that got nothing. It ends as `NotARun` only where the struck
+//!   (`struck_traces`): an entry that got such bytes is one that got nothing. How many those are is told to `Notes`
+//!   (`refused_turns`). It ends as `NotARun` only where the struck
 //!   traces are no run (`AreNoRun`), with the smallest node with an entry left at the one stuck front. Else it ends as
 //!   `Done`, and what is written is the text of the run (`run_lines`: the answer of each step of a script, where it
 //!   ended, and the lines of each node), or as the sink failed, a front of it, or as memory ran out. Then the struck
@@ -26,6 +27,7 @@ mod checks;
 mod ending;
 mod input;
 mod machines;
+mod notes;
 mod recorder;
 mod run;
 mod steps;
@@ -33,4 +35,5 @@ mod striking;
 
 pub use checks::{Failed, first_failed, traces_of};
 pub use input::{CheckInput, InputFault, read_input};
+pub use notes::{NoNotes, Notes};
 pub use run::{TracesEnd, run_traces};

@@ -6,6 +6,7 @@ ghost use Rattle.check_run.specs.CheckInputs.{IsTraceOf};
 ghost use Rattle.check_run.specs.Merging.{AreFirstRecorders, ClosesAll, MergesTraces};
 ghost use Rattle.check_run.specs.Struck.{struck_traces};
 
+use crate::notes::Notes;
 use crate::recorder::{NodeReport, Recorder};
 use crate::striking::struck_traces;
 use gas_endpoint::Endpoint;
@@ -51,10 +52,11 @@ fn close_all(alloc: Global, recorders: Vec<Recorder<'_>>) -> Result<RunReport, A
 }
 
 /// The nodes of a job after their traces, where these are a run without the bytes that their nodes refuse.
-pub fn merge_traces(
+pub fn merge_traces<N: Notes>(
     alloc: Global,
     job: &Script,
     traces: Vec<Trace>,
+    notes: &mut N,
 ) -> Result<RunReport, MergeFault>
     requires job { IsJob job.now }
     requires count { length traces.items ≡ job.now.settings.nodes }
@@ -65,7 +67,7 @@ pub fn merge_traces(
     let Ok(mut recorders) = new_recorders(alloc, job) else {
         return Err(MergeFault::NoMemory);
     };
-    let Ok(judged) = struck_traces(alloc, &recorders, traces) else {
+    let Ok(judged) = struck_traces(alloc, &recorders, traces, notes) else {
         return Err(MergeFault::NoMemory);
     };
     match merge(alloc, recorders.as_mut_slice(), &judged) {

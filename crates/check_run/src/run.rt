@@ -12,6 +12,7 @@ ghost use Rattle.check_run.specs.TracesEnds.{EndsTraces};
 
 use crate::ending::{any_violation, write_ends, write_texts};
 use crate::machines::{RunReport, merge_traces};
+use crate::notes::Notes;
 use gas_endpoint::Endpoint;
 use gas_outside::{BufferedSink, Sink, Wrote};
 use gasnet_trace::{MergeFault, Trace};
@@ -67,12 +68,13 @@ fn tell_run<K: Sink>(report: RunReport, sink: &mut BufferedSink<K>) -> TracesEnd
 /// and the answer of the step; then the lines of each node at the end.
 ///
 /// Bytes that their node refuses, whatever it did before, are struck from the traces before: an entry that got such bytes
-/// is read as one that got nothing. Each node that is left is the one that its trace leaves, read so or as it is.
-pub fn run_traces<K: Sink>(
+/// is read as one that got nothing. How many of a node's turns got such bytes is told to `notes`. Each node that is left is the one that its trace leaves, read so or as it is.
+pub fn run_traces<K: Sink, N: Notes>(
     alloc: Global,
     job: &Script,
     traces: Vec<Trace>,
     sink: &mut BufferedSink<K>,
+    notes: &mut N,
 ) -> TracesEnd
     requires job { IsJob job.now }
     requires count { length traces.items ≡ job.now.settings.nodes }
@@ -80,7 +82,7 @@ pub fn run_traces<K: Sink>(
     ensures { EndsTraces job.now traces.items
         (outbox K.taken K.faults sink.old) (outbox K.taken K.faults sink.new) result }
 {
-    match merge_traces(alloc, job, traces) {
+    match merge_traces(alloc, job, traces, notes) {
         Ok(report) => tell_run(report, sink),
         Err(MergeFault::NotARun { node, entry }) => TracesEnd::NotARun { node, entry },
         Err(MergeFault::NoMemory) => TracesEnd::NoMemory,

@@ -5,9 +5,10 @@ ghost use Rattle.job_text.specs.declared.job.Job.{Job as JobState};
 ghost use Rattle.node_machine.specs.NodeState.{script_job};
 ghost use Rattle.struck_laws.specs.Struck.{struck_entry};
 ghost use Rattle.check_run.specs.Merging.{AreFirstRecorders};
-ghost use Rattle.check_run.specs.Struck.{OfItsNode, is_refusal, refuses_at, refuses_got};
+ghost use Rattle.check_run.specs.Struck.{OfItsNode, is_refusal, refused_turns, refuses_at, refuses_got};
 ghost use Rattle.check_run.specs.Struck.{struck_entries, struck_trace, struck_traces};
 
+use crate::notes::Notes;
 use crate::recorder::Recorder;
 use gas_endpoint::Endpoint;
 use gasnet_trace::Trace;
@@ -39,17 +40,17 @@ fn refuses_got(endpoint: &Endpoint, item: &Entry) -> bool
     }
 }
 
-/// Whether the node refuses what one of the entries got.
-fn refuses_any(endpoint: &Endpoint, entries: &[Entry]) -> bool
-    ensures { OfItsNode endpoint.now (λ job rank.
-        result ≡ false → struck_entries job rank entries.now ≡ entries.now) }
+/// How many of the entries got what the node refuses.
+fn refused_turns(endpoint: &Endpoint, entries: &[Entry]) -> usize
+    ensures { OfItsNode endpoint.now (λ job rank. result ≡ refused_turns job rank entries.now) }
 {
+    let mut turns = 0;
     for entry in entries {
         if refuses_got(endpoint, entry) {
-            return true;
+            turns += 1;
         }
     }
-    false
+    turns
 }
 
 /// A copy of an entry.
@@ -98,14 +99,22 @@ fn struck_entries(
     Ok(Journal::of(struck))
 }
 
-/// The trace of the node without the bytes that it refuses: itself, where there are none.
-fn struck_trace(alloc: Global, endpoint: &Endpoint, trace: Trace) -> Result<Trace, AllocError>
+/// The trace of the node without the bytes that it refuses: itself, where there are none. How many turns got such bytes
+/// is told.
+fn struck_trace<N: Notes>(
+    alloc: Global,
+    endpoint: &Endpoint,
+    trace: Trace,
+    notes: &mut N,
+) -> Result<Trace, AllocError>
     ensures { OfItsNode endpoint.now (λ job rank. IfOk result (λ struck.
         struck ≡ struck_trace job rank trace)) }
 {
-    if !refuses_any(endpoint, trace.entries.as_slice()) {
+    let turns = refused_turns(endpoint, trace.entries.as_slice());
+    if turns == 0 {
         return Ok(trace);
     }
+    notes.struck(trace.rank, turns);
     let entries = struck_entries(alloc, endpoint, trace.entries.as_slice())?;
     Ok(Trace {
         job: trace.job,
@@ -114,13 +123,15 @@ fn struck_trace(alloc: Global, endpoint: &Endpoint, trace: Trace) -> Result<Trac
     })
 }
 
-/// The traces of the nodes of these recorders, without the bytes that their nodes refuse.
+/// The traces of the nodes of these recorders, without the bytes that their nodes refuse. How many turns of each node got
+/// such bytes is told.
 ///
 /// Memory is taken for the list, and for each trace in which something is refused.
-pub fn struck_traces(
+pub fn struck_traces<N: Notes>(
     alloc: Global,
     recorders: &[Recorder<'_>],
     traces: Vec<Trace>,
+    notes: &mut N,
 ) -> Result<Vec<Trace>, AllocError>
     requires few { length recorders.now ≤ 256 }
     requires count { length traces.items ≡ length recorders.now }
@@ -130,7 +141,7 @@ pub fn struck_traces(
     let mut struck = Vec::with_capacity(alloc, traces.len())?;
     for trace in traces {
         let endpoint = recorders[struck.len()].endpoint();
-        struck.push(struck_trace(alloc, endpoint, trace)?)?;
+        struck.push(struck_trace(alloc, endpoint, trace, notes)?)?;
     }
     Ok(struck)
 }

@@ -10,7 +10,7 @@ use station_tests::InStep;
 use std::alloc::{AllocError, Global};
 use std::sync::Wait;
 use std::thread::Threads;
-use top_call::{Outside, gasnet};
+use top_call::{NoNotes, Outside, gasnet};
 
 /// The gate of a case.
 #[derive(Drop)]
@@ -106,7 +106,7 @@ fn call<R: Threads + Wait + Sync>(
     words: &[String],
     outside: CaseOutside,
 ) -> Came {
-    let (status, after) = gasnet(rt, alloc, words, outside);
+    let (status, after) = gasnet(rt, alloc, words, outside, &mut NoNotes);
     let has_node = status.node.is_some();
     Came {
         code: status.into_code(),

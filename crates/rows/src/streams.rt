@@ -9,7 +9,7 @@ use std::io::{self, Read};
 use std::process::ExitCode;
 use std::sync::Wait;
 use std::thread::Threads;
-use top_call::{Outside, run_streams};
+use top_call::{NoNotes, Outside, run_streams};
 
 /// A source in memory as a reader.
 #[derive(Drop)]
@@ -82,5 +82,5 @@ fn call<R: Threads + Wait + Sync>(
     words: &[String],
     streams: Streams<'_>,
 ) -> ExitCode {
-    run_streams(rt, alloc, words, streams).0
+    run_streams(rt, alloc, words, streams, &mut NoNotes).0
 }

@@ -11,7 +11,7 @@ ghost use Rattle.top_call.specs.TopParts.{EndsBy, end_unread};
 use crate::ending::{End, Ended, Given};
 use crate::status::say;
 use crate::traces::check_outputs;
-use check_run::{CheckInput, InputFault, first_failed, read_input};
+use check_run::{CheckInput, InputFault, Notes, first_failed, read_input};
 use gas_outside::{BufferedSink, Sink, Source};
 use std::alloc::Global;
 
@@ -27,7 +27,12 @@ fn end_unread(fault: InputFault) -> End
 }
 
 /// Checks an input that was read.
-fn check_input<K: Sink>(alloc: Global, input: CheckInput, sink: &mut BufferedSink<K>) -> Ended
+fn check_input<K: Sink, N: Notes>(
+    alloc: Global,
+    input: CheckInput,
+    sink: &mut BufferedSink<K>,
+    notes: &mut N,
+) -> Ended
     requires job { IsJob input.job }
     requires count { length input.outputs.items ≡ input.job.settings.nodes }
     requires traces { HaveTraces input.job input.outputs.items }
@@ -44,16 +49,17 @@ fn check_input<K: Sink>(alloc: Global, input: CheckInput, sink: &mut BufferedSin
             };
             say(sink, end, Given::nothing())
         }
-        None => check_outputs(alloc, job, outputs, sink),
+        None => check_outputs(alloc, job, outputs, sink, notes),
     }
 }
 
 /// The command `check`: reads a job and what each of its nodes wrote, checks whether their traces are a run of the
 /// world, and says its lines.
-pub fn check_command<S: Source, K: Sink>(
+pub fn check_command<S: Source, K: Sink, N: Notes>(
     alloc: Global,
     source: &mut S,
     sink: &mut BufferedSink<K>,
+    notes: &mut N,
 ) -> Ended
     ensures { EndsBy
         (CheckEnds (reading_of (input S.left S.faults source.old)
@@ -61,7 +67,7 @@ pub fn check_command<S: Source, K: Sink>(
         (outbox K.taken K.faults sink.old) (outbox K.taken K.faults sink.new) result }
 {
     match read_input(alloc, source) {
-        Ok(input) => check_input(alloc, input, sink),
+        Ok(input) => check_input(alloc, input, sink, notes),
         Err(fault) => say(sink, end_unread(fault), Given::nothing()),
     }
 }

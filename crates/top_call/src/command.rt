@@ -10,19 +10,20 @@ ghost use Rattle.top_call.specs.TopParts.{EndsAsked};
 use crate::check::check_command;
 use crate::drill::drill_command;
 use crate::ending::{End, Ended, Given};
-use crate::launch::launch_command;
+use crate::launch::{LaunchAt, launch_command};
 use crate::node::{AskedNode, node_command};
 use crate::outside::Outside;
 use crate::status::say;
 use crate::upgrade::upgrade_command;
 use crate::words::{Command, asked};
 use crate::world::world_command;
+use check_run::Notes;
 use gas_outside::{BufferedSink, Clock, Gate, Link, Sink, Source, Spawner};
 use std::alloc::Global;
 use std::sync::Wait;
 use std::thread::Threads;
 
-/// Does what the words say, and gives the outside back.
+/// Does what the words say, and gives the outside back. What is told of a run beside its lines is told to `notes`.
 pub fn command<
     R: Threads + Wait + Sync,
     S: Source,
@@ -31,11 +32,13 @@ pub fn command<
     P: Spawner,
     C: Clock + Send,
     G: Gate + Sync,
+    N: Notes,
 >(
     rt: &R,
     alloc: Global,
     words: &[String],
     outside: Outside<S, BufferedSink<K>, L, P, C, G>,
+    notes: &mut N,
 ) -> (Ended, Outside<S, BufferedSink<K>, L, P, C, G>)
     ensures { EndsAsked (map string_bytes words.now)
         (course_of (input S.left S.faults outside.source) (input S.left S.faults result.1.source)
@@ -56,16 +59,16 @@ pub fn command<
             outside,
         ),
         Some(Command::Check) => (
-            check_command(alloc, &mut outside.source, &mut outside.sink),
+            check_command(alloc, &mut outside.source, &mut outside.sink, notes),
             outside,
         ),
         Some(Command::Launch { port }) => (
             launch_command(
-                alloc,
-                port,
+                LaunchAt { alloc, port },
                 &mut outside.source,
                 &mut outside.spawner,
                 &mut outside.sink,
+                notes,
             ),
             outside,
         ),

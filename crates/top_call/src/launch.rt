@@ -13,9 +13,19 @@ use crate::ports::has_ports;
 use crate::reading::{JobRead, text_from};
 use crate::status::say;
 use crate::traces::check_outputs;
+use check_run::Notes;
 use gas_outside::{BufferedSink, Sink, Source, Spawner};
 use launch_run::{LaunchFault, launch_nodes};
 use std::alloc::Global;
+
+/// Where a launch has its nodes.
+#[derive(Clone, Copy)]
+pub struct LaunchAt {
+    /// The memory of this process.
+    pub alloc: Global,
+    /// The port of the node of rank 0.
+    pub port: u16,
+}
 
 /// How a command ends whose launch gave no outputs.
 fn end_of_fault(fault: LaunchFault) -> End
@@ -29,25 +39,26 @@ fn end_of_fault(fault: LaunchFault) -> End
 }
 
 /// Launches the nodes of a job that was read, if each has a port, and checks what they gave.
-fn launch_read<P: Spawner, K: Sink>(
-    alloc: Global,
-    port: u16,
+fn launch_read<P: Spawner, K: Sink, N: Notes>(
+    at: LaunchAt,
     read: JobRead,
     spawner: &mut P,
     sink: &mut BufferedSink<K>,
+    notes: &mut N,
 ) -> Ended
     requires { IsJob read.job }
     ensures { (reading : Reading) → GivesText reading read.job read.bytes.items
-        → EndsBy (LaunchEnds port reading (spawning_of
+        → EndsBy (LaunchEnds at.port reading (spawning_of
         (spawner_seen P.Spawner spawner.old) (spawner_seen P.Spawner spawner.new)))
         (outbox K.taken K.faults sink.old) (outbox K.taken K.faults sink.new) result }
 {
+    let LaunchAt { alloc, port } = at;
     let JobRead { job, bytes } = read;
     if !has_ports(port, job.settings.nodes()) {
         return say(sink, End::Usage, Given::nothing());
     }
     match launch_nodes(alloc, &job, port, &bytes, spawner) {
-        Ok(outputs) => check_outputs(alloc, job, outputs, sink),
+        Ok(outputs) => check_outputs(alloc, job, outputs, sink, notes),
         Err(fault) => say(sink, end_of_fault(fault), Given::nothing()),
     }
 }
@@ -58,20 +69,20 @@ fn launch_read<P: Spawner, K: Sink>(
 /// The status line is told by the first of these steps that gives one: reading the job; its ports, of which there has
 /// to be one for each node; the starts and the finishes of children; what each of them gave, and its status; the
 /// check.
-pub fn launch_command<S: Source, P: Spawner, K: Sink>(
-    alloc: Global,
-    port: u16,
+pub fn launch_command<S: Source, P: Spawner, K: Sink, N: Notes>(
+    at: LaunchAt,
     source: &mut S,
     spawner: &mut P,
     sink: &mut BufferedSink<K>,
+    notes: &mut N,
 ) -> Ended
-    ensures { EndsBy (LaunchEnds port
+    ensures { EndsBy (LaunchEnds at.port
         (reading_of (input S.left S.faults source.old) (input S.left S.faults source.new))
         (spawning_of (spawner_seen P.Spawner spawner.old) (spawner_seen P.Spawner spawner.new)))
         (outbox K.taken K.faults sink.old) (outbox K.taken K.faults sink.new) result }
 {
-    match text_from(alloc, source) {
-        Ok(read) => launch_read(alloc, port, read, spawner, sink),
+    match text_from(at.alloc, source) {
+        Ok(read) => launch_read(at, read, spawner, sink, notes),
         Err(end) => say(sink, end, Given::nothing()),
     }
 }

@@ -90,6 +90,7 @@ mod upgrade;
 mod words;
 mod world;
 
+pub use check_run::{NoNotes, Notes};
 pub use outside::Outside;
 pub use standard::{ReaderSource, WriterSink};
 pub use streams::{program, run_streams};

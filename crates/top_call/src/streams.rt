@@ -12,10 +12,11 @@ use crate::outside::Outside;
 use crate::standard::{ReaderSource, WriterSink};
 use crate::status::say;
 use crate::top::{flushed, gasnet};
+use check_run::Notes;
 use gas_outside::{BufferedSink, Clock, Gate, Link, Spawner};
 use std::alloc::{AllocError, Global};
 use std::env;
-use std::io::{self, ErrorKind, Input, Print, Read, Write};
+use std::io::{self, Eprint, ErrorKind, Input, Print, Read, Write};
 use std::process::ExitCode;
 use std::rt::Env;
 use std::sync::Wait;
@@ -33,11 +34,13 @@ pub fn run_streams<
     P: Spawner,
     C: Clock + Send,
     G: Gate + Sync,
+    N: Notes,
 >(
     rt: &H,
     alloc: Global,
     words: &[String],
     streams: Outside<R, W, L, P, C, G>,
+    notes: &mut N,
 ) -> (
     ExitCode,
     Outside<ReaderSource<R>, WriterSink<W>, L, P, C, G>,
@@ -70,8 +73,20 @@ pub fn run_streams<
         clock,
         gate,
     };
-    let (status, after) = gasnet(rt, alloc, words, outside);
+    let (status, after) = gasnet(rt, alloc, words, outside, notes);
     (ExitCode::from(status.into_code()), after)
+}
+
+/// Standard error, to which notes go as lines.
+#[derive(Drop)]
+struct StandardNotes<'a, H> {
+    rt: &'a H,
+}
+
+impl<H: Eprint> Notes for StandardNotes<'_, H> {
+    fn struck(&mut self, rank: u16, turns: usize) {
+        let _ = eprintln!(self.rt; "gasnet: node {rank} refused what {turns} of its turns got");
+    }
 }
 
 /// The words of the command line without the program's name, none where they are no text.
@@ -97,10 +112,10 @@ fn end_without_words<W: Write + Drop>(writer: W) -> ExitCode {
 }
 
 /// The whole program but for what a node runs over and is started by: the words of the command line, standard input and
-/// standard output, and its exit status; 8 also where memory for the words ran out. Nothing is written to standard
-/// error.
+/// standard output, and its exit status; 8 also where memory for the words ran out. Standard error has what is told of a
+/// run beside its lines.
 pub fn program<
-    H: Env + AllocGlobal + Input + Print + Threads + Wait + Sync,
+    H: Env + AllocGlobal + Eprint + Input + Print + Threads + Wait + Sync,
     L: Link + Send + Drop,
     P: Spawner + Drop,
     C: Clock + Send + Drop,
@@ -117,5 +132,6 @@ pub fn program<
         clock,
         gate,
     };
-    run_streams(rt, rt.alloc(), &words, streams).0
+    let mut notes = StandardNotes { rt };
+    run_streams(rt, rt.alloc(), &words, streams, &mut notes).0
 }

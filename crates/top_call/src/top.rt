@@ -9,6 +9,7 @@ ghost use Rattle.top_call.specs.TopParts.{GivesOn};
 use crate::command::command;
 use crate::ending::{End, Ended};
 use crate::outside::Outside;
+use check_run::Notes;
 use gas_endpoint::Endpoint;
 use gas_outside::{BufferedSink, Clock, Gate, Link, Sink, Source, Spawner, Wrote};
 use gas_world::World;
@@ -99,11 +100,13 @@ pub fn gasnet<
     P: Spawner,
     C: Clock + Send,
     G: Gate + Sync,
+    N: Notes,
 >(
     rt: &R,
     alloc: Global,
     words: &[String],
     outside: Outside<S, K, L, P, C, G>,
+    notes: &mut N,
 ) -> (Status, Outside<S, K, L, P, C, G>)
     // What each exit status says of what was read, what was written, and what is given.
     ensures means { StatusMeans (call_of (map string_bytes words.now)
@@ -137,7 +140,7 @@ pub fn gasnet<
         clock,
         gate,
     };
-    let (ended, after) = command(rt, alloc, words, gathering);
+    let (ended, after) = command(rt, alloc, words, gathering, notes);
     let Outside {
         source,
         sink,

@@ -9,7 +9,7 @@ ghost use Rattle.top_call.specs.TracesReports.{TracesEnds};
 
 use crate::ending::{End, Ended, Given};
 use crate::status::say;
-use check_run::{TracesEnd, run_traces, traces_of};
+use check_run::{Notes, TracesEnd, run_traces, traces_of};
 use gas_outside::{BufferedSink, Sink};
 use gasnet_trace::{Output, Trace};
 use job_text::Job;
@@ -36,11 +36,12 @@ fn say_traces<K: Sink>(sink: &mut BufferedSink<K>, end: TracesEnd) -> Ended
 }
 
 /// Checks the traces of a job's nodes, and says their lines.
-fn check_traces<K: Sink>(
+fn check_traces<K: Sink, N: Notes>(
     alloc: Global,
     job: Job,
     traces: Vec<Trace>,
     sink: &mut BufferedSink<K>,
+    notes: &mut N,
 ) -> Ended
     requires job { IsJob job }
     requires count { length traces.items ≡ job.settings.nodes }
@@ -50,7 +51,7 @@ fn check_traces<K: Sink>(
 {
     match Script::new(alloc, job) {
         Ok(script) => {
-            let end = run_traces(alloc, &script, traces, sink);
+            let end = run_traces(alloc, &script, traces, sink, notes);
             say_traces(sink, end)
         }
         Err(AllocError) => say(sink, End::NoMemory, Given::nothing()),
@@ -58,11 +59,12 @@ fn check_traces<K: Sink>(
 }
 
 /// Checks the traces of the outputs of a job's nodes, in rising order of ranks, and says their lines.
-pub fn check_outputs<K: Sink>(
+pub fn check_outputs<K: Sink, N: Notes>(
     alloc: Global,
     job: Job,
     outputs: Vec<Output>,
     sink: &mut BufferedSink<K>,
+    notes: &mut N,
 ) -> Ended
     requires job { IsJob job }
     requires count { length outputs.items ≡ job.settings.nodes }
@@ -71,7 +73,7 @@ pub fn check_outputs<K: Sink>(
         (outbox K.taken K.faults sink.new) result }
 {
     match traces_of(alloc, outputs) {
-        Ok(traces) => check_traces(alloc, job, traces, sink),
+        Ok(traces) => check_traces(alloc, job, traces, sink, notes),
         Err(AllocError) => say(sink, End::NoMemory, Given::nothing()),
     }
 }

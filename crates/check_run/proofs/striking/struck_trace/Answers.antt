@@ -1,15 +1,15 @@
 -- A trace in which nothing is refused, and another one.
-use Rattle.std.proofs.Common.{List, ap, ◌∙◌}
+use Rattle.std.proofs.Common.{List, sym, ap, ◌∙◌}
 use Rattle.machine.specs.declared.entry.Entry.{Entry}
 use Rattle.check_run.specs.Struck.{struck_entries}
 use Rattle.check_run.proofs.Struck.{untouched}
 use Rattle.check_run.proofs.striking.struck_trace.Goals as goal
 
-pub returns-then-not-refuses_any : goal.returns-then-not-refuses_any
-returns-then-not-refuses_any c = λ job rank at.
+pub returns-then : goal.returns-then
+returns-then c = λ job rank at.
     ap (λ (entries : List Entry). record c.args.trace { entries = entries })
     (untouched job rank c.args.trace.entries c.as_slice.result.now c.as_slice.ensures
-    (c.refuses_any.ensures job rank at c.if-not-refuses_any.true))
+    (sym (c.refused_turns.ensures job rank at) ∙ c.if.true))
 
 pub returns : goal.returns
 returns c = λ job rank at.

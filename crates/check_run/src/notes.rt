@@ -1,0 +1,17 @@
+//! What is told of a run beside its lines.
+
+/// What is told of a run, beside what is written of it, to a person. No clause speaks of it.
+pub trait Notes {
+    /// The node of this rank refused the bytes that so many of its turns got, whatever it did before: the traces are
+    /// judged without them.
+    fn struck(&mut self, rank: u16, turns: usize);
+}
+
+/// Nobody is told anything.
+#[derive(Clone, Copy, Debug, Drop)]
+pub struct NoNotes;
+
+impl Notes for NoNotes {
+    /// Nothing.
+    fn struck(&mut self, _rank: u16, _turns: usize) {}
+}
