@@ -94,4 +94,5 @@ pub use check_run::{NoNotes, Notes};
 pub use outside::Outside;
 pub use standard::{ReaderSource, WriterSink};
 pub use streams::{program, run_streams};
-pub use top::{Status, gasnet};
+pub use node::AskedNode;
+pub use top::{Status, gasnet, returning_call};
