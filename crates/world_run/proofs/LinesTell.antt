@@ -31,6 +31,8 @@ use Rattle.job_text.specs.declared.job.TimedEvent.{TimedEvent}
 use Rattle.world_run.specs.RunText.{node_of, world_words, event_words, words_by, answer_lines, end_lines, run_events}
 use Rattle.world_run.specs.RunText.{run_records, run_most}
 use Rattle.world_run.specs.RunLaws.{records_at, IsOneEvent, LinesTell, Tells, RanToldOnce, ReturnedToldOnce}
+use Rattle.world_run.specs.RunLaws.{events_before, event_place, PlacesRise}
+use Rattle.std.proofs.Common.{◌<◌}
 use Rattle.world_run.proofs.ScheduleLines.{one_event}
 use Rattle.lists.proofs.Appended.{get-append_kept, get-append_right}
 
@@ -53,14 +55,6 @@ event_of w (scheduled.Request from to number) one = (_, refl)
 event_of w (scheduled.Reply from to number) one = (_, refl)
 event_of w (scheduled.Tick node) one = (_, refl)
 event_of w (scheduled.Settle rounds) one = absurd one
-
--- how many events the lines before that one have
-abbrev events_before : WorldJob → List TimedEvent → Records → (line : ℕ) → ℕ
-events_before job [] w line = 0
-events_before job (e ∷ es) w zero = 0
-events_before job (e ∷ es) w (suc line) =
-    let events = line_events job w e.time e.event in
-    length events + events_before job es (run job events w) line
 
 -- of such a line of a schedule: its event stands past those of the lines before it, and the line's words come from the
 -- records that those leave
@@ -121,10 +115,6 @@ line_told job (f ∷ es) w first (suc line) e h one =
     told_next job f es w first line e
     (line_told job es (run job (line_events job w f.time f.event) w) (first + 1) line e h one)
 
--- the place of the event of a line of a job's schedule among the events of its run
-abbrev event_place : JobState → (line : ℕ) → ℕ
-event_place j line = events_before (world_job j) (lines_of j.schedule) (at_the_opening j.settings) line
-
 -- each line of a job's schedule that is one event, at that place of the run
 pub lines_tell : (j : JobState) → LinesTell j
 lines_tell j line e h one =
@@ -135,12 +125,33 @@ lines_tell j line e h one =
     (decimal (line + 1) ∷ event_words job a.records (timed e.time a.event)) a.told in
     record {
       place = event_place j line;
+      place_is = refl;
       event = a.event;
       is = ap (λ (w : Records). scheduled_event w e.event) a.after ∙ a.is;
       at = a.at;
       told = told
           ∙ ap (λ (w : Records). Some (decimal (line + 1) ∷ event_words job w (timed e.time a.event))) (sym a.after);
     }
+
+-- the events of later lines of a schedule stand later
+rises : (job : WorldJob) (es : List TimedEvent) (w : Records) (line other : ℕ) (e : TimedEvent)
+    → slice_get es line ≡ Some e → IsOneEvent e.event → line < other → other < length es
+    → events_before job es w line < events_before job es w other
+rises job [] w line other e h one less there = absurd (cc)
+rises job (g ∷ es) w zero zero e h one less there = omega (arith, less)
+rises job (g ∷ es) w zero (suc other) e h one less there =
+    let x = event_of w g.event (subst (λ (f : TimedEvent). IsOneEvent f.event) (sym (same_Some g e h)) one) in
+    let count : length (line_events job w g.time g.event) ≡ 1 = ap length (one_event job w g.time g.event x.0 x.1) in
+    omega (arith, count)
+rises job (g ∷ es) w (suc line) zero e h one less there = omega (arith, less)
+rises job (g ∷ es) w (suc line) (suc other) e h one less there =
+    let after = run job (line_events job w g.time g.event) w in
+    let later = rises job es after line other e h one (omega (arith, less)) (omega (arith, there)) in
+    omega (arith, later)
+
+pub places_rise : (j : JobState) → PlacesRise j
+places_rise j line other e h one less there =
+    rises (world_job j) (lines_of j.schedule) (at_the_opening j.settings) line other e h one less there
 
 -- where the first line is one event, some event is before each later line
 some_before : (job : WorldJob) (e f : TimedEvent) (es : List TimedEvent) (w : Records) (line : ℕ) → Some f ≡ Some e

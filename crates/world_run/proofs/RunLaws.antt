@@ -18,7 +18,7 @@ use Rattle.world_run.specs.Schedules.{world_job}
 use Rattle.world_run.specs.RunText.{run_events}
 use Rattle.world_run.specs.RunLaws.{RunLaws}
 use Rattle.world_run.proofs.ScheduleAmong.{lines_among}
-use Rattle.world_run.proofs.LinesTell.{lines_tell, ran_told_once, returned_told_once}
+use Rattle.world_run.proofs.LinesTell.{places_rise, lines_tell, ran_told_once, returned_told_once}
 
 -- the headline holds of the run of each job whose settings are in range and whose nodes are there
 run_headline : (j : JobState) → AreInRange j.settings → AreWithin j.settings (lines_of j.schedule)
@@ -34,6 +34,7 @@ laws_within j range within = record {
   among = lines_among (world_job j) (lines_of j.schedule) (at_the_opening j.settings) within;
   headline = run_headline j range within;
   told = lines_tell j;
+  rise = places_rise j;
   ran = ran_told_once j (run_headline j range within);
   returned = returned_told_once j (run_headline j range within);
   most = run_greatest j.settings (registered j.handlers).table (script_meaning j.handlers) (run_events j);

@@ -1,9 +1,10 @@
 -- What holds of the run of a job.
-use Rattle.std.specs.Prelude.{ℕ, ◌≡◌, ◌+◌, [], ◌∷◌, Some, slice_get, codes, decimal}
+use Rattle.std.specs.Prelude.{ℕ, zero, suc, ◌≡◌, ◌+◌, ◌<◌, List, [], ◌∷◌, length, Some, slice_get, codes, decimal}
 use Rattle.endpoint_rules.specs.EndpointLocal.{nothing_begun}
 use Rattle.endpoint_rules.specs.EndpointRules.{OtherCall, Records, RecordsEvent, at_the_opening, timed}
 use Rattle.std.specs.List.{AllByRecursion}
-use Rattle.plain_world.specs.World.{Timed, IsAmong}
+use Rattle.plain_world.specs.World.{Timed, IsAmong, run}
+use Rattle.gas_world.specs.Settling.{WorldJob}
 use Rattle.plain_world.specs.Headline.{Headline, IsGreatest, after_first}
 use Rattle.transfer_laws.specs.TransferLaws.{TransfersHold}
 use Rattle.barrier_laws.specs.BarrierLaws.{BarrierHolds}
@@ -11,7 +12,7 @@ use Rattle.job_text.specs.declared.job.Job.{Job as JobState}
 use Rattle.node_script.specs.Bodies.{script_meaning}
 use Rattle.node_script.specs.Lines.{Line}
 use Rattle.node_script.specs.Registration.{registered}
-use Rattle.world_run.specs.Schedules.{world_job, scheduled_event}
+use Rattle.world_run.specs.Schedules.{line_events, scheduled_event, world_job}
 use Rattle.job_text.specs.JobReading.{lines_of}
 use Rattle.job_text.specs.declared.job.ScheduledEvent.{ScheduledEvent}
 use Rattle.job_text.specs.declared.job.ScheduledEvent.TheVariants as scheduled
@@ -24,10 +25,23 @@ use Rattle.world_run.specs.RunText.{event_words, run_events, run_lines, run_most
 abbrev pub records_at : JobState → (count : ℕ) → Records
 records_at job count = after_first (world_job job) (run_events job) (at_the_opening job.settings) count
 
+-- how many events the lines before that one have
+abbrev pub events_before : WorldJob → List TimedEvent → Records → (line : ℕ) → ℕ
+events_before job [] w line = 0
+events_before job (e ∷ es) w zero = 0
+events_before job (e ∷ es) w (suc line) =
+    let events = line_events job w e.time e.event in
+    length events + events_before job es (run job events w) line
+
+-- the place of the event of a line of a job's schedule among the events of its run
+abbrev pub event_place : JobState → (line : ℕ) → ℕ
+event_place j line = events_before (world_job j) (lines_of j.schedule) (at_the_opening j.settings) line
+
 -- a line of the schedule, counted from 0, that is one event: where the event stands in the run, and that the line of
 -- the output at its place says its number and the answer to it there
 pub record IsTold (job : JobState) (line : ℕ) (entry : TimedEvent) : Type 0 where
   pub place : ℕ
+  pub place_is : place ≡ event_place job line
   pub event : RecordsEvent
   pub is : scheduled_event (records_at job place) entry.event ≡ Some event
   pub at : slice_get (run_events job) place ≡ Some (timed entry.time event)
@@ -64,17 +78,27 @@ ReturnedToldOnce job =
     (from to number place other : ℕ) → Tells job place (scheduled.Reply from to number) (codes "returned" ∷ [])
     → Tells job other (scheduled.Reply from to number) (codes "returned" ∷ []) → place ≡ other
 
+-- ---- in which order
+
+-- the events of later lines stand later in the run
+abbrev pub PlacesRise : JobState → Type 0
+PlacesRise job =
+    (line other : ℕ) (entry : TimedEvent) → slice_get (lines_of job.schedule) line ≡ Some entry
+    → IsOneEvent entry.event → line < other → other < length (lines_of job.schedule)
+    → event_place job line < event_place job other
+
 -- ---- all of them
 
--- its events are among the nodes of the job; the headline holds of it; its lines tell the answers of its events, so
--- that no line tells again that a request ran or came back; the most that the end lines tell of a node is the greatest
--- number of message buffers that it held; and in it, as in each run of a job with its settings and handlers, what a
--- synchronisation of transfers that answers Ok tells was done, and a try of the barrier that ends a phase tells the
--- outcome of the nodes' notifies
+-- its events are among the nodes of the job; the headline holds of it; its lines tell the answers of its events, in
+-- their order, so that no line tells again that a request ran or came back; the most that the end lines tell of a node
+-- is the greatest number of message buffers that it held; and in it, as in each run of a job with its settings and
+-- handlers, what a synchronisation of transfers that answers Ok tells was done, and a try of the barrier that ends a
+-- phase tells the outcome of the nodes' notifies
 pub record RunLaws (job : JobState) : Type 0 where
   pub among : AllByRecursion (λ (timed : Timed OtherCall). IsAmong job.settings timed.event) (run_events job)
   pub headline : Headline (world_job job) (λ node. nothing_begun job.settings) (run_events job)
   pub told : LinesTell job
+  pub rise : PlacesRise job
   pub ran : RanToldOnce job
   pub returned : ReturnedToldOnce job
   pub most : (node : ℕ)
