@@ -1,7 +1,7 @@
 -- The lines of a run tell the answers of its events; so of those that deliver one message, at most one tells that the
 -- message was run, or that it brought its request back.
 use Rattle.std.proofs.Common.{◌≡◌, ◌⊎◌, inl, inr, ℕ, zero, suc, ◌+◌, List, [], ◌∷◌, ◌++◌, length, Option, None, Some}
-use Rattle.std.proofs.Common.{refl, sym, ap, subst, ◌∙◌, arith, codes, decimal}
+use Rattle.std.proofs.Common.{◌<◌, refl, sym, ap, subst, ◌∙◌, arith, codes, decimal}
 use Rattle.std.specs.List.{slice_get}
 use Rattle.std.proofs.lemmas.Option.{same_Some}
 use Rattle.datagram_grammar.specs.Parameters.{Parameters}
@@ -31,8 +31,7 @@ use Rattle.job_text.specs.declared.job.TimedEvent.{TimedEvent}
 use Rattle.world_run.specs.RunText.{node_of, world_words, event_words, words_by, answer_lines, end_lines, run_events}
 use Rattle.world_run.specs.RunText.{run_records, run_most}
 use Rattle.world_run.specs.RunLaws.{records_at, IsOneEvent, LinesTell, Tells, RanToldOnce, ReturnedToldOnce}
-use Rattle.world_run.specs.RunLaws.{events_before, event_place, PlacesRise}
-use Rattle.std.proofs.Common.{◌<◌}
+use Rattle.world_run.specs.RunLaws.{PlacesRise, event_place, events_before}
 use Rattle.world_run.proofs.ScheduleLines.{one_event}
 use Rattle.lists.proofs.Appended.{get-append_kept, get-append_right}
 
