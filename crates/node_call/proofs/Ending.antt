@@ -51,10 +51,14 @@ module _ (post : Post) (before after : DevicesSeen) (journal : List Entry)
     (h : NodeLeaves post before after journal left)
     (begun : Gathers old h.opened (head_text post.job.settings.version post.job.settings.job post.rank))
     (said : ForItsRecord left.machine.endpoint (λ node. violated ≡ has_noted node)) where
-  ends_at : (end : End) → left.end ≡ end → Gathers old new (spell (node_lines post journal))
+  abbrev ends_at : (end : End) → left.end ≡ end → Gathers old new (spell (node_lines post journal))
       → EndsAt post before after end old new (Some left.machine.endpoint)
-  ends_at end is went =
-      record { run = record { left = left; journal = journal; leaves = h; end_is = is }; begun = begun; written = went; node_is = refl }
+  ends_at end is went = record {
+    run = record { left = left; journal = journal; leaves = h; end_is = is };
+    begun = begun;
+    written = went;
+    node_is = refl;
+  }
 
   unwritten : (end : End) → left.end ≡ end → end ≢ stations.NoMemory
       → GathersFront old new (spell (node_lines post journal)) → EndsUnwritten post before after old new None
@@ -99,7 +103,7 @@ module _ (post : Post) (before after : DevicesSeen) (journal : List Entry)
 module _ {L C K : Type 0} (l : LinkGhosts L) (c : ClockGhosts C) (k : SinkGhosts K) (post : Post) (link : L)
     (clock : C) (sink : Gathering K) where
   -- what is left, by what is seen of the devices
-  node_leaves : (node : Node MachineKept (Sieving L) C) (opened : Gathering K) (journal : List Entry)
+  abbrev node_leaves : (node : Node MachineKept (Sieving L) C) (opened : Gathering K) (journal : List Entry)
       (left : Ended MachineKept (Sieving L) C (Gathering K))
       → IsReady post link clock node
       → RunsOver node_machines (sieve_links l) c (tracing k) node opened journal left

@@ -1,5 +1,5 @@
 -- What the threads of a node leave, by what is seen of its link and its clock.
-use Rattle.std.proofs.Common.{◌≡◌, Bool, true, false, Option, Some, None, refl, ap, inl, inr}
+use Rattle.std.proofs.Common.{◌≡◌, Bool, List, true, false, Option, Some, None, refl, ap, inl, inr}
 use Rattle.std.specs.Prelude.{if◌then◌else◌}
 use Rattle.std.specs.Option.{ForSome}
 use Rattle.gas_outside.specs.Sieve.{Sieving, is_plain}
@@ -72,7 +72,7 @@ module _ {M L C K : Type 0} (m : MachineGhosts M) (l : LinkGhosts L) (c : ClockG
     last = h.last;
   }
 
-  see_leaves : (opening : Opening M L C (Gathering K)) (left : Ended M L C (Gathering K))
+  abbrev see_leaves : (opening : Opening M L C (Gathering K)) (left : Ended M L C (Gathering K))
       → Leaves m l c (tracing k) opening left
       → Leaves m seen_links seen_clocks seen_recorders (opening_seen l c k opening) (left_seen l c k left)
   see_leaves opening left h = record {
@@ -93,7 +93,7 @@ module _ {M L C K : Type 0} (m : MachineGhosts M) (l : LinkGhosts L) (c : ClockG
     full = h.full;
   }
 
-  see_bound : (node : Node M L C) (opened : Gathering K) (left : Ended M L C (Gathering K))
+  abbrev see_bound : (node : Node M L C) (opened : Gathering K) (left : Ended M L C (Gathering K))
       → RunsBound m l c (tracing k) node opened left
       → RunsBound m seen_links seen_clocks seen_recorders (node_seen l c node) (sink_seen k opened)
       (left_seen l c k left)

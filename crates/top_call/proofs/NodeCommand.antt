@@ -236,15 +236,15 @@ module _ (rank port : ℕ) (course : Course) (job : JobState) (read : GivesJob c
       tt (inl (alone ends.NoMemory)) h.written says
 
   early_told : (old middle new : Outbox) (ended : Ended)
-      → EndsOpen (post_of job rank port) course.before course.after old middle
-      ⊎ EndsUnmade course.before course.after old middle
+      → (EndsOpen (post_of job rank port) course.before course.after old middle
+      ⊎ EndsUnmade course.before course.after old middle)
       → Says ends.NoMemory nothing middle new ended → EndsBy (NodeEnds rank port course) old new ended
   early_told old middle new ended (inl h) says = open_told old middle new ended h says
   early_told old middle new ended (inr h) says = unmade_told old middle new ended h says
 
   unwritten_told : (old new : Outbox)
-      → EndsCut (post_of job rank port) course.before course.after old new
-      ⊎ EndsUnopened (post_of job rank port) course.before course.after old new
+      → (EndsCut (post_of job rank port) course.before course.after old new
+      ⊎ EndsUnopened (post_of job rank port) course.before course.after old new)
       → EndsBy (NodeEnds rank port course) old new cut
   unwritten_told old new (inl h) = untold h.end old new h.some_text h.run h.written
   unwritten_told old new (inr h) = stopped [] old new (inr (h.kept, refl)) h.written

@@ -48,7 +48,8 @@
 //!   - Of each: 5 comes only where the sink's count of faults rose, or stands at its last value, and then a prefix of
 //!     the text of one of the command's ends was written (of `node` also of the trace of a journal that ends where
 //!     the sink failed, `LosesSink`); with 8 whole lines of the run were written, or none (of `upgrade` none; of `node`
-//!     none, or its trace without the last line, `LosesMemory`), and then `status 8 no-memory`; with 2, 3, 4, 7, 11 and 12 the status line alone.
+//!     none, or its trace without the last line, `LosesMemory`), and then `status 8 no-memory`; with 2, 3, 4, 7, 11 and 12
+//!     the status line alone.
 //! - **The laws of the run** (`RunLaws` of `world_run`) of the job or the drill, with status 0 or 1, and with 8 where
 //!   lines of the run were written.
 //! - **Completeness** [`complete`: `IsComplete`], where neither the source's count of faults nor the sink's rose, or

@@ -1,3 +1,5 @@
+use Rattle.std.proofs.Common.{ap, ◌∙◌}
+use Rattle.node_call.specs.NodeEnds.{unmade}
 use Rattle.node_call.specs.NodeLeaves.{post_of}
 use Rattle.node_call.proofs.Ending.{ends_node, ends_unmade}
 use Rattle.node_call.proofs.calling.run_job_node.Goals as goal
@@ -11,4 +13,6 @@ returns-in-Ok g c =
 pub returns-in-Err : goal.returns-in-Err
 returns-in-Err g c =
     ends_unmade g.L.Link g.C.Clock g.K.Sink (post_of c.args.node.job.now c.args.node.rank c.args.node.port)
-    c.args.devices.link c.args.devices.clock c.args.sink c.unmade.result ?
+    c.args.devices.link c.args.devices.clock c.args.sink c.unmade.result
+    (c.unmade.ensures
+    ∙ ap (λ (p : g.row.L.Denot × g.row.C.Denot). unmade p.0 p.1 c.args.sink) c.in-Err.ensures)
