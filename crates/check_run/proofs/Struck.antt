@@ -199,7 +199,7 @@ entries_more job rank entries index entry low is made one so_far last =
 -- ---- how many are refused
 
 -- one entry more
-pub refused_more : (job : JobState) (rank : ℕ) (entries : List Entry) (index : ℕ) (entry : Entry)
+refused_more : (job : JobState) (rank : ℕ) (entries : List Entry) (index : ℕ) (entry : Entry)
     → index < length entries → entry ≡ get_or entries index entry
     → refused_turns job rank (take (index + 1) entries)
     ≡ (if refuses_got job rank entry.got then refused_turns job rank (take index entries) + 1
@@ -221,19 +221,40 @@ refused_more job rank entries index entry low is =
     last (first ∷ front) =
         either (refuses_got job rank first.got) (refuses_got job rank entry.got) _ _ (last front)
 
+pub counted : (job : JobState) (rank : ℕ) (entries : List Entry) (index : ℕ) (entry : Entry)
+    → index < length entries → entry ≡ get_or entries index entry → (turns : ℕ)
+    → turns ≡ refused_turns job rank (take index entries) → refuses_got job rank entry.got ≡ true
+    → turns + 1 ≡ refused_turns job rank (take (index + 1) entries)
+counted job rank entries index entry low is turns so_far refused =
+    let before = refused_turns job rank (take index entries) in
+    ap (λ (n : ℕ). n + 1) so_far
+    ∙ ap (λ (one : Bool). if one then before + 1 else before) (sym refused)
+    ∙ sym (refused_more job rank entries index entry low is)
+
+pub uncounted : (job : JobState) (rank : ℕ) (entries : List Entry) (index : ℕ) (entry : Entry)
+    → index < length entries → entry ≡ get_or entries index entry → (turns : ℕ)
+    → turns ≡ refused_turns job rank (take index entries) → refuses_got job rank entry.got ≡ false
+    → turns ≡ refused_turns job rank (take (index + 1) entries)
+uncounted job rank entries index entry low is turns so_far fine =
+    let before = refused_turns job rank (take index entries) in
+    so_far
+    ∙ ap (λ (one : Bool). if one then before + 1 else before) (sym fine)
+    ∙ sym (refused_more job rank entries index entry low is)
+
 -- where none is, they stay as they are
 none_refused : (job : JobState) (rank : ℕ) (entries : List Entry) → refused_turns job rank entries ≡ 0
     → struck_entries job rank entries ≡ entries
 none_refused job rank [] none = refl
-none_refused job rank (entry ∷ entries) none = by (refuses_got job rank entry.got) refl none
+none_refused job rank (entry ∷ entries) none =
+    by (refuses_got job rank entry.got) refl none (none_refused job rank entries)
   where
     by : (refused : Bool) → refuses_got job rank entry.got ≡ refused
         → (if refused then refused_turns job rank entries + 1 else refused_turns job rank entries) ≡ 0
+        → (refused_turns job rank entries ≡ 0 → struck_entries job rank entries ≡ entries)
         → struck_entries job rank (entry ∷ entries) ≡ entry ∷ entries
-    by true is some = absurd (omega (arith, some))
-    by false is none =
-        ap₂ (λ (first : Entry) (rest : List Entry). first ∷ rest) (sym (entry_kept job rank entry is))
-        (none_refused job rank entries none)
+    by true is some rest = absurd (omega (arith, some))
+    by false is none rest =
+        ap₂ (λ (first : Entry) (others : List Entry). first ∷ others) (sym (entry_kept job rank entry is)) (rest none)
 
 -- so in a trace, as its entries are seen in a slice
 pub untouched : (job : JobState) (rank : ℕ) (entries shown : List Entry) → shown ≡ entries

@@ -17,6 +17,7 @@
 //! What each does with the system is tested in `real_tests`.
 #![tactic(auto)]
 
+mod drain;
 mod hosts;
 mod link_socket;
 mod process_spawner;

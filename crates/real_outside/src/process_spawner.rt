@@ -4,15 +4,20 @@ ghost use Rattle.std.specs.Prelude.{◌≡◌, ◌≤◌, ◌<◌, IfSome, vec_l
 ghost use Rattle.gas_outside.specs.Faults.{Rose};
 ghost use Rattle.gas_outside.specs.Spawner.{AppendsOutput};
 
-use gas_outside::{Finished, Got, MAX_OUTPUT, ReadAll, Source, Spawner, Started, read_all};
+use crate::drain::{Drained, drain};
+use gas_outside::{Finished, Spawner, Started};
 use std::alloc::Global;
-use std::io::{ErrorKind, Read, Write};
-use std::process::{Child, Command, ExitStatus, OpenProcess, Processes, Stdio};
+use std::io::{ErrorKind, Write};
+use std::process::{Child, Command, ExitStatus, OpenProcess, Processes, Stdio, SystemProcess};
 use std::rt::Files;
-use std::{env, fs, io};
+use std::thread::{JoinHandle, Threads};
+use std::{env, fs, io, thread};
 
 /// A spawner that starts a program once for each rank, with the words `node RANK PORT` and the bytes on its standard
 /// input.
+///
+/// Each child's output is read while it runs, by a thread of its own, so that no child waits for the end of another
+/// before it can write on.
 ///
 /// Where it was given a folder it keeps what each child wrote there as `RANK.out`, and how it ended as `RANK.end`: a
 /// line `exit status: CODE` or `signal: NUMBER (NAME)`. It makes the folder where there is none. A file that can't be written is left out, which is no fault.
@@ -27,8 +32,16 @@ pub struct ProcessSpawner<R: Processes> {
     alloc: Global,
     program: String,
     folder: Option<String>,
-    children: Vec<(u16, Child<R::Started>)>,
+    children: Vec<Running<R::Started>>,
     faults: u64,
+}
+
+/// A child that was started, with the thread that reads its output.
+#[derive(Drop)]
+struct Running<P: OpenProcess> {
+    rank: u16,
+    child: Child<P>,
+    output: JoinHandle<Drained>,
 }
 
 /// The path of the program that runs, or an empty text where it can't be had.
@@ -70,7 +83,9 @@ impl<R: Processes> ProcessSpawner<R> {
     fn place(&self, rank: u16) -> Option<usize>
         ensures { IfSome result (λ place. place < vec_len self.now.children) }
     {
-        self.children.iter().position(|(own, _)| *own == rank)
+        self.children
+            .iter()
+            .position(|running| running.rank == rank)
     }
 
     /// Starts the program, with pipes at its input and its output.
@@ -83,8 +98,10 @@ impl<R: Processes> ProcessSpawner<R> {
         command.stdout(Stdio::piped());
         command.spawn(&self.rt)
     }
+}
 
-    /// Starts the child of a rank, and gives it its input.
+impl<R: Processes<Started = SystemProcess> + Threads> ProcessSpawner<R> {
+    /// Starts the child of a rank, begins to read its output, and gives it its input.
     fn try_start(&mut self, rank: u16, port: u16, input: &[u8]) -> io::Result<()>
         ensures { self.new.faults ≡ self.old.faults }
     {
@@ -93,12 +110,35 @@ impl<R: Processes> ProcessSpawner<R> {
         }
         self.children.reserve(1)?;
         let mut child = self.spawn(rank, port)?;
-        if let Err(error) = feed(&mut child, input) {
-            stop(&mut child);
-            return Err(error);
+        match self.begin(&mut child, input) {
+            Ok(output) => {
+                self.children.push_reserved(Running {
+                    rank,
+                    child,
+                    output,
+                });
+                Ok(())
+            }
+            Err(error) => {
+                stop(&mut child);
+                Err(error)
+            }
         }
-        self.children.push_reserved((rank, child));
-        Ok(())
+    }
+
+    /// Starts the thread that reads a child's output, and gives the child its input.
+    fn begin(
+        &self,
+        child: &mut Child<R::Started>,
+        input: &[u8],
+    ) -> io::Result<JoinHandle<Drained>> {
+        let Some(pipe) = child.stdout.take() else {
+            return Err(io::Error::from(ErrorKind::BrokenPipe));
+        };
+        let alloc = self.alloc;
+        let output = thread::spawn(&self.rt, move || drain(alloc, pipe))?;
+        feed(child, input)?;
+        Ok(output)
     }
 }
 
@@ -120,54 +160,28 @@ fn stop<P: OpenProcess>(child: &mut Child<P>) {
     }
 }
 
-/// The output of a child as a source, which tells nothing.
-#[derive(Drop)]
-struct OutputSource<O> {
-    pipe: O,
-    faults: u64,
-}
-
-impl<O: Read> Source for OutputSource<O> {
-    ghost use Rattle.std.specs.Prelude.{None};
-
-    ghost left = { λ _. None };
-
-    ghost faults = { λ s. s.faults };
-
-    /// One read of the pipe.
-    fn read(&mut self, buf: &mut [u8]) -> Got {
-        match self.pipe.read(buf) {
-            Ok(len) => Got::Got(len),
-            Err(_) => {
-                self.faults = self.faults.saturating_add(1);
-                Got::Failed
-            }
-        }
-    }
-}
-
-impl<R: Processes + Files> ProcessSpawner<R> {
+impl<R: Processes<Started = SystemProcess> + Files + Threads> ProcessSpawner<R> {
     /// Waits until a child ends, and appends its output.
-    fn end(&self, rank: u16, child: &mut Child<R::Started>, into: &mut Vec<u8>) -> Finished
+    fn end(&self, running: Running<R::Started>, into: &mut Vec<u8>) -> Finished
         ensures { AppendsOutput result into.old.items into.new.items }
     {
-        let Some(pipe) = child.stdout.take() else {
-            stop(child);
-            return Finished::Failed;
-        };
-        let mut source = OutputSource { pipe, faults: 0 };
-        let output = match read_all(self.alloc, &mut source, MAX_OUTPUT) {
-            ReadAll::Bytes(output) => output,
-            ReadAll::NoMemory => {
-                stop(child);
+        let Running {
+            rank,
+            mut child,
+            output,
+        } = running;
+        let output = match output.join(&self.rt) {
+            Drained::Bytes(output) => output.into_bytes(),
+            Drained::NoMemory => {
+                stop(&mut child);
                 return Finished::NoMemory;
             }
-            ReadAll::TooLong | ReadAll::Fault => {
-                stop(child);
+            Drained::Fault => {
+                stop(&mut child);
                 return Finished::Failed;
             }
         };
-        let Some(status) = self.status_of(rank, child, &output) else {
+        let Some(status) = self.status_of(rank, &mut child, &output) else {
             return Finished::Failed;
         };
         if into.extend_from_slice(&output).is_err() {
@@ -197,15 +211,15 @@ impl<R: Processes + Files> ProcessSpawner<R> {
     }
 }
 
-impl<R: Processes + Files> Spawner for ProcessSpawner<R> {
+impl<R: Processes<Started = SystemProcess> + Files + Threads> Spawner for ProcessSpawner<R> {
     ghost use Rattle.std.specs.Prelude.{None};
 
     ghost told = { λ _. None };
 
     ghost faults = { λ s. s.faults };
 
-    /// Starts the program with the words `node RANK PORT`, and gives its input to its pipe: it waits until the pipe took
-    /// all of it, or the child ended before.
+    /// Starts the program with the words `node RANK PORT`, and a thread that reads its output; then it gives its input
+    /// to its pipe, and waits until the pipe took all of it, or the child ended before.
     fn start(&mut self, rank: u16, port: u16, input: &[u8]) -> Started {
         if self.try_start(rank, port, input).is_err() {
             self.faults = self.faults.saturating_add(1);
@@ -214,13 +228,13 @@ impl<R: Processes + Files> Spawner for ProcessSpawner<R> {
         Started::Started
     }
 
-    /// Reads the child's output to its end, and waits for its exit status. Where that fails the child is ended, if the
-    /// system does so.
+    /// Waits until the child's output was read to its end, and then for its exit status. Where that fails the child is
+    /// ended, if the system does so.
     fn finish(&mut self, rank: u16, into: &mut Vec<u8>) -> Finished {
         let end = match self.place(rank) {
             Some(place) => {
-                let (_, mut child) = self.children.swap_remove(place);
-                self.end(rank, &mut child, into)
+                let running = self.children.swap_remove(place);
+                self.end(running, into)
             }
             None => Finished::Failed,
         };

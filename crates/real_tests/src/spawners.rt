@@ -1,5 +1,6 @@
 use gas_outside::{Finished, Spawner, Started};
 use real_outside::ProcessSpawner;
+use std::fs;
 use std::test::Fail;
 
 /// A spawner of the program with this name.
@@ -37,6 +38,25 @@ fn tells_how_a_child_ends(rt: HostRuntime) -> Result<(), Fail> {
         let started = spawner.start(3, 21_000, b"gasnet 1\n");
         let finished = spawner.finish(3, &mut output);
         assert!(rt; started == Started::Started && finished == want && output.is_empty());
+    }
+    Ok(())
+}
+
+// `tee` writes what it reads, more than a pipe holds: the second child is started while nobody finishes the first.
+#[test]
+fn reads_the_outputs_of_all_children_at_once(rt: HostRuntime) -> Result<(), Fail> {
+    let input = vec![in rt.alloc(); b'.'; 300_000]?;
+    let mut spawner = spawner_of(rt, "tee")?;
+    for rank in 0..3 {
+        assert!(rt; spawner.start(rank, 21_000, &input) == Started::Started);
+    }
+    for rank in [2, 0, 1] {
+        let mut output = Vec::new(rt.alloc());
+        assert!(rt; spawner.finish(rank, &mut output) == Finished::Ended(0));
+        assert!(rt; output.as_slice() == input.as_slice());
+    }
+    for file in ["node", "0", "1", "2", "21000"] {
+        let _ = fs::remove_file(&rt, file);
     }
     Ok(())
 }

@@ -11,7 +11,7 @@ use Rattle.check_run.proofs.Struck.{length-struck, traces_of_job}
 use Rattle.check_run.proofs.machines.merge_traces.Goals as goal
 
 pub struck_traces-requires : goal.struck_traces-requires
-struck_traces-requires c =
+struck_traces-requires g c =
     let count = ap length c.deref.ensures.value in
     let nodes = c.requires.job.settings.nodes in
     record {
@@ -20,7 +20,7 @@ struck_traces-requires c =
     }
 
 pub merge-requires : goal.merge-requires
-merge-requires c =
+merge-requires g c =
     let job = c.args.job.now in
     let judged = c.deref-2.result.now in
     let same = c.deref-2.ensures.value ∙ c.in-Ok-struck_traces.ensures job
@@ -41,7 +41,7 @@ merge-requires c =
     }
 
 pub returns-in-Err : goal.returns-in-Err
-returns-in-Err c =
+returns-in-Err g c =
     let job = c.args.job.now in
     let judged = c.deref-2.result.now in
     let same = c.deref-2.ensures.value ∙ c.in-Ok-struck_traces.ensures job
@@ -55,7 +55,7 @@ returns-in-Err c =
     (subst No_run c.as_mut_slice.ensures.value c.in-Err.ensures.no_run))
 
 pub returns-in-Ok-close_all : goal.returns-in-Ok-close_all
-returns-in-Ok-close_all c =
+returns-in-Ok-close_all g c =
     let job = c.args.job.now in
     let judged = c.deref-2.result.now in
     let same = c.deref-2.ensures.value ∙ c.in-Ok-struck_traces.ensures job

@@ -5,13 +5,13 @@ use Rattle.check_run.specs.Struck.{struck_entries}
 use Rattle.check_run.proofs.Struck.{untouched}
 use Rattle.check_run.proofs.striking.struck_trace.Goals as goal
 
-pub returns-then : goal.returns-then
-returns-then c = λ job rank at.
+pub returns-then-turns-eq0 : goal.returns-then-turns-eq0
+returns-then-turns-eq0 g c = λ job rank at.
     ap (λ (entries : List Entry). record c.args.trace { entries = entries })
     (untouched job rank c.args.trace.entries c.as_slice.result.now c.as_slice.ensures
-    (sym (c.refused_turns.ensures job rank at) ∙ c.if.true))
+    (sym (c.refused_turns-turns.ensures job rank at) ∙ c.if-turns-eq0.true))
 
 pub returns : goal.returns
-returns c = λ job rank at.
+returns g c = λ job rank at.
     ap (λ (entries : List Entry). record c.args.trace { entries = entries })
     (c.in_ok-entries.ensures job rank at ∙ ap (struck_entries job rank) c.as_slice-2.ensures)

@@ -10,13 +10,13 @@ use Rattle.check_run.proofs.Struck.{struck_last}
 use Rattle.check_run.proofs.striking.struck_traces.Goals as goal
 
 pub loop-trace-init : goal.loop-trace-init
-loop-trace-init c = record {
+loop-trace-init g c = record {
   made = λ job are. c.in_ok-struck.ensures.items;
   count = ap length c.in_ok-struck.ensures.items;
 }
 
 pub bounds-recorders-len : goal.bounds-recorders-len
-bounds-recorders-len c =
+bounds-recorders-len g c =
     let gives = c.into_iter-trace-iterator.ensures.into_iter_gives in
     let low = (YieldsList-turn (YieldsList-from_vec {s = c.into_iter-trace-iterator.result} c.args.traces.items gives.0
     (gives.1 ∙ c.args.traces.ok.0)) c.loop-trace.yielded c.loop-trace.trace-iterator c.loop-trace.yielded_by
@@ -31,7 +31,7 @@ bounds-recorders-len c =
     )
 
 pub offset_bounds-recorders-len : goal.offset_bounds-recorders-len
-offset_bounds-recorders-len c =
+offset_bounds-recorders-len g c =
     let gives = c.into_iter-trace-iterator.ensures.into_iter_gives in
     let low = (YieldsList-turn (YieldsList-from_vec {s = c.into_iter-trace-iterator.result} c.args.traces.items gives.0
     (gives.1 ∙ c.args.traces.ok.0)) c.loop-trace.yielded c.loop-trace.trace-iterator c.loop-trace.yielded_by
@@ -47,7 +47,7 @@ offset_bounds-recorders-len c =
     )
 
 pub loop-trace-preserved : goal.loop-trace-preserved
-loop-trace-preserved c =
+loop-trace-preserved g c =
     let yielded = c.loop-trace.yielded in
     let before = c.loop-trace.struck in
     let rank = c.len-in-loop-trace.result in
@@ -73,7 +73,7 @@ loop-trace-preserved c =
     }
 
 pub returns : goal.returns
-returns c = λ job are.
+returns g c = λ job are.
     let gives = c.into_iter-trace-iterator.ensures.into_iter_gives in
     let all = YieldsList-end (YieldsList-from_vec {s = c.into_iter-trace-iterator.result} c.args.traces.items gives.0
     (gives.1 ∙ c.args.traces.ok.0)) c.loop-trace.yielded c.loop-trace.trace-iterator c.loop-trace.yielded_by

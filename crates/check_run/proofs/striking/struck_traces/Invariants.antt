@@ -6,7 +6,7 @@ use Rattle.check_run.specs.Struck.{struck_traces}
 use Rattle.check_run.proofs.striking.struck_traces.Given as goal
 
 abbrev pub invariant-loop-trace : goal.invariant-loop-trace
-invariant-loop-trace l = record {
+invariant-loop-trace g l = record {
   made : (job : JobState) → AreFirstRecorders job l.recorders → l.struck.items ≡ struck_traces job l.yielded;
   count : length l.struck.items ≡ length l.yielded;
 }
