@@ -133,8 +133,8 @@ waiting_form cells (waiting.BarrierWait id flags) = Again is_not_ready (Performs
 
 -- how a step is tried, by the record of its node as the try begins: `cN` is read from the node's cells
 abbrev pub step_form : Reading EndpointLocal ScriptStep
-step_form (step.Call call) node = call_form call (meant_by node.local.core.cells call)
-step_form (step.Waiting waiting) node = waiting_form node.local.core.cells waiting
+step_form (step.Call call) at node = call_form call (meant_by node.local.core.cells call)
+step_form (step.Waiting waiting) at node = waiting_form node.local.core.cells waiting
 
 -- ---- kinds of steps
 
