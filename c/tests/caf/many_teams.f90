@@ -9,6 +9,7 @@ program many_teams
   n = num_images()
   do i = 1, 600
     form team (1, team)
+    sync team (team)
   end do
   value = me
   if (me == n) then

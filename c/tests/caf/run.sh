@@ -72,6 +72,12 @@ for build in out out/sanitized; do
     done
 done
 
+# Reductions of long arrays where images have no memory to work in: all of them, or one.
+for n in 3 4; do
+    check "collectives n=$n without memory" 0 "collectives: done" env GASNET_MAX_SEGSIZE=64K bin/cafrun -n "$n" out/tests/caf/collectives
+    check "collectives n=$n, one without memory" 0 "collectives: done" bin/cafrun -n "$n" \
+        bash -c '[ "$GASNET_RANK" = 1 ] && export GASNET_MAX_SEGSIZE=64K; exec out/tests/caf/collectives'
+done
 for loss in 0 20; do
     check "many_teams n=3 loss=$loss" 0 "many_teams: done" env GASNET_DROP="$loss" bin/cafrun -n 3 out/tests/caf/many_teams
 done
