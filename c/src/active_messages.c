@@ -127,7 +127,7 @@ void gasnetl_message_take(struct gasnetl_job *job, const uint8_t *bytes, size_t 
     token_start(&token, (gasnet_node_t)coming.from, coming.runs == 1);
     if (coming.runs)
         run_coming(job, &token, &coming, bytes);
-    const gasnet_c_told told = gasnet_c_deliver(&job->node, job->progress.now, bytes, length, &token.done, job->progress.outgoing, GASNET_C_ROOM);
+    const gasnet_c_told told = gasnet_c_deliver(&job->node, job->progress.time, bytes, length, &token.done, gasnetl_network_room(&job->network), GASNET_C_ROOM);
     gasnetl_told(job, &told);
     if (coming.runs && told.code != (coming.runs == 1 ? GASNET_C_RAN : GASNET_C_RETURNED))
         gasnetl_stop(GASNETL_BROKEN, "a delivery was answered %u where its handler ran", told.code);
@@ -207,13 +207,13 @@ static void request_here(struct gasnetl_job *job, gasnet_c_ask *ask, const struc
         reply_left = what_is_left(&back, own->reply, own->reply_left);
     }
     token.done.left = what_is_left(&run, payload, own->left);
-    const gasnet_c_told told = gasnet_c_request_own(&job->node, job->progress.now, ask, &token.done, reply_left.at, reply_left.len);
+    const gasnet_c_told told = gasnet_c_request_own(&job->node, job->progress.time, ask, &token.done, reply_left.at, reply_left.len);
     if (told.code != GASNET_C_RAN_HERE)
         gasnetl_stop(GASNETL_BROKEN, "a request to the own node was answered %u", told.code);
 }
 
 static gasnet_c_told ask_once(struct gasnetl_job *job, const gasnet_c_ask *ask) {
-    return gasnet_c_request(&job->node, job->progress.now, ask, job->progress.outgoing, GASNET_C_ROOM);
+    return gasnet_c_request(&job->node, job->progress.time, ask, gasnetl_network_room(&job->network), GASNET_C_ROOM);
 }
 
 /* A request to another node; it waits for a credit. */

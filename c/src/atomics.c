@@ -51,7 +51,7 @@ void gasnetl_atomic_back(struct gasnetl_job *job, uint16_t to, uint16_t slot) {
 bool gasnetl_atomic_take(struct gasnetl_job *job, const uint8_t *bytes, size_t length) {
     if (!job->atomics.served || length <= GASNET_C_HANDLER_AT || !gasnetl_is_atomic(bytes[GASNET_C_HANDLER_AT]))
         return false;
-    gasnet_c_told told = gasnet_c_serve(&job->node, job->progress.now, bytes, length, job->progress.outgoing, GASNET_C_ROOM);
+    gasnet_c_told told = gasnet_c_serve(&job->node, job->progress.time, bytes, length, gasnetl_network_room(&job->network), GASNET_C_ROOM);
     gasnetl_told(job, &told);
     return true;
 }
@@ -141,7 +141,7 @@ static const struct operation *judge(const struct gasnetl_job *job, const struct
 /* Asks an operation with the first free block. There is one always, as there are more blocks than credits. */
 static gasnet_c_told ask_once(struct gasnetl_job *job, gasnet_c_operation *what) {
     what->local = place_of(job, job->atomics.free);
-    return gasnet_c_atomic(&job->node, job->progress.now, what, job->progress.outgoing, GASNET_C_ROOM);
+    return gasnet_c_atomic(&job->node, job->progress.time, what, gasnetl_network_room(&job->network), GASNET_C_ROOM);
 }
 
 /* Asks it, and waits for a credit where it has to. */

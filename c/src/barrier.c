@@ -13,7 +13,7 @@ void gasnet_barrier_notify(int id, int flags) {
     struct gasnetl_job *job = gasnetl_enter("gasnet_barrier_notify");
     judge("gasnet_barrier_notify", flags);
     gasnetl_poll(job, POLL_MOST);
-    gasnet_c_told told = gasnet_c_notify(&job->node, job->progress.now, id, (uint8_t)flags);
+    gasnet_c_told told = gasnet_c_notify(&job->node, job->progress.time, id, (uint8_t)flags);
     if (told.code != GASNET_C_OK)
         gasnetl_stop(GASNETL_MISUSE, "gasnet_barrier_notify: the node notified already, and didn't wait since");
     job->progress.has_notes = job->nodes > 1;
@@ -23,7 +23,7 @@ void gasnet_barrier_notify(int id, int flags) {
 }
 
 static int try(struct gasnetl_job *job, const char *call, int id, int flags) {
-    switch (gasnet_c_try(&job->node, job->progress.now, id, (uint8_t)flags).code) {
+    switch (gasnet_c_try(&job->node, job->progress.time, id, (uint8_t)flags).code) {
     case GASNET_C_OK:
         return GASNET_OK;
     case GASNET_C_NOT_READY:

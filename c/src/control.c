@@ -32,6 +32,7 @@ static void send_datagram(struct gasnetl_job *job, uint16_t to, struct datagram 
     datagram->from = job->me;
     datagram->job = job->start.job;
     gasnetl_network_send(&job->network, to, datagram, sizeof *datagram);
+    gasnetl_network_flush(&job->network);
 }
 
 /* ---- The beginning. */

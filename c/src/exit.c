@@ -66,6 +66,8 @@ static void leave(struct gasnetl_job *job, int status, bool forced) {
     gasnetl_thread.leaves = true;
     job->ended = true;
     job->control.code = status;
+    if (interrupts)
+        gasnetl_network_forget(&job->network);
     if (gasnetl_thread.token || interrupts)
         job->attached = false; /* its message is never delivered, or its call never ends: the endpoint gets no further event */
     fflush(NULL);

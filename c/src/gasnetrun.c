@@ -30,6 +30,7 @@ struct run {
     int lifeline[2]; /* a pipe whose writing end this process alone has: the nodes end as it does */
     int signals;
     int status;      /* the first that isn't 0 */
+    bool is_told;    /* a node told by SIGUSR1 that it ended the job with status 0: that is the job's */
     int ends;        /* 0: no; 1: a node failed, the others may end by themselves; 2: TERM was sent; 3: KILL was */
 };
 
@@ -70,6 +71,7 @@ static void set_job(const struct run *run) {
     set_number("GASNET_JOB", job);
     set_number("GASNET_NODES", (uint64_t)run->nodes);
     set_number("GASNET_LIFELINE", (uint64_t)run->lifeline[0]);
+    set_number("GASNET_RUNNER", (uint64_t)getpid());
     if (setenv("GASNET_ADDRESSES", run->addresses, 1))
         fail("there is no memory");
 }
@@ -130,7 +132,7 @@ static void note_end(struct run *run, int node, int how) {
     int status = WIFSIGNALED(how) ? 128 + WTERMSIG(how) : WEXITSTATUS(how);
     run->children[node] = 0;
     run->alive--;
-    if (!status || run->status)
+    if (!status || run->status || run->is_told)
         return;
     run->status = status;
     if (WIFSIGNALED(how))
@@ -152,7 +154,14 @@ static void reap(struct run *run) {
                 note_end(run, node, how);
 }
 
-/* Waits for a signal: of a child, or one that ends the job. */
+/* A node ended the job with status 0: the others have the grace, as where one failed. */
+static void take_told(struct run *run) {
+    run->is_told = run->is_told || !run->status;
+    if (!run->ends)
+        end_more(run);
+}
+
+/* Waits for a signal: of a child, of a node that ended the job, or one that ends it. */
 static void wait_once(struct run *run) {
     struct pollfd ready = { .fd = run->signals, .events = POLLIN };
     struct signalfd_siginfo signal;
@@ -162,6 +171,10 @@ static void wait_once(struct run *run) {
         end_more(run);
     if (got <= 0 || read(run->signals, &signal, sizeof signal) != sizeof signal || signal.ssi_signo == SIGCHLD)
         return;
+    if (signal.ssi_signo == SIGUSR1) {
+        take_told(run);
+        return;
+    }
     if (!run->status)
         run->status = 128 + (int)signal.ssi_signo;
     if (run->ends < 2)
@@ -172,8 +185,8 @@ static void wait_once(struct run *run) {
 static void catch_signals(struct run *run) {
     sigset_t set;
     sigemptyset(&set);
-    for (int i = 0; i < 4; i++)
-        sigaddset(&set, (const int[]){ SIGCHLD, SIGTERM, SIGINT, SIGHUP }[i]);
+    for (int i = 0; i < 5; i++)
+        sigaddset(&set, (const int[]){ SIGCHLD, SIGTERM, SIGINT, SIGHUP, SIGUSR1 }[i]);
     sigprocmask(SIG_BLOCK, &set, NULL);
     run->signals = signalfd(-1, &set, SFD_CLOEXEC);
     if (run->signals < 0 || pipe2(run->lifeline, O_CLOEXEC))

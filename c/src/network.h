@@ -11,16 +11,40 @@
 #include "places.h"
 #include "seal.h"
 
-enum { GASNETL_RECEIVE_BYTES = 4 << 20 };
+enum {
+    GASNETL_RECEIVE_BYTES = 4 << 20,
+    GASNETL_DATAGRAM = GASNET_C_ROOM + GASNETL_TAG_BYTES, /* the bytes of a datagram of ours at most */
+    GASNETL_GROUP = 64,                                   /* the datagrams of a group at most, and their bytes */
+    GASNETL_GROUP_BYTES = 65000
+};
+
+/* Datagrams to one node that wait to be sent by one call of the system, which cuts them (UDP_SEGMENT): each has as many bytes
+ * as the first one, but for the last, which may have fewer. */
+struct gasnetl_going {
+    uint16_t to;
+    unsigned count;
+    size_t each, first, end; /* the bytes of one; where in `bytes` they begin and end */
+    uint8_t bytes[2 * GASNETL_GROUP_BYTES];
+};
+
+/* Datagrams of one sender that one call of the system received (UDP_GRO), in the same form. */
+struct gasnetl_coming {
+    uint16_t from;
+    size_t each, first, end; /* where those begin that weren't taken yet */
+    uint8_t bytes[1 << 16];
+};
 
 struct gasnetl_network {
     int socket; /* -1 where there is none */
     uint16_t me;
+    bool has_groups; /* the system sends and receives groups */
     struct gasnetl_places places;
     struct gasnetl_faults faults;
-    bool is_refused[GASNET_C_MAX_NODES]; /* the node's host said that nobody has its socket */
-    struct gasnetl_key key;                                        /* where one is set, datagrams are sealed under it */
-    uint8_t sealed[GASNET_C_ROOM + GASNETL_TAG_BYTES + 8];         /* the one that is sent or received */
+    bool is_refused[GASNET_C_MAX_NODES];  /* the node's host said that nobody has its socket */
+    bool takes_single[GASNET_C_MAX_NODES]; /* the way to the node has no groups */
+    struct gasnetl_key key;               /* where one is set, datagrams are sealed under it */
+    struct gasnetl_going going;
+    struct gasnetl_coming coming;
     uint64_t sent, received, strays, unsealed, unsent;
 };
 
@@ -31,14 +55,28 @@ bool gasnetl_network_open(struct gasnetl_network *network, const struct gasnetl_
 /* Makes a datagram socket for this address, with a wide receive buffer. -1 where that fails, with errno. */
 int gasnetl_network_bind(const struct sockaddr *address, socklen_t length);
 
-/* Sends a datagram to a node. It doesn't wait: what can't be sent at once is lost, as a network loses it. */
+/* Where the next datagram may be written, of GASNET_C_ROOM bytes at most, before it is sent. It stays there until something
+ * is sent. */
+uint8_t *gasnetl_network_room(struct gasnetl_network *network);
+
+/* Sends a datagram to a node, at the latest as gasnetl_network_flush is called. It doesn't wait: what can't be sent at once
+ * is lost, as a network loses it. */
 void gasnetl_network_send(struct gasnetl_network *network, uint16_t to, const void *bytes, size_t length);
 
-/* Takes the next datagram that came from a node of the job, of at most `room` bytes; a longer one is cut. How many bytes
- * it has, and its sender; 0 where none is there. It doesn't wait. Others' datagrams are dropped and counted, and so are,
- * where a key is set, those that it didn't seal; after GASNETL_STRAYS of both it answers 0, so that a flood of them holds
- * up nothing. */
-size_t gasnetl_network_receive(struct gasnetl_network *network, uint8_t *bytes, size_t room, uint16_t *from);
+/* Sends what waits to be sent. */
+void gasnetl_network_flush(struct gasnetl_network *network);
+
+/* Takes the next datagram that came from a node of the job, and sends what waits before it asks the system for one. Its
+ * bytes, which stay until the next call, how many they are, cut to GASNETL_DATAGRAM, and its sender; NULL where none is
+ * there. It doesn't wait. Others' datagrams are dropped and counted, and so are, where a key is set, those that it didn't
+ * seal; after GASNETL_STRAYS of both it answers NULL, so that a flood of them holds up nothing. */
+const uint8_t *gasnetl_network_receive(struct gasnetl_network *network, size_t *length, uint16_t *from);
+
+/* Whether a datagram was received already, and not taken. */
+bool gasnetl_network_has_more(const struct gasnetl_network *network);
+
+/* Forgets what waits to be sent, and what wasn't taken: a signal interrupted who had them in hand. */
+void gasnetl_network_forget(struct gasnetl_network *network);
 
 enum { GASNETL_STRAYS = 64 };
 

@@ -8,6 +8,7 @@
 
 enum {
     LOOK = 1000,       /* microseconds between two looks for what is to be sent again */
+    PATIENCE = 20000,  /* microseconds for which such a look waits while datagrams come */
     TICKS = 64,        /* the datagrams that one round sends at most */
     SPIN = 400,        /* the empty looks before a call that waits sleeps, where each node has a processor */
     POLL_EACH = 32,  /* requests between two polls */
@@ -22,8 +23,41 @@ uint64_t gasnetl_clock(void) {
     return (uint64_t)time.tv_sec * 1000000 + (uint64_t)time.tv_nsec / 1000;
 }
 
+/* ---- The endpoint's time. It sends a request again when GASNET_RESEND of its time went by without an answer. So its time
+ * goes slower than the clock where answers take long, since peers are busy or get no processor: what is only late isn't sent
+ * again, which would make them later still. And it stands while this node doesn't look for answers. */
+
+enum { UNIT = 256, UP = 32, PARTS = 4 }; /* parts of a microsecond; how much one answer tells */
+
+static uint64_t longest_step(const struct gasnetl_job *job) { return job->config.resend / PARTS > LOOK ? job->config.resend / PARTS : LOOK; }
+
+void gasnetl_read_clock(struct gasnetl_job *job) {
+    struct gasnetl_progress *progress = &job->progress;
+    uint64_t now = gasnetl_clock(), passed = now - progress->now, most = longest_step(job), wait = 2 * progress->usual / UNIT;
+    progress->now = now;
+    if (passed > most)
+        passed = most;
+    if (wait <= job->config.resend) {
+        progress->time += passed;
+        return;
+    }
+    progress->rest += passed * job->config.resend;
+    progress->time += progress->rest / wait;
+    progress->rest %= wait;
+}
+
+/* An answer came after so many microseconds. `usual` becomes the time in which a quarter of them come, whatever those take
+ * that were lost. */
+static void learn(struct gasnetl_progress *progress, uint64_t took) {
+    if (took * UNIT > progress->usual)
+        progress->usual += progress->usual / UP + 1;
+    else
+        progress->usual -= (PARTS - 1) * (progress->usual / UP);
+}
+
 void gasnetl_progress_start(struct gasnetl_job *job) {
     struct gasnetl_progress *progress = &job->progress;
+    progress->now = gasnetl_clock();
     long processors = sysconf(_SC_NPROCESSORS_ONLN);
     unsigned neighbours = job->start.neighbours ? job->start.neighbours : job->nodes;
     progress->credits = GASNET_C_MAX_CREDITS;
@@ -41,12 +75,13 @@ void gasnetl_progress_start(struct gasnetl_job *job) {
 
 static void transmit(struct gasnetl_job *job, const gasnet_c_told *told) {
     if (told->len)
-        gasnetl_network_send(&job->network, told->to, job->progress.outgoing, told->len);
+        gasnetl_network_send(&job->network, told->to, gasnetl_network_room(&job->network), told->len);
 }
 
 /* A new request is out. */
 static void went_out(struct gasnetl_job *job, const gasnet_c_told *told) {
     gasnetl_peer_asked(job, told->to);
+    job->progress.asked[told->to][told->slot] = job->progress.now;
     job->progress.out++;
     transmit(job, told);
 }
@@ -60,8 +95,7 @@ static bool chunk_may_go(struct gasnetl_peer *peer) {
 }
 
 static bool tick(struct gasnetl_job *job) {
-    struct gasnetl_progress *progress = &job->progress;
-    gasnet_c_told told = gasnet_c_tick(&job->node, progress->now, progress->outgoing, GASNET_C_ROOM);
+    gasnet_c_told told = gasnet_c_tick(&job->node, job->progress.time, gasnetl_network_room(&job->network), GASNET_C_ROOM);
     gasnetl_told(job, &told);
     return told.code != GASNET_C_NOTHING;
 }
@@ -70,6 +104,7 @@ static void came_back(struct gasnetl_job *job, const gasnet_c_told *told) {
     struct gasnetl_progress *progress = &job->progress;
     job->peers.of[told->to].out--;
     progress->out--;
+    learn(progress, progress->now - progress->asked[told->to][told->slot]);
     gasnetl_chunk_back(job, told->to, told->slot);
     gasnetl_atomic_back(job, told->to, told->slot);
     if (progress->has_notes)
@@ -134,7 +169,6 @@ void gasnetl_tick(struct gasnetl_job *job) {
 /* ---- What comes. */
 
 static void take(struct gasnetl_job *job, uint16_t from, const uint8_t *bytes, size_t length) {
-    struct gasnetl_progress *progress = &job->progress;
     gasnetl_peer_heard(job, from);
     if (gasnetl_control_is(bytes, length)) {
         gasnetl_control_take(job, from, bytes);
@@ -148,24 +182,30 @@ static void take(struct gasnetl_job *job, uint16_t from, const uint8_t *bytes, s
         gasnetl_message_take(job, bytes, length);
         return;
     }
-    gasnet_c_told told = gasnet_c_deliver(&job->node, progress->now, bytes, length, &gasnetl_no_run, progress->outgoing, GASNET_C_ROOM);
+    gasnet_c_told told = gasnet_c_deliver(&job->node, job->progress.time, bytes, length, &gasnetl_no_run, gasnetl_network_room(&job->network), GASNET_C_ROOM);
     gasnetl_told(job, &told);
 }
 
 bool gasnetl_poll(struct gasnetl_job *job, int most) {
     struct gasnetl_progress *progress = &job->progress;
+    const uint8_t *bytes = NULL;
     int came = 0;
     size_t length;
     uint16_t from;
-    progress->now = gasnetl_clock();
+    gasnetl_read_clock(job);
     progress->since_poll = 0;
-    while (job->nodes > 1 && came < most &&
-           (length = gasnetl_network_receive(&job->network, progress->incoming, sizeof progress->incoming, &from))) {
-        take(job, from, progress->incoming, length);
+    while (job->nodes > 1 && (came < most || gasnetl_network_has_more(&job->network)) &&
+           (bytes = gasnetl_network_receive(&job->network, &length, &from))) {
+        take(job, from, bytes, length);
         came++;
     }
-    if (job->attached && (progress->has_notes || (progress->out && progress->now >= progress->next_look)))
+    /* What came is taken before anything goes again; but whoever sends without end doesn't hold that up. */
+    if (!bytes)
+        progress->last_empty = progress->now;
+    bool may_look = !bytes || progress->now - progress->last_empty >= PATIENCE;
+    if (job->attached && (progress->has_notes || (may_look && progress->out && progress->now >= progress->next_look)))
         gasnetl_tick(job);
+    gasnetl_network_flush(&job->network);
     gasnetl_peers_look(job);
     if (came)
         gasnetl_wake(&job->turns);
@@ -176,7 +216,7 @@ void gasnetl_request_begins(struct gasnetl_job *job) {
     if (++job->progress.since_poll >= POLL_EACH)
         gasnetl_poll(job, POLL_MOST);
     else
-        job->progress.now = gasnetl_clock();
+        gasnetl_read_clock(job);
 }
 
 /* How long a call that waits may sleep: until a request may be due again. */

@@ -13,6 +13,11 @@ struct gasnetl_job;
 
 struct gasnetl_progress {
     uint64_t now;            /* the time of this round, in microseconds */
+    uint64_t time;           /* the endpoint's, in microseconds of its own */
+    uint64_t rest;           /* what is left of its next one */
+    uint64_t usual;          /* in what time a quarter of the answers come, in 1/256 of a microsecond */
+    uint64_t last_empty;     /* when nothing more had come */
+    uint64_t asked[GASNET_MAXNODES][GASNET_C_MAX_CREDITS]; /* when the request in a slot went out */
     uint64_t next_look;      /* when a tick looks next for what is to be sent again */
     unsigned out;            /* the requests to all peers that aren't back */
     uint64_t resent;         /* how often a request was sent again */
@@ -21,12 +26,13 @@ struct gasnetl_progress {
     unsigned since_poll;     /* requests since the last poll */
     int wait_mode;
     unsigned spin;           /* the empty looks of a call that waits, before it sleeps */
-    uint8_t incoming[GASNET_C_ROOM + 8];
-    uint8_t outgoing[GASNET_C_ROOM];
 };
 
 /* The time, in microseconds. */
 uint64_t gasnetl_clock(void);
+
+/* Reads the time of this round, and the endpoint's. */
+void gasnetl_read_clock(struct gasnetl_job *job);
 
 /* Makes ready: how many credits a pair of nodes has, and how calls wait. */
 void gasnetl_progress_start(struct gasnetl_job *job);

@@ -67,7 +67,10 @@ struct gasnetl_job *gasnetl_enter(const char *call) {
     return &gasnetl_job;
 }
 
-void gasnetl_leave(struct gasnetl_job *job) { gasnetl_give_turn(&job->turns); }
+void gasnetl_leave(struct gasnetl_job *job) {
+    gasnetl_network_flush(&job->network);
+    gasnetl_give_turn(&job->turns);
+}
 
 void gasnetl_sleep(struct gasnetl_turns *turns, int socket, int milliseconds) {
     struct pollfd ready[2] = { { .fd = socket, .events = POLLIN }, { .fd = turns->alarm, .events = POLLIN } };

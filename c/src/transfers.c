@@ -43,14 +43,14 @@ void gasnetl_ops_end(struct gasnetl_ops *ops) {
 /* ---- Batches of the endpoint's operations. */
 
 static void batch_sync(struct gasnetl_job *job, struct gasnetl_batch *batch) {
-    gasnet_c_told told = gasnet_c_sync(&job->node, job->progress.now, batch->handle);
+    gasnet_c_told told = gasnet_c_sync(&job->node, job->progress.time, batch->handle);
     if (told.code != GASNET_C_OK)
         gasnetl_stop(GASNETL_BROKEN, "transfers that are complete were answered %u", told.code);
     batch->state = GASNETL_BATCH_FREE;
 }
 
 static void batch_end(struct gasnetl_job *job, struct gasnetl_batch *batch) {
-    gasnet_c_told told = gasnet_c_region(&job->node, job->progress.now, true);
+    gasnet_c_told told = gasnet_c_region(&job->node, job->progress.time, true);
     if (told.code != GASNET_C_HANDLE)
         gasnetl_stop(GASNETL_BROKEN, "the end of a region was answered %u", told.code);
     batch->handle = told.value;
@@ -65,7 +65,7 @@ static bool batch_begin(struct gasnetl_job *job) {
         struct gasnetl_batch *batch = &all->batches[i];
         if (batch->state != GASNETL_BATCH_FREE)
             continue;
-        gasnet_c_told told = gasnet_c_region(&job->node, job->progress.now, false);
+        gasnet_c_told told = gasnet_c_region(&job->node, job->progress.time, false);
         if (told.code != GASNET_C_DONE)
             gasnetl_stop(GASNETL_BROKEN, "the beginning of a region was answered %u", told.code);
         *batch = (struct gasnetl_batch){ .state = GASNETL_BATCH_FILLING };
@@ -114,7 +114,7 @@ static void begin_piece(struct gasnetl_job *job, struct gasnetl_move *rest, stru
     gasnet_c_move move = { .remote = rest->remote, .local = local, .len = nbytes, .kind = rest->kind, .to = rest->node, .byte = rest->byte, .implicit = true };
     if (rest->kind == GASNETL_PUT && !rest->direct)
         memcpy(job->segment.base + local, rest->near, nbytes);
-    gasnet_c_told told = gasnet_c_begin(&job->node, job->progress.now, &move);
+    gasnet_c_told told = gasnet_c_begin(&job->node, job->progress.time, &move);
     if (told.code != GASNET_C_HANDLE)
         gasnetl_stop(GASNETL_BROKEN, "a transfer was answered %u", told.code);
     all->free_piece = piece->next;
@@ -236,7 +236,7 @@ void gasnetl_chunk_back(struct gasnetl_job *job, uint16_t to, uint16_t slot) {
 
 void gasnetl_transfer(struct gasnetl_job *job, struct gasnetl_op *op, const struct gasnetl_move *move, bool *begun) {
     struct gasnetl_transfers *all = &job->transfers;
-    job->progress.now = gasnetl_clock();
+    gasnetl_read_clock(job);
     if (!all->queue && move->nbytes <= GASNETL_PIECE && has_room(job)) {
         struct gasnetl_move rest = *move;
         begin_piece(job, &rest, op, NULL);

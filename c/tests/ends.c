@@ -33,6 +33,10 @@ int main(int argc, char **argv) {
     start(&argc, &argv, table, 1, GASNET_PAGESIZE);
     barrier();
     int last = me == nodes - 1;
+    if (!strcmp(way, "poll") || !strcmp(way, "sleep")) {
+        puts("here");
+        fflush(stdout);
+    }
     if (!strcmp(way, "all"))
         gasnet_exit(status);
     if (!strcmp(way, "return"))

@@ -122,17 +122,20 @@ check "end signal" 137 "node 2 was ended by signal 9" bin/gasnetrun -n 3 out/tes
 nodes_of() { pgrep -f "tests/ends sleep $1\$" | wc -l; }
 ended() { # SIGNAL STATUS COMMAND..: 0 where all nodes are gone soon after
     local signal=$1 status=$2 mark=$RANDOM$RANDOM
-    bin/gasnetrun -n 3 "${@:3}" sleep "$mark" &
+    bin/gasnetrun -n 3 "${@:3}" sleep "$mark" >"out/here-$mark" &
     local runner=$!
-    for _ in $(seq 100); do [ "$(nodes_of "$mark")" -ge 3 ] && break; sleep 0.05; done
-    sleep 0.3
+    until_here 3 "out/here-$mark"
     kill "-$signal" "$runner"
     wait "$runner"
     local got=$?
-    for _ in $(seq 60); do [ "$(nodes_of "$mark")" = 0 ] && break; sleep 0.05; done
+    for _ in $(seq 600); do [ "$(nodes_of "$mark")" = 0 ] && break; sleep 0.05; done
+    rm -f "out/here-$mark"
     [ "$(nodes_of "$mark")" = 0 ] && [ "$got" = "$status" ]
 }
-export -f ended nodes_of
+until_here() { # COUNT FILE: waits until so many nodes wrote there that they began
+    for _ in $(seq 1000); do [ "$(grep -c here "$2")" -ge "$1" ] && break; sleep 0.05; done
+}
+export -f ended nodes_of until_here
 for signal in TERM:143 INT:130 KILL:137 HUP:129; do
     check "orphans ${signal%:*}" 0 "" bash -c "ended ${signal%:*} ${signal#*:} out/tests/ends"
 done
@@ -144,18 +147,19 @@ alone() { # RANK COMMAND..: this process becomes a node that is started by hand
 }
 gone() { # SIGNAL WAY
     local port=$((20000 + RANDOM % 10000))
-    (alone 1 out/tests/ends poll) &
+    (alone 1 out/tests/ends poll >"out/here-$port") &
     local other=$! got
-    (sleep 1.5; kill "-$1" $other) &
+    (until_here 1 "out/here-$port"; sleep 0.5; kill "-$1" $other) &
     (alone 0 out/sanitized/tests/ends "${2:-poll}")
     got=$?
     kill -KILL $other 2>/dev/null
+    rm -f "out/here-$port"
     return $got
 }
 export -f alone gone
 check "peer killed" 69 "node 1 (127.0.0.1:[0-9]*) is gone" bash -c 'gone KILL'
 check "peer killed, SIGQUIT" 9 "^quit" bash -c 'gone KILL watch'
-check "peer stopped" 69 "node 1 (127.0.0.1:[0-9]*) didn't answer for [0-9.]* s" env GASNET_PEER_TIMEOUT=2 bash -c 'gone STOP'
+check "peer stopped" 69 "node 1 (127.0.0.1:[0-9]*) didn't answer for [0-9.]* s" env GASNET_PEER_TIMEOUT=5 bash -c 'gone STOP'
 absent() {
     local port=$((20000 + RANDOM % 10000))
     (GASNET_PEER_TIMEOUT=1 alone 0 out/tests/messages)

@@ -6,103 +6,13 @@
 #include "combine.h"
 #include "errors.h"
 #include "far.h"
+#include "mail.h"
 #include "section.h"
 #include "state.h"
 
-enum { CHUNK = 8192, BLOCK = 1 << 20, LONG = 1 << 15, STEPS = 16, AHEAD = 16 };
-
-/* One operation of a team, and what of it is under way. */
-struct collective {
-    struct caf_team *team;
-    uint32_t sequence;
-    uint32_t block; /* a part of the array that goes at once */
-    int code;       /* what stopped it */
-};
-
-/* ---- Mail. */
-
-static struct caf_mail **find_mail(struct caf_team *team, uint32_t sequence, uint32_t step) {
-    struct caf_mail **at = &team->mail;
-    while (*at && ((*at)->sequence != sequence || (*at)->step != step))
-        at = &(*at)->next;
-    return at;
-}
-
-void caf_mail_handler(gasnet_token_t from, void *bytes, size_t length, int32_t low, int32_t high, int32_t sequence, int32_t step,
-                      int32_t place, int32_t total) {
-    struct caf_team *team = caf_team_find(caf_join(low, high));
-    struct caf_mail **at = find_mail(team, (uint32_t)sequence, (uint32_t)step), *mail = *at;
-    caf_sender_counted(from);
-    if (!mail) {
-        mail = *at = caf_zeros(sizeof *mail);
-        mail->sequence = (uint32_t)sequence;
-        mail->step = (uint32_t)step;
-        mail->total = (uint32_t)total;
-        mail->bytes = caf_memory((size_t)total);
-    }
-    memcpy(mail->bytes + place, bytes, length);
-    mail->came += (uint32_t)length;
-}
-
-static uint32_t step_of(const struct collective *collective, uint32_t step) { return collective->block * STEPS + step; }
-
-static void post(const struct collective *collective, uint32_t step, int member, const void *bytes, size_t length) {
-    const struct caf_team *team = collective->team;
-    int node = team->members[member];
-    if (collective->code || caf_state.peers[node].condition != CAF_RUNNING)
-        return;
-    for (size_t done = 0, piece; done < length; done += piece) {
-        piece = length - done < CHUNK ? length - done : CHUNK;
-        gasnet_AMRequestMedium6(caf_counted(node), CAF_MAIL, (const unsigned char *)bytes + done, piece, caf_low(team->id), caf_high(team->id),
-                                (int32_t)collective->sequence, (int32_t)step_of(collective, step), (int32_t)done, (int32_t)length);
-    }
-}
-
-static bool has_mail(struct caf_mail *const *at) { return *at && (*at)->came == (*at)->total; }
-
-/* Waits for the mail of a step; null where a member is absent. The caller frees it by give_back. */
-static struct caf_mail *take(struct collective *collective, uint32_t step) {
-    struct caf_team *team = collective->team;
-    uint32_t wanted = step_of(collective, step);
-    if (collective->code)
-        return NULL;
-    GASNET_BLOCKUNTIL(has_mail(find_mail(team, collective->sequence, wanted)) || caf_team_absence(team, collective->sequence));
-    struct caf_mail **at = find_mail(team, collective->sequence, wanted), *mail = *at;
-    if (!has_mail(at)) {
-        collective->code = caf_team_absence(team, collective->sequence);
-        return NULL;
-    }
-    *at = mail->next;
-    return mail;
-}
-
-static void give_back(struct caf_mail *mail) {
-    free(mail->bytes);
-    free(mail);
-}
-
-/* Copies the mail of a step, where it comes. */
-static void receive(struct collective *collective, uint32_t step, void *bytes, size_t length) {
-    struct caf_mail *mail = take(collective, step);
-    if (!mail)
-        return;
-    memcpy(bytes, mail->bytes, length);
-    give_back(mail);
-}
+enum { BLOCK = 1 << 20, AHEAD = 16 };
 
 /* ---- Reductions to all. */
-
-/* Combines with what a partner sends. */
-static void combine_with(struct collective *collective, const struct caf_combiner *combiner, uint32_t step, bool partner_first, void *bytes, size_t count) {
-    struct caf_mail *mail = take(collective, step);
-    if (!mail)
-        return;
-    if (partner_first)
-        caf_combine(combiner, bytes, mail->bytes, bytes, count);
-    else
-        caf_combine(combiner, bytes, bytes, mail->bytes, count);
-    give_back(mail);
-}
 
 /* Of more members than a power of two, the first ones go by pairs: the even one hands its part to the odd one. */
 struct pairs {
@@ -120,16 +30,6 @@ static int member_of(const struct pairs *pairs, int place) { return place < pair
 
 static int place_of(const struct pairs *pairs, int index) { return index < 2 * pairs->rest ? index / 2 : index - pairs->rest; }
 
-static void exchange_whole(struct collective *collective, const struct caf_combiner *combiner, const struct pairs *pairs, void *bytes, size_t count) {
-    int index = collective->team->index, place = place_of(pairs, index);
-    uint32_t step = 1;
-    for (int bit = 1; bit < pairs->power; bit *= 2, step++) {
-        int partner = member_of(pairs, place ^ bit);
-        post(collective, step, partner, bytes, count * combiner->type.size);
-        combine_with(collective, combiner, step, partner < index, bytes, count);
-    }
-}
-
 /* Elements of a part. */
 struct range {
     size_t first, count;
@@ -141,61 +41,185 @@ static struct range half_of(struct range range, bool is_upper) {
     return is_upper ? (struct range){ range.first + lower, range.count - lower } : (struct range){ range.first, lower };
 }
 
-/* Of a long part the partners of a step combine a half each, and its halves in the next one; then they hand one another what
- * they combined. */
-static void exchange_halves(struct collective *collective, const struct caf_combiner *combiner, const struct pairs *pairs, void *part, size_t count) {
-    int index = collective->team->index, place = place_of(pairs, index), steps = 0;
-    size_t size = combiner->type.size;
-    char *bytes = part;
-    struct range ranges[CAF_ROUNDS + 1] = { { 0, count } };
+/* The steps of a reduction, by number: a pair's first one, those of halves as they are combined and as they are handed back,
+ * a pair's last one, and answers to the last two. */
+enum { JOIN = 0, COMBINE = 1, GIVE = COMBINE + CAF_ROUNDS, RESULT = GIVE + CAF_ROUNDS, ANSWER = CAF_ROUNDS + 1 };
+_Static_assert(ANSWER + GIVE > RESULT && ANSWER + RESULT < CAF_STEPS, "each step has a number");
+
+/* From so many bytes on a part goes by halves; and from so many on the members get them from one another's segments. */
+enum { LONG = 1 << 15, SHARED = 1 << 16 };
+
+/* A part of an array that the members combine. */
+struct exchange {
+    struct caf_operation *operation;
+    const struct caf_combiner *combiner;
+    struct pairs pairs;
+    size_t count;
+    char *mine;   /* this image's numbers */
+    char *shared; /* what becomes of them: in the own segment, if they are long, or where they are */
+    char *room;   /* as long, for what is got; null where they aren't long, or there was no memory */
+    char *part;   /* where the result is to be */
+    struct range due; /* what of the result isn't there yet */
+    uint32_t answers; /* the steps whose answers are due, as bits */
+};
+
+static bool is_long(const struct exchange *exchange) {
+    size_t members = (size_t)exchange->pairs.power;
+    return members > 1 && exchange->count >= members && exchange->count * exchange->combiner->type.size >= LONG;
+}
+
+/* Takes memory of the own segment, where the part is long and there is some. */
+static void share(struct exchange *exchange) {
+    size_t length = exchange->count * exchange->combiner->type.size;
+    if (!is_long(exchange) || length < SHARED || !(exchange->room = caf_heap_take(&caf_state.heap, 2 * length)))
+        return;
+    exchange->shared = exchange->room + length;
+}
+
+/* Hands elements to a member: the bytes themselves, or where they lie. */
+static void hand_over(struct exchange *exchange, uint32_t step, int member, struct range range) {
+    size_t size = exchange->combiner->type.size, first = range.first * size, length = range.count * size;
+    if (exchange->shared != exchange->mine)
+        memcpy(exchange->shared + first, exchange->mine + first, length);
+    if (!exchange->room)
+        caf_mail_send(exchange->operation, step, member, exchange->shared + first, length);
+    else {
+        caf_mail_show(exchange->operation, step, member, exchange->shared + first);
+        exchange->answers |= step >= GIVE ? (uint32_t)1 << step : 0;
+    }
+}
+
+/* Combines elements with those that a member hands over. */
+static void combine_with(struct exchange *exchange, uint32_t step, int member, struct range range) {
+    size_t size = exchange->combiner->type.size, first = range.first * size, length = range.count * size;
+    struct caf_mail *mail = caf_mail_take(exchange->operation, step);
+    if (!mail)
+        return;
+    char *made = NULL, *room = exchange->room ? exchange->room : mail->place ? (made = caf_memory(length)) : NULL;
+    const void *mine = exchange->mine + first, *other = caf_mail_bytes(exchange->operation, mail, member, room, length);
+    bool is_first = member < exchange->operation->team->index;
+    caf_combine(exchange->combiner, exchange->shared + first, is_first ? other : mine, is_first ? mine : other, range.count);
+    free(made);
+    caf_mail_free(mail);
+}
+
+/* Brings what is due of the result to its place; then another part of it is due. */
+static void bring(struct exchange *exchange, struct range next) {
+    size_t size = exchange->combiner->type.size, first = exchange->due.first * size;
+    if (exchange->shared != exchange->part)
+        memcpy(exchange->part + first, exchange->shared + first, exchange->due.count * size);
+    exchange->due = next;
+}
+
+/* Takes elements of the result that a member hands over. While they are on the way, what came before is brought to its place. */
+static void take_over(struct exchange *exchange, uint32_t step, int member, struct range range) {
+    size_t size = exchange->combiner->type.size, length = range.count * size;
+    char *to = exchange->shared + range.first * size;
+    struct caf_mail *mail = caf_mail_take(exchange->operation, step);
+    if (!mail)
+        return;
+    if (mail->place) {
+        gasnet_handle_t coming = caf_mail_begin(exchange->operation, mail, member, to, length);
+        bring(exchange, range);
+        gasnet_wait_syncnb(coming);
+        caf_mail_send(exchange->operation, ANSWER + step, member, "", 1);
+    } else {
+        memcpy(to, mail->bytes, length);
+        bring(exchange, range);
+    }
+    caf_mail_free(mail);
+}
+
+/* All elements go to a partner in each step. */
+static void exchange_whole(struct exchange *exchange) {
+    int index = exchange->operation->team->index, place = place_of(&exchange->pairs, index);
+    const struct range all = { 0, exchange->count };
+    uint32_t step = COMBINE;
+    for (int bit = 1; bit < exchange->pairs.power; bit *= 2, step++) {
+        int partner = member_of(&exchange->pairs, place ^ bit);
+        hand_over(exchange, step, partner, all);
+        combine_with(exchange, step, partner, all);
+    }
+}
+
+/* The partners of a step combine a half each, and its halves in the next one; then they hand one another what they combined. */
+static void exchange_halves(struct exchange *exchange) {
+    const struct pairs *pairs = &exchange->pairs;
+    int place = place_of(pairs, exchange->operation->team->index);
+    uint32_t steps = 0;
+    struct range ranges[CAF_ROUNDS + 1] = { { 0, exchange->count } };
     for (int bit = pairs->power / 2; bit; bit /= 2, steps++) {
         int partner = member_of(pairs, place ^ bit);
-        const struct range sent = half_of(ranges[steps], !(place & bit)), kept = half_of(ranges[steps], place & bit);
-        post(collective, 1 + (uint32_t)steps, partner, bytes + sent.first * size, sent.count * size);
-        combine_with(collective, combiner, 1 + (uint32_t)steps, partner < index, bytes + kept.first * size, kept.count);
-        ranges[steps + 1] = kept;
+        hand_over(exchange, COMBINE + steps, partner, half_of(ranges[steps], !(place & bit)));
+        ranges[steps + 1] = half_of(ranges[steps], place & bit);
+        combine_with(exchange, COMBINE + steps, partner, ranges[steps + 1]);
+        exchange->mine = exchange->shared;
     }
+    exchange->due = ranges[steps];
     for (int bit = 1; bit < pairs->power; bit *= 2, steps--) {
         int partner = member_of(pairs, place ^ bit);
-        const struct range known = ranges[steps], other = half_of(ranges[steps - 1], !(place & bit));
-        post(collective, CAF_ROUNDS + (uint32_t)steps, partner, bytes + known.first * size, known.count * size);
-        receive(collective, CAF_ROUNDS + (uint32_t)steps, bytes + other.first * size, other.count * size);
+        hand_over(exchange, GIVE + steps - 1, partner, ranges[steps]);
+        take_over(exchange, GIVE + steps - 1, partner, half_of(ranges[steps - 1], !(place & bit)));
     }
 }
 
-static void exchange(struct collective *collective, const struct caf_combiner *combiner, const struct pairs *pairs, void *bytes, size_t count) {
-    bool is_long = count * combiner->type.size >= LONG && count >= (size_t)pairs->power;
-    (is_long ? exchange_halves : exchange_whole)(collective, combiner, pairs, bytes, count);
-}
-
-static void reduce_block(struct collective *collective, const struct caf_combiner *combiner, void *bytes, size_t count) {
-    const struct pairs pairs = pairs_of(collective->team->size);
-    int index = collective->team->index;
-    size_t length = count * combiner->type.size;
-    bool is_paired = index < 2 * pairs.rest;
-    if (is_paired && index % 2 == 0) {
-        post(collective, 0, index + 1, bytes, length);
-        receive(collective, STEPS - 1, bytes, length);
+/* Brings the rest of the result to its place. Others may get what is shared until they answered; where one is absent the memory
+ * is left to them: it is left once, as the next collective knows of that one. */
+static void end_exchange(struct exchange *exchange) {
+    struct caf_operation *operation = exchange->operation;
+    if (!exchange->room)
         return;
+    bring(exchange, (struct range){ 0, 0 });
+    for (uint32_t step = 0; exchange->answers; step++, exchange->answers >>= 1) {
+        struct caf_mail *answer = exchange->answers & 1 ? caf_mail_take(operation, ANSWER + step) : NULL;
+        if (answer)
+            caf_mail_free(answer);
     }
-    if (is_paired)
-        combine_with(collective, combiner, 0, true, bytes, count);
-    exchange(collective, combiner, &pairs, bytes, count);
-    if (is_paired)
-        post(collective, STEPS - 1, index - 1, bytes, length);
+    if (!operation->code)
+        caf_heap_give(&caf_state.heap, exchange->room);
+}
+
+static void reduce_block(struct caf_operation *operation, const struct caf_combiner *combiner, void *part, size_t count) {
+    struct exchange exchange = { operation, combiner, pairs_of(operation->team->size), count, part, part, NULL, part, { 0, 0 }, 0 };
+    const struct range all = { 0, count };
+    int index = operation->team->index;
+    bool is_paired = index < 2 * exchange.pairs.rest, is_first = is_paired && index % 2 == 0;
+    share(&exchange);
+    if (is_first) {
+        hand_over(&exchange, JOIN, index + 1, all);
+        take_over(&exchange, RESULT, index + 1, all);
+    } else {
+        if (is_paired) {
+            combine_with(&exchange, JOIN, index - 1, all);
+            exchange.mine = exchange.shared;
+        }
+        (is_long(&exchange) ? exchange_halves : exchange_whole)(&exchange);
+        if (is_paired)
+            hand_over(&exchange, RESULT, index - 1, all);
+    }
+    end_exchange(&exchange);
 }
 
 /* ---- The broadcast: a tree whose root is the source. */
 
-static void broadcast_block(struct collective *collective, int source, void *bytes, size_t length) {
-    int size = collective->team->size, place = (collective->team->index - source + size) % size, bit = 1;
+/* Copies the mail of the tree, where it comes. */
+static void receive(struct caf_operation *operation, void *bytes, size_t length) {
+    struct caf_mail *mail = caf_mail_take(operation, 0);
+    if (!mail)
+        return;
+    memcpy(bytes, mail->bytes, length);
+    caf_mail_free(mail);
+}
+
+static void broadcast_block(struct caf_operation *operation, int source, void *bytes, size_t length) {
+    int size = operation->team->size, place = (operation->team->index - source + size) % size, bit = 1;
     while (bit < size && !(place & bit))
         bit *= 2;
     if (place)
-        receive(collective, 0, bytes, length);
+        receive(operation, bytes, length);
     for (bit /= 2; bit; bit /= 2)
         if (place + bit < size)
-            post(collective, 0, (place + bit + source) % size, bytes, length);
+            caf_mail_send(operation, 0, (place + bit + source) % size, bytes, length);
 }
 
 /* ---- What the calls have in common. */
@@ -231,11 +255,11 @@ static void part_end(struct part *part, bool is_result) {
     free(part->bytes);
 }
 
-static struct collective begin(void) {
+static struct caf_operation begin(void) {
     caf_start();
     caf_settle_all();
     gasnet_AMPoll();
-    return (struct collective){ .team = caf_state.team, .sequence = caf_team_begin(caf_state.team) };
+    return caf_operation_begin(caf_state.team);
 }
 
 static size_t block_of(size_t size) { return size >= BLOCK || !size ? 1 : BLOCK / size; }
@@ -267,17 +291,18 @@ static bool has_two_kinds(const struct caf_type *type) {
 static void reduce(struct caf_combiner *combiner, struct caf_descriptor *array, int result_image, const struct caf_report *report, const char *call) {
     if (!is_image(report, call, result_image, 0))
         return;
-    struct collective collective = begin();
-    bool has_result = !result_image || result_image == collective.team->index + 1;
+    struct caf_operation operation = begin();
+    bool has_result = !result_image || result_image == operation.team->index + 1;
     struct part part = part_of(array, has_result, call);
     combiner->type = (struct caf_type){ array->dtype.type, 0, array->dtype.elem_len };
     if (has_two_kinds(&combiner->type))
         combiner->type.kind = kind_of(&part);
     caf_combiner_start(combiner);
-    for (size_t done = 0, most = block_of(combiner->type.size); part.length && done < part.count && !collective.code; done += most, collective.block++)
-        reduce_block(&collective, combiner, part.bytes + done * combiner->type.size, part.count - done < most ? part.count - done : most);
-    part_end(&part, !collective.code && has_result);
-    caf_report_code(report, collective.code, call);
+    operation.code = caf_team_absence(operation.team, operation.sequence);
+    for (size_t done = 0, most = block_of(combiner->type.size); part.length && done < part.count && !operation.code; done += most, operation.block++)
+        reduce_block(&operation, combiner, part.bytes + done * combiner->type.size, part.count - done < most ? part.count - done : most);
+    part_end(&part, !operation.code && has_result);
+    caf_report_code(report, operation.code, call);
 }
 
 /* ---- The calls.
@@ -330,29 +355,29 @@ static void mend_span(struct caf_descriptor *array) {
 }
 
 /* A barrier; the collective has its code, unless it had one before. */
-static void meet(struct collective *collective) {
-    int code = caf_barrier(collective->team);
-    if (!collective->code)
-        collective->code = code;
+static void meet(struct caf_operation *operation) {
+    int code = caf_barrier(operation->team);
+    if (!operation->code)
+        operation->code = code;
 }
 
 void _gfortran_caf_co_broadcast(struct caf_descriptor *array, int source_image, CAF_ERRORS) {
     const struct caf_report report = report_of(stat, errmsg, errmsg_len);
     if (array->dtype.type == CAF_VOID || !is_image(&report, "co_broadcast", source_image, 1)) /* not the tokens of an object */
         return;
-    struct collective collective = begin();
+    struct caf_operation operation = begin();
     mend_span(array);
     struct part part = part_of(array, true, "co_broadcast");
     /* All images make the same barriers, also those that know already that one is absent. */
     for (size_t done = 0; done < part.length; done += BLOCK) {
-        broadcast_block(&collective, source_image - 1, part.bytes + done, part.length - done < BLOCK ? part.length - done : BLOCK);
-        if (++collective.block % AHEAD == 0) /* the source doesn't run ahead of the others for long */
-            meet(&collective);
+        broadcast_block(&operation, source_image - 1, part.bytes + done, part.length - done < BLOCK ? part.length - done : BLOCK);
+        if (++operation.block % AHEAD == 0) /* the source doesn't run ahead of the others for long */
+            meet(&operation);
     }
-    if (collective.sequence % AHEAD == 0)
-        meet(&collective);
-    if (!collective.code)
-        collective.code = caf_team_absence(collective.team, collective.sequence);
-    part_end(&part, !collective.code);
-    caf_report_code(&report, collective.code, "co_broadcast");
+    if (operation.sequence % AHEAD == 0)
+        meet(&operation);
+    if (!operation.code)
+        operation.code = caf_team_absence(operation.team, operation.sequence);
+    part_end(&part, !operation.code);
+    caf_report_code(&report, operation.code, "co_broadcast");
 }

@@ -13,9 +13,13 @@ typedef _Complex float __attribute__((mode(TC))) complex_quad;
 
 typedef void applier(const struct caf_combiner *combiner, char *result, const char *first, const char *second, size_t count);
 
+/* The result may be one of the arguments, element by element; so elements don't depend on one another. */
+#pragma GCC push_options
+#pragma GCC optimize("O3")
 #define APPLY(name, type, expression)                                                                                      \
     static void name(const struct caf_combiner *combiner, char *result, const char *first, const char *second, size_t count) { \
         (void)combiner;                                                                                                    \
+        _Pragma("GCC ivdep")                                                                                               \
         for (size_t at = 0; at < count * sizeof(type); at += sizeof(type)) {                                               \
             type a, b;                                                                                                     \
             memcpy(&a, first + at, sizeof a);                                                                              \
@@ -48,6 +52,7 @@ APPLY(sum_c4, float _Complex, a + b)
 APPLY(sum_c8, double _Complex, a + b)
 APPLY(sum_c10, long double _Complex, a + b)
 APPLY(sum_c16, complex_quad, a + b)
+#pragma GCC pop_options
 
 static int compare_texts(const struct caf_combiner *combiner, const void *first, const void *second) {
     size_t length = combiner->length;

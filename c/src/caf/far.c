@@ -241,25 +241,39 @@ static void get_listed(int node, const struct caf_section *from, struct getting 
     }
 }
 
-/* Begins the get of a run. */
-static void get_run(int node, uintptr_t at, struct getting *getting, size_t place, size_t length) {
-    const struct caf_section run = caf_section_bytes(at, length);
-    if (!is_in_segment(node, at, length)) {
-        get_strided(node, &run, getting, place);
-        return;
-    }
-    gasnet_get_nbi_bulk(getting->bytes + place, (gasnet_node_t)node, (void *)at, length);
-    getting->left -= length;
-}
-
+/* Gets long runs one by one. */
 static void get_runs(int node, const struct caf_section *from, struct getting *getting) {
     size_t whole = getting->left;
     struct caf_walk walk = caf_walk_from(from, 0);
     for (size_t done = 0, piece; done < whole; done += piece) {
         uintptr_t at = caf_walk_next(&walk, from->run, &piece);
-        get_run(node, at, getting, done, piece);
+        const struct caf_section run = caf_section_bytes(at, piece);
+        if (is_in_segment(node, at, piece)) {
+            gasnet_get_nbi_bulk(getting->bytes + done, (gasnet_node_t)node, (void *)at, piece);
+            getting->left -= piece;
+        } else
+            get_strided(node, &run, getting, done);
     }
     gasnet_wait_syncnbi_gets();
+}
+
+/* Gets a section of the segment by the strided get of GASNet. */
+static void get_by_strides(int node, const struct caf_section *from, struct getting *getting) {
+    size_t counts[CAF_RANKS + 1] = { from->run }, there[CAF_RANKS], here[CAF_RANKS], length = from->run;
+    for (int k = 0; k < from->rank; k++) {
+        counts[k + 1] = from->dim[k].count;
+        there[k] = (size_t)from->dim[k].stride;
+        here[k] = length;
+        length *= from->dim[k].count;
+    }
+    gasnet_gets_bulk(getting->bytes, here, (gasnet_node_t)node, (void *)from->base, there, counts, (size_t)from->rank);
+    getting->left = 0;
+}
+
+static bool is_section_in_segment(int node, const struct caf_section *section) {
+    uintptr_t low, high;
+    caf_section_hull(section, &low, &high);
+    return is_in_segment(node, low, high - low);
 }
 
 void caf_fetch(int node, const struct caf_section *from, void *bytes) {
@@ -272,7 +286,10 @@ void caf_fetch(int node, const struct caf_section *from, void *bytes) {
         return;
     }
     keep_order(node, from, false);
-    if (from->rank == 0 || from->run >= LONG_RUN)
+    bool is_long = from->rank == 0 || from->run >= LONG_RUN;
+    if (is_long && !has_table(from) && is_section_in_segment(node, from))
+        get_by_strides(node, from, &getting);
+    else if (is_long)
         get_runs(node, from, &getting);
     else if (has_table(from))
         get_listed(node, from, &getting);

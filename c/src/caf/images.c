@@ -8,6 +8,7 @@
 #include "errors.h"
 #include "far.h"
 #include "state.h"
+#include "step.h"
 
 struct caf_state caf_state;
 
@@ -54,28 +55,49 @@ struct began {
     uint64_t sequence;
 };
 
-enum { BEGAN = 8192 / sizeof(struct began) };
+enum { BEGAN = 8192 / sizeof(struct began) }; /* of so many teams a message tells */
 
-void caf_condition_handler(gasnet_token_t from, void *bytes, size_t length, int32_t condition, int32_t due) {
+void caf_began_handler(gasnet_token_t from, void *bytes, size_t length) {
     int node = caf_sender(from);
-    struct caf_peer *peer = &caf_state.peers[node];
     const struct began *began = bytes;
     for (size_t i = 0; i < length / sizeof *began; i++)
         caf_team_find(began[i].team)->left[node] = (uint32_t)began[i].sequence;
+    caf_sender_counted(from); /* behind that: what the sender told of its end may hold now */
+}
+
+void caf_condition_handler(gasnet_token_t from, int32_t condition, int32_t due) {
+    struct caf_peer *peer = &caf_state.peers[caf_sender(from)];
     peer->told = (enum caf_condition)condition;
     peer->due = (uint32_t)due;
     settle_condition(peer);
 }
 
-static void tell_condition(enum caf_condition condition) {
-    struct began began[BEGAN];
-    size_t count = 0;
-    for (const struct caf_team *team = caf_state.teams; team && count < BEGAN; team = team->next)
-        if (team->sequence)
-            began[count++] = (struct began){ team->id, team->sequence };
+static void tell_began(const struct began *began, size_t count) {
     for (int node = 0; node < caf_state.images; node++)
         if (node != caf_state.me)
-            gasnet_AMRequestMedium2((gasnet_node_t)node, CAF_CONDITION, began, count * sizeof *began, (int32_t)condition, (int32_t)caf_state.peers[node].sent);
+            gasnet_AMRequestMedium0(caf_counted(node), CAF_BEGAN, (void *)(uintptr_t)began, count * sizeof *began);
+}
+
+/* Tells all teams in which this image began operations. */
+static void tell_teams(void) {
+    struct began began[BEGAN];
+    size_t count = 0;
+    for (const struct caf_team *team = caf_state.teams; team; team = team->next) {
+        if (!team->sequence)
+            continue;
+        began[count++] = (struct began){ team->id, team->sequence };
+        if (count == BEGAN) {
+            tell_began(began, count);
+            count = 0;
+        }
+    }
+    tell_began(began, count);
+}
+
+static void tell_condition(enum caf_condition condition) {
+    for (int node = 0; node < caf_state.images; node++)
+        if (node != caf_state.me)
+            gasnet_AMRequestShort2((gasnet_node_t)node, CAF_CONDITION, (int32_t)condition, (int32_t)caf_state.peers[node].sent);
 }
 
 void caf_leave(enum caf_condition condition) {
@@ -83,6 +105,7 @@ void caf_leave(enum caf_condition condition) {
         return;
     caf_settle_all();
     caf_state.has_ended = true;
+    tell_teams();
     tell_condition(condition);
     caf_state.peers[caf_state.me].condition = condition;
     GASNET_BLOCKUNTIL(caf_state.gone == caf_state.images - 1);
@@ -101,7 +124,8 @@ static gasnet_handlerentry_t handlers[] = {
     { CAF_GET_DONE, caf_get_done_handler }, { CAF_STEP, caf_step_handler }, { CAF_STEP_DONE, caf_step_done_handler },
     { CAF_MAKE, caf_make_handler }, { CAF_MAKE_DONE, caf_make_done_handler }, { CAF_TICK, caf_tick_handler },
     { CAF_ROUND, caf_round_handler }, { CAF_MEET, caf_meet_handler }, { CAF_MAIL, caf_mail_handler },
-    { CAF_CONDITION, caf_condition_handler }, { CAF_ERROR, caf_error_handler },
+    { CAF_PLACE, caf_place_handler }, { CAF_BEGAN, caf_began_handler }, { CAF_CONDITION, caf_condition_handler },
+    { CAF_ERROR, caf_error_handler },
 };
 
 /* All images take the random number of the first one as the seed. */
@@ -136,6 +160,7 @@ void caf_start(void) {
     caf_state.is_started = true;
     caf_heap_start(&caf_state.heap, caf_state.segments[caf_state.me].addr, caf_state.segments[caf_state.me].size);
     caf_team_start();
+    caf_steps_start();
     on_exit(at_exit, NULL);
     start_seed();
 }
@@ -165,20 +190,30 @@ void _gfortran_caf_stop_str(const char *text, size_t length, bool quiet) {
     _gfortran_stop_string(text, length, quiet);
 }
 
-/* Of the code 0 GASNet doesn't end the others, so this image tells them. */
+/* ---- Of a status 0 GASNet doesn't end the others, so this image tells them, and gasnetrun, for those that compute. */
+
 void caf_error_handler(gasnet_token_t from) {
     (void)from;
     caf_state.has_ended = true;
     exit(0);
 }
 
+static void end_others(void) {
+    const char *runner = gasnet_getenv("GASNET_RUNNER");
+    for (int node = 0; node < caf_state.images; node++)
+        if (node != caf_state.me)
+            gasnet_AMRequestShort0((gasnet_node_t)node, CAF_ERROR);
+    if (runner && atoi(runner) > 1)
+        kill(atoi(runner), SIGUSR1);
+}
+
+enum { STATUS = 0xff }; /* what a process's status keeps of a code */
+
 void _gfortran_caf_error_stop(int code, bool quiet) {
     caf_start();
     caf_state.has_ended = true;
-    if (!code)
-        for (int node = 0; node < caf_state.images; node++)
-            if (node != caf_state.me)
-                gasnet_AMRequestShort0((gasnet_node_t)node, CAF_ERROR);
+    if (!(code & STATUS))
+        end_others();
     _gfortran_error_stop_numeric(code, quiet);
 }
 

@@ -34,55 +34,65 @@ static void pause_for(int64_t *time) {
         *time *= 2;
 }
 
+/* How a try for a lock ends. */
+enum outcome { TAKEN, TAKEN_OVER, IS_OWN, IS_HELD, IS_LOST };
+
 /* Takes a lock from an image that failed. */
-static bool takes_over(int node, struct caf_step *step, uint64_t holder) {
-    if (!holder || caf_state.peers[holder - 1].condition != CAF_FAILED)
-        return false;
-    step->compare = holder;
-    bool has = caf_step_do(node, step) == holder;
-    step->compare = 0;
-    return has;
+static bool takes_over(int node, const struct caf_step *step, uint64_t holder) {
+    struct caf_step other = *step;
+    other.compare = holder;
+    return caf_state.peers[holder - 1].condition == CAF_FAILED && caf_step_do(node, &other) == holder;
 }
 
-/* Tries for a lock until it has it, or once. What stood there before, or where it took the lock from a failed image this one. */
-static uint64_t take(int node, struct caf_step *step, bool once, bool *was_failed) {
-    const uint64_t mine = step->value;
+/* Tries once for a lock. One that an image still has after it stopped is lost. */
+static enum outcome try(int node, const struct caf_step *step) {
+    uint64_t holder = caf_step_do(node, step);
+    if (!holder)
+        return TAKEN;
+    if (holder == step->value)
+        return IS_OWN;
+    if (takes_over(node, step, holder))
+        return TAKEN_OVER;
+    if (caf_state.peers[holder - 1].condition != CAF_STOPPED)
+        return IS_HELD;
+    uint64_t now = caf_step_do(node, step); /* it may have unlocked between the two looks */
+    return !now ? TAKEN : now == holder ? IS_LOST : IS_HELD;
+}
+
+static enum outcome take(int node, const struct caf_step *step, bool once) {
     int64_t pause = LEAST_PAUSE;
-    *was_failed = false;
     for (;;) {
-        uint64_t holder = caf_step_do(node, step);
-        if (!holder || holder == mine)
-            return holder;
-        *was_failed = takes_over(node, step, holder);
-        if (*was_failed)
-            return 0;
-        if (once)
-            return holder;
+        enum outcome outcome = try(node, step);
+        if (outcome != IS_HELD || once)
+            return outcome;
         pause_for(&pause);
     }
+}
+
+static void report_outcome(const struct caf_report *report, enum outcome outcome, bool may_fail) {
+    if (outcome == IS_OWN)
+        caf_report_error(report, CAF_STAT_LOCKED, "lock: this image has it already");
+    else if (outcome == IS_LOST && !may_fail)
+        caf_report_error(report, CAF_STAT_STOPPED_IMAGE, "lock: an image has stopped that has it");
+    else if (outcome == TAKEN_OVER && report->stat)
+        caf_report_error(report, CAF_STAT_UNLOCKED_FAILED_IMAGE, "lock: an image failed that had it");
+    else
+        caf_report_success(report);
 }
 
 void _gfortran_caf_lock(struct caf_token *token, size_t index, int image, int *acquired, CAF_ERRORS) {
     const struct caf_report report = { stat, errmsg, errmsg_len };
     struct caf_step step;
     int node;
-    bool was_failed;
     caf_settle_all();
     if (!find(&step, &node, token, index, image, stat))
         return;
     step.operation = CAF_SWAP;
     step.value = (uint64_t)caf_state.me + 1;
-    uint64_t holder = take(node, &step, acquired != NULL, &was_failed);
-    if (holder == step.value) {
-        caf_report_error(&report, CAF_STAT_LOCKED, "lock: this image has it already");
-        return;
-    }
-    if (acquired)
-        *acquired = !holder;
-    if (was_failed && stat)
-        caf_report_error(&report, CAF_STAT_UNLOCKED_FAILED_IMAGE, "lock: an image failed that had it");
-    else
-        caf_report_success(&report);
+    enum outcome outcome = take(node, &step, acquired != NULL);
+    if (acquired && outcome != IS_OWN)
+        *acquired = outcome == TAKEN || outcome == TAKEN_OVER;
+    report_outcome(&report, outcome, acquired != NULL);
 }
 
 void _gfortran_caf_unlock(struct caf_token *token, size_t index, int image, CAF_ERRORS) {
@@ -118,14 +128,24 @@ void _gfortran_caf_event_post(struct caf_token *token, size_t index, int image, 
     caf_report_success(&report);
 }
 
+static bool has_posts(struct caf_step *step, int64_t wanted) {
+    step->operation = CAF_READ;
+    return (int64_t)caf_step_do(caf_state.me, step) >= wanted;
+}
+
 void _gfortran_caf_event_wait(struct caf_token *token, size_t index, int until, CAF_ERRORS) {
     const struct caf_report report = { stat, errmsg, errmsg_len };
-    volatile int64_t *posts = (volatile int64_t *)caf_token_at(token, caf_state.me, index * CELL, stat);
-    int64_t wanted = until > 1 ? until : 1;
+    const int64_t wanted = until > 1 ? until : 1;
+    struct caf_step step;
+    int node;
     caf_settle_all();
-    GASNET_BLOCKUNTIL(*posts >= wanted || (caf_state.gone && caf_state.gone == caf_state.images - 1));
-    if (*posts >= wanted) {
-        *posts -= wanted;
+    if (!find(&step, &node, token, index, 0, stat))
+        return;
+    GASNET_BLOCKUNTIL(has_posts(&step, wanted) || (caf_state.gone && caf_state.gone == caf_state.images - 1));
+    if (has_posts(&step, wanted)) {
+        step.operation = CAF_ADD;
+        step.value = -(uint64_t)wanted;
+        caf_step_do(caf_state.me, &step);
         caf_report_success(&report);
     } else
         caf_report_error(&report, CAF_STAT_STOPPED_IMAGE, "event wait: no image is left that can post");

@@ -82,6 +82,38 @@ static void subscript_static(struct caf_section *section, const struct caf_refer
     }
 }
 
+/* ---- Bounds: a reference stays within the coarray, or within the component that it went to last. */
+
+struct region {
+    uintptr_t low, high;
+};
+
+/* Where the elements of an array lie that has a descriptor. */
+static struct region region_of(const struct caf_descriptor *array, int rank, ptrdiff_t span, size_t item) {
+    struct caf_section all = caf_section_bytes((uintptr_t)array->base, item);
+    struct region region;
+    for (int k = 0; k < rank; k++) {
+        const struct caf_bounds *dim = &array->dim[k];
+        caf_section_add(&all, dim->upper < dim->lower ? 0 : (size_t)(dim->upper - dim->lower + 1), dim->stride * span, NULL);
+    }
+    caf_section_hull(&all, &region.low, &region.high);
+    return region;
+}
+
+static _Noreturn void outside(void) {
+    caf_die("elements outside of a coarray, or of a component of one, are referred to: a subscript is wrong");
+}
+
+/* Of a substring gfortran hands on the length of the whole text, so texts may reach too far. */
+static void check_within(const struct caf_far *far, const struct region *region) {
+    uintptr_t low, high;
+    if (!caf_section_length(&far->section))
+        return;
+    caf_section_hull(&far->section, &low, &high);
+    if (low < region->low || low >= region->high || (far->type.type != CAF_CHARACTER && high > region->high))
+        outside();
+}
+
 /* ---- Components. */
 
 static void read_far(int node, uintptr_t at, void *bytes, size_t length) {
@@ -93,7 +125,7 @@ static size_t descriptor_size(int rank) { return offsetof(struct caf_descriptor,
 
 /* Goes to what a component's descriptor or pointer leads to. Answers the last reference that was used, or null where nothing
  * is allocated. */
-static const struct caf_reference *follow(struct caf_far *far, const struct caf_reference *component) {
+static const struct caf_reference *follow(struct caf_far *far, const struct caf_reference *component, struct region *region) {
     const struct caf_reference *next = component->next;
     struct caf_descriptor array = { .base = NULL };
     bool is_array = next && next->type == CAF_REFERS_ARRAY;
@@ -103,29 +135,39 @@ static const struct caf_reference *follow(struct caf_far *far, const struct caf_
     if (!array.base)
         return NULL;
     far->section.base = (uintptr_t)array.base;
+    *region = (struct region){ far->section.base, far->section.base + component->item_size };
     if (!is_array)
         return component;
-    subscript(&far->section, next, array.dim, array.span > 0 ? array.span : (ptrdiff_t)next->item_size);
+    ptrdiff_t span = array.span > 0 ? array.span : (ptrdiff_t)next->item_size;
+    *region = region_of(&array, rank_of(next), span, next->item_size);
+    subscript(&far->section, next, array.dim, span);
     return next;
 }
 
 static const struct caf_reference *go_to_component(struct caf_far *far, const struct caf_token *token, const struct caf_reference *component,
-                                                   struct caf_missing *missing) {
+                                                   struct caf_missing *missing, struct region *region) {
     const uintptr_t object = far->section.base;
+    const ptrdiff_t token_offset = component->u.component.token_offset;
     far->section.base += (uintptr_t)component->u.component.offset;
-    if (!component->u.component.token_offset && !caf_token_has_part(token, far->node, far->section.base))
+    if (!token_offset && !caf_token_has_part(token, far->node, far->section.base))
         return component;
-    *missing = (struct caf_missing){ far->section.base, object + (uintptr_t)component->u.component.token_offset, component };
-    return follow(far, component);
+    if (far->section.base < region->low || far->section.base >= region->high)
+        outside();
+    *missing = (struct caf_missing){ far->section.base, object + (uintptr_t)token_offset, component };
+    const struct caf_reference *last = follow(far, component, region);
+    if (!token_offset) /* of a polymorphic one the bytes aren't known */
+        region->high = UINTPTR_MAX;
+    return last;
 }
 
 bool caf_refer(struct caf_far *far, struct caf_token *token, const struct caf_reference *reference, struct caf_missing *missing) {
+    struct region region = { far->section.base, far->section.base + token->bytes };
     ptrdiff_t span;
     missing->component = NULL;
     while (reference) {
         switch (reference->type) {
         case CAF_REFERS_COMPONENT:
-            reference = go_to_component(far, token, reference, missing);
+            reference = go_to_component(far, token, reference, missing, &region);
             break;
         case CAF_REFERS_ARRAY: { /* only of the coarray itself: those of components are behind their component */
             const struct caf_bounds *dim = caf_token_bounds(token, rank_of(reference), &span);
@@ -143,6 +185,7 @@ bool caf_refer(struct caf_far *far, struct caf_token *token, const struct caf_re
     far->type.size = far->section.run;
     if (!far->type.size && far->type.type == CAF_CHARACTER && missing->component)
         caf_die("a component is referred to that is a text of deferred length: gfortran 12 doesn't hand on how long it is");
+    check_within(far, &region);
     return true;
 }
 
@@ -185,20 +228,29 @@ static void write_bounds(struct caf_descriptor *array, const struct making *maki
     }
 }
 
+/* The bytes of what is to be made; where no size has so many, all images end. */
+static size_t size_of(const struct making *making) {
+    size_t size = (size_t)making->item;
+    for (uint32_t k = 0; k < making->rank; k++)
+        if (__builtin_mul_overflow(size, (size_t)making->extent[k], &size))
+            caf_die("a component is to be allocated that has more bytes than there can be");
+    return size;
+}
+
 void caf_make_handler(gasnet_token_t from, void *bytes, size_t length) {
     const struct making *making = bytes;
-    size_t size = (size_t)making->item;
+    const size_t size = size_of(making);
     void **slot = (void **)(uintptr_t)making->slot;
+    struct caf_token **token = (struct caf_token **)(uintptr_t)making->token_slot;
     (void)length;
-    for (uint32_t k = 0; k < making->rank; k++)
-        size *= (size_t)making->extent[k];
+    caf_token_forget(*token, *slot);
     free(*slot);
     void *memory = caf_zeros(size);
     if (making->is_array)
         write_bounds((struct caf_descriptor *)slot, making, memory);
     else
         *slot = memory;
-    *(struct caf_token **)(uintptr_t)making->token_slot = caf_token_component(memory, size);
+    *token = caf_token_component(memory, size);
     gasnet_AMReplyShort4(from, CAF_MAKE_DONE, caf_low(making->answer), caf_high(making->answer), 0, 0);
 }
 

@@ -61,6 +61,8 @@ enum {
     CAF_ROUND,
     CAF_MEET,
     CAF_MAIL,
+    CAF_PLACE,
+    CAF_BEGAN,
     CAF_CONDITION,
     CAF_ERROR
 };
@@ -78,8 +80,11 @@ void caf_round_handler(gasnet_token_t from, int32_t low, int32_t high, int32_t r
 void caf_meet_handler(gasnet_token_t from, int32_t low, int32_t high, int32_t meeting, int32_t value_low, int32_t value_high);
 void caf_mail_handler(gasnet_token_t from, void *bytes, size_t length, int32_t low, int32_t high, int32_t sequence, int32_t step,
                       int32_t place, int32_t total);
+void caf_place_handler(gasnet_token_t from, int32_t low, int32_t high, int32_t sequence, int32_t step, int32_t place_low,
+                       int32_t place_high);
 void caf_error_handler(gasnet_token_t from);
-void caf_condition_handler(gasnet_token_t from, void *bytes, size_t length, int32_t condition, int32_t due);
+void caf_began_handler(gasnet_token_t from, void *bytes, size_t length);
+void caf_condition_handler(gasnet_token_t from, int32_t condition, int32_t due);
 
 /* The two halves of a number that goes as two arguments, and the number again. */
 static inline int32_t caf_low(uint64_t value) { return (int32_t)(uint32_t)value; }

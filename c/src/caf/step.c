@@ -4,6 +4,34 @@
 
 #include "state.h"
 
+/* ---- Steps on words of 64 bits in a segment are GASNet's remote atomics: nothing else touches these words. */
+
+static gex_AD_t words;
+
+enum { WORD = 8 };
+
+static const gex_OP_t operations[] = {
+    [CAF_SET] = GEX_OP_SWAP, [CAF_ADD] = GEX_OP_FADD,  [CAF_AND] = GEX_OP_FAND,  [CAF_OR] = GEX_OP_FOR,
+    [CAF_XOR] = GEX_OP_FXOR, [CAF_READ] = GEX_OP_GET, [CAF_SWAP] = GEX_OP_FCAS,
+};
+
+void caf_steps_start(void) {
+    gex_OP_t all = 0;
+    for (size_t i = 0; i < sizeof operations / sizeof *operations; i++)
+        all |= operations[i];
+    gex_AD_Create(&words, NULL, GEX_DT_U64, all, 0);
+}
+
+static uint64_t do_word(int node, const struct caf_step *step) {
+    const bool is_swap = step->operation == CAF_SWAP;
+    uint64_t old;
+    gex_Event_Wait(gex_AD_OpNB_U64(words, &old, (gex_Rank_t)node, (void *)(uintptr_t)step->at, operations[step->operation],
+                                   is_swap ? step->compare : step->value, step->value, 0));
+    return old;
+}
+
+/* ---- Others are done by a handler. */
+
 struct request {
     struct caf_step step;
     uint64_t answer; /* where the answer goes, at the node that asks */
@@ -52,10 +80,14 @@ void caf_step_done_handler(gasnet_token_t from, int32_t low, int32_t high, int32
     answer->has_come = true;
 }
 
-uint64_t caf_step_do(int node, const struct caf_step *step) {
+static uint64_t do_by_handler(int node, const struct caf_step *step) {
     struct answer answer = { false, 0 };
     const struct request request = { *step, caf_address(&answer) };
     gasnet_AMRequestMedium0((gasnet_node_t)node, CAF_STEP, &request, sizeof request);
     GASNET_BLOCKUNTIL(answer.has_come);
     return answer.old;
+}
+
+uint64_t caf_step_do(int node, const struct caf_step *step) {
+    return (step->size == WORD ? do_word : do_by_handler)(node, step);
 }

@@ -9,12 +9,7 @@
 
 enum { CAF_ROUNDS = 6, CAF_INITIAL_TEAM = -1 };
 
-/* A message of a collective operation that came before it was looked for. */
-struct caf_mail {
-    struct caf_mail *next;
-    uint32_t sequence, step, came, total;
-    unsigned char *bytes;
-};
+struct caf_mail;
 
 struct caf_team {
     uint64_t id;              /* the same at all members */
@@ -23,13 +18,14 @@ struct caf_team {
     int number, size, index;  /* index: this image's place among the members, from 0 */
     gasnet_node_t members[GASNET_MAXNODES];
     uint32_t sequence;        /* the operations of the team that this image began */
+    uint32_t collective;      /* the latest one of them that has mail */
     uint32_t forms;           /* the teams that were formed of this one */
     uint32_t meetings;
     uint32_t left[GASNET_MAXNODES];      /* by node: the operations that an image began before it stopped or failed */
     uint32_t rounds[CAF_ROUNDS];         /* the latest operation whose message of this round came */
     uint32_t met[2][GASNET_MAXNODES];    /* by node: the latest even and odd meeting that it came to */
     uint64_t values[2][GASNET_MAXNODES]; /* and with which value */
-    struct caf_mail *mail;
+    struct caf_mail *mail;               /* what came for operations, and wasn't taken */
 };
 
 /* The team of this identifier; one without members is made where none is known. */

@@ -93,6 +93,11 @@ struct caf_token *caf_token_component(void *memory, size_t bytes) {
     return token;
 }
 
+void caf_token_forget(struct caf_token *token, const void *memory) {
+    if (token && lives(token) && token->is_component && token->memory == memory)
+        release(token);
+}
+
 static void allocate_component(size_t size, struct caf_token **token, struct caf_descriptor *array, const struct caf_report *report) {
     void *memory = malloc(size ? size : 1);
     if (!memory) {

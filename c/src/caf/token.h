@@ -31,6 +31,9 @@ uintptr_t caf_token_at(const struct caf_token *token, int node, size_t offset, i
 /* A token of a component: memory of malloc, which the token frees. */
 struct caf_token *caf_token_component(void *memory, size_t bytes);
 
+/* Frees the token of a component, if it is that of this memory, and not the memory. */
+void caf_token_forget(struct caf_token *token, const void *memory);
+
 /* Whether a polymorphic component lies at an address of a node: there is one at the same place of this image's object. */
 bool caf_token_has_part(const struct caf_token *token, int node, uintptr_t at);
 

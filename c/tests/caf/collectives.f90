@@ -239,5 +239,25 @@ program collectives
   bigs = big(me, 2, char(64 + me)); call co_reduce(bigs, add_big)
   call check(all(bigs(2)%numbers == total) .and. bigs(1)%x == 2d0**n, 'reduce of a type of 40 bytes')
   call check(bigs(2)%text == char(64 + n), 'its text')
+  call long_ones([4095, 8191, 8193, 140000])
   if (me == 1) print *, 'collectives: done'
+contains
+  ! Lengths on both sides of those where the way of a reduction changes, and more than go at once.
+  subroutine long_ones(lengths)
+    integer, intent(in) :: lengths(:)
+    real(8), allocatable :: values(:)
+    integer(1), allocatable :: bytes(:)
+    integer :: k
+    do k = 1, size(lengths)
+      values = [(me + i*0.5d0, i=1, lengths(k))]
+      call co_sum(values)
+      call check(all(values == [(total + n*i*0.5d0, i=1, lengths(k))]), 'a long sum')
+      values = [(me + i*0.5d0, i=1, lengths(k))]
+      call co_max(values, result_image=n)
+      if (me == n) call check(all(values == [(n + i*0.5d0, i=1, lengths(k))]), 'a long maximum')
+    end do
+    bytes = [(int(mod(i, 7) + me, 1), i=1, 70001)]
+    call co_sum(bytes)
+    call check(all(bytes == [(int(n*mod(i, 7) + total, 1), i=1, 70001)]), 'a long sum of bytes')
+  end subroutine
 end program

@@ -24,6 +24,7 @@ program ends
     case ('stop quiet'); stop 7, quiet=quiet
     case ('error stop'); error stop
     case ('error stop 0'); error stop 0
+    case ('error stop 0 of one'); error stop 0
     case ('error stop 9'); error stop 9
     case ('error stop text'); error stop 'an error'
     case ('error stop quiet'); error stop 9, quiet=quiet
@@ -33,6 +34,7 @@ program ends
     case ('lock twice'); call lock_twice()
     case ('outside'); value = sum(values([3, 1])[num_images()])
     case ('deferred'); call deferred()
+    case ('outside component', 'outside objects'); call outside(how)
     case ('late'); call sleep(1); stop 3
     case ('abort'); call abort()
     case ('end')
@@ -41,7 +43,7 @@ program ends
     do          ! it is ended while it waits
       sync images (this_image())
     end do
-  else if (how == 'error stop text') then
+  else if (how == 'error stop text' .or. how == 'error stop 0 of one') then
     x = 0.5
     do          ! it is ended while it computes
       x = cos(x)
@@ -56,6 +58,19 @@ contains
     type(lock_type), save :: guard[*]
     lock (guard[1])
     lock (guard[1])
+  end subroutine
+  subroutine outside(how)
+    character(*), intent(in) :: how
+    type listed
+      real, allocatable :: list(:)
+    end type
+    type(listed), save :: some(3)[*]
+    integer :: last
+    last = 3
+    if (how == 'outside objects') last = 5
+    some(3)%list = [1., 2., 3.]
+    x = some(last)[this_image()]%list(last + 1)
+    print *, x
   end subroutine
   subroutine deferred()
     type named

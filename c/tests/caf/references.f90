@@ -194,5 +194,23 @@ program references
   call check(all(row == n*100 + [1, 6, 11, 16]), 'a row of a coarray')
   square = array(1:, :1)[n]
   call check(all(square == reshape(n*100 + [4, 5, 9, 10], [2, 2])), 'open ends of a coarray')
+  call made_there()
   if (me == 1) print *, 'references: done'
+contains
+  ! Assignments that allocate components of another image, anew where the shape is another one.
+  subroutine made_there()
+    type(simple), allocatable :: some(:)[:]
+    integer :: k
+    allocate (some(2)[*])
+    do k = 1, 20
+      some(2)[n]%line = [(real(i + me), i=1, k)]
+      some(2)[n]%one = k
+      sync all
+      call check(size(some(2)%line) == k .and. some(2)%one == k, 'the shape of what another image allocated')
+      call check(all(some(2)%line == [(real(i + from), i=1, k)]), 'what it assigned')
+      if (mod(k, 7) == 0) deallocate (some(2)%line)
+      sync all
+    end do
+    deallocate (some)
+  end subroutine
 end program
