@@ -32,9 +32,9 @@ def sendings_that_came(sendings, deliveries):
 
 
 def matched(sendings, deliveries):
-    """For each delivery of a message its sending. Which one came can't be told from the bytes. The picture takes it that none overtook
-    another, that no more were lost than have to be, that an earlier one was lost rather than a later one, and that what came beside
-    is a duplicate of the latest one that came."""
+    """For each delivery of a message its sending. Which one came can't be told from the bytes. The picture takes it that none
+    overtook another, that no more were lost than have to be, that an earlier one was lost rather than a later one, and that what
+    came beside is a duplicate of the latest one that came."""
     left, sending_of, latest = sendings_that_came(sendings, deliveries), {}, None
     for delivery in deliveries:
         if left and left[0] < delivery:

@@ -41,6 +41,11 @@ class Message:
         return "reply", self.target, self.source, self.number
 
     @property
+    def side(self):
+        """1 where it goes to a higher node, else -1."""
+        return 1 if self.target > self.source else -1
+
+    @property
     def name(self):
         """What it is called in a picture."""
         library = {PUT: "put", GET: "get", MEMSET: "memset", NOTE: "note"}

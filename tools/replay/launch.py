@@ -16,7 +16,6 @@ class Station:
         self.gone = 0  # turns
         self.most = 0
         self.lines = []  # the answers of steps
-
         self.message, self.refused = self.judged()
 
     @property
@@ -61,9 +60,12 @@ class Launch:
     @property
     def output(self):
         """The lines that `launch` and `check` write for the traces."""
-        bad = next((one for one in self.stations if not one.trace.is_good), None)
-        if bad:
-            return [f"status 12 child {bad.rank} {bad.trace.end.split()[0]}"]
+        codes = [one.trace.code for one in self.stations]
+        if None in codes:
+            return ["status 7 spawn-fault"]
+        bad = next((rank for rank, code in enumerate(codes) if code > 1), None)
+        if bad is not None:
+            return [f"status 12 child {bad} {codes[bad]}"]
         if self.no_run:
             return ["status 11 not-a-run {} {}".format(*self.no_run)]
         steps = [line for one in self.stations for line in one.lines]
@@ -141,7 +143,8 @@ class Launch:
             time = station.trace.turns[-1].time if station.trace.turns else 0
             for script in station.scripts:
                 if script.left:
-                    words = f"thread {script.thread} waits at step {script.done + 1}: {' '.join(script.left[0])}"
+                    at = f"node {station.rank}, thread {script.thread}"
+                    words = f"{at} waits at step {script.done + 1}: {' '.join(script.left[0])}"
                     self.rows.append(Row("end", time, station.rank, words, ""))
             if station.trace.end != "0 ok":
                 self.rows.append(Row("end", time, station.rank, f"node {station.rank} ended: {station.trace.end}", ""))

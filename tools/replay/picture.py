@@ -1,4 +1,5 @@
 """A picture of rows, as SVG: time downward, nodes across, an arrow for each message."""
+from bisect import bisect_left
 from collections import defaultdict
 
 from .arrows import DUPLICATE, RETRANSMISSION, arrows_of
@@ -8,6 +9,7 @@ LEFT, ROW, LETTER = 96, 24, 6.7
 WIDEST, NARROWEST, ACROSS = 190, 36, 1200  # a column, and all of them
 HEAD, LEGEND, ITEM = 52, 20, 172
 WORDS = 76  # letters of a row's text
+STUB = 30  # an arrow to another page
 MARKS = {"ran": "taken", "returned": "taken", "again": "passed", "stale": "passed", "late": "passed", "deferred": "deferred"}
 LEGENDS = {  # what is drawn, by its key, in words
     "request": "request",
@@ -36,11 +38,10 @@ def mark_of(row):
 
 
 def arrows_by_page(arrows, rows_of_page):
-    """The arrows that are seen on each page, which is counted from 0."""
+    """The arrows that begin or end on each page, which is counted from 0."""
     on_page = defaultdict(list)
     for arrow in arrows:
-        ends = [place // rows_of_page for place in (arrow.start, arrow.end) if place is not None]
-        for page in range(ends[0], ends[-1] + 1):
+        for page in {place // rows_of_page for place in (arrow.start, arrow.end) if place is not None}:
             on_page[page].append(arrow)
     return on_page
 
@@ -52,6 +53,10 @@ class Picture:
         self.title, self.heads, self.nodes, self.rows = title, heads, nodes, rows
         self.arrows = arrows_of(rows)
         self.on_page = arrows_by_page(self.arrows, rows_of_page)
+        self.arrow_to = {arrow.end: arrow for arrow in self.arrows if arrow.end is not None}
+        self.ends = defaultdict(list)  # of the row of each sending, in order
+        for end in sorted(self.arrow_to):
+            self.ends[self.arrow_to[end].start].append(end)
         self.column = max(NARROWEST, min(WIDEST, ACROSS // nodes))
         self.step = rows_of_page
         self.pages = max(1, -(-len(rows) // rows_of_page))
@@ -73,6 +78,13 @@ class Picture:
     def x(self, node):
         return LEFT + self.column * node + self.column // 2
 
+    def ends_out(self, start, behind):
+        """The rows from one on to which the message comes that was sent in a row."""
+        return self.ends[start][bisect_left(self.ends[start], behind) :]
+
+    def first_out(self, start, behind):
+        return self.arrow_to[self.ends_out(start, behind)[0]]
+
     def page(self, number):
         """The SVG of a page, counted from 1."""
         return Page(self, (number - 1) * self.step).svg(number)
@@ -84,73 +96,74 @@ class Page:
     def __init__(self, picture, first):
         self.picture, self.first = picture, first
         self.rows = picture.rows[first : first + picture.step]
-        self.bottom = picture.top + ROW * max(1, len(self.rows))
+        self.bottom = picture.top + ROW * len(self.rows)
         self.out = Drawing()
 
     def y(self, place):
         return self.picture.top + ROW * (place - self.first) + ROW // 2
 
+    def has(self, place):
+        return 0 <= place - self.first < len(self.rows)
+
     def svg(self, number):
         picture, width, height = self.picture, self.picture.width, self.bottom + 14
-        head = Drawing()
-        head.rect(0, 0, width, height, "fill-paper")
-        of_pages = f", page {number} of {picture.pages}" if picture.pages > 1 else ""
-        head.text(8, 18, picture.title + of_pages, "key fill-ink")
-        self.legend(head)
-        self.rails(head)
+        title = picture.title + (f", page {number} of {picture.pages}" if picture.pages > 1 else "")
+        self.out.rect(0, 0, width, height, "fill-paper")
+        self.out.text(8, 18, title, "key fill-ink")
+        self.legend()
+        self.rails()
         for place, row in enumerate(self.rows, self.first):
-            self.row(head, place, row)
+            self.row(place, row)
         for arrow in picture.on_page[number - 1]:
             self.arrow(arrow)
         for place, row in enumerate(self.rows, self.first):
             self.mark(place, row)
-        head.inside(picture.top, width, self.bottom - picture.top, self.out)
-        return head.svg(width, height, picture.title + of_pages)
+        return self.out.svg(width, height, title)
 
     # ---- head and rows
 
-    def legend(self, head):
+    def legend(self):
         for line, keys in enumerate(self.picture.legend):
             for place, key in enumerate(keys):
                 x, y = 8 + ITEM * place, 34 + LEGEND * line
-                self.sample(head, x, y, key)
-                head.text(x + 34, y + 4, LEGENDS[key], "key fill-dim")
+                self.sample(x, y, key)
+                self.out.text(x + 34, y + 4, LEGENDS[key], "key fill-dim")
 
-    def sample(self, head, x, y, key):
+    def sample(self, x, y, key):
         if key in ("request", "reply", RETRANSMISSION, DUPLICATE):
             kind = key if key in ("request", "reply") else "request"
-            head.line(x, y, x + 21, y, f"{kind} {key}")
-            head.tip(x, y, x + 31, y, kind)
+            self.out.line(x, y, x + 21, y, f"{kind} {key}")
+            self.out.tip(x, y, x + 31, y, kind)
         elif key == "lost":
-            head.line(x, y, x + 18, y, "request")
-            head.cross(x + 18, y, "lost")
+            self.out.line(x, y, x + 18, y, "request")
+            self.out.cross(x + 18, y, "lost")
         elif key == "foreign":
-            head.line(x, y, x + 21, y, "lost")
-            head.tip(x, y, x + 31, y, "lost")
+            self.out.line(x, y, x + 21, y, "lost")
+            self.out.tip(x, y, x + 31, y, "lost")
         else:
-            head.mark(x + 14, y, key, "dim" if key in ("refused", "local") else "request")
+            self.out.mark(x + 14, y, key, "dim" if key in ("refused", "local") else "request")
 
-    def rails(self, head):
+    def rails(self):
         picture = self.picture
         for words, x in zip(picture.heads, (LEFT - 58, LEFT - 8)):
-            head.text(x, picture.top - 6, words, "key end fill-dim")
+            self.out.text(x, picture.top - 6, words, "key end fill-dim")
         for node in range(picture.nodes):
             x = picture.x(node)
             words = f"node {node}" if picture.column > 60 else str(node)
-            head.text(x, picture.top - 6, words, "head fill-ink")
-            head.line(x, picture.top, x, self.bottom, "rail")
+            self.out.text(x, picture.top - 6, words, "head fill-ink")
+            self.out.line(x, picture.top, x, self.bottom, "rail")
 
-    def row(self, head, place, row):
+    def row(self, place, row):
         picture, y = self.picture, self.y(place)
         words = row.text if len(row.text) <= WORDS else row.text[: WORDS - 1] + "…"
         if row.within:
-            head.rect(0, y - ROW // 2, picture.width, ROW, "fill-band")
+            self.out.rect(0, y - ROW // 2, picture.width, ROW, "fill-band")
             for node in range(picture.nodes):
-                head.line(picture.x(node), y - ROW // 2, picture.x(node), y + ROW // 2, "rail")
-        head.text(LEFT - 58, y + 4, row.place, "end fill-dim")
-        head.text(LEFT - 8, y + 4, str(row.time), "end fill-dim")
+                self.out.line(picture.x(node), y - ROW // 2, picture.x(node), y + ROW // 2, "rail")
+        self.out.text(LEFT - 58, y + 4, row.place, "end fill-dim")
+        self.out.text(LEFT - 8, y + 4, str(row.time), "end fill-dim")
         indent = 12 if row.within and row.node is not None else 0
-        head.text(LEFT + picture.column * picture.nodes + 8 + indent, y + 4, words, "fill-ink")
+        self.out.text(LEFT + picture.column * picture.nodes + 8 + indent, y + 4, words, "fill-ink")
 
     # ---- marks and arrows
 
@@ -159,28 +172,45 @@ class Page:
             key, kind = mark_of(row)
             self.out.mark(self.picture.x(row.node), self.y(place), key, kind)
         if row.sent:
-            towards = 1 if row.sent.target > row.sent.source else -1
-            anchor = " end" if towards > 0 else ""
-            x = self.picture.x(row.sent.source) - 8 * towards
-            self.out.text(x, self.y(place) + 4, row.sent.name, f"label fill-{row.sent.key[0]}{anchor}")
+            x, side = self.picture.x(row.sent.source), row.sent.side
+            self.beside(x - 4 * side, self.y(place) + 4, -side, row.sent.name, row.sent.key[0])
 
     def arrow(self, arrow):
         if arrow.end is None:
             self.loss(arrow)
         elif arrow.start is None:
             self.foreign(arrow)
-        else:
-            self.way(arrow)
+        elif self.has(arrow.start) and self.has(arrow.end):
+            x1, x2 = self.picture.x(arrow.message.source), self.picture.x(arrow.message.target)
+            self.way(arrow, x1, self.y(arrow.start), x2, self.y(arrow.end))
+        elif self.has(arrow.end):
+            self.comes_in(arrow)
+        elif arrow is self.picture.first_out(arrow.start, self.first + len(self.rows)):
+            self.goes_out(arrow)
 
-    def way(self, arrow):
-        x1, y1 = self.picture.x(arrow.message.source), self.y(arrow.start)
-        x2, y2 = self.picture.x(arrow.message.target), self.y(arrow.end)
+    def way(self, arrow, x1, y1, x2, y2):
         kind = "deferred" if arrow.deferred else arrow.kind
         self.out.line(x1, y1, x2, y2, f"arrow {kind} {arrow.look}")
         self.out.tip(x1, y1, x2, y2, kind)
-        if arrow.start < self.first:  # it goes on from the page before
-            top = self.picture.top + 12
-            self.out.text(x1 + (x2 - x1) * (top - y1) / (y2 - y1) + 4, top, arrow.message.name, f"label fill-{arrow.kind}")
+
+    def comes_in(self, arrow):
+        """The end of an arrow from a page before, with the place of its start."""
+        x, y, side = self.picture.x(arrow.message.target), self.y(arrow.end), arrow.message.side
+        self.way(arrow, x - STUB * side, y - 8, x, y)
+        words = f"{arrow.message.name}, {self.picture.rows[arrow.start].place}"
+        self.beside(x - STUB * side, y - 6, -side, words, arrow.kind)
+
+    def goes_out(self, arrow):
+        """The starts of the arrows of a sending to later pages, with the places of their ends."""
+        x, y, side = self.picture.x(arrow.message.source), self.y(arrow.start), arrow.message.side
+        self.out.line(x, y, x + STUB * side, y + 8, f"arrow {arrow.kind} {arrow.look}")
+        ends = self.picture.ends_out(arrow.start, self.first + len(self.rows))
+        self.beside(x + STUB * side, y + 12, side, ", ".join(self.picture.rows[end].place for end in ends), arrow.kind)
+
+    def beside(self, x, y, side, words, kind):
+        """A label on this side of a place."""
+        anchor = "" if side > 0 else " end"
+        self.out.text(x + 4 * side, y, words, f"label fill-{kind}{anchor}")
 
     def loss(self, arrow):
         x1, y1 = self.picture.x(arrow.message.source), self.y(arrow.start)

@@ -3,7 +3,13 @@ from dataclasses import dataclass
 
 from .client import KINDS
 
-WAITING_SYNCS = {"wait": "try", "wait-all": "try-all", "wait-some": "try-some", "wait-nbi": "try-nbi", "barrier-wait": "try-barrier"}
+WAITING_SYNCS = {  # which call each of these tries
+    "wait": "try",
+    "wait-all": "try-all",
+    "wait-some": "try-some",
+    "wait-nbi": "try-nbi",
+    "barrier-wait": "try-barrier",
+}
 PUTS = {"put-nb": "put-nb-bulk", "put-nbi": "put-nbi-bulk"}
 BLOCKING = {"put", "get", "memset"}
 

@@ -68,11 +68,13 @@ class Steps:
 
     def status(self, number, words):
         if words[1] not in ("0", "1"):
-            raise self.wrong(number, f"{' '.join(words)!r} tells of no run; where nodes ran, draw what was kept of them (GASNET_KEEP)")
+            told = f"{' '.join(words)!r} tells of no run; where nodes ran, draw what was kept of them (GASNET_KEEP)"
+            raise self.wrong(number, told)
         if not self.rows:
             raise self.wrong(number, "no step ended before it, and no schedule was run: there is nothing to draw")
         if self.nodes != self.job.nodes:
             raise self.wrong(number, f"{self.nodes} nodes stand before it, and the job has {self.job.nodes}")
         for (node, thread), steps in self.left.items():
             if steps:
-                raise self.wrong(number, f"no line tells that the step {' '.join(steps[0])!r} of thread {thread} of node {node} ended")
+                step = f"the step {' '.join(steps[0])!r} of thread {thread} of node {node}"
+                raise self.wrong(number, f"no line tells that {step} ended")

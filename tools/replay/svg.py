@@ -52,11 +52,6 @@ class Drawing:
     def circle(self, x, y, radius, kind):
         self.parts.append(f'<circle cx="{x:g}" cy="{y:g}" r="{radius:g}" class="{kind}"/>')
 
-    def inside(self, y, width, height, drawing):
-        """Another drawing, as much of it as is in this frame."""
-        frame = f'<clipPath id="frame"><rect x="0" y="{y:g}" width="{width:g}" height="{height:g}"/></clipPath>'
-        self.parts += [f"<defs>{frame}</defs>", '<g clip-path="url(#frame)">', *drawing.parts, "</g>"]
-
     def tip(self, x1, y1, x2, y2, kind):
         """The head of an arrow, whose point stands a little before its end."""
         length = hypot(x2 - x1, y2 - y1) or 1

@@ -1,10 +1,8 @@
 """What the nodes of a job wrote: their traces, and how they ended."""
+import re
 from dataclasses import dataclass, field
 
 from .job import Lines
-
-ENDS = ("0 ok", "1 violations", "6 link-fault", "9 stuck", "10 journal-full")
-
 
 @dataclass
 class Turn:
@@ -21,8 +19,10 @@ class Trace:
     end: str = "no output"
 
     @property
-    def is_good(self):
-        return self.end in ENDS[:2]
+    def code(self):
+        """The status with which the node ended; None where it didn't end by itself, or nothing is known of it."""
+        found = re.match(r"(?:exit status: )?(\d+)", self.end)
+        return int(found[1]) if found else None
 
 
 def read_output(job, rank, lines):

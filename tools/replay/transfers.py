@@ -86,7 +86,7 @@ class Transfers:
     # ---- synchronisation
 
     def members(self, handle):
-        """The operations of a handle that aren't synchronised: those of the region of that name, or else the one of that number."""
+        """The operations of a handle that aren't synchronised: those of the region of that name, or else that of the number."""
         region = [one for one in self.standing if one.region == handle]
         return region or [one for one in self.standing if one.number == handle]
 
