@@ -1,4 +1,5 @@
 """A job's text, by docs/FORMATS.md: what a run needs of it. A text that the program would refuse may pass here."""
+from contextlib import contextmanager
 from dataclasses import dataclass, field
 
 HEAD = ("gasnet", "job", "nodes", "credits", "threads", "segment", "last", "resend", "patience", "sieve")
@@ -7,6 +8,15 @@ FIRST_CLIENT_INDEX = 128
 
 class Wrong(Exception):
     """A text isn't what it has to be: why, in one line."""
+
+
+@contextmanager
+def understood(told):
+    """Words that can't be read are what these words, which are asked for then, tell."""
+    try:
+        yield
+    except (ValueError, IndexError, KeyError, TypeError) as fault:
+        raise Wrong(told()) from fault
 
 
 @dataclass
@@ -80,16 +90,14 @@ class Lines:
         self.take("end")
         return taken
 
-    def numbers(self, words):
-        try:
-            return [int(word) for word in words]
-        except ValueError:
-            self.place -= 1
-            raise self.wrong("numbers") from None
+
+
+def numbers(words):
+    return [int(word) for word in words]
 
 
 def read_head(lines):
-    head = {name: lines.numbers(lines.take(name)) for name in HEAD}
+    head = {name: numbers(lines.take(name)) for name in HEAD}
     names = {"version": "gasnet", "number": "job"}
     settings = ("version", "number", "nodes", "credits", "threads", "segment", "last", "resend")
     return Job(**{name: head[names.get(name, name)][0] for name in settings})
@@ -100,7 +108,7 @@ def read_handlers(lines):
     handlers, later = {}, []
     while lines.peek()[0] == "handler":
         index, role, *locks = lines.take("handler")
-        handler = Handler(role, set(lines.numbers(locks)), lines.until_end())
+        handler = Handler(role, set(numbers(locks)), lines.until_end())
         if index == "0":
             later.append(handler)
         else:
@@ -114,16 +122,21 @@ def read_handlers(lines):
 def read_job(text, name="the job"):
     """The job of a text, and the number of its lines: other text may stand behind it."""
     lines = Lines(name, text)
+    with understood(lambda: f"{name}, line {lines.place}: it is none of a job"):
+        return read_parts(lines), lines.place
+
+
+def read_parts(lines):
     job = read_head(lines)
     while lines.peek()[0] == "pair":
-        source, target, credit = lines.numbers(lines.take("pair"))
+        source, target, credit = numbers(lines.take("pair"))
         job.pairs[source, target] = credit
     job.handlers = read_handlers(lines)
     while lines.peek()[0] == "script":
-        node, thread = lines.numbers(lines.take("script"))
+        node, thread = numbers(lines.take("script"))
         job.scripts[node, thread] = lines.until_end()
     if lines.peek() == ["schedule"]:
         lines.take("schedule")
         job.schedule = [(int(line[0]), line[1:]) for line in lines.until_end()]
     lines.take("done")
-    return job, lines.place
+    return job

@@ -1,5 +1,6 @@
 """The run of traces: what each turn did, in an order in which the turns can go."""
 from .datagram import read_datagram, spelling
+from .job import understood
 from .node import Node
 from .rows import Row, node_lines, status_line
 from .scripts import Script
@@ -94,13 +95,17 @@ class Launch:
 
     def go(self, station):
         turn, place = station.next_turn, f"{station.rank}:{station.gone + 1}"
+        with understood(lambda: f"turn {place} can't be run: a handler or a step has other words than it may have"):
+            self.events(station, turn, place)
+        station.most = max(station.most, station.node.held)
+        station.go_on()
+
+    def events(self, station, turn, place):
         if station.polls(turn.thread):
             if turn.got is not None:
                 self.deliver(station, turn, place)
             self.tick(station, turn, place)
         self.step(station, turn, place)
-        station.most = max(station.most, station.node.held)
-        station.go_on()
 
     def row(self, station, turn, place, words, did, **more):
         if did.sent:
@@ -125,7 +130,6 @@ class Launch:
 
     def step(self, station, turn, place):
         step, tried = station.scripts[turn.thread].attempt(turn.time)
-        station.node.did(None)
         if tried.ended is None and not tried.began:
             return
         if tried.sent:

@@ -2,7 +2,7 @@
 import re
 from dataclasses import dataclass, field
 
-from .job import Lines
+from .job import Lines, understood
 
 @dataclass
 class Turn:
@@ -27,15 +27,20 @@ class Trace:
 
 def read_output(job, rank, lines):
     """The trace of a node, and the line of its status behind it."""
+    with understood(lambda: f"{lines.name}, line {lines.place}: it is none of a trace"):
+        return read_lines(job, rank, lines)
+
+
+def read_lines(job, rank, lines):
     for word, value in (("trace", job.version), ("job", job.number), ("rank", rank)):
         lines.take(word, str(value))
     trace = Trace()
-    for words in lines.until_end():
-        if len(words) != 4 or words[0] != "turn" or int(words[1]) >= job.threads:
-            lines.place -= 1
-            raise lines.wrong("a turn of a thread of the job")
-        got = None if words[3] == "-" else bytes.fromhex(words[3][1:])
-        trace.turns.append(Turn(int(words[1]), int(words[2]), got))
+    while lines.peek() != ["end"]:
+        thread, time, got = lines.take("turn")
+        if int(thread) >= job.threads:
+            raise ValueError(thread)
+        trace.turns.append(Turn(int(thread), int(time), None if got == "-" else bytes.fromhex(got[1:])))
+    lines.take("end")
     trace.end = " ".join(lines.take("status"))
     return trace
 

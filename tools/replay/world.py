@@ -1,5 +1,5 @@
 """The run of a job's schedule."""
-from .job import Wrong
+from .job import understood
 from .node import Did, Node
 from .rows import Row, node_lines, status_line
 
@@ -24,10 +24,8 @@ class World:
 
     def line(self, place, now, event):
         """The answer to a line of the schedule."""
-        try:
+        with understood(lambda: f"line {place} of the schedule can't be run: {' '.join(event)!r}"):
             return self.settle(place, now, int(event[1])) if event[0] == "settle" else self.event(place, now, event).answer
-        except (ValueError, IndexError, KeyError, TypeError) as fault:
-            raise Wrong(f"line {place} of the schedule is no event: {' '.join(event)!r}") from fault
 
     def event(self, place, now, event, within=None):
         """An event, as a row."""
