@@ -76,7 +76,7 @@ class Launch:
     # ---- the order
 
     def turn(self):
-        """The next turn, if one is left: of those that can go that of the lowest time, and where none can the lowest node's."""
+        """The next turn, if one is left: that of the lowest time, of those that can go, or else of all."""
         left = [one for one in self.stations if one.next_turn]
         ready = [one for one in left if self.can_go(one)]
         if left and not ready and not self.no_run:
