@@ -1,13 +1,12 @@
 -- What the handler of collectives does.
 use Rattle.std.specs.Prelude.{ℕ, ℤ, ◌≡◌, ◌+◌, ◌-◌, ◌%◌, ◌==◌, ◌&&◌, nat_le, if◌then◌else◌, List, [], ◌∷◌, ◌++◌, length}
-use Rattle.std.specs.Prelude.{Option, None, Some}
+use Rattle.std.specs.Prelude.{true, Option, None, Some}
 use Rattle.std.specs.Int.{w64, to_le_bytes}
 use Rattle.raw_segment.specs.Image.{Write}
 use Rattle.datagram_grammar.specs.Content.{Content, long_request}
 use Rattle.datagram_grammar.specs.Notes.{high_half, low_half, joined, argument}
-use Rattle.handler_rules.specs.declared.serves.Serves.TheVariants as served
 use Rattle.handler_rules.specs.declared.table.Entry.{Entry}
-use Rattle.handler_rules.specs.Registered.{entry_at}
+use Rattle.handler_rules.specs.Registered.{entry_at, is_for_requests}
 use Rattle.handler_rules.specs.Runs.{Frame, Start, Outcome, Meaning, untouched}
 use Rattle.handler_rules.specs.Desks.{At, Stage, frame_of, start_of}
 
@@ -64,10 +63,9 @@ AtStamped old new =
 
 -- ---- a job that has collectives
 
--- the handler is registered, without locks
+-- the handler is registered for requests
 abbrev pub HasCollectives : List (Option Entry) → Type 0
-HasCollectives table =
-    entry_at table collective_handler ≡ Some (record { index = collective_handler; serves = served.Requests; locks = 0 })
+HasCollectives table = is_for_requests (entry_at table collective_handler) ≡ true
 
 -- the handlers run it so, and do nothing else there
 abbrev pub ServesCollectives : Meaning → Type 0

@@ -27,7 +27,7 @@ use Rattle.collective_group.specs.OfGroups.{IsAt, StartIsOfGroup, StepIsOfGroup,
 
 -- ---- a start
 
-same_told : (answer : Told) → start_told (Some (asked_answer answer)) ≡ start_answer answer
+pub same_told : (answer : Told) → start_told (Some (asked_answer answer)) ≡ start_answer answer
 same_told (told.Accepted to slot number) = refl
 same_told told.Ran = refl
 same_told (told.BadArg part) = refl

@@ -1,7 +1,7 @@
 -- A try to end at a node of a world, as that of a group.
 use Rattle.std.proofs.Common.{◌≡◌, ℕ, List, [], ◌∷◌, map, None, refl, sym, ap, ap₂, ◌∙◌}
-use Rattle.std.specs.Prelude.{Result, Ok, Err}
-use Rattle.lists.proofs.Put.{put_same}
+use Rattle.std.specs.Prelude.{◌≢◌, Result, Ok, Err}
+use Rattle.lists.proofs.Put.{put_same, put_other}
 use Rattle.datagram_grammar.specs.Parameters.{Parameters}
 use Rattle.raw_segment.specs.Image.{Write}
 use Rattle.handler_rules.specs.declared.rules.Forbidden.{Forbidden}
@@ -100,6 +100,22 @@ far_by site group it asked (end_answers.WornOut other) at = at.progress_is
 far_by site group it asked (end_answers.Forbidden forbidden) at = at.progress_is
 far_by site group it asked end_answers.NoMemory at = at.progress_is
 
+others_by : (site : Site) (group : Group) (it : CollectivesState) (asked : EndAsked) (answer : EndAnswer) (other : ℕ)
+    → other ≢ site.node
+    → (ended_group (job_at site) it.area group site.now site.node asked.thread asked.dest (polled site group asked)
+    answer).progress other
+    ≡ group.progress other
+others_by site group it asked end_answers.Ended other apart =
+    put_other group.progress site.node (after_end (group.progress site.node)) other apart
+others_by site group it asked (end_answers.Mismatch which) other apart =
+    put_other group.progress site.node (after_end (group.progress site.node)) other apart
+others_by site group it asked end_answers.NotReady other apart = refl
+others_by site group it asked end_answers.NotStarted other apart = refl
+others_by site group it asked (end_answers.BadArg argument) other apart = refl
+others_by site group it asked (end_answers.WornOut which) other apart = refl
+others_by site group it asked (end_answers.Forbidden forbidden) other apart = refl
+others_by site group it asked end_answers.NoMemory other apart = refl
+
 -- ---- all of it
 
 does_by : (site : Site) (group : Group) (it : CollectivesState) (asked : EndAsked) → IsAt site group it
@@ -132,4 +148,7 @@ end_is_of_group site group it asked at = record {
   progress = λ none.
       ap (λ (both : EndAnswer × Group). both.1.progress site.node) (does_by site group it asked at none)
       ∙ far_by site group it asked (tried_answer site (group.records site.node) it asked.thread) at;
+  others = λ none other apart.
+      ap (λ (both : EndAnswer × Group). both.1.progress other) (does_by site group it asked at none)
+      ∙ others_by site group it asked (tried_answer site (group.records site.node) it asked.thread) other apart;
 }

@@ -1,1 +1,6 @@
 pub mod OfGroups
+pub mod GroupState
+pub mod Standing
+pub mod Histories
+pub mod Wholes
+pub mod Opening

@@ -1,5 +1,5 @@
 -- What the calls of a collective at a node of a world are to a group of nodes that run collectives.
-use Rattle.std.specs.Prelude.{ℕ, ◌≡◌, ◌<◌, Option, None, Some}
+use Rattle.std.specs.Prelude.{ℕ, ◌≡◌, ◌≢◌, ◌<◌, Option, None, Some}
 use Rattle.plain_world.specs.World.{Asks, run, world_answer, world_after}
 use Rattle.endpoint_rules.specs.EndpointRules.{timed}
 use Rattle.node_caller.specs.Sites.{Site, answer_at, job_at}
@@ -73,7 +73,7 @@ pub record EndIs (site : Site) (group : Group) (it : CollectivesState) (asked : 
   pub refused : (refusal : EndAnswer)
       → end_refusal it.area it.settings.segment it.me (progress_of it) asked.dest ≡ Some refusal
       → does_end (job_at site) it.area group site.now site.node asked.thread asked.dest ≡ (refusal, group)
-  -- else its answer is the group's, and its calls leave the group's records
+  -- else its answer is the group's, its calls leave the group's records, and the other nodes are as far as before
   pub answered : end_refusal it.area it.settings.segment it.me (progress_of it) asked.dest ≡ None
       → (does_end (job_at site) it.area group site.now site.node asked.thread asked.dest).0
       ≡ tried_answer site (group.records site.node) it asked.thread
@@ -84,6 +84,10 @@ pub record EndIs (site : Site) (group : Group) (it : CollectivesState) (asked : 
   pub progress : end_refusal it.area it.settings.segment it.me (progress_of it) asked.dest ≡ None
       → (does_end (job_at site) it.area group site.now site.node asked.thread asked.dest).1.progress site.node
       ≡ progress_of (ended_then (tried_answer site (group.records site.node) it asked.thread) it)
+  pub others : end_refusal it.area it.settings.segment it.me (progress_of it) asked.dest ≡ None
+      → (other : ℕ) → other ≢ site.node
+      → (does_end (job_at site) it.area group site.now site.node asked.thread asked.dest).1.progress other
+      ≡ group.progress other
 
 abbrev pub EndIsOfGroup : Type 0
 EndIsOfGroup =

@@ -1,22 +1,24 @@
-//! Collectives at a node of a world: what their calls are to a group of nodes that run collectives, as the laws have it
-//! (`collective_laws`). It has no code.
+//! Groups: worlds of endpoints whose nodes run collectives, and what their calls are by the laws (`collective_laws`).
 //!
-//! The contracts of `gas_collectives` say what a start, a step and a try to end do by the record of their node. In a
-//! world that is what the same event of a group does: the answer, and what is left of the records and of how far the
-//! node is. So the laws of groups are laws of these calls.
+//! - `Group` keeps a world, and how far each node is with its collectives. Its calls are the events of the groups of the
+//!   laws: the answer is the one of the event, and the code stands for what the event leaves [`does`], of each group for
+//!   which it stood (`specs/Standing.antt`). Where memory ran out, `specs/Standing.antt` says which of these it is.
+//! - Each history of the group, which is the list of its events from its opening on, goes on by the call's event
+//!   [`history`] (`specs/Histories.antt`).
+//! - `Group::coll_end` carries the law of results as a clause [`law`: `TellsOfHistory`]: whatever happened to the group
+//!   before, `Ended` says that all nodes have started that phase with one shape, and that the node's result stands at
+//!   `dest`; `Mismatch(k)` that all have started it, and that `k` is the first node whose shape isn't the own one.
+//! - `AtGroup` is a `Caller` at a node of a group. The whole for which it stands is the group: a call is an event that no
+//!   collective makes, and leaves the collectives as they are (`calls_are_other_events`).
+//! - `calls_are_of_a_group` carries what joins the contracts of `gas_collectives` with the laws: what a start, a step and
+//!   a try to end do by the record of their node is what the same event of a group does.
 #![tactic(auto)]
 
-ghost use Rattle.collective_group.specs.OfGroups.{EndIsOfGroup, StartIsOfGroup, StepIsOfGroup};
+mod at_group;
+mod collecting;
+mod group;
+mod laws;
 
-/// Carries what this crate proves, for the check alone: it has no code.
-///
-/// `start`, of a start at a node of a group: where it is refused, the group's start is refused so and leaves the group as
-/// it is; else its call is the event of the group's start, its answer is the group's, and the node is as far.
-/// `step`, of each call of a step: it is the event of the group's step, which ends with the same answer or goes on to the
-/// next node, and the node is as far. `end`, of a try: its answer is the group's, its calls are events that leave the
-/// group's records, and the node is as far.
-pub fn calls_are_of_a_group()
-    ensures start { StartIsOfGroup }
-    ensures step { StepIsOfGroup }
-    ensures end { EndIsOfGroup }
-{}
+pub use at_group::AtGroup;
+pub use group::Group;
+pub use laws::{calls_are_of_a_group, calls_are_other_events};

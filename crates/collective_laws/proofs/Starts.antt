@@ -1,7 +1,7 @@
 -- A start, whatever it is answered: the invariant holds then.
 use Rattle.std.proofs.Common.{◌≡◌, ℕ, ◌<◌, List, Option, None, Some, refl, sym, subst}
 use Rattle.std.specs.Prelude.{◌≢◌, ◌+◌, ◌%◌, nat_le, nat_lt, not, Bool, true, false, [], ◌∷◌, if◌then◌else◌}
-use Rattle.std.proofs.Common.{ap, ◌∙◌, arith}
+use Rattle.std.proofs.Common.{◌∙◌, arith}
 use Rattle.std.proofs.lemmas.Bool.{le-ltb, lt-leb}
 use Rattle.lists.proofs.Cases.{none_some}
 use Rattle.handler_rules.specs.Registered.{entry_at, is_for_requests}
@@ -86,7 +86,7 @@ no_fault settings table area node thread progress shape from registered good nod
     fault_none (nat_le settings.nodes node) (is_for_requests (entry_at table collective_handler)) (nat_lt 16 4)
     (nat_lt 8192 shape.len) (nat_lt settings.segment (from + shape.len))
     (nat_lt settings.segment (data_place area (progress.started % 2) node + shape.len))
-    (lt-leb settings.nodes node there) (ap is_for_requests registered) refl
+    (lt-leb settings.nodes node there) registered refl
     (le-ltb 8192 shape.len (omega (arith, few, small)))
     (le-ltb settings.segment (from + shape.len) source)
     (le-ltb settings.segment (data_place area (progress.started % 2) node + shape.len)

@@ -25,11 +25,10 @@ use Rattle.endpoint_rules.specs.declared.answer.Answer.{Answer}
 use Rattle.endpoint_rules.specs.declared.answer.Answer.TheVariants as answers
 use Rattle.transfer_laws.specs.Chunks.{EndpointJob, segment_at, writes_at}
 use Rattle.collective_area.specs.declared.shape.Shape.{Shape}
-use Rattle.collective_area.specs.declared.shape.CollectiveKind.TheVariants as kind
 use Rattle.collective_area.specs.Area.{Area, SpareArea}
 use Rattle.collective_area.specs.Served.{collective_handler, header_for}
 use Rattle.collective_area.specs.Results.{Contribution, pieces_of}
-use Rattle.gas_collectives.specs.Progress.{Progress, is_open}
+use Rattle.gas_collectives.specs.Progress.{Progress, idle, is_open}
 use Rattle.gas_collectives.specs.Progress.{start_refusal, start_ask, start_answer}
 use Rattle.gas_collectives.specs.Progress.{has_started, after_start, step_ask, is_left, with_sent, with_worn, end_refusal}
 use Rattle.gas_collectives.specs.Progress.{end_answer, after_end, data_of_all, writes_from}
@@ -45,16 +44,6 @@ pub record Group : Type 0 where
   pub records : Records
   pub progress : ℕ → Progress
   pub given : ℕ → List Contribution  -- by node: what it started its phases with, phase 0 first
-
--- a node that has started nothing
-abbrev pub idle : Progress
-idle = record {
-  started = 0;
-  ended = 0;
-  shape = record { kind = kind.Broadcast; root = 0; len = 0 };
-  sent = λ to. false;
-  worn = λ to. false;
-}
 
 abbrev pub opening_group : Parameters → Group
 opening_group settings =

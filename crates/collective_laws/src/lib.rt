@@ -15,9 +15,10 @@ ghost use Rattle.collective_laws.specs.Phases.{PhasesAreSafe};
 /// in, a node that is ready to end a phase has each node's message of that phase in its part, all nodes have started the
 /// phase, and no message runs behind a later one of its part.
 ///
-/// `collectives`, of every run of a job whose areas are written by these calls and their messages alone: a try that is
-/// answered `Ended` has all nodes in that phase with one shape, and leaves the node's result at its place. One that is
-/// answered `Mismatch(k)` has all nodes in that phase, and `k` is the first whose shape isn't the node's own.
+/// `collectives`, of every run of a job whose areas are written by these calls and their messages alone, and in which
+/// nobody else calls their handler: a try that is answered `Ended` has all nodes in that phase with one shape, and leaves
+/// the node's result at its place. One that is answered `Mismatch(k)` has all nodes in that phase, and `k` is the first
+/// whose shape isn't the node's own.
 pub fn every_collective()
     ensures phases { PhasesAreSafe }
     ensures collectives { InEveryJob CollectivesHold }

@@ -20,7 +20,7 @@ const KINDS: [CollectiveKind; 9] = [
 ];
 
 /// The word that a node gives to a phase.
-fn given(phase: u64, node: u16) -> u64 {
+pub fn given(phase: u64, node: u16) -> u64 {
     1000 * (phase % 1000) + 7 * u64::from(node) + 3
 }
 
@@ -83,7 +83,7 @@ fn finish(nodes: &mut Nodes) -> bool {
 }
 
 /// The word of the result at a place of a node, by its kind, where the last node is the root.
-fn expected(kind: CollectiveKind, phase: u64, count: u16, place: u16) -> u64 {
+pub fn expected(kind: CollectiveKind, phase: u64, count: u16, place: u16) -> u64 {
     let last = count.saturating_sub(1);
     match kind {
         CollectiveKind::Broadcast | CollectiveKind::Max | CollectiveKind::AllMax => given(

@@ -1,21 +1,22 @@
-//! The nodes of a job that runs collectives, in a world.
+//! The nodes of a job that runs collectives, in a group.
 
-ghost use Rattle.std.specs.Prelude.{◌≡◌, ◌<◌};
+ghost use Rattle.std.specs.Prelude.{◌≡◌, ◌<◌, IfOk};
 ghost use Rattle.gas_world.specs.Aims.{MayFall};
 ghost use Rattle.gas_world.specs.Events.{event_of};
 ghost use Rattle.plain_world.specs.World.{IsAmong};
+ghost use Rattle.collective_area.specs.Served.{HasCollectives};
 
 use crate::handlers::CollectiveHandlers;
 use collective_area::{Shape, entry};
+use collective_group::Group;
 use datagram_grammar::Settings;
 use endpoint_rules::{Answer, Call, Local};
-use gas_collectives::{Collectives, EndAnswer, StartAnswer, StepAnswer};
-use gas_world::{World, WorldAnswer, WorldEvent};
+use gas_collectives::{EndAnswer, StartAnswer, StepAnswer};
+use gas_world::{WorldAnswer, WorldEvent};
 use handler_rules::Table;
 use std::alloc::Global;
 use std::marker::Model;
 use std::test::Fail;
-use world_caller::AtNode;
 
 /// Where the area begins.
 const BASE: u64 = 16384;
@@ -26,25 +27,34 @@ const ROOM: u64 = 64;
 /// Where results go.
 pub const DEST: u64 = 32768;
 
-/// Nodes of a job with segments of 65,536 bytes, and how far each is with its collectives. Each gives the bytes at 0. All
-/// happens at time 0.
+/// Nodes of a job with segments of 65,536 bytes and one thread each. Each gives the bytes at 0. All happens at time 0.
 #[derive(Drop)]
 pub struct Nodes {
-    world: World,
+    group: Group,
     settings: Settings,
-    far: Vec<Collectives>,
 }
 
 impl Model for Nodes {
     ghost use Rattle.std.specs.Prelude.{◌≡◌};
-    ghost use Rattle.gas_world.specs.WorldState.{WorldState};
-    ghost use Rattle.collective_tests.specs.Nodes.{AreNodes};
+    ghost use Rattle.collective_group.specs.GroupState.{GroupState};
 
-    ghost Value = { WorldState };
+    ghost Value = { GroupState };
 
-    ghost view = { λ nodes. nodes.world };
+    ghost view = { λ nodes. nodes.group };
 
-    ghost invariant = { λ nodes. AreNodes nodes.settings nodes.world nodes.far.items };
+    ghost invariant = { λ nodes. (nodes.group.world.settings ≡ nodes.settings)
+        × (nodes.settings.threads ≡ 1) };
+}
+
+/// The table with the handler of collectives alone.
+fn table(alloc: Global) -> Result<Table, Fail>
+    ensures { IfOk result HasCollectives }
+{
+    let mut table = Table::new(alloc)?;
+    match table.register(entry()) {
+        Ok(_) => Ok(table),
+        Err(_) => Err(Fail::new("refused")),
+    }
 }
 
 impl Nodes {
@@ -53,23 +63,9 @@ impl Nodes {
         let settings = Settings::new(2, 7, count, credits, 1, 65536, 1_000_000, 10).ok_or(
             "the settings",
         )?;
-        let mut table = Table::new(alloc)?;
-        if table.register(entry()).is_err() {
-            return Err(Fail::new("refused"));
-        }
-        let mut far = Vec::with_capacity(alloc, usize::from(count))?;
-        for node in 0..settings.nodes() {
-            let Some(one) = Collectives::new(&settings, node, BASE, ROOM) else {
-                return Err(Fail::new("the area"));
-            };
-            far.push(one)?;
-        }
-        let world = World::new(alloc, &settings, &table)?;
-        Ok(Nodes {
-            world,
-            settings,
-            far,
-        })
+        let table = table(alloc)?;
+        let group = Group::new(alloc, &settings, &table, BASE, ROOM)?;
+        Ok(Nodes { group, settings })
     }
 
     /// How many there are.
@@ -82,13 +78,10 @@ impl Nodes {
         if node >= self.settings.nodes() {
             return None;
         }
-        let mut caller = AtNode {
-            world: &mut self.world,
-            node,
-            handlers: &CollectiveHandlers,
-            now: 0,
-        };
-        Some(self.far[usize::from(node)].start(&mut caller, 0, shape, 0))
+        let answer = self
+            .group
+            .coll_start(&CollectiveHandlers, 0, node, 0, shape, 0);
+        Some(answer)
     }
 
     /// A node does a step.
@@ -96,13 +89,7 @@ impl Nodes {
         if node >= self.settings.nodes() {
             return None;
         }
-        let mut caller = AtNode {
-            world: &mut self.world,
-            node,
-            handlers: &CollectiveHandlers,
-            now: 0,
-        };
-        Some(self.far[usize::from(node)].step(&mut caller, 0))
+        Some(self.group.coll_step(&CollectiveHandlers, 0, node, 0))
     }
 
     /// A node tries to end its phase.
@@ -110,22 +97,16 @@ impl Nodes {
         if node >= self.settings.nodes() {
             return None;
         }
-        let mut caller = AtNode {
-            world: &mut self.world,
-            node,
-            handlers: &CollectiveHandlers,
-            now: 0,
-        };
-        Some(self.far[usize::from(node)].try_end(&mut caller, 0, DEST))
+        Some(self.group.coll_end(&CollectiveHandlers, 0, node, 0, DEST))
     }
 
     /// How an event is answered; none where its message was never sent, or memory ran out.
     fn happens(&mut self, event: &WorldEvent<'_>) -> Option<Answer>
-        requires among { IsAmong self.old.settings (event_of event.now) }
-        requires called { MayFall self.old.settings event.now }
-        ensures settings { self.new.settings ≡ self.old.settings }
+        requires among { IsAmong self.old.world.settings (event_of event.now) }
+        requires called { MayFall self.old.world.settings event.now }
+        ensures settings { self.new.world.settings ≡ self.old.world.settings }
     {
-        match self.world.step(&CollectiveHandlers, 0, event) {
+        match self.group.event(&CollectiveHandlers, 0, event) {
             WorldAnswer::Node(answer) => Some(answer),
             _ => None,
         }
@@ -149,7 +130,7 @@ impl Nodes {
         if from >= self.settings.nodes() || to >= self.settings.nodes() {
             return 0;
         }
-        self.world.first_out(from, to)
+        self.group.world().first_out(from, to)
     }
 
     /// The word of a node at an offset; none where there is none.

@@ -4,7 +4,7 @@ use Rattle.datagram_grammar.specs.Parameters.{Parameters}
 use Rattle.collective_area.specs.Area.{Area, IsArea}
 use Rattle.collective_area.specs.Shapes.{is_reduction}
 use Rattle.collective_area.specs.declared.shape.Shape.{Shape}
-use Rattle.gas_collectives.specs.Progress.{Progress}
+use Rattle.gas_collectives.specs.Progress.{Progress, idle}
 
 -- the job's settings, the node, the area in each segment, and how far the node is: `sent` and `worn` by node
 pub record CollectivesState : Type 0 where
@@ -68,6 +68,6 @@ pub record IsFresh (settings : Parameters) (me base room : ℕ) (it : Collective
   pub area_is : it.area ≡ record { nodes = settings.nodes; base = base; room = room }
   pub started : it.started ≡ 0
   pub ended : it.ended ≡ 0
-  pub shape : it.shape.len ≡ 0
+  pub shape : it.shape ≡ idle.shape
   pub sent : it.sent ≡ no_nodes
   pub worn : it.worn ≡ no_nodes

@@ -9,6 +9,7 @@ use Rattle.node_record.specs.declared.answer.Asked.{Asked}
 use Rattle.node_record.specs.declared.answer.Asked.TheVariants as asked
 use Rattle.node_record.specs.Behaviour.{Ask, PayloadFrom, Lent, Own}
 use Rattle.am_core.specs.ClientRules.{asks_of, long_asking}
+use Rattle.collective_area.specs.declared.shape.CollectiveKind.TheVariants as kind
 use Rattle.collective_area.specs.declared.shape.Shape.{Shape}
 use Rattle.collective_area.specs.Shapes.{shape_word, is_reduction, has_root, has_result, uses}
 use Rattle.collective_area.specs.Area.{Area, data_place, area_end, stamp_in, word_in, data_in}
@@ -28,6 +29,16 @@ pub record Progress : Type 0 where
   pub shape : Shape
   pub sent : ℕ → Bool
   pub worn : ℕ → Bool
+
+-- a node that has started nothing
+abbrev pub idle : Progress
+idle = record {
+  started = 0;
+  ended = 0;
+  shape = record { kind = kind.Broadcast; root = 0; len = 0 };
+  sent = λ to. false;
+  worn = λ to. false;
+}
 
 -- a phase is started and not ended
 abbrev pub is_open : Progress → Bool

@@ -64,6 +64,7 @@ pub enum EndAnswer {
     WornOut(u16),
     /// The rule table forbids the poll; a violation was noted.
     Forbidden(Forbidden),
-    /// Memory ran out; the phase isn't ended. It never comes where the caller stands for a node's record.
+    /// Memory ran out; the phase isn't ended. It never comes where the caller stands for a record of a run, whose segment
+    /// has the length of the settings.
     NoMemory,
 }

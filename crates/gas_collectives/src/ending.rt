@@ -4,7 +4,7 @@ ghost use Rattle.std.specs.Prelude.{◌≡◌, ◌<◌, IfNone};
 ghost use Rattle.node_caller.specs.Sites.{IsThere};
 ghost use Rattle.collective_area.specs.Results.{result_len};
 ghost use Rattle.gas_collectives.specs.Progress.{end_refusal, is_bad_dest};
-ghost use Rattle.gas_collectives.specs.CollectivesState.{IsSameNode, progress_of};
+ghost use Rattle.gas_collectives.specs.CollectivesState.{IsSameNode, Stands, progress_of};
 ghost use Rattle.gas_collectives.specs.Ends.{Ends, HasPiece, MayEnd, Polls, WritesPiece, WritesResult};
 
 use crate::answers::{Argument, EndAnswer};
@@ -39,6 +39,7 @@ impl Collectives {
         ensures same_reference { K.lent caller.new ≡ K.lent caller.old }
         ensures same_site { K.site caller.new ≡ K.site caller.old }
         ensures same_node { IsSameNode self.old self.new }
+        ensures stands { Stands self.old }
     {
         if let Some(refusal) = self.end_refusal(dest) {
             return refusal;

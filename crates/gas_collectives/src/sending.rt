@@ -4,7 +4,7 @@ ghost use Rattle.std.specs.Prelude.{◌≡◌, ◌<◌};
 ghost use Rattle.am_core.specs.AskedFor.{payload_from};
 ghost use Rattle.node_caller.specs.Sites.{IsThere};
 ghost use Rattle.gas_collectives.specs.Progress.{is_left};
-ghost use Rattle.gas_collectives.specs.CollectivesState.{IsSameNode, progress_of};
+ghost use Rattle.gas_collectives.specs.CollectivesState.{IsSameNode, Stands, progress_of};
 ghost use Rattle.gas_collectives.specs.Starts.{CallsOne};
 ghost use Rattle.gas_collectives.specs.Steps.{Sends, Steps, noted, payload_for, step_call, step_told};
 
@@ -33,6 +33,7 @@ impl Collectives {
         ensures same_reference { K.lent caller.new ≡ K.lent caller.old }
         ensures same_site { K.site caller.new ≡ K.site caller.old }
         ensures same_node { IsSameNode self.old self.new }
+        ensures stands { Stands self.old }
     {
         if self.ended >= self.started {
             return StepAnswer::Nothing;

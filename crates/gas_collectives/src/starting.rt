@@ -4,7 +4,7 @@ ghost use Rattle.std.specs.Prelude.{◌≡◌, ◌<◌, ◌^◌, ◌-◌, Some, 
 ghost use Rattle.collective_area.specs.Served.{header_arguments};
 ghost use Rattle.node_caller.specs.Sites.{IsThere};
 ghost use Rattle.gas_collectives.specs.Progress.{start_refusal};
-ghost use Rattle.gas_collectives.specs.CollectivesState.{IsSameNode, progress_of};
+ghost use Rattle.gas_collectives.specs.CollectivesState.{IsSameNode, Stands, progress_of};
 ghost use Rattle.gas_collectives.specs.Starts.{CallsOne, Starts, Passes, IsNoStart, start_call, start_told};
 
 use crate::answers::{Argument, StartAnswer};
@@ -46,7 +46,8 @@ fn refusal_of(answer: &Answer) -> Option<StartAnswer>
 impl Collectives {
     /// Starts the next phase with the bytes at `from`: brings them to the own part, by a Long request to the own node.
     ///
-    /// The answer is the first of these that applies; of a refusal, nothing changed.
+    /// The answer is the first of these that applies. Of those before `Forbidden` no call was made, and nothing changed; of
+    /// the others but `Started` nothing is started.
     /// - `Busy`: the phase before isn't ended.
     /// - `BadArg(Root)`: the root isn't a node, or it isn't 0 for a kind without a root.
     /// - `BadArg(Length)`: the length is above the room of a part, or for a reduction isn't a multiple of 8.
@@ -74,6 +75,7 @@ impl Collectives {
         ensures same_reference { K.lent caller.new ≡ K.lent caller.old }
         ensures same_site { K.site caller.new ≡ K.site caller.old }
         ensures same_node { IsSameNode self.old self.new }
+        ensures stands { Stands self.old }
     {
         if let Some(refusal) = self.start_refusal(shape, from) {
             return refusal;

@@ -1,0 +1,144 @@
+-- A try to end at a node of a group of the code, as that of a group.
+use Rattle.std.proofs.Common.{◌≡◌, ℕ, List, Option, Some, None, refl, sym, ap, ◌∙◌, subst}
+use Rattle.std.specs.Prelude.{slice_set}
+use Rattle.handler_rules.specs.Runs.{Meaning}
+use Rattle.node_record.specs.Record.{Node}
+use Rattle.plain_world.specs.World.{run}
+use Rattle.endpoint_rules.specs.EndpointLocal.{EndpointLocal}
+use Rattle.endpoint_rules.specs.EndpointRules.{Records}
+use Rattle.endpoint_rules.proofs.CoreKept.{segment_long}
+use Rattle.gas_world.specs.Stands.{Stands as WorldStands}
+use Rattle.gas_world.specs.WorldState.{WorldState}
+use Rattle.node_caller.specs.declared.caller.Caller.{Ghosts}
+use Rattle.node_caller.specs.Making.{whole_after}
+use Rattle.node_caller.specs.Sites.{Site, ThreadCall, job_at}
+use Rattle.world_caller.specs.Wholes.{WorldWhole, events_of}
+use Rattle.gas_collectives.specs.declared.answers.EndAnswer.{EndAnswer}
+use Rattle.gas_collectives.specs.Progress.{end_refusal}
+use Rattle.gas_collectives.specs.CollectivesState.{CollectivesState, IsSameNode, progress_of}
+use Rattle.gas_collectives.specs.Starts.{Refuses}
+use Rattle.gas_collectives.specs.Ends.{EndAsked, Ends, IsLong, Tries, end_calls, ended_then, segment_in, tried_answer}
+use Rattle.collective_area.specs.Area.{Area}
+use Rattle.collective_laws.specs.Groups.{End, Group, GroupEvent, OfEnd, does_end}
+use Rattle.collective_group.specs.GroupState.{GroupState}
+use Rattle.collective_group.specs.Standing.{Does, DoesOf, IsOf, StandsFor}
+use Rattle.collective_group.proofs.Tries.{end_is_of_group}
+use Rattle.collective_group.proofs.Starting.{IsNode, node_at, of_set, site_in}
+
+-- ---- what came of it, of a whole for which the caller stood
+
+-- the refusal that comes before any call
+abbrev pub refusal_of : CollectivesState → EndAsked → Option EndAnswer
+refusal_of it asked = end_refusal it.area it.settings.segment it.me (progress_of it) asked.dest
+
+-- it was refused, or the answer is by the node's record, and its calls left what they leave of the whole
+pub data EndCame (Whole : Type 0) (stood : Whole → Type 0) (whole : Whole) (site : Site) (node : Node EndpointLocal)
+    (left : List ThreadCall → Whole) (it : CollectivesState) (asked : EndAsked) (answer : EndAnswer)
+    (next : CollectivesState) : Type 0 where
+  Refused : (refusal : EndAnswer) → refusal_of it asked ≡ Some refusal → answer ≡ refusal → next ≡ it → stood whole
+      → EndCame Whole stood whole site node left it asked answer next
+  Tried : refusal_of it asked ≡ None → answer ≡ tried_answer site node it asked.thread → next ≡ ended_then answer it
+      → stood (left (end_calls it (segment_in site node) asked answer))
+      → EndCame Whole stood whole site node left it asked answer next
+
+-- by the refusal that comes first, if one does
+abbrev pub EndWays : {K : Type 0} → (caller : Ghosts K) → CollectivesState → K → EndAsked → EndAnswer
+    → CollectivesState → K → Option EndAnswer → Type 0
+EndWays caller it old asked answer next new refusal = elim refusal [
+  | Some first ↦ Refuses it old first answer next new
+  | None ↦ Tries caller it old asked answer next new
+]
+
+pub end_came : {K : Type 0} (caller : Ghosts K) (it : CollectivesState) (old : K) (asked : EndAsked)
+    (answer : EndAnswer) (next : CollectivesState) (new : K) → Ends caller it old asked answer next new
+    → (whole : caller.Whole) → caller.stands old whole
+    → IsLong (caller.site old) (caller.record_in (caller.site old) whole)
+    → EndCame caller.Whole (caller.stands new) whole (caller.site old) (caller.record_in (caller.site old) whole)
+    (λ calls. whole_after caller (caller.site old) whole calls) it asked answer next
+end_came {K} caller it old asked answer next new ends whole stands long = by_refusal (refusal_of it asked) refl ends
+  where
+    by_refusal : (refusal : Option EndAnswer) → refusal_of it asked ≡ refusal
+        → EndWays caller it old asked answer next new refusal
+        → EndCame caller.Whole (caller.stands new) whole (caller.site old) (caller.record_in (caller.site old) whole)
+        (λ calls. whole_after caller (caller.site old) whole calls) it asked answer next
+    by_refusal (Some refusal) is refuses =
+        Refused refusal is refuses.answer_is refuses.next_is
+        (subst (λ (at : K). caller.stands at whole) (sym refuses.same) stands)
+    by_refusal None is tries =
+        Tried is (tries.answered whole stands long) tries.next_is (tries.made whole stands long)
+
+-- ---- a try
+
+-- the segment of each node has the length of the settings
+pub long_at : (meaning : Meaning) (world : WorldState) (node now : ℕ) (records : Records) (most : ℕ → ℕ)
+    → WorldStands world records most → IsLong (site_in meaning world node now) (records node)
+long_at meaning world node now records most stands =
+    segment_long world.settings node (records node).local.core (stands.invariant_.kept node).core
+
+pub end_done : (meaning : Meaning) (old : GroupState) (world : WorldState) (now node : ℕ)
+    (it next : CollectivesState) (asked : EndAsked) (answer : EndAnswer) (group : Group) (most : ℕ → ℕ)
+    (left : List ThreadCall → WorldWhole)
+    → ((calls : List ThreadCall) → (left calls).records
+    ≡ run (job_at (site_in meaning old.world node now)) (events_of (site_in meaning old.world node now) calls)
+    group.records)
+    → IsNode meaning old node it → StandsFor old it.area group most → next.area ≡ it.area
+    → EndCame WorldWhole (λ (whole : WorldWhole). WorldStands world whole.records whole.most)
+    (record { records = group.records; most = most }) (site_in meaning old.world node now) (group.records node) left it
+    asked answer next
+    → DoesOf meaning old it.area group (End now node asked.thread asked.dest) (OfEnd answer)
+    (record { world = world; nodes = slice_set old.nodes node next })
+end_done meaning old world now node it next asked answer group most left run_is is stands area_is (Refused refusal first answer_is next_is stood) =
+    let at = node_at meaning old node now it it.area group most is stands in
+    let same = (end_is_of_group (site_in meaning old.world node now) group it asked at).refused refusal first in
+    let new : GroupState = record { world = world; nodes = slice_set old.nodes node next } in (
+      ap OfEnd (answer_is ∙ sym (ap (λ (both : EndAnswer × Group). both.0) same)),
+      subst (IsOf new it.area) (sym (ap (λ (both : EndAnswer × Group). both.1) same))
+          (of_set old world node it next it.area group group most is.low stands.nodes area_is stood
+          (at.progress_is ∙ ap progress_of (sym next_is)) (λ other apart. refl)),
+    )
+end_done meaning old world now node it next asked answer group most left run_is is stands area_is (Tried none answer_is next_is stood) =
+    let site = site_in meaning old.world node now in
+    let at = node_at meaning old node now it it.area group most is stands in
+    let of_group = end_is_of_group site group it asked at in
+    let next_group = (does_end (job_at site) it.area group now node asked.thread asked.dest).1 in
+    let calls = end_calls it (segment_in site (group.records node)) asked answer in
+    let records : (left calls).records ≡ next_group.records =
+    run_is calls
+    ∙ (ap (λ (one : EndAnswer). run (job_at site) (events_of site
+    (end_calls it (segment_in site (group.records node)) asked one)) group.records) answer_is
+    ∙ sym (of_group.left none)) in (
+      ap OfEnd (answer_is ∙ sym (of_group.answered none)),
+      of_set old world node it next it.area group next_group (left calls).most is.low stands.nodes area_is
+          (subst (λ (all : Records). WorldStands world all (left calls).most) records stood)
+          (of_group.progress none ∙ sym (ap progress_of (next_is ∙ ap (λ (one : EndAnswer). ended_then one it) answer_is)))
+          (of_group.others none),
+    )
+
+-- the try of a node at a place, of each group for which the code stood
+pub end_does : (meaning : Meaning) (old : GroupState) (world : WorldState) (now node place : ℕ)
+    (it next : CollectivesState) (asked : EndAsked) (answer : EndAnswer)
+    (left : WorldWhole → List ThreadCall → WorldWhole)
+    → ((whole : WorldWhole) (calls : List ThreadCall) → (left whole calls).records
+    ≡ run (job_at (site_in meaning old.world node now)) (events_of (site_in meaning old.world node now) calls)
+    whole.records)
+    → IsNode meaning old place it → place ≡ node → IsSameNode it next
+    → ((group : Group) (most : ℕ → ℕ) → WorldStands old.world group.records most
+    → EndCame WorldWhole (λ (whole : WorldWhole). WorldStands world whole.records whole.most)
+    (record { records = group.records; most = most }) (site_in meaning old.world node now) (group.records node)
+    (λ calls. left (record { records = group.records; most = most }) calls) it asked answer next)
+    → Does meaning old (End now node asked.thread asked.dest) (OfEnd answer)
+    (record { world = world; nodes = slice_set old.nodes place next })
+end_does meaning old world now node place it next asked answer left run_is is place_is same came = λ area group of.
+    let area_is : it.area ≡ area = (of.1.nodes place it is.there).0 in
+    let here : IsNode meaning old node it = subst (λ (at : ℕ). IsNode meaning old at it) place_is is in
+    let stands : StandsFor old it.area group of.0 =
+    subst (λ (one : Area). StandsFor old one group of.0) (sym area_is) of.1 in
+    let event : GroupEvent = End now node asked.thread asked.dest in
+    subst (λ (one : Area). DoesOf meaning old one group event (OfEnd answer)
+    (record { world = world; nodes = slice_set old.nodes place next })) area_is
+    (subst (λ (at : ℕ). DoesOf meaning old it.area group event (OfEnd answer)
+    (record { world = world; nodes = slice_set old.nodes at next })) (sym place_is)
+    (end_done meaning old world now node it next asked answer group of.0
+    (λ calls. left (record { records = group.records; most = of.0 }) calls)
+    (λ calls. run_is (record { records = group.records; most = of.0 }) calls) here stands same.area_is
+    (came group of.0 stands.world)))

@@ -1,0 +1,22 @@
+use Rattle.std.proofs.Common.{List, rules, sym, subst, ◌∙◌}
+use Rattle.collective_area.specs.Area.{Area}
+use Rattle.gas_collectives.specs.CollectivesState.{CollectivesState}
+use Rattle.collective_group.specs.GroupState.{AreAt}
+use Rattle.collective_group.specs.Opening.{AreIdle}
+use Rattle.collective_group.proofs.Nodes.{at_more, fresh_idle, idle_more}
+use Rattle.collective_group.proofs.group.idle_nodes.Goals as goal
+
+pub loop-node-preserved : goal.loop-node-preserved
+loop-node-preserved c =
+    let fresh = c.in-Some.ensures.some in
+    let settings = c.args.settings.now in
+    let area : Area = record { nodes = settings.nodes; base = c.args.base; room = c.args.room } in
+    record {
+      count = search rules;
+      at = subst (λ (nodes : List CollectivesState). AreAt settings nodes) (sym c.in_ok-push.ensures.items)
+          (at_more settings c.loop-node.nodes.items c.in-Some.one c.loop-node.invariant.at fresh.settings_are
+          (fresh.me_is ∙ sym c.loop-node.invariant.count));
+      idle = subst (λ (nodes : List CollectivesState). AreIdle area nodes) (sym c.in_ok-push.ensures.items)
+          (idle_more area c.loop-node.nodes.items c.in-Some.one c.loop-node.invariant.idle fresh.area_is
+          (fresh_idle settings c.loop-node.node c.args.base c.args.room c.in-Some.one fresh));
+    }

@@ -1,0 +1,69 @@
+-- What a group of the code stands for, and what its calls do of it: they are the events of the groups of the laws.
+use Rattle.std.specs.Prelude.{ℕ, ◌≡◌, ◌≤◌, List, Some, slice_get}
+use Rattle.handler_rules.specs.Runs.{Meaning}
+use Rattle.gas_world.specs.Events.{job_in}
+use Rattle.gas_world.specs.Stands.{Stands}
+use Rattle.collective_area.specs.Area.{Area}
+use Rattle.gas_collectives.specs.Progress.{Progress}
+use Rattle.gas_collectives.specs.CollectivesState.{CollectivesState, progress_of}
+use Rattle.gas_collectives.specs.declared.answers.StartAnswer.{StartAnswer}
+use Rattle.gas_collectives.specs.declared.answers.StartAnswer.TheVariants as start_answers
+use Rattle.gas_collectives.specs.declared.answers.StepAnswer.{StepAnswer}
+use Rattle.gas_collectives.specs.declared.answers.StepAnswer.TheVariants as step_answers
+use Rattle.collective_laws.specs.Groups.{Group, GroupAnswer, GroupEvent, OfStart, OfStep, group_does}
+use Rattle.collective_group.specs.GroupState.{GroupState}
+
+-- ---- what it stands for
+
+-- each node has this area, and is as far as the group has it
+abbrev pub AreAsFar : Area → (ℕ → Progress) → List CollectivesState → Type 0
+AreAsFar area progress nodes =
+    (node : ℕ) (one : CollectivesState) → slice_get nodes node ≡ Some one
+    → (one.area ≡ area) × (progress node ≡ progress_of one)
+
+-- it stands for this group with this area, whose nodes held at most so many buffers
+pub record StandsFor (it : GroupState) (area : Area) (group : Group) (most : ℕ → ℕ) : Type 0 where
+  pub world : Stands it.world group.records most
+  pub nodes : AreAsFar area group.progress it.nodes
+
+-- so it does for some such numbers
+abbrev pub IsOf : GroupState → Area → Group → Type 0
+IsOf it area group = (most : ℕ → ℕ) × StandsFor it area group most
+
+-- this holds of each group for which it stands
+abbrev pub ForItsGroups : GroupState → (Area → Group → Type 0) → Type 0
+ForItsGroups it Holds = (area : Area) (group : Group) → IsOf it area group → Holds area group
+
+-- ---- what a call does of it
+
+-- the event happens to the group: the answer is the group's, and the code stands for the group's next state
+abbrev pub DoesOf : Meaning → GroupState → Area → Group → GroupEvent → GroupAnswer → GroupState → Type 0
+DoesOf meaning old area group event answer new =
+    (answer ≡ (group_does (job_in meaning old.world) area group event).0)
+    × IsOf new area (group_does (job_in meaning old.world) area group event).1
+
+-- so it is of each group for which it stood
+abbrev pub Does : Meaning → GroupState → GroupEvent → GroupAnswer → GroupState → Type 0
+Does meaning old event answer new =
+    ForItsGroups old (λ area group. DoesOf meaning old area group event answer new)
+
+-- a start; where memory ran out, the group is as before
+abbrev pub StartsOf : Meaning → GroupState → Area → Group → GroupEvent → StartAnswer → GroupState → Type 0
+StartsOf meaning old area group event start_answers.NoMemory new = IsOf new area group
+StartsOf meaning old area group event answer new = DoesOf meaning old area group event (OfStart answer) new
+
+abbrev pub DoesStart : Meaning → GroupState → GroupEvent → StartAnswer → GroupState → Type 0
+DoesStart meaning old event answer new =
+    ForItsGroups old (λ area group. StartsOf meaning old area group event answer new)
+
+-- a step that tries all nodes; where memory ran out, the step that tries those before the one where it did
+abbrev pub StepsOf : Meaning → GroupState → Area → Group → (ℕ → GroupEvent) → StepAnswer → GroupState → Type 0
+StepsOf meaning old area group trying step_answers.NoMemory new =
+    (among : ℕ) × (among ≤ old.world.settings.nodes)
+    × IsOf new area (group_does (job_in meaning old.world) area group (trying among)).1
+StepsOf meaning old area group trying answer new =
+    DoesOf meaning old area group (trying old.world.settings.nodes) (OfStep answer) new
+
+abbrev pub DoesStep : Meaning → GroupState → (ℕ → GroupEvent) → StepAnswer → GroupState → Type 0
+DoesStep meaning old trying answer new =
+    ForItsGroups old (λ area group. StepsOf meaning old area group trying answer new)
