@@ -5,7 +5,7 @@ use Rattle.std.specs.List.{flat_map}
 use Rattle.std.proofs.lemmas.List.{drop_more}
 use Rattle.std.proofs.lemmas.List.Concat.{flat_map-append}
 use Rattle.job_text.specs.JobText.{Line, handler_lines, head_lines, job_text, pair_line, schedule_lines, script_lines}
-use Rattle.job_text.specs.JobText.{spell}
+use Rattle.job_text.specs.JobText.{atomics_lines, spell}
 use Rattle.job_text.specs.declared.job.Job.{Job}
 use Rattle.job_print.specs.Writing.{spaced_word, word_bytes, words_then}
 use Rattle.job_print.specs.declared.words.Word.{Word}
@@ -57,6 +57,14 @@ next_part {A} lines items i item low is =
     (flat_map lines (drop (i + 1) items))
     ∙ ap (λ (x : A). spell (lines x) ++ spell (flat_map lines (drop (i + 1) items))) (sym is)
 
+-- the next item
+pub next_text : {A : Type 0} (text : A → List ℕ) (items : List A) (i : ℕ) (item : A) → i < length items
+    → item ≡ get_or items i item
+    → flat_map text (drop i items) ≡ text item ++ flat_map text (drop (i + 1) items)
+next_text {A} text items i item low is =
+    ap (λ (left : List A). flat_map text left) (drop_more items i item low)
+    ∙ ap (λ (x : A). text x ++ flat_map text (drop (i + 1) items)) (sym is)
+
 -- words, and what stands behind them
 pub words_parts : (words : List Word) (bytes : List ℕ) → words_then words bytes ≡ flat_map spaced_word words ++ bytes
 words_parts [] bytes = refl
@@ -98,23 +106,26 @@ both_then : (front back : List Line) (rest : List ℕ)
 both_then front back rest =
     ap (λ (text : List ℕ). text ++ rest) (both front back) ∙ append_assoc (spell front) (spell back) rest
 
-five_parts : (head pairs handlers scripts schedule : List Line)
-    → spell ((((head ++ pairs) ++ handlers) ++ scripts) ++ (schedule ++ codes "done" ∷ []))
-    ≡ spell head ++ (spell pairs ++ (spell handlers ++ (spell scripts ++ (spell schedule ++ last_line))))
-five_parts head pairs handlers scripts schedule =
+six_parts : (head pairs atomics handlers scripts schedule : List Line)
+    → spell (((((head ++ pairs) ++ atomics) ++ handlers) ++ scripts) ++ (schedule ++ codes "done" ∷ []))
+    ≡ spell head ++ (spell pairs ++ (spell atomics ++ (spell handlers ++ (spell scripts
+    ++ (spell schedule ++ last_line)))))
+six_parts head pairs atomics handlers scripts schedule =
     let rest = spell (schedule ++ codes "done" ∷ []) in
-    both (((head ++ pairs) ++ handlers) ++ scripts) (schedule ++ codes "done" ∷ [])
-    ∙ both_then ((head ++ pairs) ++ handlers) scripts rest
-    ∙ both_then (head ++ pairs) handlers (spell scripts ++ rest)
-    ∙ both_then head pairs (spell handlers ++ (spell scripts ++ rest))
-    ∙ ap (λ (text : List ℕ). spell head ++ (spell pairs ++ (spell handlers ++ (spell scripts ++ text))))
-    (both schedule (codes "done" ∷ []))
+    both ((((head ++ pairs) ++ atomics) ++ handlers) ++ scripts) (schedule ++ codes "done" ∷ [])
+    ∙ both_then (((head ++ pairs) ++ atomics) ++ handlers) scripts rest
+    ∙ both_then ((head ++ pairs) ++ atomics) handlers (spell scripts ++ rest)
+    ∙ both_then (head ++ pairs) atomics (spell handlers ++ (spell scripts ++ rest))
+    ∙ both_then head pairs (spell atomics ++ (spell handlers ++ (spell scripts ++ rest)))
+    ∙ ap (λ (text : List ℕ). spell head ++ (spell pairs ++ (spell atomics ++ (spell handlers
+    ++ (spell scripts ++ text))))) (both schedule (codes "done" ∷ []))
 
 -- the parts of a job's text
 pub text_parts : (job : Job) → job_text job
-    ≡ spell (head_lines job) ++ (spell (map pair_line job.settings.pairs)
+    ≡ spell (head_lines job) ++ (spell (map pair_line job.settings.pairs) ++ (spell (atomics_lines job.atomics)
     ++ (spell (flat_map handler_lines job.handlers) ++ (spell (flat_map script_lines job.scripts)
-    ++ (spell (schedule_lines job.settings job.schedule) ++ last_line))))
+    ++ (spell (schedule_lines job.settings job.schedule) ++ last_line)))))
 text_parts job =
-    five_parts (head_lines job) (map pair_line job.settings.pairs) (flat_map handler_lines job.handlers)
-    (flat_map script_lines job.scripts) (schedule_lines job.settings job.schedule)
+    six_parts (head_lines job) (map pair_line job.settings.pairs) (atomics_lines job.atomics)
+    (flat_map handler_lines job.handlers) (flat_map script_lines job.scripts)
+    (schedule_lines job.settings job.schedule)

@@ -3,7 +3,8 @@ use Rattle.std.specs.Prelude.{ℕ, List, [], ◌∷◌, ◌++◌, decimal}
 use Rattle.std.specs.Fmt.{signed_decimal}
 use Rattle.std.specs.List.{flat_map}
 use Rattle.job_text.specs.Payloads.{bytes_word, payload_word}
-use Rattle.job_text.specs.Words.{implicit_word, kind_word, operand_word, role_word}
+use Rattle.job_text.specs.Words.{implicit_word, kind_word, op_word, operand_word, role_word}
+use Rattle.job_text.specs.Forms.{Operations, bundle_text}
 use Rattle.job_print.specs.declared.head.NumberLine.{NumberLine}
 use Rattle.job_print.specs.declared.words.Word.{Word}
 use Rattle.job_print.specs.declared.words.Word.TheVariants as word
@@ -21,6 +22,7 @@ word_bytes (word.Value operand) = operand_word operand
 word_bytes (word.Kind kind) = kind_word kind
 word_bytes (word.Role role) = role_word role
 word_bytes (word.Implicit which) = implicit_word which
+word_bytes (word.Operation op) = op_word op
 word_bytes (word.Bytes bytes) = bytes_word bytes.now
 word_bytes (word.Payload payload) = payload_word payload.now
 
@@ -28,12 +30,13 @@ word_bytes (word.Payload payload) = payload_word payload.now
 abbrev pub spaced_word : Word → List ℕ
 spaced_word word = 32 ∷ word_bytes word
 
--- a space and a word for each of a list
+-- a space and each word of a list
 abbrev pub last_text : Last → List ℕ
 last_text last.Nothing = []
 last_text (last.Operands operands) = flat_map (λ operand. 32 ∷ operand_word operand) operands.now
 last_text (last.Registers registers) = flat_map (λ register. 32 ∷ decimal register) registers.now
 last_text (last.Locks locks) = flat_map (λ lock. 32 ∷ decimal lock) locks.now
+last_text (last.WordOps ops) = flat_map (bundle_text Operations) ops.now
 
 -- a space and a word for each, and then these bytes
 abbrev pub words_then : List Word → List ℕ → List ℕ

@@ -9,7 +9,7 @@ ghost use Rattle.job_text.specs.declared.job.ScheduledCall.TheVariants as calls;
 use crate::forms::{Last, write, write_form, write_list};
 use crate::words::Word;
 use gas_outside::{BufferedSink, Sink, Wrote};
-use job_text::{LongText, MediumText, Operands, ScheduledCall, TransferText};
+use job_text::{BatchText, LongText, MediumText, Operands, ScheduledCall, TransferText};
 
 /// Writes a Short request.
 fn write_short<K: Sink>(
@@ -154,6 +154,19 @@ pub(crate) fn write_barrier<K: Sink>(
     write(name, &[Word::Integer(id), Word::U8(flags)], sink)
 }
 
+/// Writes a batch of remote atomics.
+fn write_batch<K: Sink>(batch: &BatchText, sink: &mut BufferedSink<K>) -> Wrote
+    ensures { GathersAll (outbox K.taken K.faults sink.old) (outbox K.taken K.faults sink.new)
+        (call_text (calls.Atomic batch.now)) result }
+{
+    let words = [
+        Word::U16(batch.to()),
+        Word::U64(batch.local()),
+        Word::U64(batch.tag()),
+    ];
+    write_form(b"atomic", &words, Last::WordOps(batch.ops()), sink)
+}
+
 /// Writes a call.
 pub(crate) fn write_call<K: Sink>(call: &ScheduledCall, sink: &mut BufferedSink<K>) -> Wrote
     ensures { GathersAll (outbox K.taken K.faults sink.old) (outbox K.taken K.faults sink.new)
@@ -192,5 +205,6 @@ pub(crate) fn write_call<K: Sink>(call: &ScheduledCall, sink: &mut BufferedSink<
         Call::RegionEnd { register } => write(b"region-end", &[U8(*register)], sink),
         Call::Notify { id, flags } => write_barrier(b"notify", *id, *flags, sink),
         Call::TryBarrier { id, flags } => write_barrier(b"try-barrier", *id, *flags, sink),
+        Call::Atomic { batch } => write_batch(batch.text(), sink),
     }
 }

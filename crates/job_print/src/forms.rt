@@ -3,11 +3,13 @@
 ghost use Rattle.std.specs.Prelude.{◌++◌, ◌∷◌, [], decimal};
 ghost use Rattle.std.specs.List.{flat_map};
 ghost use Rattle.gas_outside.specs.Buffered.{GathersAll, outbox};
+ghost use Rattle.job_text.specs.Forms.{Operations, bundle_text};
 ghost use Rattle.job_text.specs.Words.{operand_word};
 ghost use Rattle.job_print.specs.Writing.{last_text, words_then};
 
 use crate::numbers::{write_number, write_operand};
 use crate::words::{Word, write_spaced};
+use gas_atomic::WordOp;
 use gas_outside::{BufferedSink, Sink, Wrote};
 use job_text::{ListedLocks, Operand, Operands, Registers};
 
@@ -22,6 +24,8 @@ pub(crate) enum Last<'a> {
     Registers(&'a Registers),
     /// Locks.
     Locks(&'a ListedLocks),
+    /// Operations of remote atomics.
+    WordOps(&'a [WordOp]),
 }
 
 /// Writes a space and the word of each operand.
@@ -56,6 +60,33 @@ fn write_numbers<K: Sink>(numbers: &[u8], sink: &mut BufferedSink<K>) -> Wrote
     Wrote::Done
 }
 
+/// Writes a space and each word of an operation of remote atomics.
+fn write_op<K: Sink>(op: WordOp, sink: &mut BufferedSink<K>) -> Wrote
+    ensures { GathersAll (outbox K.taken K.faults sink.old) (outbox K.taken K.faults sink.new)
+        (bundle_text Operations op) result }
+{
+    let words = [
+        Word::Operation(op.op),
+        Word::U64(op.offset),
+        Word::U64(op.a),
+        Word::U64(op.b),
+    ];
+    write_spaced(&words, sink)
+}
+
+/// Writes the words of operations, in their order.
+fn write_ops<K: Sink>(ops: &[WordOp], sink: &mut BufferedSink<K>) -> Wrote
+    ensures { GathersAll (outbox K.taken K.faults sink.old) (outbox K.taken K.faults sink.new)
+        (flat_map (bundle_text Operations) ops.now) result }
+{
+    for op in ops {
+        if let Wrote::Fault = write_op(*op, sink) {
+            return Wrote::Fault;
+        }
+    }
+    Wrote::Done
+}
+
 /// Writes the list at the end of a line.
 fn write_last<K: Sink>(last: Last<'_>, sink: &mut BufferedSink<K>) -> Wrote
     ensures { GathersAll (outbox K.taken K.faults sink.old) (outbox K.taken K.faults sink.new)
@@ -66,6 +97,7 @@ fn write_last<K: Sink>(last: Last<'_>, sink: &mut BufferedSink<K>) -> Wrote
         Last::Operands(operands) => write_operands(operands.items(), sink),
         Last::Registers(registers) => write_numbers(registers.items(), sink),
         Last::Locks(locks) => write_numbers(locks.items(), sink),
+        Last::WordOps(ops) => write_ops(ops, sink),
     }
 }
 

@@ -1,7 +1,8 @@
-//! The head of a job: its settings, the sieve, and the pairs with credits of their own.
+//! The head of a job: its settings, the sieve, the pairs with credits of their own, and the line of atomics.
 
 ghost use Rattle.std.specs.Prelude.{◌++◌, ◌∷◌, [], map};
 ghost use Rattle.gas_outside.specs.Buffered.{GathersAll, outbox};
+ghost use Rattle.job_text.specs.JobText.{atomics_lines};
 ghost use Rattle.job_text.specs.JobText.{all_settings, head_lines, pair_line, setting_line};
 ghost use Rattle.job_text.specs.JobText.{sieve_line, spell};
 ghost use Rattle.job_print.specs.Writing.{number_line};
@@ -98,4 +99,15 @@ pub(crate) fn write_pairs<K: Sink>(pairs: &[PairCredits], sink: &mut BufferedSin
         }
     }
     Wrote::Done
+}
+
+/// Writes the line of atomics, where nodes serve batches.
+pub(crate) fn write_atomics<K: Sink>(atomics: bool, sink: &mut BufferedSink<K>) -> Wrote
+    ensures { GathersAll (outbox K.taken K.faults sink.old) (outbox K.taken K.faults sink.new)
+        (spell (atomics_lines atomics)) result }
+{
+    if !atomics {
+        return Wrote::Done;
+    }
+    sink.write_all(b"atomics\n")
 }

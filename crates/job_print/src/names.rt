@@ -1,8 +1,9 @@
-//! The words of kinds of calls, of roles and of implicit operations.
+//! The words of kinds of calls, of roles, of implicit operations and of those of remote atomics.
 
 ghost use Rattle.std.specs.Prelude.{◌≡◌};
-ghost use Rattle.job_text.specs.Words.{implicit_word, kind_word, role_word};
+ghost use Rattle.job_text.specs.Words.{implicit_word, kind_word, op_word, role_word};
 
+use gas_atomic::Op;
 use handler_rules::{CallKind, Role};
 use job_text::ImplicitKind;
 
@@ -41,5 +42,23 @@ pub(crate) fn implicit_word(which: ImplicitKind) -> &'static [u8]
         ImplicitKind::Puts => b"puts",
         ImplicitKind::Gets => b"gets",
         ImplicitKind::All => b"all",
+    }
+}
+
+/// The word of an operation of remote atomics.
+pub(crate) fn op_word(op: Op) -> &'static [u8]
+    ensures { result.now ≡ op_word op }
+{
+    match op {
+        Op::Get => b"get",
+        Op::Swap => b"swap",
+        Op::CompareSwap => b"cas",
+        Op::Add => b"add",
+        Op::Sub => b"sub",
+        Op::And => b"and",
+        Op::Or => b"or",
+        Op::Xor => b"xor",
+        Op::Min => b"min",
+        Op::Max => b"max",
     }
 }

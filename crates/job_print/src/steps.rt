@@ -76,6 +76,9 @@ fn write_waiting<K: Sink>(step: &WaitingStep, sink: &mut BufferedSink<K>) -> Wro
         Step::WaitSome { registers } => write_list(b"wait-some", registers, sink),
         Step::WaitImplicit { which } => write(b"wait-nbi", &[Implicit(*which)], sink),
         Step::BarrierWait { id, flags } => write_barrier(b"barrier-wait", *id, *flags, sink),
+        Step::UntilWord { offset, number } => {
+            write(b"until-word", &[U64(*offset), U64(*number)], sink)
+        }
     }
 }
 

@@ -4,9 +4,10 @@ ghost use Rattle.gas_outside.specs.Buffered.{GathersAll, outbox};
 ghost use Rattle.std.specs.List.{flat_map};
 ghost use Rattle.job_print.specs.Writing.{spaced_word, word_bytes};
 
-use crate::names::{implicit_word, kind_word, role_word};
+use crate::names::{implicit_word, kind_word, op_word, role_word};
 use crate::numbers::{write_integer, write_number, write_operand};
 use crate::payloads::{write_bytes, write_payload};
+use gas_atomic::Op;
 use gas_outside::{BufferedSink, Sink, Wrote};
 use handler_rules::{CallKind, Role};
 use job_text::{Bytes, ImplicitKind, Operand, Payload};
@@ -32,6 +33,8 @@ pub(crate) enum Word<'a> {
     Role(Role),
     /// Implicit operations.
     Implicit(ImplicitKind),
+    /// An operation of remote atomics.
+    Operation(Op),
     /// Bytes.
     Bytes(&'a Bytes),
     /// A payload.
@@ -53,6 +56,7 @@ pub(crate) fn write_word<K: Sink>(word: Word<'_>, sink: &mut BufferedSink<K>) ->
         Word::Kind(kind) => sink.write_all(kind_word(kind)),
         Word::Role(role) => sink.write_all(role_word(role)),
         Word::Implicit(which) => sink.write_all(implicit_word(which)),
+        Word::Operation(op) => sink.write_all(op_word(op)),
         Word::Bytes(bytes) => write_bytes(bytes.items(), sink),
         Word::Payload(payload) => write_payload(payload, sink),
     }

@@ -17,16 +17,18 @@ use Rattle.job_text.specs.Scripts.{step_text, IsStep}
 use Rattle.job_text.specs.Places.{Setting, Version, Nodes, Credits, Threads, Segment, Last, Resend, Patience}
 use Rattle.job_text.specs.Places as places
 use Rattle.job_text.specs.Places.{Place, AtSetting, AtSieve, AtPairs, AtHandlers, AtBody, AtScripts, AtSteps}
-use Rattle.job_text.specs.Places.{AtSchedule, AtDone, Over}
+use Rattle.job_text.specs.Places.{AtAtomics, atomics_text, AtSchedule, AtDone, Over}
+use Rattle.job_text.specs.Scopes.{scope_of}
+use Rattle.job_text.specs.declared.scope.Scope.{Scope}
 use Rattle.job_text.specs.Places.{Named, Other, Item, item_text, IsItem, least, greatest, setting_fits, in_place}
 use Rattle.job_text.specs.Places.{pair_fits}
 use Rattle.job_text.specs.JobReading.{State, least_job, start, with_number, behind_setting, with_body, with_handler}
 use Rattle.job_text.specs.JobReading.{with_steps, with_script, total_rounds, next, has_index, has_pair, has_thread}
-use Rattle.job_text.specs.JobReading.{rounds_of, is_full, front_with, read}
+use Rattle.job_text.specs.JobReading.{rounds_of, is_full, is_reserved, most_handlers, with_atomics, front_with, read}
 use Rattle.job_text.specs.JobText.{Line, spell, setting_line, sieve_line, pair_line, handler_lines, timed_lines}
 use Rattle.job_text.specs.JobText.{script_lines, schedule_lines, head_lines, lines_with_pairs, lines_with_handlers}
 use Rattle.job_text.specs.JobText.{job_lines, job_text, IsHandler, IsNodeScript, AreThreads, IsScheduleOrNone}
-use Rattle.job_text.specs.JobText.{with_first_pairs, IsJob}
+use Rattle.job_text.specs.JobText.{AreUnreserved, atomics_lines, lines_with_atomics, with_first_pairs, IsJob}
 use Rattle.job_text.specs.declared.job.Action.{Action}
 use Rattle.job_text.specs.declared.job.HandlerText.{HandlerText}
 use Rattle.job_text.specs.declared.job.Job.{Job}
@@ -46,8 +48,8 @@ use Rattle.job_text.proofs.Threads.{threads_new}
 pub record Leads (P : State → Type 0) (state : State) (line : Line) : Type 0 where
   pub item : Item state.place
   pub to : State
-  pub text : line ≡ item_text state.place state.job.settings item
-  pub is : IsItem state.place state.job.settings item
+  pub text : line ≡ item_text state.place (scope_of state.job) item
+  pub is : IsItem state.place (scope_of state.job) item
   pub goes : next state.place state.job item ≡ Ok to
   pub behind : P to
 
@@ -86,13 +88,13 @@ pub reach_read : (lines : List Line) (state end : State) (line : ℕ) (more : Li
 reach_read [] state end line more h = ap (λ (s : State). read s line more) h ∙ ap (λ (n : ℕ). read end n more)
     (omega arith)
 reach_read (x ∷ lines) state end line more h =
-    let text : spell (x ∷ lines) ++ more ≡ item_text state.place state.job.settings h.item ++ 10 ∷ (spell lines
+    let text : spell (x ∷ lines) ++ more ≡ item_text state.place (scope_of state.job) h.item ++ 10 ∷ (spell lines
     ++ more) =
     append_assoc (x ++ 10 ∷ []) (spell lines) more ∙ append_assoc x (10 ∷ []) (spell lines ++ more) ∙ ap
     (λ (l : List ℕ). l ++ 10 ∷ (spell lines ++ more)) h.text in
     ap (read state line) text
-    ∙ read_on state.place state.job line (item_text state.place state.job.settings h.item ++ 10 ∷ (spell lines
-    ++ more)) (spell lines ++ more) h.item h.to (line_again state.place state.job.settings h.item (spell lines
+    ∙ read_on state.place state.job line (item_text state.place (scope_of state.job) h.item ++ 10 ∷ (spell lines
+    ++ more)) (spell lines ++ more) h.item h.to (line_again state.place (scope_of state.job) h.item (spell lines
     ++ more) h.is) h.goes
     ∙ reach_read lines h.to end (line + 1) more h.behind
     ∙ ap (λ (n : ℕ). read end n more) (omega arith)
@@ -175,10 +177,10 @@ greatest_fits Last = omega arith
 greatest_fits Resend = omega arith
 greatest_fits Patience = omega arith
 
-setting_item : (setting : Setting) (settings : Parameters) (number : ℕ) → least setting ≤ number
-    → number ≤ greatest setting → setting_fits setting settings number ≡ true → IsItem
-    (AtSetting setting) settings number
-setting_item setting settings number low high fits = (
+setting_item : (setting : Setting) (scope : Scope) (number : ℕ) → least setting ≤ number
+    → number ≤ greatest setting → setting_fits setting scope.settings number ≡ true → IsItem
+    (AtSetting setting) scope number
+setting_item setting scope number low high fits = (
   ((low, high, let g = greatest_fits setting in omega arith), tt),
   fits,
 )
@@ -189,6 +191,7 @@ of_head job pairs = record {
   settings = record job.settings { pairs = pairs };
   patience = job.patience;
   sieve = job.sieve;
+  atomics = false;
   handlers = [];
   scripts = [];
   schedule = None;
@@ -198,12 +201,12 @@ setting_lead : (setting : Setting) (job : Job) (number : ℕ) (lines : List Line
     → least setting ≤ number → number ≤ greatest setting → setting_fits setting job.settings number ≡ true → Reaches
     (record { place = behind_setting setting; job = with_number setting number job }) lines end
     → Reaches (record { place = AtSetting setting; job = job }) (item_text
-    (AtSetting setting) job.settings number ∷ lines) end
+    (AtSetting setting) (scope_of job) number ∷ lines) end
 setting_lead setting job number lines end low high fits on = record {
   item = number;
   to = record { place = behind_setting setting; job = with_number setting number job };
   text = refl;
-  is = setting_item setting job.settings number low high fits;
+  is = setting_item setting (scope_of job) number low high fits;
   goes = refl;
   behind = on;
 }
@@ -317,7 +320,7 @@ pub record IsNext (settings : Parameters) (front : List PairCredits) (pair : Pai
   pub few : length front < 64
 
 pair_item : (settings : Parameters) (front : List PairCredits) (pair : PairCredits) → IsNext settings front pair
-    → IsItem AtPairs (with_pairs settings front) (Named pair)
+    → IsItem AtPairs (record { settings = with_pairs settings front; atomics = false }) (Named pair)
 pair_item settings front pair n =
     let i = n.is in
     let sum : credits_in_all (in_place (with_pairs settings front) pair) ≤ 65536 = rw (← sum_beside
@@ -436,9 +439,9 @@ locks_said [] are = tt
 locks_said (lock ∷ locks) are = let high = are.0 in ((omega arith, omega arith, omega arith), locks_said locks are.1)
 
 handler_reach : (h : HandlerText) (job : Job) → IsHandler h → has_index job.handlers h.index ≡ false
-    → length job.handlers < 128 → Reaches (record { place = AtHandlers; job = job }) (handler_lines h)
+    → is_reserved job.atomics h.index ≡ false → length job.handlers < most_handlers job.atomics → Reaches (record { place = AtHandlers; job = job }) (handler_lines h)
     (record { place = AtHandlers; job = with_handler h job })
-handler_reach h job is new few =
+handler_reach h job is new free few =
     let high = index_high h.index is.index in
     record {
       item = Named (record { index = h.index; role = h.role; locks = h.locks });
@@ -448,7 +451,7 @@ handler_reach h job is new few =
         ((omega arith, high, omega arith), (tt, locks_said h.locks (listed_locks 0 h.locks is.locks))),
         and_from _ _ (index_test h.index is.index) is.locks,
       );
-      goes = rw (new, lt-leb 128 (length job.handlers) few) refl;
+      goes = rw (new, free, lt-leb (most_handlers job.atomics) (length job.handlers) few) refl;
       behind = body_reach h [] h.body job is.actions is.count;
     }
 
@@ -456,36 +459,53 @@ abbrev pub with_handlers : Job → List HandlerText → Job
 with_handlers job handlers = record job { handlers = handlers }
 
 -- handlers of which the first ones stand
-abbrev MayFollow : (front rest : List HandlerText) → Type 0
-MayFollow front rest = AllByRecursion IsHandler rest
-    × AreFresh (map (λ (x : HandlerText). x.index) front) rest × (length (front ++ rest) ≤ 128)
+abbrev MayFollow : (atomics : Bool) → (front rest : List HandlerText) → Type 0
+MayFollow atomics front rest = AllByRecursion IsHandler rest
+    × AreFresh (map (λ (x : HandlerText). x.index) front) rest × (length (front ++ rest) ≤ most_handlers atomics)
+    × AreUnreserved atomics rest
 
 abbrev behind_front : Job → List HandlerText → State
 behind_front job front = record { place = AtHandlers; job = with_handlers job front }
 
 next_handler : (job : Job) (front : List HandlerText) (h : HandlerText) (rest : List HandlerText)
-    → MayFollow front (h ∷ rest)
+    → MayFollow job.atomics front (h ∷ rest)
     → Reaches (behind_front job front) (handler_lines h) (behind_front job (front ++ h ∷ []))
-    × MayFollow (front ++ h ∷ []) rest
+    × MayFollow job.atomics (front ++ h ∷ []) rest
 next_handler job front h rest may =
     let many : length (front ++ h ∷ rest) ≡ length front + suc (length rest) = simp length-append in
     let few = may.2 in
-    let one = handler_reach h (with_handlers job front) may.0.0 (fresh_to front h.index may.1.0)
+    let one = handler_reach h (with_handlers job front) may.0.0 (fresh_to front h.index may.1.0) may.3.0
     (omega (arith, many, few)) in
     let indexes : map (λ (x : HandlerText). x.index) (front ++ h ∷ []) ≡ map (λ (x : HandlerText). x.index) front
     ++ h.index ∷ [] = map-append (λ (x : HandlerText). x.index) front (h ∷ []) in
     let fresh = subst (λ (t : List ℕ). AreFresh t rest) (sym indexes) may.1.1 in
-    let room = subst (λ (hs : List HandlerText). length hs ≤ 128) (sym (append_assoc front (h ∷ []) rest)) few in
-    (one, (may.0.1, fresh, room))
+    let room = subst (λ (hs : List HandlerText). length hs ≤ most_handlers job.atomics)
+    (sym (append_assoc front (h ∷ []) rest)) few in
+    (one, (may.0.1, fresh, room, may.3.1))
 
-handlers_reach : (job : Job) (front rest : List HandlerText) → MayFollow front rest
+handlers_reach : (job : Job) (front rest : List HandlerText) → MayFollow job.atomics front rest
     → Reaches (behind_front job front) (flat_map handler_lines rest) (behind_front job (front ++ rest))
-handlers_reach job front rest may = parts_reach (behind_front job) handler_lines MayFollow (next_handler job) front rest
-    may
+handlers_reach job front rest may =
+    parts_reach (behind_front job) handler_lines (MayFollow job.atomics) (next_handler job) front rest may
 
--- what may come behind handlers may come behind pairs
+-- ---- atomics
+
+-- what may come behind handlers may come behind the line of atomics or in its place, and what may come there may come
+-- behind pairs
+behind_atomics : (job : Job) (line : Line) (lines : List Line) (end : State) → Reaches
+    (record { place = AtHandlers; job = job }) (line ∷ lines) end → Reaches (record { place = AtAtomics; job = job })
+    (line ∷ lines) end
+behind_atomics job line lines end h = record {
+  item = Other h.item;
+  to = h.to;
+  text = h.text;
+  is = h.is;
+  goes = h.goes;
+  behind = h.behind;
+}
+
 behind_pairs : (job : Job) (line : Line) (lines : List Line) (end : State) → Reaches
-    (record { place = AtHandlers; job = job }) (line ∷ lines) end → Reaches (record { place = AtPairs; job = job })
+    (record { place = AtAtomics; job = job }) (line ∷ lines) end → Reaches (record { place = AtPairs; job = job })
     (line ∷ lines) end
 behind_pairs job line lines end h = record {
   item = Other h.item;
@@ -496,10 +516,41 @@ behind_pairs job line lines end h = record {
   behind = h.behind;
 }
 
+-- the line of atomics
+atomics_reach : (job : Job) → job.settings.version ≡ 2 → Reaches (record { place = AtAtomics; job = job })
+    (atomics_text tt ∷ []) (record { place = AtHandlers; job = with_atomics job })
+atomics_reach job second = record {
+  item = Named tt;
+  to = record { place = AtHandlers; job = with_atomics job };
+  text = refl;
+  is = (tt, eq-eqb job.settings.version 2 second);
+  goes = refl;
+  behind = refl;
+}
+
+-- the job with batches or without
+abbrev pub with_flag : Job → Bool → Job
+with_flag job atomics = record job { atomics = atomics }
+
+-- lines behind pairs, with the line of atomics before them or not
+atomics_then : (job : Job) (atomics : Bool) (lines : List Line) (end : State) → (atomics ≡ true
+    → job.settings.version ≡ 2) → job.atomics ≡ false → (lines ≡ [] → ⊥)
+    → Reaches (record { place = AtHandlers; job = with_flag job atomics }) lines end
+    → Reaches (record { place = AtPairs; job = job }) (atomics_lines atomics ++ lines) end
+atomics_then job true lines end second none some h =
+    behind_pairs job (atomics_text tt) lines end
+    (reach_join (record { place = AtAtomics; job = job }) (record { place = AtHandlers; job = with_atomics job }) end
+    (atomics_text tt ∷ []) lines (atomics_reach job (second refl)) h)
+atomics_then job false [] end second none some h = absurd (some refl)
+atomics_then job false (line ∷ lines) end second none some h =
+    let same : with_flag job false ≡ job = ap (with_flag job) (sym none) in
+    behind_pairs job line lines end (behind_atomics job line lines end
+    (subst (λ (j : Job). Reaches (record { place = AtHandlers; job = j }) (line ∷ lines) end) same h))
+
 -- ---- scripts
 
-steps_reach : (script : NodeScript) (front rest : List ScriptStep) (job : Job) → AllByRecursion IsStep rest → length
-    (front ++ rest) ≤ 4096
+steps_reach : (script : NodeScript) (front rest : List ScriptStep) (job : Job)
+    → AllByRecursion (IsStep (scope_of job)) rest → length (front ++ rest) ≤ 4096
     → Reaches (record { place = AtSteps (with_steps front script); job = job }) (map step_text rest ++ end_line ∷ [])
     (record { place = AtScripts; job = with_script (with_steps (front ++ rest) script) job })
 steps_reach script front [] job all few = record {
@@ -532,7 +583,7 @@ steps_reach script front (s ∷ rest) job all few =
           (steps : List ScriptStep). length steps ≤ 4096) (sym (append_assoc front (s ∷ []) rest)) few));
     }
 
-script_reach : (s : NodeScript) (job : Job) → IsNodeScript job.settings.nodes job.settings.threads s
+script_reach : (s : NodeScript) (job : Job) → IsNodeScript (scope_of job) s
     → job.settings.nodes ≤ 256 → job.settings.threads ≤ 16 → has_thread job.scripts s.node s.thread ≡ false
     → Reaches (record { place = AtScripts; job = job }) (script_lines s)
     (record { place = AtScripts; job = with_script s job })
@@ -560,7 +611,7 @@ with_scripts job scripts = record job { scripts = scripts }
 -- scripts of which the first ones stand
 abbrev MayGoOn : Job → (front rest : List NodeScript) → Type 0
 MayGoOn job front rest =
-    AllByRecursion (IsNodeScript job.settings.nodes job.settings.threads) rest × AreThreads (front ++ rest)
+    AllByRecursion (IsNodeScript (scope_of job)) rest × AreThreads (front ++ rest)
 
 abbrev behind_scripts_of : Job → List NodeScript → State
 behind_scripts_of job front = record { place = AtScripts; job = with_scripts job front }
@@ -614,7 +665,7 @@ fewer : (a b n limit : ℕ) → a ≤ b → b * n ≤ limit → a * n ≤ limit
 fewer a b n limit h k = let m : a * n ≤ b * n = mul-le-mul_right n h in omega (arith, m, k)
 
 schedule_reach : (job : Job) (front rest : List TimedEvent) → AllByRecursion
-    (IsTimed job.settings.nodes job.settings.threads) rest → length (front ++ rest) ≤ 65536 → total_rounds (front
+    (IsTimed (scope_of job)) rest → length (front ++ rest) ≤ 65536 → total_rounds (front
     ++ rest) ≤ 4096 → total_rounds (front ++ rest) * job.settings.nodes ≤ 262144
     → Reaches (record { place = AtSchedule; job = with_schedule job front }) (timed_lines job.settings rest
     ++ end_line ∷ []) (record { place = AtDone; job = with_schedule job (front ++ rest) })
@@ -666,7 +717,7 @@ done_reach job = record {
 }
 
 tail_reach : (job : Job) (schedule : Option (List TimedEvent)) → job.schedule ≡ None
-    → IsScheduleOrNone job.settings schedule
+    → IsScheduleOrNone (scope_of job) schedule
     → Reaches (record { place = AtScripts; job = job }) (schedule_lines job.settings schedule ++ done_line ∷ [])
     (record { place = Over; job = record job { schedule = schedule } })
 tail_reach job None e is = record {
@@ -707,17 +758,13 @@ handlers_then : (job : Job) (lines : List Line) (end : State) → (lines ≡ [] 
 handlers_then job [] end some h = absurd (some refl)
 handlers_then job (line ∷ lines) end some h = behind_handlers job line lines end h
 
-pairs_then : (job : Job) (lines : List Line) (end : State) → (lines ≡ [] → ⊥) → Reaches
-    (record { place = AtHandlers; job = job }) lines end → Reaches (record { place = AtPairs; job = job }) lines end
-pairs_then job [] end some h = absurd (some refl)
-pairs_then job (line ∷ lines) end some h = behind_pairs job line lines end h
-
 fresh_all : (hs : List HandlerText) → AreNew [] hs
 fresh_all hs k h e n = refl
 
 pub whole_reach : (job : Job) → IsJob job → Reaches start (job_lines job) (record { place = Over; job = job })
 whole_reach job is =
-    let first = of_head job job.settings.pairs in
+    let begun = of_head job job.settings.pairs in
+    let first = with_flag begun job.atomics in
     let last = schedule_lines job.settings job.schedule ++ done_line ∷ [] in
     let over : State = record { place = Over; job = job } in
     let handlers = handlers_reach first [] job.handlers (
@@ -725,6 +772,7 @@ whole_reach job is =
       apart_fresh [] job.handlers is.apart
           (fresh_all job.handlers),
       is.few_handlers,
+      is.unreserved,
     ) in
     let second = with_handlers first job.handlers in
     let handler_part = flat_map handler_lines job.handlers in
@@ -737,15 +785,17 @@ whole_reach job is =
     (record { place = AtScripts; job = with_scripts second job.scripts }) over script_part last scripts tail) in
     let later = reach_join (record { place = AtHandlers; job = first })
     (record { place = AtHandlers; job = second }) over handler_part (script_part ++ last) handlers scripted in
-    let behind = pairs_then first (handler_part ++ (script_part ++ last)) over
+    let behind_head = handler_part ++ (script_part ++ last) in
+    let behind = atomics_then begun job.atomics behind_head over is.atomics refl
     (some_behind handler_part (script_part ++ last) some) later in
     let head = reach_join start (record { place = AtPairs; job = of_head job [] })
-    (record { place = AtPairs; job = first }) (head_lines job) (map pair_line job.settings.pairs)
+    (record { place = AtPairs; job = begun }) (head_lines job) (map pair_line job.settings.pairs)
     (head_reach job is) (pairs_reach job is [] job.settings.pairs refl) in
     subst (λ (ls : List Line). Reaches start ls over) (sym (append_assoc (lines_with_handlers job) script_part last
-    ∙ append_assoc (lines_with_pairs job) handler_part (script_part ++ last)))
-    (reach_join start (record { place = AtPairs; job = first }) over (lines_with_pairs job)
-    (handler_part ++ (script_part ++ last)) head behind)
+    ∙ append_assoc (lines_with_atomics job) handler_part (script_part ++ last)
+    ∙ append_assoc (lines_with_pairs job) (atomics_lines job.atomics) behind_head))
+    (reach_join start (record { place = AtPairs; job = begun }) over (lines_with_pairs job)
+    (atomics_lines job.atomics ++ behind_head) head behind)
 
 -- bytes that begin with the text of a job are read as that job, and those behind it are left
 pub job_read : (job : Job) → IsJob job → (rest : List ℕ) → read start 1 (job_text job ++ rest)

@@ -1,5 +1,6 @@
 -- The table of events, and lines of a schedule.
 use Rattle.std.proofs.Common.{◌≡◌, ℕ, List, ◌∷◌, ◌++◌, Some, refl, ap, sym, ◌∙◌, arith, decimal, append_assoc}
+use Rattle.job_text.specs.declared.scope.Scope.{Scope}
 use Rattle.job_text.specs.declared.job.ScheduledEvent.{ScheduledEvent}
 use Rattle.job_text.specs.declared.job.ScheduledEvent.TheVariants as event
 use Rattle.job_text.specs.declared.job.TimedEvent.{TimedEvent}
@@ -27,17 +28,25 @@ events_are nodes threads = record {
   again = λ e h. event_again nodes threads e;
 }
 
+-- the texts in a scope
+abbrev pub event_line : Scope → ScheduledEvent → List ℕ
+event_line scope event = event_text scope.settings.nodes scope.settings.threads event
+
+abbrev pub timed_line : Scope → TimedEvent → List ℕ
+timed_line scope timed = timed_text scope.settings.nodes scope.settings.threads timed
+
 -- reading an event is the inverse of writing it
-pub events_exact : (nodes threads : ℕ) → IsExact (event_at nodes threads) (event_text nodes threads)
-    (IsEvent nodes threads)
+pub events_exact : (scope : Scope) → IsExact (event_at scope) (event_line scope) (IsEvent scope)
 unfolding event_at
-events_exact nodes threads =
-    table_exact call_at call_text IsCall (events nodes threads) (event_entry nodes threads) is_apart calls_exact
-    (events_are nodes threads)
+events_exact scope =
+    let nodes = scope.settings.nodes in
+    let threads = scope.settings.threads in
+    table_exact (call_at scope) call_text (IsCall scope) (events nodes threads) (event_entry nodes threads) is_apart
+    (calls_exact scope) (events_are nodes threads)
 
 -- a line of a schedule, and the bytes after it
-abbrev pub IsTimedOf : (nodes threads : ℕ) → List ℕ → TimedEvent × List ℕ → Type 0
-IsTimedOf nodes threads bytes x = (bytes ≡ timed_text nodes threads x.0 ++ x.1) × IsTimed nodes threads x.0
+abbrev pub IsTimedOf : Scope → List ℕ → TimedEvent × List ℕ → Type 0
+IsTimedOf scope bytes x = (bytes ≡ timed_line scope x.0 ++ x.1) × IsTimed scope x.0
 
 -- the parts of a line, joined
 joined : (time line rest r e bytes : List ℕ) → bytes ≡ time ++ r → r ≡ 32 ∷ e → e ≡ line ++ rest
@@ -46,16 +55,16 @@ joined time line rest r e bytes a b c =
     a ∙ ap (λ (x : List ℕ). time ++ x) (b ∙ ap (λ (x : List ℕ). 32 ∷ x) c) ∙ sym (append_assoc time (32 ∷ line) rest)
 
 -- a line that was read
-timed_takes : (nodes threads : ℕ) (bytes : List ℕ) → Takes (IsTimedOf nodes threads bytes)
-    (timed_at nodes threads bytes)
+timed_takes : (scope : Scope) (bytes : List ℕ) → Takes (IsTimedOf scope bytes)
+    (timed_at scope bytes)
 unfolding timed_at
-timed_takes nodes threads bytes =
+timed_takes scope bytes =
     takes_then (IsWordOf U64 bytes) (word_at_takes U64 bytes) (λ t h.
     takes_then (λ (r : List ℕ). t.1 ≡ 32 ∷ r) (spaced_takes t.1) (λ r k.
-    takes_then (λ (e : ScheduledEvent × List ℕ). (r ≡ event_text nodes threads e.0 ++ e.1) × IsEvent nodes threads e.0)
-    ((events_exact nodes threads).takes r) (λ e m.
-    takes_some {P = IsTimedOf nodes threads bytes} {x = (record { time = t.0; event = e.0 }, e.1)} (
-      joined (decimal t.0) (event_text nodes threads e.0) e.1 t.1 r bytes h.0 k m.0,
+    takes_then (λ (e : ScheduledEvent × List ℕ). (r ≡ event_line scope e.0 ++ e.1) × IsEvent scope e.0)
+    ((events_exact scope).takes r) (λ e m.
+    takes_some {P = IsTimedOf scope bytes} {x = (record { time = t.0; event = e.0 }, e.1)} (
+      joined (decimal t.0) (event_line scope e.0) e.1 t.1 r bytes h.0 k m.0,
       record {
         time = h.1.2;
         event = m.1;
@@ -63,30 +72,30 @@ timed_takes nodes threads bytes =
     ))))
 
 -- a line is read again
-timed_again : (nodes threads : ℕ) (t : TimedEvent) (rest : List ℕ) → IsTimed nodes threads t
-    → timed_at nodes threads (timed_text nodes threads t ++ 10 ∷ rest) ≡ Some (t, 10 ∷ rest)
+timed_again : (scope : Scope) (t : TimedEvent) (rest : List ℕ) → IsTimed scope t
+    → timed_at scope (timed_line scope t ++ 10 ∷ rest) ≡ Some (t, 10 ∷ rest)
 unfolding timed_at
-timed_again nodes threads t rest h =
+timed_again scope t rest h =
     let lt = h.time in
     rw (
-      append_assoc (decimal t.time) (32 ∷ event_text nodes threads t.event) (10 ∷ rest),
-      word_at_again U64 t.time (32 ∷ (event_text nodes threads t.event ++ 10 ∷ rest)) (
+      append_assoc (decimal t.time) (32 ∷ event_line scope t.event) (10 ∷ rest),
+      word_at_again U64 t.time (32 ∷ (event_line scope t.event ++ 10 ∷ rest)) (
         omega arith,
         omega arith,
         h.time,
       ) refl,
-      (events_exact nodes threads).again t.event rest h.event,
+      (events_exact scope).again t.event rest h.event,
     ) refl
 
 -- reading a line of a schedule is the inverse of writing it
-pub timed_exact : (nodes threads : ℕ) → IsExact (timed_at nodes threads) (timed_text nodes threads)
-    (IsTimed nodes threads)
-timed_exact nodes threads = record {
-  takes = timed_takes nodes threads;
-  again = timed_again nodes threads;
+pub timed_exact : (scope : Scope) → IsExact (timed_at scope) (timed_line scope)
+    (IsTimed scope)
+timed_exact scope = record {
+  takes = timed_takes scope;
+  again = timed_again scope;
   flat = λ t h.
       let lt = h.time in
-      flat_join (decimal t.time) (32 ∷ event_text nodes threads t.event) (word_flat U64 t.time
+      flat_join (decimal t.time) (32 ∷ event_line scope t.event) (word_flat U64 t.time
       (omega arith, omega arith, h.time))
-      (refl, (events_exact nodes threads).flat t.event h.event);
+      (refl, (events_exact scope).flat t.event h.event);
 }

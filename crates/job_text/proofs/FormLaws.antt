@@ -5,8 +5,11 @@ use Rattle.std.specs.List.{AllByRecursion, flat_map}
 use Rattle.std.specs.Str.{bytes_eq}
 use Rattle.std.proofs.lemmas.Bool.{leb-true, le-leb, eqb-true, or_parts}
 use Rattle.job_text.specs.Lines.{Word, is_stop, front, back, spaced, ended}
-use Rattle.job_text.specs.Forms.{Part, Meaning, word_text, IsSaid, word_at, part_at, has_space, parts_at, many_at}
-use Rattle.job_text.specs.Forms.{Shape, End, ◌▸◌, Many, Any, Inner, Values, made, values_at, values_text}
+use Rattle.job_text.specs.Forms.{Part, Meaning, word_text, IsSaid, word_at, part_at, has_space, each_at, parts_at}
+use Rattle.job_text.specs.Forms.{many_at, Together, together_text, AreTogether, together_at}
+use Rattle.job_text.specs.Forms.{Bundle, Operations, parts_of, Bundled, bundled, unbundled, bundle_text, IsBundle}
+use Rattle.job_text.specs.Forms.{bundle_at, bundles_at}
+use Rattle.job_text.specs.Forms.{Shape, End, ◌▸◌, Many, Any, Bundles, Inner, Values, made, values_at, values_text}
 use Rattle.job_text.specs.Forms.{AreSaid}
 use Rattle.job_text.specs.Forms.{Row, Entry, row_at, named_at, table_at, entry_text, IsEntry, IsOf, none_at}
 use Rattle.job_text.specs.Forms.{none_text, none_fits}
@@ -87,29 +90,83 @@ pub part_at_again : (p : Part) (x : Meaning p) (rest : List ℕ) → IsSaid p x 
 unfolding part_at
 part_at_again p x rest h e = word_at_again p x rest h e
 
--- ---- lists of words
+-- ---- lists
 
--- the text of a list of words
-abbrev pub parts_text : (p : Part) → List (Meaning p) → List ℕ
-parts_text p xs = flat_map (λ x. 32 ∷ word_text p x) xs
+-- the bytes are the texts of what was read, each behind the one before, and the bytes after them
+abbrev pub AreEachOf : {A : Type 0} → (text : A → List ℕ) → (fits : A → Type 0) → (most : ℕ) → List ℕ
+    → List A × List ℕ → Type 0
+AreEachOf text fits most bytes xs = (bytes ≡ flat_map text xs.0 ++ xs.1) × (length xs.0 ≤ most)
+    × AllByRecursion fits xs.0
 
-abbrev pub ArePartsOf : (p : Part) → (most : ℕ) → List ℕ → List (Meaning p) × List ℕ → Type 0
-ArePartsOf p most bytes xs = (bytes ≡ parts_text p xs.0 ++ xs.1) × (length xs.0 ≤ most) × AllByRecursion (IsSaid p) xs.0
-
-pub parts_at_takes : (p : Part) (most : ℕ) (bytes : List ℕ) → Takes (ArePartsOf p most bytes) (parts_at p most bytes)
-unfolding parts_at
-parts_at_takes p zero bytes = takes_some (refl, omega arith, tt)
-parts_at_takes p (suc most) bytes =
+each_takes : {A : Type 0} (at : List ℕ → Option (A × List ℕ)) (text : A → List ℕ) (fits : A → Type 0)
+    → ((bytes : List ℕ) → Takes (λ x. (bytes ≡ text x.0 ++ x.1) × fits x.0) (at bytes)) → (most : ℕ)
+    (bytes : List ℕ) → Takes (AreEachOf text fits most bytes) (each_at at most bytes)
+unfolding each_at
+each_takes at text fits takes zero bytes = takes_some (refl, omega arith, tt)
+each_takes {A} at text fits takes (suc most) bytes =
     takes_if {b = has_space bytes}
-    (λ t. takes_then (IsPartOf p bytes) (part_at_takes p bytes) (λ x h.
-    takes_then (ArePartsOf p most x.1) (parts_at_takes p most x.1) (λ xs k.
+    (λ t. takes_then (λ (x : A × List ℕ). (bytes ≡ text x.0 ++ x.1) × fits x.0) (takes bytes) (λ x h.
+    takes_then (AreEachOf text fits most x.1) (each_takes at text fits takes most x.1) (λ xs k.
     takes_some (
-      h.0 ∙ ap (λ (r : List ℕ). 32 ∷ (word_text p x.0 ++ r)) k.0 ∙ ap (λ (r : List ℕ). 32 ∷ r)
-          (sym (append_assoc (word_text p x.0) (parts_text p xs.0) xs.1)),
+      h.0 ∙ ap (λ (r : List ℕ). text x.0 ++ r) k.0 ∙ sym (append_assoc (text x.0) (flat_map text xs.0) xs.1),
       (let le = k.1 in omega arith),
       (h.1, k.2),
     ))))
     (λ t. takes_some (refl, omega arith, tt))
+
+-- what is read again before whatever ends a word, and begins with a space
+pub record IsSpaced {A : Type 0} (at : List ℕ → Option (A × List ℕ)) (text : A → List ℕ) (fits : A
+    → Type 0) : Type 0 where
+  pub again : (x : A) (rest : List ℕ) → fits x → is_end rest ≡ true → at (text x ++ rest) ≡ Some (x, rest)
+  pub space : (x : A) (rest : List ℕ) → has_space (text x ++ rest) ≡ true
+
+-- a list of it ends where a word ends
+each_ends : {A : Type 0} (at : List ℕ → Option (A × List ℕ)) (text : A → List ℕ) (fits : A → Type 0)
+    → IsSpaced at text fits → (xs : List A) (rest : List ℕ) → is_end (flat_map text xs ++ 10 ∷ rest) ≡ true
+each_ends at text fits is [] rest = refl
+each_ends at text fits is (x ∷ xs) rest =
+    rw (append_assoc (text x) (flat_map text xs) (10 ∷ rest))
+    (space_ends (text x ++ (flat_map text xs ++ 10 ∷ rest)) (is.space x (flat_map text xs ++ 10 ∷ rest)))
+  where
+    space_ends : (bytes : List ℕ) → has_space bytes ≡ true → is_end bytes ≡ true
+    space_ends [] e = refl
+    space_ends (b ∷ bytes) e = rw e refl
+
+-- and is read again
+each_again : {A : Type 0} (at : List ℕ → Option (A × List ℕ)) (text : A → List ℕ) (fits : A → Type 0)
+    → IsSpaced at text fits → (most : ℕ) (xs : List A) (rest : List ℕ) → length xs ≤ most
+    → AllByRecursion fits xs → each_at at most (flat_map text xs ++ 10 ∷ rest) ≡ Some (xs, 10 ∷ rest)
+unfolding each_at
+each_again at text fits is zero [] rest le h = refl
+each_again at text fits is zero (x ∷ xs) rest le h = absurd (omega arith)
+each_again at text fits is (suc most) [] rest le h = refl
+each_again at text fits is (suc most) (x ∷ xs) rest le h =
+    rw (
+      append_assoc (text x) (flat_map text xs) (10 ∷ rest),
+      is.space x (flat_map text xs ++ 10 ∷ rest),
+      is.again x (flat_map text xs ++ 10 ∷ rest) h.0 (each_ends at text fits is xs rest),
+      each_again at text fits is most xs rest (omega arith) h.1,
+    ) refl
+
+-- ---- lists of words
+
+-- the text of a word behind a space, and of a list of them
+abbrev pub part_text : (p : Part) → Meaning p → List ℕ
+part_text p x = 32 ∷ word_text p x
+
+abbrev pub parts_text : (p : Part) → List (Meaning p) → List ℕ
+parts_text p xs = flat_map (part_text p) xs
+
+abbrev pub ArePartsOf : (p : Part) → (most : ℕ) → List ℕ → List (Meaning p) × List ℕ → Type 0
+ArePartsOf p most bytes xs = AreEachOf (part_text p) (IsSaid p) most bytes xs
+
+pub parts_at_takes : (p : Part) (most : ℕ) (bytes : List ℕ) → Takes (ArePartsOf p most bytes) (parts_at p most bytes)
+unfolding parts_at
+parts_at_takes p most bytes = each_takes (part_at p) (part_text p) (IsSaid p) (part_at_takes p) most bytes
+
+-- a word behind a space is read again
+part_spaced : (p : Part) → IsSpaced (part_at p) (part_text p) (IsSaid p)
+part_spaced p = record { again = part_at_again p; space = λ x rest. refl }
 
 -- a list of words ends where a word ends
 parts_end : (p : Part) (xs : List (Meaning p)) (rest : List ℕ) → is_end (parts_text p xs ++ 10 ∷ rest) ≡ true
@@ -128,16 +185,70 @@ parts_long p (word ∷ words) rest =
 pub parts_at_again : (p : Part) (most : ℕ) (xs : List (Meaning p)) (rest : List ℕ) → length xs ≤ most
     → AllByRecursion (IsSaid p) xs → parts_at p most (parts_text p xs ++ 10 ∷ rest) ≡ Some (xs, 10 ∷ rest)
 unfolding parts_at
-parts_at_again p zero [] rest le h = refl
-parts_at_again p zero (x ∷ xs) rest le h = absurd (omega arith)
-parts_at_again p (suc most) [] rest le h = refl
-parts_at_again p (suc most) (x ∷ xs) rest le h =
+parts_at_again p most xs rest le h =
+    each_again (part_at p) (part_text p) (IsSaid p) (part_spaced p) most xs rest le h
+
+-- ---- words that stand together
+
+-- the bytes are the text of them, and the bytes after it
+abbrev pub AreTogetherOf : (parts : List Part) → List ℕ → Together parts × List ℕ → Type 0
+AreTogetherOf parts bytes x = (bytes ≡ together_text parts x.0 ++ x.1) × AreTogether parts x.0
+
+together_takes : (parts : List Part) (bytes : List ℕ) → Takes (AreTogetherOf parts bytes) (together_at parts bytes)
+together_takes [] bytes = takes_some (refl, tt)
+together_takes (p ∷ parts) bytes =
+    takes_then (IsPartOf p bytes) (part_at_takes p bytes) (λ x h.
+    takes_then (AreTogetherOf parts x.1) (together_takes parts x.1) (λ v k.
+    takes_some {P = AreTogetherOf (p ∷ parts) bytes} (
+      h.0 ∙ ap (λ (r : List ℕ). 32 ∷ (word_text p x.0 ++ r)) k.0
+          ∙ ap (λ (r : List ℕ). 32 ∷ r) (sym (append_assoc (word_text p x.0) (together_text parts v.0) v.1)),
+      (h.1, k.1),
+    )))
+
+-- they end where a word ends, if what follows does
+together_ends : (parts : List Part) (said : Together parts) (rest : List ℕ) → is_end rest ≡ true
+    → is_end (together_text parts said ++ rest) ≡ true
+together_ends [] said rest e = e
+together_ends (p ∷ parts) said rest e = refl
+
+together_again : (parts : List Part) (said : Together parts) (rest : List ℕ) → AreTogether parts said
+    → is_end rest ≡ true → together_at parts (together_text parts said ++ rest) ≡ Some (said, rest)
+together_again [] said rest h e = refl
+together_again (p ∷ parts) said rest h e =
     rw (
-      append_assoc (word_text p x) (parts_text p xs) (10 ∷ rest),
-      part_at_again p x (parts_text p xs
-          ++ 10 ∷ rest) h.0 (parts_end p xs rest),
-      parts_at_again p most xs rest (omega arith) h.1,
+      append_assoc (word_text p said.0) (together_text parts said.1) rest,
+      part_at_again p said.0 (together_text parts said.1 ++ rest) h.0 (together_ends parts said.1 rest e),
+      together_again parts said.1 rest h.1 e,
     ) refl
+
+-- what they make has them again
+bundled_back : (b : Bundle) (said : Together (parts_of b)) → unbundled b (bundled b said) ≡ said
+bundled_back Operations said = refl
+
+unbundled_back : (b : Bundle) (value : Bundled b) → bundled b (unbundled b value) ≡ value
+unbundled_back Operations value = refl
+
+-- the bytes are the text of a bundle, and the bytes after it
+abbrev pub IsBundleOf : (b : Bundle) → List ℕ → Bundled b × List ℕ → Type 0
+IsBundleOf b bytes x = (bytes ≡ bundle_text b x.0 ++ x.1) × IsBundle b x.0
+
+bundle_takes : (b : Bundle) (bytes : List ℕ) → Takes (IsBundleOf b bytes) (bundle_at b bytes)
+unfolding bundle_at
+bundle_takes b bytes =
+    takes_then (AreTogetherOf (parts_of b) bytes) (together_takes (parts_of b) bytes) (λ x h.
+    takes_some {P = IsBundleOf b bytes} {x = (bundled b x.0, x.1)}
+    (subst (λ (said : Together (parts_of b)). (bytes ≡ together_text (parts_of b) said ++ x.1)
+    × AreTogether (parts_of b) said) (sym (bundled_back b x.0)) h))
+
+bundle_space : (b : Bundle) (value : Bundled b) (rest : List ℕ) → has_space (bundle_text b value ++ rest) ≡ true
+bundle_space Operations value rest = refl
+
+bundle_spaced : (b : Bundle) → IsSpaced (bundle_at b) (bundle_text b) (IsBundle b)
+unfolding bundle_at
+bundle_spaced b = record {
+  again = λ value rest h e. rw (together_again (parts_of b) (unbundled b value) rest h e, unbundled_back b value) refl;
+  space = bundle_space b;
+}
 
 -- ---- what follows a name
 
@@ -164,6 +275,24 @@ parts_flat : (p : Part) (xs : List (Meaning p)) → AllByRecursion (IsSaid p) xs
 parts_flat p [] h = tt
 parts_flat p (x ∷ xs) h = (refl, flat_join (word_text p x) (parts_text p xs) (word_flat p x h.0) (parts_flat p xs h.1))
 
+-- nor do words that stand together
+together_flat : (parts : List Part) (said : Together parts) → AreTogether parts said
+    → IsFlat (together_text parts said)
+together_flat [] said h = tt
+together_flat (p ∷ parts) said h = (
+  refl,
+  flat_join (word_text p said.0) (together_text parts said.1) (word_flat p said.0 h.0)
+      (together_flat parts said.1 h.1),
+)
+
+-- nor a list of them
+bundles_flat : (b : Bundle) (values : List (Bundled b)) → AllByRecursion (IsBundle b) values
+    → IsFlat (flat_map (bundle_text b) values)
+bundles_flat b [] h = tt
+bundles_flat b (value ∷ values) h =
+    flat_join (bundle_text b value) (flat_map (bundle_text b) values)
+    (together_flat (parts_of b) (unbundled b value) h.0) (bundles_flat b values h.1)
+
 -- what reads and writes the lines of another table
 pub record IsExact {X : Type 0} (at : List ℕ → Option (X × List ℕ)) (text : X → List ℕ) (fits : X
     → Type 0) : Type 0 where
@@ -179,7 +308,7 @@ AreValuesOf text fits s bytes v = (bytes ≡ values_text text s v.0 ++ v.1) × A
 pub values_takes : {X : Type 0} (at : List ℕ → Option (X × List ℕ)) (text : X → List ℕ) (fits : X → Type 0)
     → IsExact at text fits → (s : Shape) (bytes : List ℕ) → Takes (AreValuesOf text fits s bytes)
     (values_at at s bytes)
-unfolding many_at
+unfolding many_at bundles_at
 values_takes at text fits exact End bytes = takes_some (refl, tt)
 values_takes {X} at text fits exact (p ▸ s) bytes =
     takes_then (IsPartOf p bytes) (part_at_takes p bytes) (λ x h.
@@ -198,6 +327,10 @@ values_takes at text fits exact (Many least most p) bytes =
 values_takes at text fits exact (Any p) bytes =
     takes_weaker (ArePartsOf p (length bytes) bytes) (parts_at_takes p (length bytes) bytes) (λ said are.
     (are.0, are.2))
+values_takes at text fits exact (Bundles least most b) bytes =
+    takes_then (AreEachOf (bundle_text b) (IsBundle b) most bytes)
+    (each_takes (bundle_at b) (bundle_text b) (IsBundle b) (bundle_takes b) most bytes) (λ xs h.
+    takes_if (λ t. takes_some (h.0, (leb-true least (length xs.0) t, h.1, h.2))) (λ t. takes_none))
 values_takes {X} at text fits exact Inner bytes =
     takes_then (λ rest. bytes ≡ 32 ∷ rest) (spaced_takes bytes) (λ rest e.
     takes_weaker (λ (x : X × List ℕ). (rest ≡ text x.0 ++ x.1) × fits x.0) (exact.takes rest) (λ x h.
@@ -210,12 +343,14 @@ values_end text End v rest = refl
 values_end text (p ▸ s) v rest = refl
 values_end text (Many least most p) v rest = parts_end p v rest
 values_end text (Any p) v rest = parts_end p v rest
+values_end text (Bundles least most b) v rest =
+    each_ends (bundle_at b) (bundle_text b) (IsBundle b) (bundle_spaced b) v rest
 values_end text Inner v rest = refl
 
 pub values_again : {X : Type 0} (at : List ℕ → Option (X × List ℕ)) (text : X → List ℕ) (fits : X → Type 0)
     → IsExact at text fits → (s : Shape) (v : Values X s) (rest : List ℕ) → AreSaid fits s v → values_at at s
     (values_text text s v ++ 10 ∷ rest) ≡ Some (v, 10 ∷ rest)
-unfolding many_at
+unfolding many_at bundles_at
 values_again at text fits exact End v rest h = refl
 values_again at text fits exact (p ▸ s) v rest h =
     rw (
@@ -228,6 +363,11 @@ values_again at text fits exact (Many least most p) v rest h =
     rw (parts_at_again p most v rest h.1 h.2, le-leb least (length v) h.0) refl
 values_again at text fits exact (Any p) v rest h =
     parts_at_again p (length (parts_text p v ++ 10 ∷ rest)) v rest (parts_long p v (10 ∷ rest)) h
+values_again at text fits exact (Bundles least most b) v rest h =
+    rw (
+      each_again (bundle_at b) (bundle_text b) (IsBundle b) (bundle_spaced b) most v rest h.1 h.2,
+      le-leb least (length v) h.0,
+    ) refl
 values_again at text fits exact Inner v rest h = exact.again v rest h
 
 -- the values of a line end no line
@@ -241,6 +381,7 @@ values_flat at text fits exact (p ▸ s) v h = (
 )
 values_flat at text fits exact (Many least most p) v h = parts_flat p v h.2
 values_flat at text fits exact (Any p) v h = parts_flat p v h
+values_flat at text fits exact (Bundles least most b) v h = bundles_flat b v h.2
 values_flat at text fits exact Inner v h = (refl, exact.flat v h)
 
 -- ---- tables

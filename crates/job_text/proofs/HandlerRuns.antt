@@ -4,7 +4,8 @@ use Rattle.std.proofs.Common.{Some, None, Result, Err, Bool, true, false, cond, 
 use Rattle.std.proofs.lemmas.Bool.{leb-false, ltb-false, ltb-true, lt-ltb, and_parts, and_from, or_parts}
 use Rattle.job_text.specs.Reasons.{reason, why_of}
 use Rattle.job_text.specs.Places.{section_fits}
-use Rattle.job_text.specs.JobReading.{has_thread, has_index, handler_why, section_why, behind_scripts, behind_section}
+use Rattle.job_text.specs.JobReading.{has_thread, has_index, is_reserved, most_handlers, handler_why, section_why}
+use Rattle.job_text.specs.JobReading.{behind_scripts, behind_section}
 use Rattle.job_text.specs.JobReading.{is_schedule, BadLine, is_full, admitted, total_rounds, rounds_of}
 use Rattle.job_text.specs.declared.fault.JobWhy.{JobWhy}
 use Rattle.job_text.specs.declared.fault.JobWhy.TheVariants.{Count, Entry}
@@ -65,9 +66,16 @@ room_by true u a b h = absurd (cc)
 room_by false true a b h = absurd (cc)
 room_by false false a b h = refl
 
-pub room_for : (handlers : List HandlerText) (index : ℕ) → handler_why handlers index ≡ None → length handlers < 128
-room_for handlers index h = leb-false 128 (length handlers) (room_by (has_index handlers index) (leb 128
-    (length handlers)) Entry Count h)
+pub most_few : (atomics : Bool) → most_handlers atomics ≤ 128
+most_few true = omega arith
+most_few false = omega arith
+
+pub room_for : (atomics : Bool) (handlers : List HandlerText) (index : ℕ) → handler_why atomics handlers index ≡ None
+    → length handlers < 128
+room_for atomics handlers index h =
+    let few = leb-false (most_handlers atomics) (length handlers) (room_by (has_index handlers index
+    || is_reserved atomics index) (leb (most_handlers atomics) (length handlers)) Entry Count h) in
+    omega (arith, few, most_few atomics)
 
 -- ---- the schedule
 

@@ -1,7 +1,8 @@
 -- The head of a job, line by line.
 use Rattle.std.proofs.Common.{◌≡◌, ℕ, ◌+◌, List, [], ◌∷◌, Option, Some, None, Result, Ok, Err, Bool, true, false}
 use Rattle.std.proofs.Common.{cond, refl, ap, sym, ◌∙◌}
-use Rattle.datagram_grammar.specs.Parameters.{Parameters}
+use Rattle.job_text.specs.Scopes.{scope_of}
+use Rattle.job_text.specs.declared.scope.Scope.{Scope}
 use Rattle.job_text.specs.Lines.{front, back, ended}
 use Rattle.job_text.specs.Lines as options
 use Rattle.job_text.specs.Forms.{none_at, named_at, passed}
@@ -49,10 +50,10 @@ tested_of test None = refl
 tested_of test (Some x) = tested_by test x (test x.0) refl
 
 -- the line of a setting
-tested : (setting : Setting) (settings : Parameters) (bytes : List ℕ) → line_at (AtSetting setting) settings bytes
-    ≡ fitting_line (setting_form setting settings) bytes
+tested : (setting : Setting) (scope : Scope) (bytes : List ℕ) → line_at (AtSetting setting) scope bytes
+    ≡ fitting_line (setting_form setting scope.settings) bytes
 unfolding fitting_line number_line
-tested setting settings bytes = tested_of (setting_fits setting settings) (named_at none_at
+tested setting scope bytes = tested_of (setting_fits setting scope.settings) (named_at none_at
     (setting_row setting ∷ []) (front bytes) (back bytes))
 
 -- a line is read by its setting, and the others from there on
@@ -62,23 +63,23 @@ StepsOn setting job line bytes = read (record { place = AtSetting setting; job =
     (record { place = behind_setting setting; job = with_number setting x.0 job }) (line + 1) x.1)
 
 steps_by : (setting : Setting) (job : Job) (line : ℕ) (bytes : List ℕ) (o : Option (ℕ × List ℕ)) → line_at
-    (AtSetting setting) job.settings bytes ≡ o → StepsOn setting job line bytes
+    (AtSetting setting) (scope_of job) bytes ≡ o → StepsOn setting job line bytes
 unfolding number_from number_why
 steps_by setting job line bytes None e = line_bad (AtSetting setting) tt job line bytes e ∙ rw
-    (sym (tested setting job.settings bytes) ∙ e) refl
+    (sym (tested setting (scope_of job) bytes) ∙ e) refl
 steps_by setting job line bytes (Some x) e =
     read_on (AtSetting setting) job line bytes x.1 x.0 (record {
       place = behind_setting setting;
       job = with_number setting x.0 job;
     }) e refl
-    ∙ rw (sym (tested setting job.settings bytes) ∙ e) refl
+    ∙ rw (sym (tested setting (scope_of job) bytes) ∙ e) refl
 
 steps_on : (setting : Setting) (job : Job) (line : ℕ) (bytes : List ℕ) → StepsOn setting job line bytes
-steps_on setting job line bytes = steps_by setting job line bytes (line_at (AtSetting setting) job.settings bytes) refl
+steps_on setting job line bytes = steps_by setting job line bytes (line_at (AtSetting setting) (scope_of job) bytes) refl
 
 -- the line of the sieve
 sieve_by : (job : Job) (line : ℕ) (bytes : List ℕ) (o : Option (SieveRule × List ℕ))
-    → line_at AtSieve job.settings bytes ≡ o
+    → line_at AtSieve (scope_of job) bytes ≡ o
     → read (record { place = AtSieve; job = job }) line bytes ≡
     (told line (sieve_why bytes) (sieve_line bytes) >>= λ x. read
     (record { place = AtPairs; job = record job { sieve = x.0 } }) (line + 1) x.1)
@@ -118,6 +119,6 @@ head_reads bytes =
     let eight = with_number Resend resend.0 seven in
     steps_on Patience eight 9 resend.1 ∙ then_on _ _ pairs_on _ (λ patience.
     let nine = with_number Patience patience.0 eight in
-    sieve_by nine 10 patience.1 (line_at AtSieve nine.settings patience.1) refl
+    sieve_by nine 10 patience.1 (line_at AtSieve (scope_of nine) patience.1) refl
     ∙ then_on {A = SieveRule × List ℕ} (told 10 (sieve_why patience.1) (sieve_line patience.1)) (λ x. Ok
     (record nine { sieve = x.0 }, x.1)) pairs_on _ (λ rule. refl))))))))))

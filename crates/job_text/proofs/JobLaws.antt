@@ -13,6 +13,10 @@ use Rattle.job_text.specs.Places.{Setting, Version, Nodes, Credits, Threads, Seg
 use Rattle.job_text.specs.Places as places
 use Rattle.job_text.specs.Places.{setting_fits, pair_fits}
 use Rattle.job_text.specs.JobReading.{with_number, with_own, with_handler, with_script, with_line, lines_of}
+use Rattle.job_text.specs.Scopes.{scope_of}
+use Rattle.job_text.specs.declared.scope.Scope.{Scope}
+use Rattle.job_text.specs.JobReading.{with_atomics, is_reserved, most_handlers}
+use Rattle.job_text.specs.JobText.{AreUnreserved}
 use Rattle.job_text.specs.JobReading.{total_rounds, has_index, has_pair, has_thread, line_why, is_full}
 use Rattle.job_text.specs.JobText.{IsHandler, IsNodeScript, AreThreads, IsSchedule, IsScheduleOrNone, IsSieve}
 use Rattle.job_text.specs.JobText.{with_first_pairs, IsJob}
@@ -94,6 +98,7 @@ pub record IsHead (job : Job) : Type 0 where
   pub numbers : AreNumbers job
   pub sieve : IsSieve job.sieve
   pub pairs : job.settings.pairs ≡ []
+  pub atomics : job.atomics ≡ false
   pub handlers : job.handlers ≡ []
   pub scripts : job.scripts ≡ []
   pub schedule : job.schedule ≡ None
@@ -107,20 +112,25 @@ no_first count pairs e = ap (take count) e ∙ take_nil count
     take_nil (suc n) = refl
 
 -- no handler
-no_handler : (hs : List HandlerText) → hs ≡ [] → (length hs ≤ 128) × AllByRecursion IsHandler hs × AreFresh [] hs
-no_handler [] e = (omega arith, tt, tt)
-no_handler (h ∷ hs) e = absurd (cc)
+no_handler : (atomics : Bool) (hs : List HandlerText) → hs ≡ [] → (length hs ≤ most_handlers atomics)
+    × AllByRecursion IsHandler hs × AreFresh [] hs × AreUnreserved atomics hs
+no_handler true [] e = (omega arith, tt, tt, tt)
+no_handler false [] e = (omega arith, tt, tt, tt)
+no_handler atomics (h ∷ hs) e = absurd (cc)
 
 -- no script
-no_script : (nodes threads : ℕ) (ss : List NodeScript) → ss ≡ [] → AllByRecursion (IsNodeScript nodes threads) ss
-    × AreThreads ss
-no_script nodes threads [] e = (tt, tt)
-no_script nodes threads (s ∷ ss) e = absurd (cc)
+no_script : (scope : Scope) (ss : List NodeScript) → ss ≡ [] → AllByRecursion (IsNodeScript scope) ss × AreThreads ss
+no_script scope [] e = (tt, tt)
+no_script scope (s ∷ ss) e = absurd (cc)
 
-none_is : (settings : Parameters) (schedule : Option (List TimedEvent)) → schedule ≡ None
-    → IsScheduleOrNone settings schedule
-none_is settings None e = tt
-none_is settings (Some lines) e = absurd (cc)
+none_is : (scope : Scope) (schedule : Option (List TimedEvent)) → schedule ≡ None → IsScheduleOrNone scope schedule
+none_is scope None e = tt
+none_is scope (Some lines) e = absurd (cc)
+
+-- no batches
+no_batches : (atomics : Bool) (version : ℕ) → atomics ≡ false → atomics ≡ true → version ≡ 2
+no_batches true version no yes = absurd (cc)
+no_batches false version no yes = absurd (cc)
 
 -- a job so far, whose handlers have each a fresh index
 pub record IsSound (job : Job) : Type 0 where
@@ -133,12 +143,14 @@ pub record IsSound (job : Job) : Type 0 where
   pub some_patience : 1 ≤ job.patience
   pub patience : job.patience ≤ 1000000
   pub sieve : IsSieve job.sieve
-  pub few_handlers : length job.handlers ≤ 128
+  pub atomics : job.atomics ≡ true → job.settings.version ≡ 2
+  pub few_handlers : length job.handlers ≤ most_handlers job.atomics
   pub handlers : AllByRecursion IsHandler job.handlers
   pub fresh : AreFresh [] job.handlers
-  pub scripts : AllByRecursion (IsNodeScript job.settings.nodes job.settings.threads) job.scripts
+  pub unreserved : AreUnreserved job.atomics job.handlers
+  pub scripts : AllByRecursion (IsNodeScript (scope_of job)) job.scripts
   pub threads : AreThreads job.scripts
-  pub schedule : IsScheduleOrNone job.settings job.schedule
+  pub schedule : IsScheduleOrNone (scope_of job) job.schedule
 
 -- it is a job
 pub sound_job : (job : Job) → IsSound job → IsJob job
@@ -152,9 +164,11 @@ sound_job job is = record {
   some_patience = is.some_patience;
   patience = is.patience;
   sieve = is.sieve;
+  atomics = is.atomics;
   few_handlers = is.few_handlers;
   handlers = is.handlers;
   apart = fresh_apart [] job.handlers is.fresh;
+  unreserved = is.unreserved;
   scripts = is.scripts;
   threads = is.threads;
   schedule = is.schedule;
@@ -164,8 +178,8 @@ sound_job job is = record {
 pub head_sound : (job : Job) → IsHead job → IsSound job
 head_sound job is =
     let all = is.numbers in
-    let none = no_handler job.handlers is.handlers in
-    let scripts = no_script job.settings.nodes job.settings.threads job.scripts is.scripts in
+    let none = no_handler job.atomics job.handlers is.handlers in
+    let scripts = no_script (scope_of job) job.scripts is.scripts in
     record {
       settings = settings_range job is.pairs all;
       segment = (all Segment).high;
@@ -178,12 +192,14 @@ head_sound job is =
       some_patience = (all Patience).low;
       patience = (all Patience).high;
       sieve = is.sieve;
+      atomics = no_batches job.atomics job.settings.version is.atomics;
       few_handlers = none.0;
       handlers = none.1;
       fresh = none.2;
+      unreserved = none.3;
       scripts = scripts.0;
       threads = scripts.1;
-      schedule = none_is job.settings job.schedule is.schedule;
+      schedule = none_is (scope_of job) job.schedule is.schedule;
     }
 
 -- ---- pairs
@@ -215,8 +231,8 @@ pair_free_by false false a b h = (refl, refl)
 -- one more pair
 pub pair_sound : (job : Job) (pair : PairCredits) → IsSound job → pair_fits job.settings pair ≡ true
     → 1 ≤ pair.credits → pair.credits ≤ 32 → has_pair job.settings.pairs pair ≡ false
-    → length job.settings.pairs < 64 → job.schedule ≡ None → IsSound (with_own pair job)
-pair_sound job pair is fits low high new few none =
+    → length job.settings.pairs < 64 → job.scripts ≡ [] → job.schedule ≡ None → IsSound (with_own pair job)
+pair_sound job pair is fits low high new few unscripted none =
     let s = job.settings in
     let fit = fitting s pair fits in
     let one = is_pair s pair fit low high in
@@ -231,12 +247,14 @@ pair_sound job pair is fits low high new few none =
       some_patience = is.some_patience;
       patience = is.patience;
       sieve = is.sieve;
+      atomics = is.atomics;
       few_handlers = is.few_handlers;
       handlers = is.handlers;
       fresh = is.fresh;
-      scripts = is.scripts;
+      unreserved = is.unreserved;
+      scripts = (no_script (scope_of (with_own pair job)) job.scripts unscripted).0;
       threads = is.threads;
-      schedule = none_is (with_pair s pair) job.schedule none;
+      schedule = none_is (scope_of (with_own pair job)) job.schedule none;
     }
 
 -- ---- handlers
@@ -247,9 +265,36 @@ pub all_more : {A : Type 0} (P : A → Type 0) (xs : List A) (x : A) → AllByRe
 all_more P [] x h p = (p, tt)
 all_more P (y ∷ ys) x h p = (h.0, all_more P ys x h.1 p)
 
+-- the line of atomics, behind which there is nothing yet
+pub atomics_sound : (job : Job) → IsSound job → job.settings.version ≡ 2 → job.handlers ≡ [] → job.scripts ≡ []
+    → job.schedule ≡ None → IsSound (with_atomics job)
+atomics_sound job is second unhandled unscripted none =
+    let handlers = no_handler true job.handlers unhandled in
+    let scope = scope_of (with_atomics job) in
+    record {
+      settings = is.settings;
+      segment = is.segment;
+      segments = is.segments;
+      job_fits = is.job_fits;
+      last_fits = is.last_fits;
+      sums = is.sums;
+      some_patience = is.some_patience;
+      patience = is.patience;
+      sieve = is.sieve;
+      atomics = λ yes. second;
+      few_handlers = handlers.0;
+      handlers = is.handlers;
+      fresh = is.fresh;
+      unreserved = handlers.3;
+      scripts = (no_script scope job.scripts unscripted).0;
+      threads = is.threads;
+      schedule = none_is scope job.schedule none;
+    }
+
 pub handler_sound : (job : Job) (handler : HandlerText) → IsSound job → IsHandler handler
-    → has_index job.handlers handler.index ≡ false → length job.handlers < 128 → IsSound (with_handler handler job)
-handler_sound job handler is one new few = record {
+    → has_index job.handlers handler.index ≡ false → is_reserved job.atomics handler.index ≡ false
+    → length job.handlers < most_handlers job.atomics → IsSound (with_handler handler job)
+handler_sound job handler is one new free few = record {
   settings = is.settings;
   segment = is.segment;
   segments = is.segments;
@@ -259,9 +304,12 @@ handler_sound job handler is one new few = record {
   some_patience = is.some_patience;
   patience = is.patience;
   sieve = is.sieve;
+  atomics = is.atomics;
   few_handlers = simp length-append (omega arith);
   handlers = all_more IsHandler job.handlers handler is.handlers one;
   fresh = fresh_more [] job.handlers handler is.fresh (fresh_from job.handlers handler.index new);
+  unreserved = all_more (λ (h : HandlerText). is_reserved job.atomics h.index ≡ false) job.handlers handler
+      is.unreserved free;
   scripts = is.scripts;
   threads = is.threads;
   schedule = is.schedule;
@@ -270,7 +318,7 @@ handler_sound job handler is one new few = record {
 -- ---- scripts
 
 pub script_sound : (job : Job) (script : NodeScript) → IsSound job
-    → IsNodeScript job.settings.nodes job.settings.threads script
+    → IsNodeScript (scope_of job) script
     → has_thread job.scripts script.node script.thread ≡ false → IsSound (with_script script job)
 script_sound job script is one new = record {
   settings = is.settings;
@@ -282,10 +330,12 @@ script_sound job script is one new = record {
   some_patience = is.some_patience;
   patience = is.patience;
   sieve = is.sieve;
+  atomics = is.atomics;
   few_handlers = is.few_handlers;
   handlers = is.handlers;
   fresh = is.fresh;
-  scripts = all_more (IsNodeScript job.settings.nodes job.settings.threads) job.scripts script is.scripts one;
+  unreserved = is.unreserved;
+  scripts = all_more (IsNodeScript (scope_of job)) job.scripts script is.scripts one;
   threads = threads_more job.scripts script is.threads new;
   schedule = is.schedule;
 }
@@ -304,39 +354,41 @@ empty_sound job is = record {
   some_patience = is.some_patience;
   patience = is.patience;
   sieve = is.sieve;
+  atomics = is.atomics;
   few_handlers = is.few_handlers;
   handlers = is.handlers;
   fresh = is.fresh;
+  unreserved = is.unreserved;
   scripts = is.scripts;
   threads = is.threads;
   schedule = record { count = omega arith; rounds = omega arith; rounds_of_nodes = omega arith; events_are = tt };
 }
 
 -- one more line
-schedule_more : (settings : Parameters) (lines : List TimedEvent) (t : TimedEvent) → IsSchedule settings lines
-    → IsTimed settings.nodes settings.threads t → is_full settings.nodes (length lines) (total_rounds lines) t.event
-    ≡ false → IsSchedule settings (lines ++ t ∷ [])
-schedule_more settings lines t is one room =
-    let few = few_full settings.nodes (length lines) (total_rounds lines) t room in
+schedule_more : (scope : Scope) (lines : List TimedEvent) (t : TimedEvent) → IsSchedule scope lines
+    → IsTimed scope t → is_full scope.settings.nodes (length lines) (total_rounds lines) t.event
+    ≡ false → IsSchedule scope (lines ++ t ∷ [])
+schedule_more scope lines t is one room =
+    let few = few_full scope.settings.nodes (length lines) (total_rounds lines) t room in
     let more = rounds_more lines t in
     record {
       count = simp length-append (omega (arith, few.0));
       rounds = rw more few.1;
       rounds_of_nodes = rw more few.2;
-      events_are = all_more (IsTimed settings.nodes settings.threads) lines t is.events_are one;
+      events_are = all_more (IsTimed scope) lines t is.events_are one;
     }
 
-some_is : (settings : Parameters) (schedule : Option (List TimedEvent)) → (lines : List TimedEvent) × (schedule
-    ≡ Some lines) → IsScheduleOrNone settings schedule → IsSchedule settings (lines_of schedule)
-some_is settings None some is = absurd (cc)
-some_is settings (Some lines) some is = is
+some_is : (scope : Scope) (schedule : Option (List TimedEvent)) → (lines : List TimedEvent) × (schedule
+    ≡ Some lines) → IsScheduleOrNone scope schedule → IsSchedule scope (lines_of schedule)
+some_is scope None some is = absurd (cc)
+some_is scope (Some lines) some is = is
 
 full_by : (b : Bool) (w : JobWhy) → cond b (Some w) None ≡ None → b ≡ false
 full_by true w h = absurd (cc)
 full_by false w h = refl
 
 pub line_sound : (job : Job) (t : TimedEvent) → IsSound job → (lines : List TimedEvent) × (job.schedule ≡ Some lines)
-    → IsTimed job.settings.nodes job.settings.threads t → line_why job.settings.nodes (lines_of job.schedule) t
+    → IsTimed (scope_of job) t → line_why job.settings.nodes (lines_of job.schedule) t
     ≡ None → IsSound (with_line t job)
 line_sound job t is some one free = record {
   settings = is.settings;
@@ -348,13 +400,15 @@ line_sound job t is some one free = record {
   some_patience = is.some_patience;
   patience = is.patience;
   sieve = is.sieve;
+  atomics = is.atomics;
   few_handlers = is.few_handlers;
   handlers = is.handlers;
   fresh = is.fresh;
+  unreserved = is.unreserved;
   scripts = is.scripts;
   threads = is.threads;
-  schedule = schedule_more job.settings (lines_of job.schedule) t
-      (some_is job.settings job.schedule some is.schedule) one (full_by
+  schedule = schedule_more (scope_of job) (lines_of job.schedule) t
+      (some_is (scope_of job) job.schedule some is.schedule) one (full_by
       (is_full job.settings.nodes (length (lines_of job.schedule)) (total_rounds
       (lines_of job.schedule)) t.event) _ free);
 }

@@ -34,3 +34,4 @@ pub mod Walks
 pub mod Refusing
 pub mod Completeness
 pub mod Meanings
+pub mod Upgrading

@@ -1,9 +1,11 @@
 -- A text, line by line.
 use Rattle.std.proofs.Common.{◌≡◌, ◌⊎◌, inl, inr, ℕ, ◌+◌, List, [], ◌∷◌, ◌++◌, Option, Some, None, Ok, Err}
 use Rattle.std.proofs.Common.{refl, ap, sym, ◌∙◌}
-use Rattle.datagram_grammar.specs.Parameters.{Parameters}
+use Rattle.job_text.specs.Scopes.{scope_of}
+use Rattle.job_text.specs.declared.scope.Scope.{Scope}
 use Rattle.job_text.specs.Reasons.{reason}
 use Rattle.job_text.specs.HeadReading.{told}
+use Rattle.job_text.specs.Places.{AtAtomics}
 use Rattle.job_text.specs.Places.{Place, AtSetting, AtSieve, AtPairs, AtHandlers, AtBody, AtScripts, AtSteps}
 use Rattle.job_text.specs.Places.{AtSchedule, AtDone, Over, Item, item_form, item_text, IsItem}
 use Rattle.job_text.specs.JobReading.{State, BadLine, front_with, line_at, next, step, from_later_lines}
@@ -33,35 +35,35 @@ first_line (b ∷ text) rest h = ap (λ (ls : List (List ℕ)). (b ∷ (text ++ 
     (b ∷ text) rest h)
 
 -- what a line says, and the bytes after it
-abbrev pub IsLineOf : (place : Place) → Parameters → List ℕ → Item place × List ℕ → Type 0
-IsLineOf place settings bytes x = (bytes ≡ item_text place settings x.0 ++ 10 ∷ x.1) × IsItem place settings x.0
+abbrev pub IsLineOf : (place : Place) → Scope → List ℕ → Item place × List ℕ → Type 0
+IsLineOf place scope bytes x = (bytes ≡ item_text place scope x.0 ++ 10 ∷ x.1) × IsItem place scope x.0
 
-pub line_takes : (place : Place) (settings : Parameters) (bytes : List ℕ) → Takes (IsLineOf place settings bytes)
-    (line_at place settings bytes)
-line_takes place settings bytes =
-    takes_then (λ (x : Item place × List ℕ). (bytes ≡ item_text place settings x.0 ++ x.1) × IsItem place settings x.0)
-    ((place_exact place settings).takes bytes) (λ x h.
+pub line_takes : (place : Place) (scope : Scope) (bytes : List ℕ) → Takes (IsLineOf place scope bytes)
+    (line_at place scope bytes)
+line_takes place scope bytes =
+    takes_then (λ (x : Item place × List ℕ). (bytes ≡ item_text place scope x.0 ++ x.1) × IsItem place scope x.0)
+    ((place_exact place scope).takes bytes) (λ x h.
     takes_then (λ (rest : List ℕ). x.1 ≡ 10 ∷ rest) (ended_takes x.1) (λ rest e.
-    takes_some {P = IsLineOf place settings bytes} {x = (x.0, rest)} (
+    takes_some {P = IsLineOf place scope bytes} {x = (x.0, rest)} (
       h.0 ∙ ap
-          (λ (r : List ℕ). item_text place settings x.0 ++ r) e,
+          (λ (r : List ℕ). item_text place scope x.0 ++ r) e,
       h.1,
     )))
 
 -- a line is read again
-pub line_again : (place : Place) (settings : Parameters) (item : Item place) (rest : List ℕ)
-    → IsItem place settings item → line_at place settings (item_text place settings item ++ 10 ∷ rest) ≡ Some (
+pub line_again : (place : Place) (scope : Scope) (item : Item place) (rest : List ℕ)
+    → IsItem place scope item → line_at place scope (item_text place scope item ++ 10 ∷ rest) ≡ Some (
       item,
       rest,
     )
-line_again place settings item rest h = rw ((place_exact place settings).again item rest h) refl
+line_again place scope item rest h = rw ((place_exact place scope).again item rest h) refl
 
 -- the lines from a line on that was read
-pub lines_after : (place : Place) (settings : Parameters) (bytes : List ℕ) (x : Item place × List ℕ)
-    → line_at place settings bytes ≡ Some x → from_lines bytes ≡ bytes ∷ from_lines x.1
-lines_after place settings bytes x h =
-    let t = (line_takes place settings bytes).so x h in
-    ap from_lines t.0 ∙ first_line (item_text place settings x.0) x.1 ((place_exact place settings).flat x.0 t.1)
+pub lines_after : (place : Place) (scope : Scope) (bytes : List ℕ) (x : Item place × List ℕ)
+    → line_at place scope bytes ≡ Some x → from_lines bytes ≡ bytes ∷ from_lines x.1
+lines_after place scope bytes x h =
+    let t = (line_takes place scope bytes).so x h in
+    ap from_lines t.0 ∙ first_line (item_text place scope x.0) x.1 ((place_exact place scope).flat x.0 t.1)
     ∙ ap (λ (b : List ℕ). b ∷ from_lines x.1) (sym t.0)
 
 -- ---- places at which lines go on
@@ -74,6 +76,7 @@ pub goes_on : {A : Type 0} (place : Place) (over other : A) → IsOpen place →
 goes_on (AtSetting setting) over other open_ = refl
 goes_on AtSieve over other open_ = refl
 goes_on AtPairs over other open_ = refl
+goes_on AtAtomics over other open_ = refl
 goes_on AtHandlers over other open_ = refl
 goes_on (AtBody handler) over other open_ = refl
 goes_on AtScripts over other open_ = refl
@@ -87,6 +90,7 @@ pub open_of : (place : Place) → Item place → IsOpen place
 open_of (AtSetting setting) item = tt
 open_of AtSieve item = tt
 open_of AtPairs item = tt
+open_of AtAtomics item = tt
 open_of AtHandlers item = tt
 open_of (AtBody handler) item = tt
 open_of AtScripts item = tt
@@ -100,6 +104,7 @@ pub open_or_over : (place : Place) → IsOpen place ⊎ (place ≡ Over)
 open_or_over (AtSetting setting) = inl tt
 open_or_over AtSieve = inl tt
 open_or_over AtPairs = inl tt
+open_or_over AtAtomics = inl tt
 open_or_over AtHandlers = inl tt
 open_or_over (AtBody handler) = inl tt
 open_or_over AtScripts = inl tt
@@ -112,25 +117,25 @@ open_or_over Over = inr refl
 
 -- a line was read, and there is room for it
 pub read_on : (place : Place) (job : Job) (line : ℕ) (bytes rest : List ℕ) (item : Item place) (state : State)
-    → line_at place job.settings bytes ≡ Some (item, rest) → next place job item ≡ Ok state → read
+    → line_at place (scope_of job) bytes ≡ Some (item, rest) → next place job item ≡ Ok state → read
     (record { place = place; job = job }) line bytes ≡ read state (line + 1) rest
 unfolding read run step
 read_on place job line bytes rest item state h n =
-    rw (lines_after place job.settings bytes (item, rest) h) (goes_on place _ _ (open_of place item) ∙ rw (h, n) refl)
+    rw (lines_after place (scope_of job) bytes (item, rest) h) (goes_on place _ _ (open_of place item) ∙ rw (h, n) refl)
 
 -- a line was read, and it may not stand there
 pub read_full : (place : Place) (job : Job) (line : ℕ) (bytes rest : List ℕ) (item : Item place) (why : JobWhy)
-    → line_at place job.settings bytes ≡ Some (item, rest) → next place job item ≡ Err why → read
+    → line_at place (scope_of job) bytes ≡ Some (item, rest) → next place job item ≡ Err why → read
     (record { place = place; job = job }) line bytes ≡ Err (record { line = line; why = why })
 unfolding read run step
 read_full place job line bytes rest item why h n =
-    rw (lines_after place job.settings bytes (item, rest) h) (goes_on place _ _ (open_of place item) ∙ rw (h, n) refl)
+    rw (lines_after place (scope_of job) bytes (item, rest) h) (goes_on place _ _ (open_of place item) ∙ rw (h, n) refl)
 
 -- a line isn't read
 abbrev pub Refuses : Place → Type 0
-Refuses place = (job : Job) (line : ℕ) (bytes : List ℕ) → line_at place job.settings bytes ≡ None
+Refuses place = (job : Job) (line : ℕ) (bytes : List ℕ) → line_at place (scope_of job) bytes ≡ None
     → read (record { place = place; job = job }) line bytes ≡ Err
-    (record { line = line; why = reason (item_form place job.settings) bytes })
+    (record { line = line; why = reason (item_form place (scope_of job)) bytes })
 
 pub line_bad : (place : Place) → IsOpen place → Refuses place
 unfolding read run step from_lines
@@ -158,10 +163,10 @@ told_err line why (Some y) bad h = absurd (cc)
 
 -- a line that fails is the first bad one
 pub line_fails : (place : Place) (open_ : IsOpen place) (job : Job) (line : ℕ) (bytes : List ℕ) (fault : JobFault)
-    → FailsAt fault (told line (reason (item_form place job.settings) bytes) (line_at place job.settings bytes))
+    → FailsAt fault (told line (reason (item_form place (scope_of job)) bytes) (line_at place (scope_of job) bytes))
     → FailsAt fault (read (record { place = place; job = job }) line bytes)
 line_fails place open_ job line bytes faults.NoMemory h = tt
 line_fails place open_ job line bytes (faults.Bad at why) h =
-    let bad = told_err line (reason (item_form place job.settings) bytes) (line_at place job.settings bytes)
+    let bad = told_err line (reason (item_form place (scope_of job)) bytes) (line_at place (scope_of job) bytes)
     (record { line = at; why = why }) h in
     line_bad place open_ job line bytes bad.0 ∙ ap (λ (b : BadLine). Err b) bad.1

@@ -1,19 +1,20 @@
 -- What a refusal means.
 use Rattle.std.proofs.Common.{◌≡◌, inl, inr, ℕ, zero, suc, ◌+◌, ◌-◌, ◌≤◌, ◌⊎◌, List, [], ◌∷◌, ◌++◌, length, Option}
-use Rattle.std.proofs.Common.{Some, None, Result, Ok, Err, Bool, eqb, cond, not, ◌&&◌, ltb, leb, false, true, refl}
+use Rattle.std.proofs.Common.{Some, None, Result, Ok, Err, Bool, eqb, cond, not, ◌&&◌, ◌||◌, ltb, leb, false, true, refl}
 use Rattle.std.proofs.Common.{sym, ap, subst, ◌∙◌, arith, append_assoc, append-nil, length-append}
 use Rattle.std.proofs.lemmas.Bool.{eqb-true, eqb-false, leb-true, ltb-true, le-ltb, ne_eqb, and_parts}
 use Rattle.std.specs.Prelude.{IfOk, IfErr}
 use Rattle.datagram_grammar.specs.declared.pairs.PairCredits.{PairCredits}
 use Rattle.job_text.specs.Reasons.{is_text, is_plain, goes_on_as_text, reason}
 use Rattle.job_text.specs.Places.{Place, AtSetting, AtSieve, AtPairs, AtHandlers, AtBody, AtScripts, AtSteps}
-use Rattle.job_text.specs.Places.{AtSchedule, AtDone, Over}
+use Rattle.job_text.specs.Places.{AtAtomics, AtSchedule, AtDone, Over}
+use Rattle.job_text.specs.Scopes.{scope_of}
 use Rattle.job_text.specs.Places.{NamedOr, Named, Other, Item, item_text, item_form}
 use Rattle.job_text.specs.JobReading.{State, BadLine, Front, start, limit, line_at, why_at, next, onward, stepped}
 use Rattle.job_text.specs.JobReading.{step, unless, opened, headed, paired, has_index, has_pair, has_thread}
 use Rattle.job_text.specs.JobReading.{handler_why, section_why, pair_why, action_why, step_why, line_why, is_full}
 use Rattle.job_text.specs.JobReading.{total_rounds, lines_of, front_with, of_front, alone, sized, read, job_of}
-use Rattle.job_text.specs.JobReading.{front_of}
+use Rattle.job_text.specs.JobReading.{front_of, served, is_reserved, most_handlers}
 use Rattle.job_text.specs.JobText.{spell, job_lines, job_text, IsJob, JobText, BeginsWith}
 use Rattle.job_text.specs.Reading.{GivesAt}
 use Rattle.job_text.specs.Refusals.{first_lines, after_lines, IsNoFront, EndsEarly, HasNoText, IsWrong, Means}
@@ -95,15 +96,15 @@ text_whole bytes h = whole_text true bytes h
 none_some : {A : Type 0} {o : Option A} {x : A} → o ≡ None → o ≡ Some x → ⊥
 none_some h k = cc
 
-says_none : (place : Place) (job : Job) (rest : List ℕ) → line_at place job.settings rest ≡ None → (item : Item place)
-    → Says place job.settings rest item → ⊥
+says_none : (place : Place) (job : Job) (rest : List ℕ) → line_at place (scope_of job) rest ≡ None → (item : Item place)
+    → Says place (scope_of job) rest item → ⊥
 says_none place job rest none item says =
-    none_some none (ap (line_at place job.settings) says.1.1 ∙ line_again place job.settings item says.1.0 says.0)
+    none_some none (ap (line_at place (scope_of job)) says.1.1 ∙ line_again place (scope_of job) item says.1.0 says.0)
 
 -- the reason of a line that isn't empty
 reason_by : (place : Place) (job : Job) (form text : Bool) (b : ℕ) (rest : List ℕ) (why : JobWhy)
-    → item_form place job.settings (b ∷ rest) ≡ form → is_text (b ∷ rest) ≡ text
-    → line_at place job.settings (b ∷ rest) ≡ None → cond text (cond form BadValue Form) Text ≡ why → Kind place job
+    → item_form place (scope_of job) (b ∷ rest) ≡ form → is_text (b ∷ rest) ≡ text
+    → line_at place (scope_of job) (b ∷ rest) ≡ None → cond text (cond form BadValue Form) Text ≡ why → Kind place job
     (b ∷ rest) why
 reason_by place job true true b rest why f e none h =
     IsLine (text_whole (b ∷ rest) e) (inr (inl (sym h)))
@@ -113,11 +114,11 @@ reason_by place job false true b rest why f e none h =
 reason_by place job form false b rest why f e none h = IsText e (sym h)
 
 reason_kind : (place : Place) (job : Job) (rest : List ℕ) (why : JobWhy) → (rest ≡ [] → ⊥)
-    → line_at place job.settings rest ≡ None → reason (item_form place job.settings) rest ≡ why
+    → line_at place (scope_of job) rest ≡ None → reason (item_form place (scope_of job)) rest ≡ why
     → Kind place job rest why
 reason_kind place job [] why some none h = absurd (some refl)
 reason_kind place job (b ∷ rest) why some none h =
-    reason_by place job (item_form place job.settings (b ∷ rest)) (is_text (b ∷ rest)) b rest why refl refl none
+    reason_by place job (item_form place (scope_of job) (b ∷ rest)) (is_text (b ∷ rest)) b rest why refl refl none
     (sym (cond_no (eqb (length (b ∷ rest)) 0) Early _ (ne_eqb (length (b ∷ rest)) 0 (λ e. omega arith))) ∙ h)
 
 -- a line that may not stand there
@@ -163,24 +164,31 @@ from_scripts job s why (inr full) = absurd full.1
 headed_kind : (job : Job) (item : NamedOr HandlerHeader Section) (why : JobWhy) → headed job item ≡ Err why
     → IsCounted AtHandlers job item why
 headed_kind job (Named header) why h =
-    either (two_by (has_index job.handlers header.index) (leb 128 (length job.handlers)) why
-    (unless_err (handler_why job.handlers header.index) _ why h)) (λ t. t) (λ u.
-    (u.0, leb-true 128 (length job.handlers) u.1))
+    let most = most_handlers job.atomics in
+    either (two_by (has_index job.handlers header.index || is_reserved job.atomics header.index)
+    (leb most (length job.handlers)) why (unless_err (handler_why job.atomics job.handlers header.index) _ why h))
+    (λ t. t) (λ u. (u.0, leb-true most (length job.handlers) u.1))
 headed_kind job (Other s) why h = from_scripts job s why (opened_kind job s why h)
 
-paired_kind : (job : Job) (item : NamedOr PairCredits (NamedOr HandlerHeader Section)) (why : JobWhy)
-    → paired job item ≡ Err why → IsCounted AtPairs job item why
+served_kind : (job : Job) (item : NamedOr (Unit {0}) (NamedOr HandlerHeader Section)) (why : JobWhy)
+    → served job item ≡ Err why → IsCounted AtAtomics job item why
+served_kind job (Named line) why h = absurd (cc)
+served_kind job (Other item) why h = headed_kind job item why h
+
+paired_kind : (job : Job) (item : NamedOr PairCredits (NamedOr (Unit {0}) (NamedOr HandlerHeader Section)))
+    (why : JobWhy) → paired job item ≡ Err why → IsCounted AtPairs job item why
 paired_kind job (Named pair) why h =
     either (two_by (has_pair job.settings.pairs pair) (leb 64 (length job.settings.pairs)) why
     (unless_err (pair_why job.settings.pairs pair) _ why h)) (λ t. t) (λ u.
     (u.0, leb-true 64 (length job.settings.pairs) u.1))
-paired_kind job (Other item) why h = headed_kind job item why h
+paired_kind job (Other item) why h = served_kind job item why h
 
 next_kind : (place : Place) (job : Job) (item : Item place) (why : JobWhy) → next place job item ≡ Err why
     → IsCounted place job item why
 next_kind (AtSetting setting) job item why h = absurd (cc)
 next_kind AtSieve job item why h = absurd (cc)
 next_kind AtPairs job item why h = paired_kind job item why h
+next_kind AtAtomics job item why h = served_kind job item why h
 next_kind AtHandlers job item why h = headed_kind job item why h
 next_kind (AtBody handler) job None why h = absurd (cc)
 next_kind (AtBody handler) job (Some a) why h =
@@ -200,7 +208,7 @@ next_kind AtDone job item why h = absurd (cc)
 next_kind Over job item why h = absurd item
 
 counted_line : (place : Place) (job : Job) (rest : List ℕ) (why : JobWhy) (item : Item place) → IsWhole rest
-    → Says place job.settings rest item → IsCounted place job item why → Kind place job rest why
+    → Says place (scope_of job) rest item → IsCounted place job item why → Kind place job rest why
 counted_line place job rest why item w says (inl e) =
     IsLine w (inr (inr (inl e.0))) (subst (λ (x : JobWhy). IsAtFault x place job rest) (sym e.0) (item, (says, e.1)))
 counted_line place job rest why item w says (inr e) =
@@ -211,16 +219,16 @@ onward_err rest (Ok state) why h = absurd (cc)
 onward_err rest (Err w) why h = cc
 
 kind_by : (state : State) (rest : List ℕ) (why : JobWhy) (o : Option (Item state.place × List ℕ))
-    → line_at state.place state.job.settings rest ≡ o → (rest ≡ [] → ⊥)
-    → stepped state.place state.job (why_at state.place state.job.settings rest) o ≡ Err why
+    → line_at state.place (scope_of state.job) rest ≡ o → (rest ≡ [] → ⊥)
+    → stepped state.place state.job (why_at state.place (scope_of state.job) rest) o ≡ Err why
     → Kind state.place state.job rest why
 kind_by state rest why None e some h = reason_kind state.place state.job rest why some e (cc)
 kind_by state rest why (Some y) e some h =
-    let said = (line_takes state.place state.job.settings rest).so y e in
+    let said = (line_takes state.place (scope_of state.job) rest).so y e in
     let whole : IsWhole rest = record {
-      line = item_text state.place state.job.settings y.0;
+      line = item_text state.place (scope_of state.job) y.0;
       more = y.1;
-      flat = (place_exact state.place state.job.settings).flat y.0 said.1;
+      flat = (place_exact state.place (scope_of state.job)).flat y.0 said.1;
       text = said.0;
     } in
     counted_line state.place state.job rest why y.0 whole (said.1, (y.1, said.0))
@@ -229,7 +237,7 @@ kind_by state rest why (Some y) e some h =
 fail_kind : (state : State) (rest : List ℕ) (why : JobWhy) → (rest ≡ [] → ⊥) → step state rest ≡ Err why
     → Kind state.place state.job rest why
 unfolding step
-fail_kind state rest why some h = kind_by state rest why (line_at state.place state.job.settings rest) refl some h
+fail_kind state rest why some h = kind_by state rest why (line_at state.place (scope_of state.job) rest) refl some h
 
 -- ---- no job's text goes on with that line
 

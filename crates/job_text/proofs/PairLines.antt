@@ -2,14 +2,16 @@
 use Rattle.std.proofs.Common.{◌≡◌, ℕ, ◌+◌, List, Option, Some, None, Result, Ok, Err, Bool, true, false}
 use Rattle.std.proofs.Common.{refl, sym, ap, ◌∙◌, codes}
 use Rattle.std.specs.Str.{bytes_eq}
-use Rattle.datagram_grammar.specs.Parameters.{Parameters}
+use Rattle.job_text.specs.Scopes.{scope_of}
+use Rattle.job_text.specs.declared.scope.Scope.{Scope}
 use Rattle.datagram_grammar.specs.declared.pairs.PairCredits.{PairCredits}
 use Rattle.job_text.specs.Lines.{◌>>=◌, front, ended}
 use Rattle.job_text.specs.Reasons.{reason, why_of}
-use Rattle.job_text.specs.Places.{NamedOr, Named, Other}
+use Rattle.job_text.specs.Places.{NamedOr, Named, Other, AtAtomics, atomics_at, atomics_or_later_at}
+use Rattle.job_text.specs.Places.{atomics_or_later_form}
 use Rattle.job_text.specs.Places.{Place, AtPairs, AtHandlers, AtBody, AtScripts, Item, item_form, named_or, header_at}
 use Rattle.job_text.specs.Places.{section_at, pair_at, header_or_section_at, header_or_section_form, pairs_form}
-use Rattle.job_text.specs.JobReading.{State, lined, line_at, next, begun, handler_why, pair_why, with_own, read}
+use Rattle.job_text.specs.JobReading.{State, lined, line_at, next, begun, handler_why, pair_why, with_atomics, with_own, read}
 use Rattle.job_text.specs.declared.fault.JobWhy.{JobWhy}
 use Rattle.job_text.specs.declared.job.Job.{Job}
 use Rattle.job_text.specs.declared.sections.HandlerHeader.{HandlerHeader}
@@ -40,14 +42,20 @@ other_line : {A B : Type 0} (name : List ℕ) (at : List ℕ → Option (A × Li
     ≡ ◌>>=◌ {B = NamedOr A B × List ℕ} (lined other bytes) (λ x. Some (Other x.0, x.1))
 other_line {A} {B} name at other bytes b = rw b (mapped {A = B} {B = NamedOr A B} (other bytes) (λ x. Other x))
 
-pair_line : (settings : Parameters) (bytes : List ℕ) → bytes_eq (front bytes) (codes "pair") ≡ true
-    → line_at AtPairs settings bytes ≡ (lined (pair_at settings) bytes >>= λ x. Some (Named x.0, x.1))
-pair_line settings bytes b = named_line (codes "pair") (pair_at settings) (header_or_section_at settings) bytes b
+pair_line : (scope : Scope) (bytes : List ℕ) → bytes_eq (front bytes) (codes "pair") ≡ true
+    → line_at AtPairs scope bytes ≡ (lined (pair_at scope.settings) bytes >>= λ x. Some (Named x.0, x.1))
+pair_line scope bytes b =
+    named_line (codes "pair") (pair_at scope.settings) (atomics_or_later_at scope) bytes b
 
-header_line : (settings : Parameters) (bytes : List ℕ) → bytes_eq (front bytes) (codes "handler") ≡ true
-    → line_at AtHandlers settings bytes ≡ (lined header_at bytes >>= λ x. Some (Named x.0, x.1))
-header_line settings bytes b = named_line (codes "handler") header_at (section_at settings.nodes settings.threads) bytes
-    b
+atomics_line : (scope : Scope) (bytes : List ℕ) → bytes_eq (front bytes) (codes "atomics") ≡ true
+    → line_at AtAtomics scope bytes ≡ (lined (atomics_at scope) bytes >>= λ x. Some (Named x.0, x.1))
+atomics_line scope bytes b =
+    named_line (codes "atomics") (atomics_at scope) (header_or_section_at scope.settings) bytes b
+
+header_line : (scope : Scope) (bytes : List ℕ) → bytes_eq (front bytes) (codes "handler") ≡ true
+    → line_at AtHandlers scope bytes ≡ (lined header_at bytes >>= λ x. Some (Named x.0, x.1))
+header_line scope bytes b =
+    named_line (codes "handler") header_at (section_at scope.settings.nodes scope.settings.threads) bytes b
 
 -- ---- pairs
 
@@ -59,7 +67,7 @@ pub pair_read : (job : Job) (line : ℕ) (bytes rest : List ℕ) (pair : PairCre
     (record { place = AtPairs; job = with_own pair job }) (line + 1) rest
 pair_read job line bytes rest pair b h w =
     read_on AtPairs job line bytes rest (Named pair) (record { place = AtPairs; job = with_own pair job })
-    (pair_line job.settings bytes b ∙ rw h refl) (rw w refl)
+    (pair_line (scope_of job) bytes b ∙ rw h refl) (rw w refl)
 
 -- a pair is read, and may not stand there
 pub pair_full : (job : Job) (line : ℕ) (bytes rest : List ℕ) (pair : PairCredits) (why : JobWhy) → bytes_eq
@@ -67,34 +75,53 @@ pub pair_full : (job : Job) (line : ℕ) (bytes rest : List ℕ) (pair : PairCre
     → pair_why job.settings.pairs pair ≡ Some why
     → read (record { place = AtPairs; job = job }) line bytes ≡ Err (record { line = line; why = why })
 pair_full job line bytes rest pair why b h w =
-    read_full AtPairs job line bytes rest (Named pair) why (pair_line job.settings bytes b ∙ rw h refl) (rw w refl)
+    read_full AtPairs job line bytes rest (Named pair) why (pair_line (scope_of job) bytes b ∙ rw h refl) (rw w refl)
 
 -- a pair isn't read
 pub pair_bad : (job : Job) (line : ℕ) (bytes : List ℕ) → bytes_eq (front bytes) (codes "pair") ≡ true → lined
     (pair_at job.settings) bytes ≡ None
     → read (record { place = AtPairs; job = job }) line bytes ≡ Err
-    (record { line = line; why = reason pairs_form bytes })
-pair_bad job line bytes b h = line_bad AtPairs tt job line bytes (pair_line job.settings bytes b ∙ rw h refl)
+    (record { line = line; why = reason (pairs_form (scope_of job)) bytes })
+pair_bad job line bytes b h = line_bad AtPairs tt job line bytes (pair_line (scope_of job) bytes b ∙ rw h refl)
+
+-- ---- atomics
+
+-- the line of atomics is read
+pub atomics_read : (job : Job) (line : ℕ) (bytes rest : List ℕ) → bytes_eq (front bytes) (codes "atomics") ≡ true
+    → lined (atomics_at (scope_of job)) bytes ≡ Some (tt, rest)
+    → read (record { place = AtAtomics; job = job }) line bytes ≡ read
+    (record { place = AtHandlers; job = with_atomics job }) (line + 1) rest
+atomics_read job line bytes rest b h =
+    read_on AtAtomics job line bytes rest (Named tt) (record { place = AtHandlers; job = with_atomics job })
+    (atomics_line (scope_of job) bytes b ∙ rw h refl) refl
+
+-- it isn't read
+pub atomics_bad : (job : Job) (line : ℕ) (bytes : List ℕ) → bytes_eq (front bytes) (codes "atomics") ≡ true
+    → lined (atomics_at (scope_of job)) bytes ≡ None
+    → read (record { place = AtAtomics; job = job }) line bytes ≡ Err
+    (record { line = line; why = reason (atomics_or_later_form (scope_of job)) bytes })
+atomics_bad job line bytes b h =
+    line_bad AtAtomics tt job line bytes (atomics_line (scope_of job) bytes b ∙ rw h refl)
 
 -- ---- handlers
 
 -- the first line of a handler is read, and there is room for it
 pub handler_read : (job : Job) (line : ℕ) (bytes rest : List ℕ) (header : HandlerHeader) → bytes_eq (front bytes)
-    (codes "handler") ≡ true → lined header_at bytes ≡ Some (header, rest) → handler_why job.handlers header.index
+    (codes "handler") ≡ true → lined header_at bytes ≡ Some (header, rest) → handler_why job.atomics job.handlers header.index
     ≡ None
     → read (record { place = AtHandlers; job = job }) line bytes ≡ read
     (record { place = AtBody (begun header); job = job }) (line + 1) rest
 handler_read job line bytes rest header b h w =
     read_on AtHandlers job line bytes rest (Named header) (record { place = AtBody (begun header); job = job })
-    (header_line job.settings bytes b ∙ rw h refl) (rw w refl)
+    (header_line (scope_of job) bytes b ∙ rw h refl) (rw w refl)
 
 -- it is read, and may not stand there
 pub handler_full : (job : Job) (line : ℕ) (bytes rest : List ℕ) (header : HandlerHeader) (why : JobWhy) → bytes_eq
     (front bytes) (codes "handler") ≡ true → lined header_at bytes ≡ Some (header, rest)
-    → handler_why job.handlers header.index ≡ Some why
+    → handler_why job.atomics job.handlers header.index ≡ Some why
     → read (record { place = AtHandlers; job = job }) line bytes ≡ Err (record { line = line; why = why })
 handler_full job line bytes rest header why b h w =
-    read_full AtHandlers job line bytes rest (Named header) why (header_line job.settings bytes b ∙ rw h refl)
+    read_full AtHandlers job line bytes rest (Named header) why (header_line (scope_of job) bytes b ∙ rw h refl)
     (rw w refl)
 
 -- it isn't read
@@ -102,7 +129,7 @@ pub handler_bad : (job : Job) (line : ℕ) (bytes : List ℕ) → bytes_eq (fron
     → lined header_at bytes ≡ None
     → read (record { place = AtHandlers; job = job }) line bytes ≡ Err
     (record { line = line; why = reason header_or_section_form bytes })
-handler_bad job line bytes b h = line_bad AtHandlers tt job line bytes (header_line job.settings bytes b ∙ rw h refl)
+handler_bad job line bytes b h = line_bad AtHandlers tt job line bytes (header_line (scope_of job) bytes b ∙ rw h refl)
 
 -- ---- what is read behind them is read among them
 
@@ -110,14 +137,14 @@ handler_bad job line bytes b h = line_bad AtHandlers tt job line bytes (header_l
 pub record IsSameLine (here there : Place) (job : Job) (bytes : List ℕ) : Type 0 where
   pub here_as : Item there → Item here
   pub next_is : (item : Item there) → next here job (here_as item) ≡ next there job item
-  pub line_is : line_at here job.settings bytes
-      ≡ ◌>>=◌ {B = Item here × List ℕ} (line_at there job.settings bytes) (λ x. Some (here_as x.0, x.1))
-  pub form_is : item_form here job.settings bytes ≡ item_form there job.settings bytes
+  pub line_is : line_at here (scope_of job) bytes
+      ≡ ◌>>=◌ {B = Item here × List ℕ} (line_at there (scope_of job) bytes) (λ x. Some (here_as x.0, x.1))
+  pub form_is : item_form here (scope_of job) bytes ≡ item_form there (scope_of job) bytes
   pub bad_here : Refuses here
   pub bad_there : Refuses there
 
 same_ok : (here there : Place) (job : Job) (line : ℕ) (bytes rest : List ℕ) (item : Item there)
-    (r : Result State JobWhy) → IsSameLine here there job bytes → line_at there job.settings bytes ≡ Some (item, rest)
+    (r : Result State JobWhy) → IsSameLine here there job bytes → line_at there (scope_of job) bytes ≡ Some (item, rest)
     → next there job item ≡ r
     → read (record { place = here; job = job }) line bytes ≡ read (record { place = there; job = job }) line bytes
 same_ok here there job line bytes rest item (Ok state) is h n =
@@ -128,7 +155,7 @@ same_ok here there job line bytes rest item (Err why) is h n =
     ∙ sym (read_full there job line bytes rest item why h n)
 
 same_by : (here there : Place) (job : Job) (line : ℕ) (bytes : List ℕ) (o : Option (Item there × List ℕ))
-    → IsSameLine here there job bytes → line_at there job.settings bytes ≡ o
+    → IsSameLine here there job bytes → line_at there (scope_of job) bytes ≡ o
     → read (record { place = here; job = job }) line bytes ≡ read (record { place = there; job = job }) line bytes
 same_by here there job line bytes None is h =
     is.bad_here job line bytes (is.line_is ∙ rw h refl)
@@ -138,20 +165,32 @@ same_by here there job line bytes (Some x) is h =
     same_ok here there job line bytes x.1 x.0 (next there job x.0) is h refl
 
 pub pairs_over : (job : Job) (line : ℕ) (bytes : List ℕ) → bytes_eq (front bytes) (codes "pair") ≡ false → read
-    (record { place = AtPairs; job = job }) line bytes ≡ read (record { place = AtHandlers; job = job }) line bytes
-pairs_over job line bytes b = same_by AtPairs AtHandlers job line bytes (line_at AtHandlers job.settings bytes)
+    (record { place = AtPairs; job = job }) line bytes ≡ read (record { place = AtAtomics; job = job }) line bytes
+pairs_over job line bytes b = same_by AtPairs AtAtomics job line bytes (line_at AtAtomics (scope_of job) bytes)
     (record {
       here_as = λ item. Other item;
       next_is = λ item. refl;
-      line_is = other_line (codes "pair") (pair_at job.settings) (header_or_section_at job.settings) bytes b;
+      line_is = other_line (codes "pair") (pair_at job.settings) (atomics_or_later_at (scope_of job)) bytes b;
       form_is = rw b refl;
       bad_here = line_bad AtPairs tt;
+      bad_there = line_bad AtAtomics tt;
+    }) refl
+
+pub atomics_over : (job : Job) (line : ℕ) (bytes : List ℕ) → bytes_eq (front bytes) (codes "atomics") ≡ false → read
+    (record { place = AtAtomics; job = job }) line bytes ≡ read (record { place = AtHandlers; job = job }) line bytes
+atomics_over job line bytes b = same_by AtAtomics AtHandlers job line bytes (line_at AtHandlers (scope_of job) bytes)
+    (record {
+      here_as = λ item. Other item;
+      next_is = λ item. refl;
+      line_is = other_line (codes "atomics") (atomics_at (scope_of job)) (header_or_section_at job.settings) bytes b;
+      form_is = rw b refl;
+      bad_here = line_bad AtAtomics tt;
       bad_there = line_bad AtHandlers tt;
     }) refl
 
 pub handlers_over : (job : Job) (line : ℕ) (bytes : List ℕ) → bytes_eq (front bytes) (codes "handler") ≡ false → read
     (record { place = AtHandlers; job = job }) line bytes ≡ read (record { place = AtScripts; job = job }) line bytes
-handlers_over job line bytes b = same_by AtHandlers AtScripts job line bytes (line_at AtScripts job.settings bytes)
+handlers_over job line bytes b = same_by AtHandlers AtScripts job line bytes (line_at AtScripts (scope_of job) bytes)
     (record {
       here_as = λ item. Other item;
       next_is = λ item. refl;

@@ -11,12 +11,15 @@ use Rattle.datagram_grammar.specs.declared.pairs.PairCredits.{PairCredits}
 use Rattle.job_text.specs.Lines.{◌>>=◌, is_stop, front, back}
 use Rattle.job_text.specs.Forms.{none_at, none_text, none_fits}
 use Rattle.job_text.specs.Bodies.{action_at, action_text, IsAction}
-use Rattle.job_text.specs.Events.{timed_at, timed_text, IsTimed, event_text}
+use Rattle.job_text.specs.Events.{timed_at, IsTimed}
 use Rattle.job_text.specs.Scripts.{step_at, step_text, IsStep}
 use Rattle.job_text.specs.Places.{Setting, Version, Nodes, Credits, Threads, Segment, Last, Resend, Patience}
 use Rattle.job_text.specs.Places as places
 use Rattle.job_text.specs.Places.{Place, AtSetting, AtSieve, AtPairs, AtHandlers, AtBody, AtScripts, AtSteps}
-use Rattle.job_text.specs.Places.{AtSchedule, AtDone, Over}
+use Rattle.job_text.specs.Places.{AtAtomics, AtSchedule, AtDone, Over}
+use Rattle.job_text.specs.Places.{atomics_row, atomics_entry, atomics_fit, atomics_at, atomics_text, IsAtomicsLine}
+use Rattle.job_text.specs.Places.{atomics_or_later_at, atomics_or_later_text, IsAtomicsOrLater}
+use Rattle.job_text.specs.declared.scope.Scope.{Scope}
 use Rattle.job_text.specs.Places.{setting_row, setting_entry, setting_fits, sieve_row, sieve_entry, pair_row}
 use Rattle.job_text.specs.Places.{pair_entry, pair_fits}
 use Rattle.job_text.specs.Places.{NamedOr, Named, Other, header_row, header_entry, header_fits, header_at}
@@ -40,7 +43,7 @@ use Rattle.job_text.proofs.Takes.{Takes, takes_some, takes_none, takes_then, tak
 use Rattle.job_text.proofs.WordLaws.{same_word}
 use Rattle.job_text.proofs.FormLaws.{IsExact, IsTable, IsEntryOf, entry_of, table_exact, none_exact, whole, IsFlat}
 use Rattle.job_text.proofs.BodyLaws.{actions_exact}
-use Rattle.job_text.proofs.EventLaws.{timed_exact}
+use Rattle.job_text.proofs.EventLaws.{event_line, timed_line, timed_exact}
 use Rattle.job_text.proofs.ScriptLaws.{steps_exact}
 
 -- ---- settings
@@ -71,6 +74,12 @@ pair_again pair = record { makes = refl; first = refl; runs = refl }
 pair_table : (settings : Parameters) → IsTable (pair_row ∷ []) pair_entry (pair_fits settings)
 pair_table settings = record { makes = (λ v. refl, tt); again = λ pair h. pair_again pair }
 
+atomics_again : (line : Unit {0}) → IsEntryOf (atomics_row ∷ []) atomics_entry line
+atomics_again line = record { makes = refl; first = refl; runs = refl }
+
+atomics_table : (scope : Scope) → IsTable (atomics_row ∷ []) atomics_entry (atomics_fit scope)
+atomics_table scope = record { makes = (λ v. refl, tt); again = λ line h. atomics_again line }
+
 header_again : (header : HandlerHeader) → IsEntryOf (header_row ∷ []) header_entry header
 header_again header = record { makes = refl; first = refl; runs = refl }
 
@@ -92,6 +101,11 @@ pairs_exact : (settings : Parameters) → IsExact (pair_at settings) pair_text (
 unfolding pair_at
 pairs_exact settings = table_exact none_at none_text none_fits (pair_row ∷ []) pair_entry
     (pair_fits settings) none_exact (pair_table settings)
+
+atomics_exact : (scope : Scope) → IsExact (atomics_at scope) atomics_text (IsAtomicsLine scope)
+unfolding atomics_at
+atomics_exact scope = table_exact none_at none_text none_fits (atomics_row ∷ []) atomics_entry
+    (atomics_fit scope) none_exact (atomics_table scope)
 
 headers_exact : IsExact header_at header_text IsHeader
 unfolding header_at
@@ -150,17 +164,24 @@ named_or_exact name at text fits other_at other other_fits one two begins other_
   flat = named_or_flat at text fits other_at other other_fits one two;
 }
 
--- a line that begins with no `handler`, and with no `pair`
+-- a line that begins with no `handler`, with no `atomics`, and with no `pair`
 section_unnamed : Begins section_text (codes "handler") false
 section_unnamed (section.Script node thread) rest = refl
 section_unnamed section.Schedule rest = refl
 section_unnamed section.Done rest = refl
 
-other_unnamed : Begins header_or_section_text (codes "pair") false
-other_unnamed (Named header) rest = refl
-other_unnamed (Other (section.Script node thread)) rest = refl
-other_unnamed (Other section.Schedule) rest = refl
-other_unnamed (Other section.Done) rest = refl
+later_unnamed : Begins header_or_section_text (codes "atomics") false
+later_unnamed (Named header) rest = refl
+later_unnamed (Other (section.Script node thread)) rest = refl
+later_unnamed (Other section.Schedule) rest = refl
+later_unnamed (Other section.Done) rest = refl
+
+other_unnamed : Begins atomics_or_later_text (codes "pair") false
+other_unnamed (Named line) rest = refl
+other_unnamed (Other (Named header)) rest = refl
+other_unnamed (Other (Other (section.Script node thread))) rest = refl
+other_unnamed (Other (Other section.Schedule)) rest = refl
+other_unnamed (Other (Other section.Done)) rest = refl
 
 headers_or_sections_exact : (settings : Parameters) → IsExact (header_or_section_at settings) header_or_section_text
     (IsHeaderOrSection settings)
@@ -168,6 +189,13 @@ headers_or_sections_exact settings =
     named_or_exact (codes "handler") header_at header_text IsHeader (section_at settings.nodes settings.threads)
     section_text (IsSection settings.nodes settings.threads) headers_exact
     (sections_exact settings.nodes settings.threads) (λ header rest. refl) section_unnamed
+
+atomics_or_later_exact : (scope : Scope) → IsExact (atomics_or_later_at scope) atomics_or_later_text
+    (IsAtomicsOrLater scope)
+atomics_or_later_exact scope =
+    named_or_exact (codes "atomics") (atomics_at scope) atomics_text (IsAtomicsLine scope)
+    (header_or_section_at scope.settings) header_or_section_text (IsHeaderOrSection scope.settings)
+    (atomics_exact scope) (headers_or_sections_exact scope.settings) (λ line rest. refl) later_unnamed
 
 -- the bytes of a word that was found, and those after it
 found_word : (bytes name : List ℕ) → bytes_eq (front bytes) name ≡ true → bytes ≡ name ++ back bytes
@@ -212,25 +240,26 @@ action_other (action.Add cell operand) rest h = refl
 action_other _ rest h = refl
 
 -- a step isn't the line `end`
-step_other : IsOther step_text IsStep
-step_other (step.Call (call.Begin register (transfer.Put to remote local len))) rest h = refl
-step_other (step.Call (call.Begin register (transfer.Get to remote local len))) rest h = refl
-step_other (step.Call (call.Begin register (transfer.Memset to remote len byte))) rest h = refl
-step_other (step.Call (call.BeginImplicit (transfer.Put to remote local len))) rest h = refl
-step_other (step.Call (call.BeginImplicit (transfer.Get to remote local len))) rest h = refl
-step_other (step.Call (call.BeginImplicit (transfer.Memset to remote len byte))) rest h = refl
-step_other (step.Call _) rest h = refl
-step_other (step.Waiting (waiting.Until cell operand)) rest h = refl
-step_other (step.Waiting (waiting.Transfer (transfer.Put to remote local len))) rest h = refl
-step_other (step.Waiting (waiting.Transfer (transfer.Get to remote local len))) rest h = refl
-step_other (step.Waiting (waiting.Transfer (transfer.Memset to remote len byte))) rest h = refl
-step_other (step.Waiting (waiting.PutBegin register put)) rest h = refl
-step_other (step.Waiting (waiting.PutImplicit put)) rest h = refl
-step_other (step.Waiting (waiting.Wait register)) rest h = refl
-step_other (step.Waiting (waiting.WaitAll registers)) rest h = refl
-step_other (step.Waiting (waiting.WaitSome registers)) rest h = refl
-step_other (step.Waiting (waiting.WaitImplicit which)) rest h = refl
-step_other (step.Waiting (waiting.BarrierWait id flags)) rest h = refl
+step_other : (scope : Scope) → IsOther step_text (IsStep scope)
+step_other scope (step.Call (call.Begin register (transfer.Put to remote local len))) rest h = refl
+step_other scope (step.Call (call.Begin register (transfer.Get to remote local len))) rest h = refl
+step_other scope (step.Call (call.Begin register (transfer.Memset to remote len byte))) rest h = refl
+step_other scope (step.Call (call.BeginImplicit (transfer.Put to remote local len))) rest h = refl
+step_other scope (step.Call (call.BeginImplicit (transfer.Get to remote local len))) rest h = refl
+step_other scope (step.Call (call.BeginImplicit (transfer.Memset to remote len byte))) rest h = refl
+step_other scope (step.Call _) rest h = refl
+step_other scope (step.Waiting (waiting.Until cell operand)) rest h = refl
+step_other scope (step.Waiting (waiting.Transfer (transfer.Put to remote local len))) rest h = refl
+step_other scope (step.Waiting (waiting.Transfer (transfer.Get to remote local len))) rest h = refl
+step_other scope (step.Waiting (waiting.Transfer (transfer.Memset to remote len byte))) rest h = refl
+step_other scope (step.Waiting (waiting.PutBegin register put)) rest h = refl
+step_other scope (step.Waiting (waiting.PutImplicit put)) rest h = refl
+step_other scope (step.Waiting (waiting.Wait register)) rest h = refl
+step_other scope (step.Waiting (waiting.WaitAll registers)) rest h = refl
+step_other scope (step.Waiting (waiting.WaitSome registers)) rest h = refl
+step_other scope (step.Waiting (waiting.WaitImplicit which)) rest h = refl
+step_other scope (step.Waiting (waiting.BarrierWait id flags)) rest h = refl
+step_other scope (step.Waiting (waiting.UntilWord offset number)) rest h = refl
 
 -- by whether a word ends at the first byte
 front_by : (t : Bool) (b : ℕ) (w : List ℕ) → eqb b 101 ≡ false → bytes_eq (cond t [] (b ∷ w)) (codes "end") ≡ false
@@ -248,12 +277,12 @@ digits_first [] rest lt h = absurd (omega arith)
 digits_first (d ∷ ds) rest lt h = let r = digit_from_value d h.0 in ne_eqb d 101 (λ e. omega arith)
 
 -- a line of a schedule isn't the line `end`
-timed_other : (nodes threads : ℕ) → IsOther (timed_text nodes threads) (IsTimed nodes threads)
-timed_other nodes threads t rest h =
+timed_other : (scope : Scope) → IsOther (timed_line scope) (IsTimed scope)
+timed_other scope t rest h =
     let lt = h.time in
-    no_end (timed_text nodes threads t ++ 10 ∷ rest)
-    (rw (append_assoc (decimal t.time) (32 ∷ event_text nodes threads t.event) (10 ∷ rest))
-    (digits_first (decimal t.time) (32 ∷ (event_text nodes threads t.event ++ 10 ∷ rest))
+    no_end (timed_line scope t ++ 10 ∷ rest)
+    (rw (append_assoc (decimal t.time) (32 ∷ event_line scope t.event) (10 ∷ rest))
+    (digits_first (decimal t.time) (32 ∷ (event_line scope t.event ++ 10 ∷ rest))
     (decimal_nonempty t.time lt) (digits_decimal own t.time lt)))
 
 -- ---- each place
@@ -266,23 +295,24 @@ done_exact = record {
   flat = λ u h. (refl, (refl, (refl, (refl, tt))));
 }
 
-pub place_exact : (place : Place) (settings : Parameters) → IsExact (item_at place settings)
-    (item_text place settings) (IsItem place settings)
-place_exact (AtSetting setting) settings = table_exact none_at none_text none_fits (setting_row setting ∷ [])
-    (setting_entry setting) (setting_fits setting settings) none_exact (setting_table setting
-    (setting_fits setting settings))
-place_exact AtSieve settings = table_exact none_at none_text none_fits (sieve_row ∷ []) sieve_entry
+pub place_exact : (place : Place) (scope : Scope) → IsExact (item_at place scope)
+    (item_text place scope) (IsItem place scope)
+place_exact (AtSetting setting) scope = table_exact none_at none_text none_fits (setting_row setting ∷ [])
+    (setting_entry setting) (setting_fits setting scope.settings) none_exact (setting_table setting
+    (setting_fits setting scope.settings))
+place_exact AtSieve scope = table_exact none_at none_text none_fits (sieve_row ∷ []) sieve_entry
     (λ rule. true) none_exact sieve_table
-place_exact AtPairs settings =
-    named_or_exact (codes "pair") (pair_at settings) pair_text (IsPairLine settings) (header_or_section_at settings)
-    header_or_section_text (IsHeaderOrSection settings) (pairs_exact settings) (headers_or_sections_exact settings)
-    (λ pair rest. refl) other_unnamed
-place_exact AtHandlers settings = headers_or_sections_exact settings
-place_exact AtScripts settings = sections_exact settings.nodes settings.threads
-place_exact (AtSteps script) settings = end_or_exact step_at step_text IsStep steps_exact step_other
-place_exact (AtBody handler) settings = end_or_exact action_at action_text IsAction actions_exact action_other
-place_exact AtSchedule settings = end_or_exact (timed_at settings.nodes settings.threads)
-    (timed_text settings.nodes settings.threads) (IsTimed settings.nodes settings.threads)
-    (timed_exact settings.nodes settings.threads) (timed_other settings.nodes settings.threads)
-place_exact AtDone settings = done_exact
-place_exact Over settings = record { takes = λ bytes. takes_none; again = λ x rest h. absurd h; flat = λ x h. absurd h }
+place_exact AtPairs scope =
+    named_or_exact (codes "pair") (pair_at scope.settings) pair_text (IsPairLine scope.settings)
+    (atomics_or_later_at scope) atomics_or_later_text (IsAtomicsOrLater scope) (pairs_exact scope.settings)
+    (atomics_or_later_exact scope) (λ pair rest. refl) other_unnamed
+place_exact AtAtomics scope = atomics_or_later_exact scope
+place_exact AtHandlers scope = headers_or_sections_exact scope.settings
+place_exact AtScripts scope = sections_exact scope.settings.nodes scope.settings.threads
+place_exact (AtSteps script) scope =
+    end_or_exact (step_at scope) step_text (IsStep scope) (steps_exact scope) (step_other scope)
+place_exact (AtBody handler) scope = end_or_exact action_at action_text IsAction actions_exact action_other
+place_exact AtSchedule scope =
+    end_or_exact (timed_at scope) (timed_line scope) (IsTimed scope) (timed_exact scope) (timed_other scope)
+place_exact AtDone scope = done_exact
+place_exact Over scope = record { takes = λ bytes. takes_none; again = λ x rest h. absurd h; flat = λ x h. absurd h }

@@ -1,5 +1,6 @@
 -- The table of steps that wait, and steps.
 use Rattle.std.proofs.Common.{◌≡◌, ℕ, refl, true, List, ◌∷◌, ◌++◌, Option, Some, None}
+use Rattle.job_text.specs.declared.scope.Scope.{Scope}
 use Rattle.job_text.specs.declared.job.ScheduledCall.{ScheduledCall}
 use Rattle.job_text.specs.declared.job.ScriptStep.{ScriptStep}
 use Rattle.job_text.specs.declared.job.ScriptStep.TheVariants as step
@@ -9,7 +10,8 @@ use Rattle.job_text.specs.declared.job.WaitingStep.TheVariants as waiting
 use Rattle.job_text.specs.Forms.{none_at, none_text, none_fits}
 use Rattle.job_text.specs.Calls.{calls, later_calls, own_calls, segment_calls, transfer_calls, implicit_calls}
 use Rattle.job_text.specs.Calls.{sync_calls, barrier_calls, call_at, call_text, IsCall}
-use Rattle.job_text.specs.Scripts.{waits, sync_waits, waiting_entry, waiting_at, waiting_text, IsWaiting}
+use Rattle.job_text.specs.Scripts.{waits, sync_waits, waiting_entry, waiting_at, waiting_fits, waiting_text}
+use Rattle.job_text.specs.Scripts.{IsWaiting}
 use Rattle.job_text.specs.Scripts.{◌<|>◌, step_at, step_text, IsStep}
 use Rattle.job_text.proofs.Takes.{Takes, takes_some, takes_then}
 use Rattle.job_text.proofs.FormLaws.{AreMade, IsExact, IsTable, IsEntryOf, IsFlat, entry_of, table_exact, none_exact}
@@ -29,41 +31,44 @@ waiting_again (waiting.WaitAll registers) = entry_of refl refl refl
 waiting_again (waiting.WaitSome registers) = entry_of refl refl refl
 waiting_again (waiting.WaitImplicit which) = entry_of refl refl refl
 waiting_again (waiting.BarrierWait id flags) = entry_of refl refl refl
+waiting_again (waiting.UntilWord offset number) = entry_of refl refl refl
 
 -- from `wait` on
 sync_waits_are : AreMade waiting_entry sync_waits
 unfolding sync_waits
-sync_waits_are = (λ v. refl, (λ v. refl, (λ v. refl, (λ v. refl, (λ v. refl, tt)))))
+sync_waits_are = (λ v. refl, (λ v. refl, (λ v. refl, (λ v. refl, (λ v. refl, (λ v. refl, tt))))))
 
 -- all of them
-waits_are : IsTable waits waiting_entry (λ w. true)
+waits_are : (scope : Scope) → IsTable waits waiting_entry (waiting_fits scope)
 unfolding waits
-waits_are = record {
+waits_are scope = record {
   makes = (λ v. refl, (λ v. refl, (λ v. refl, (λ v. refl, (λ v. refl, (λ v. refl, sync_waits_are))))));
   again = λ w h. waiting_again w;
 }
 
 -- reading a step that waits is the inverse of writing it
-waits_exact : IsExact waiting_at waiting_text IsWaiting
+waits_exact : (scope : Scope) → IsExact (waiting_at scope) waiting_text (IsWaiting scope)
 unfolding waiting_at
-waits_exact = table_exact none_at none_text none_fits waits waiting_entry (λ w. true) none_exact waits_are
+waits_exact scope =
+    table_exact none_at none_text none_fits waits waiting_entry (waiting_fits scope) none_exact (waits_are scope)
 
 -- ---- steps
 
 -- a step that waits is no call
-no_call : (w : WaitingStep) (rest : List ℕ) → call_at (waiting_text w ++ 10 ∷ rest) ≡ None
+no_call : (scope : Scope) (w : WaitingStep) (rest : List ℕ) → call_at scope (waiting_text w ++ 10 ∷ rest) ≡ None
 unfolding call_at calls later_calls own_calls segment_calls transfer_calls implicit_calls sync_calls barrier_calls
-no_call (waiting.Until cell operand) rest = refl
-no_call (waiting.Transfer (transfer.Put to remote local len)) rest = refl
-no_call (waiting.Transfer (transfer.Get to remote local len)) rest = refl
-no_call (waiting.Transfer (transfer.Memset to remote len byte)) rest = refl
-no_call (waiting.PutBegin register put) rest = refl
-no_call (waiting.PutImplicit put) rest = refl
-no_call (waiting.Wait register) rest = refl
-no_call (waiting.WaitAll registers) rest = refl
-no_call (waiting.WaitSome registers) rest = refl
-no_call (waiting.WaitImplicit which) rest = refl
-no_call (waiting.BarrierWait id flags) rest = refl
+no_call scope (waiting.Until cell operand) rest = refl
+no_call scope (waiting.Transfer (transfer.Put to remote local len)) rest = refl
+no_call scope (waiting.Transfer (transfer.Get to remote local len)) rest = refl
+no_call scope (waiting.Transfer (transfer.Memset to remote len byte)) rest = refl
+no_call scope (waiting.PutBegin register put) rest = refl
+no_call scope (waiting.PutImplicit put) rest = refl
+no_call scope (waiting.Wait register) rest = refl
+no_call scope (waiting.WaitAll registers) rest = refl
+no_call scope (waiting.WaitSome registers) rest = refl
+no_call scope (waiting.WaitImplicit which) rest = refl
+no_call scope (waiting.BarrierWait id flags) rest = refl
+no_call scope (waiting.UntilWord offset number) rest = refl
 
 -- what was found, or else another
 takes_or : {A : Type 0} {P : A → Type 0} {r s : Option A} → Takes P r → Takes P s → Takes P (r <|> s)
@@ -71,29 +76,30 @@ takes_or {A} {P} {r = Some x} {s} t u = t
 takes_or {A} {P} {r = None} {s} t u = u
 
 -- the bytes are the text of a step, and the bytes after it
-abbrev pub IsStepOf : List ℕ → ScriptStep × List ℕ → Type 0
-IsStepOf bytes x = (bytes ≡ step_text x.0 ++ x.1) × IsStep x.0
+abbrev pub IsStepOf : Scope → List ℕ → ScriptStep × List ℕ → Type 0
+IsStepOf scope bytes x = (bytes ≡ step_text x.0 ++ x.1) × IsStep scope x.0
 
 -- a step that was read
-step_takes : (bytes : List ℕ) → Takes (IsStepOf bytes) (step_at bytes)
+step_takes : (scope : Scope) (bytes : List ℕ) → Takes (IsStepOf scope bytes) (step_at scope bytes)
 unfolding step_at
-step_takes bytes = takes_or {P = IsStepOf bytes}
-    (takes_then (λ (x : ScheduledCall × List ℕ). (bytes ≡ call_text x.0 ++ x.1) × IsCall x.0)
-    (calls_exact.takes bytes) (λ x h. takes_some {P = IsStepOf bytes} {x = (step.Call x.0, x.1)} h))
-    (takes_then (λ (x : WaitingStep × List ℕ). (bytes ≡ waiting_text x.0 ++ x.1) × IsWaiting x.0)
-    (waits_exact.takes bytes) (λ x h. takes_some {P = IsStepOf bytes} {x = (step.Waiting x.0, x.1)} h))
+step_takes scope bytes = takes_or {P = IsStepOf scope bytes}
+    (takes_then (λ (x : ScheduledCall × List ℕ). (bytes ≡ call_text x.0 ++ x.1) × IsCall scope x.0)
+    ((calls_exact scope).takes bytes) (λ x h. takes_some {P = IsStepOf scope bytes} {x = (step.Call x.0, x.1)} h))
+    (takes_then (λ (x : WaitingStep × List ℕ). (bytes ≡ waiting_text x.0 ++ x.1) × IsWaiting scope x.0)
+    ((waits_exact scope).takes bytes) (λ x h. takes_some {P = IsStepOf scope bytes} {x = (step.Waiting x.0, x.1)} h))
 
 -- a step is read again
-step_again : (s : ScriptStep) (rest : List ℕ) → IsStep s → step_at (step_text s ++ 10 ∷ rest) ≡ Some (s, 10 ∷ rest)
+step_again : (scope : Scope) (s : ScriptStep) (rest : List ℕ) → IsStep scope s
+    → step_at scope (step_text s ++ 10 ∷ rest) ≡ Some (s, 10 ∷ rest)
 unfolding step_at
-step_again (step.Call c) rest h = rw (calls_exact.again c rest h) refl
-step_again (step.Waiting w) rest h = rw (no_call w rest, waits_exact.again w rest h) refl
+step_again scope (step.Call c) rest h = rw ((calls_exact scope).again c rest h) refl
+step_again scope (step.Waiting w) rest h = rw (no_call scope w rest, (waits_exact scope).again w rest h) refl
 
 -- a step ends no line
-step_flat : (s : ScriptStep) → IsStep s → IsFlat (step_text s)
-step_flat (step.Call c) h = calls_exact.flat c h
-step_flat (step.Waiting w) h = waits_exact.flat w h
+step_flat : (scope : Scope) (s : ScriptStep) → IsStep scope s → IsFlat (step_text s)
+step_flat scope (step.Call c) h = (calls_exact scope).flat c h
+step_flat scope (step.Waiting w) h = (waits_exact scope).flat w h
 
 -- reading a step is the inverse of writing it
-pub steps_exact : IsExact step_at step_text IsStep
-steps_exact = record { takes = step_takes; again = step_again; flat = step_flat }
+pub steps_exact : (scope : Scope) → IsExact (step_at scope) step_text (IsStep scope)
+steps_exact scope = record { takes = step_takes scope; again = step_again scope; flat = step_flat scope }

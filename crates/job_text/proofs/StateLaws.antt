@@ -1,5 +1,5 @@
 -- What was read so far is the front of a job's text.
-use Rattle.std.proofs.Common.{◌≡◌, ℕ, List, [], ◌∷◌, ◌++◌, map, Option, Some, None, Result, Ok, refl, sym, ap, subst}
+use Rattle.std.proofs.Common.{◌≡◌, ℕ, Bool, true, false, List, [], ◌∷◌, ◌++◌, map, Option, Some, None, Result, Ok, refl, sym, ap, subst}
 use Rattle.std.proofs.Common.{◌∙◌, codes, append_assoc, append-nil}
 use Rattle.std.specs.List.{flat_map}
 use Rattle.std.proofs.lemmas.List.Concat.{flat_map-append}
@@ -11,14 +11,18 @@ use Rattle.job_text.specs.Events.{timed_text}
 use Rattle.job_text.specs.Scripts.{step_text}
 use Rattle.job_text.specs.Places.{Setting, Version, Nodes, Credits, Threads, Segment, Last, Resend, Patience}
 use Rattle.job_text.specs.Places as places
+use Rattle.job_text.specs.Places.{AtAtomics, atomics_text}
+use Rattle.job_text.specs.Scopes.{scope_of}
 use Rattle.job_text.specs.Places.{Place, AtSetting, AtSieve, AtPairs, AtHandlers, AtBody, AtScripts, AtSteps}
 use Rattle.job_text.specs.Places.{AtSchedule, AtDone, Over}
 use Rattle.job_text.specs.Places.{NamedOr, Named, Other, Item, item_text, IsItem}
 use Rattle.job_text.specs.JobReading.{State, with_number, behind_setting, lines_of, unless, next}
+use Rattle.job_text.specs.JobReading.{served, with_atomics}
 use Rattle.job_text.specs.JobReading.{opened, headed, paired, acted, scripted, scheduled, pair_why, handler_why}
 use Rattle.job_text.specs.JobReading.{section_why, action_why, step_why, line_why}
 use Rattle.job_text.specs.JobText.{Line, setting_line, all_settings, sieve_line, pair_line, header_line}
 use Rattle.job_text.specs.JobText.{handler_lines, timed_lines, schedule_lines, head_lines, lines_with_pairs}
+use Rattle.job_text.specs.JobText.{atomics_lines, lines_with_atomics}
 use Rattle.job_text.specs.JobText.{script_line, script_lines, lines_with_handlers, lines_with_scripts, job_lines}
 use Rattle.job_text.specs.declared.fault.JobWhy.{JobWhy}
 use Rattle.job_text.specs.declared.job.Action.{Action}
@@ -68,6 +72,7 @@ abbrev pub so_far : Place → Job → List Line
 so_far (AtSetting setting) job = map (setting_line job) (before setting)
 so_far AtSieve job = map (setting_line job) all_settings
 so_far AtPairs job = lines_with_pairs job
+so_far AtAtomics job = lines_with_pairs job
 so_far AtHandlers job = lines_with_handlers job
 so_far (AtBody handler) job = lines_with_handlers job ++ (header_line handler ∷ map action_text handler.body)
 so_far AtScripts job = lines_with_scripts job
@@ -89,10 +94,11 @@ left place job = done_line ∷ []
 -- what isn't read yet stands as it began
 abbrev pub IsUnread : Place → Job → Type 0
 IsUnread (AtSetting setting) job =
-    (job.settings.pairs ≡ []) × (job.handlers ≡ []) × (job.scripts ≡ []) × (job.schedule ≡ None)
+    (job.settings.pairs ≡ []) × (job.atomics ≡ false) × (job.handlers ≡ []) × (job.scripts ≡ []) × (job.schedule ≡ None)
 IsUnread AtSieve job =
-    (job.settings.pairs ≡ []) × (job.handlers ≡ []) × (job.scripts ≡ []) × (job.schedule ≡ None)
-IsUnread AtPairs job = (job.handlers ≡ []) × (job.scripts ≡ []) × (job.schedule ≡ None)
+    (job.settings.pairs ≡ []) × (job.atomics ≡ false) × (job.handlers ≡ []) × (job.scripts ≡ []) × (job.schedule ≡ None)
+IsUnread AtPairs job = (job.atomics ≡ false) × (job.handlers ≡ []) × (job.scripts ≡ []) × (job.schedule ≡ None)
+IsUnread AtAtomics job = (job.atomics ≡ false) × (job.handlers ≡ []) × (job.scripts ≡ []) × (job.schedule ≡ None)
 IsUnread AtHandlers job = (job.scripts ≡ []) × (job.schedule ≡ None)
 IsUnread (AtBody handler) job = (job.scripts ≡ []) × (job.schedule ≡ None)
 IsUnread AtScripts job = job.schedule ≡ None
@@ -147,7 +153,7 @@ script_more ss s front = part_more script_lines ss s front (script_line s ∷ ma
 -- the lines with what a line says
 abbrev pub SaysMore : (place : Place) → Job → Item place → State → Type 0
 SaysMore place job item state = (so_far state.place state.job ≡ so_far place job
-    ++ item_text place job.settings item ∷ []) × IsUnread state.place state.job
+    ++ item_text place (scope_of job) item ∷ []) × IsUnread state.place state.job
 
 setting_more : (setting : Setting) (number : ℕ) (job : Job) → IsUnread (AtSetting setting) job → SaysMore
     (AtSetting setting) job number (record { place = behind_setting setting; job = with_number setting number job })
@@ -191,18 +197,40 @@ opened_more job section.Done state u h = subst (λ (x : State). SaysMore AtScrip
 headed_more : (job : Job) (item : NamedOr HandlerHeader Section) (state : State) → IsUnread AtHandlers job
     → headed job item ≡ Ok state → SaysMore AtHandlers job item state
 headed_more job (Named header) state u h =
-    let p = unless_ok (handler_why job.handlers header.index) _ state h in
+    let p = unless_ok (handler_why job.atomics job.handlers header.index) _ state h in
     subst (λ (x : State). SaysMore AtHandlers job (Named header) x) p.1 (refl, u)
 headed_more job (Other s) state u h =
     let m = opened_more job s state u.1 h in (
-      m.0 ∙ ap (λ (ls : List Line). ls ++ item_text AtScripts job.settings s ∷ []) (no_parts script_lines job.scripts
+      m.0 ∙ ap (λ (ls : List Line). ls ++ item_text AtScripts (scope_of job) s ∷ []) (no_parts script_lines job.scripts
           (lines_with_handlers job) u.0),
       m.1,
     )
 
-paired_more : (job : Job) (item : NamedOr PairCredits (NamedOr HandlerHeader Section)) (state : State)
-    → IsUnread AtPairs job
-    → paired job item ≡ Ok state → SaysMore AtPairs job item state
+-- the line of atomics isn't there, and neither is a handler
+no_atomics : (atomics : Bool) (front : List Line) → atomics ≡ false → front ++ atomics_lines atomics ≡ front
+no_atomics true front e = absurd (cc)
+no_atomics false front e = append-nil front
+
+-- the lines behind the line of atomics, behind which there is no handler
+with_line_of_atomics : (job : Job) → job.handlers ≡ []
+    → lines_with_handlers (with_atomics job) ≡ lines_with_pairs job ++ atomics_text tt ∷ []
+with_line_of_atomics job none = no_parts handler_lines job.handlers (lines_with_atomics (with_atomics job)) none
+
+served_more : (job : Job) (item : NamedOr (Unit {0}) (NamedOr HandlerHeader Section)) (state : State)
+    → IsUnread AtAtomics job → served job item ≡ Ok state → SaysMore AtAtomics job item state
+served_more job (Named line) state u h =
+    subst (λ (x : State). SaysMore AtAtomics job (Named line) x) (ok_same h)
+    (with_line_of_atomics job u.1, (u.2, u.3))
+served_more job (Other item) state u h =
+    let m = headed_more job item state (u.2, u.3) h in (
+      m.0 ∙ ap (λ (ls : List Line). ls ++ item_text AtHandlers (scope_of job) item ∷ [])
+          (no_parts handler_lines job.handlers (lines_with_atomics job) u.1
+          ∙ no_atomics job.atomics (lines_with_pairs job) u.0),
+      m.1,
+    )
+
+paired_more : (job : Job) (item : NamedOr PairCredits (NamedOr (Unit {0}) (NamedOr HandlerHeader Section)))
+    (state : State) → IsUnread AtPairs job → paired job item ≡ Ok state → SaysMore AtPairs job item state
 paired_more job (Named pair) state u h =
     let p = unless_ok (pair_why job.settings.pairs pair) _ state h in
     subst (λ (x : State). SaysMore AtPairs job (Named pair) x) p.1 (
@@ -210,17 +238,12 @@ paired_more job (Named pair) state u h =
           (head_lines job),
       u,
     )
-paired_more job (Other item) state u h =
-    let m = headed_more job item state (u.1, u.2) h in (
-      m.0 ∙ ap (λ (ls : List Line). ls ++ item_text AtHandlers job.settings item ∷ []) (no_parts handler_lines
-          job.handlers (lines_with_pairs job) u.0),
-      m.1,
-    )
+paired_more job (Other item) state u h = served_more job item state u h
 
 acted_more : (handler : HandlerText) (job : Job) (item : Option Action) (state : State) → IsUnread
     (AtBody handler) job → acted handler job item ≡ Ok state → SaysMore (AtBody handler) job item state
 acted_more handler job None state u h = subst (λ (x : State). SaysMore (AtBody handler) job None x) (ok_same h)
-    (handler_more job.handlers handler (lines_with_pairs job), u)
+    (handler_more job.handlers handler (lines_with_atomics job), u)
 acted_more handler job (Some a) state u h =
     let p = unless_ok (action_why handler.body) _ state h in
     subst (λ (x : State). SaysMore (AtBody handler) job (Some a) x) p.1 (
@@ -268,8 +291,9 @@ pub says_more : (place : Place) (job : Job) (item : Item place) (state : State) 
 says_more (AtSetting setting) job number state u h = subst (λ (x : State). SaysMore (AtSetting setting) job number x)
     (ok_same h) (setting_more setting number job u)
 says_more AtSieve job rule state u h = subst (λ (x : State). SaysMore AtSieve job rule x) (ok_same h)
-    (no_lines pair_line job.settings.pairs (head_lines (record job { sieve = rule })) u.0, (u.1, u.2, u.3))
+    (no_lines pair_line job.settings.pairs (head_lines (record job { sieve = rule })) u.0, (u.1, u.2, u.3, u.4))
 says_more AtPairs job item state u h = paired_more job item state u h
+says_more AtAtomics job item state u h = served_more job item state u h
 says_more AtHandlers job item state u h = headed_more job item state u h
 says_more (AtBody handler) job item state u h = acted_more handler job item state u h
 says_more AtScripts job item state u h = opened_more job item state u h

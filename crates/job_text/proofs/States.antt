@@ -2,7 +2,7 @@
 use Rattle.std.proofs.Common.{◌≡◌, inl, inr, ℕ, ◌<◌, ◌≤◌, ◌⊎◌, ◌||◌, Bool, true, false, eqb, leb, cond, List, []}
 use Rattle.std.proofs.Common.{◌∷◌}
 use Rattle.std.proofs.Common.{◌++◌, length, ltb, Option, Some, None, Ok, refl, subst, arith, length-append}
-use Rattle.std.proofs.lemmas.Bool.{and_parts, eqb-true, leb-true, leb-false, ltb-true}
+use Rattle.std.proofs.lemmas.Bool.{and_parts, or_parts, eqb-true, leb-true, leb-false, ltb-true}
 use Rattle.datagram_grammar.specs.declared.pairs.PairCredits.{PairCredits}
 use Rattle.job_text.specs.Locks.{are_listed}
 use Rattle.job_text.specs.Bodies.{IsAction}
@@ -10,11 +10,12 @@ use Rattle.job_text.specs.Scripts.{IsStep}
 use Rattle.job_text.specs.Places.{Setting, Version, Nodes, Credits, Threads, Segment, Last, Resend, Patience}
 use Rattle.job_text.specs.Places as places
 use Rattle.job_text.specs.Places.{Place, AtSetting, AtSieve, AtPairs, AtHandlers, AtBody, AtScripts, AtSteps}
-use Rattle.job_text.specs.Places.{AtSchedule, AtDone, Over}
+use Rattle.job_text.specs.Places.{AtAtomics, AtSchedule, AtDone, Over}
+use Rattle.job_text.specs.Scopes.{scope_of}
 use Rattle.job_text.specs.Places.{NamedOr, Named, Other, Item, IsItem}
 use Rattle.job_text.specs.JobReading.{State, least_job, with_number, behind_setting, with_action, lines_of, next}
 use Rattle.job_text.specs.JobReading.{with_step, begun_script, begun, opened, headed, paired, acted, scripted}
-use Rattle.job_text.specs.JobReading.{scheduled}
+use Rattle.job_text.specs.JobReading.{scheduled, served, is_reserved, most_handlers}
 use Rattle.job_text.specs.JobReading.{has_index, has_pair, has_thread, pair_why, handler_why, section_why, action_why}
 use Rattle.job_text.specs.JobReading.{step_why, line_why}
 use Rattle.job_text.specs.JobText.{IsHandler, IsNodeScript, IsSieve}
@@ -31,7 +32,7 @@ use Rattle.job_text.specs.declared.sections.Section.{Section}
 use Rattle.job_text.specs.declared.sections.Section.TheVariants as section
 use Rattle.job_text.proofs.Ranges.{IsNumber, AreNumbers}
 use Rattle.job_text.proofs.JobLaws.{AreLeast, numbers_more, IsHead, head_sound, IsSound, pair_sound, pair_free_by}
-use Rattle.job_text.proofs.JobLaws.{handler_sound, script_sound, all_more, empty_sound, line_sound}
+use Rattle.job_text.proofs.JobLaws.{atomics_sound, handler_sound, script_sound, all_more, empty_sound, line_sound}
 use Rattle.job_text.specs.Refusals.{completed}
 use Rattle.job_text.proofs.StateLaws.{IsUnread, unless_ok, ok_same}
 
@@ -39,17 +40,21 @@ use Rattle.job_text.proofs.StateLaws.{IsUnread, unless_ok, ok_same}
 pub record IsBegun (handler : HandlerText) (job : Job) : Type 0 where
   pub is : IsHandler handler
   pub new : has_index job.handlers handler.index ≡ false
-  pub few : length job.handlers < 128
+  pub free : is_reserved job.atomics handler.index ≡ false
+  pub few : length job.handlers < most_handlers job.atomics
 
 -- a script so far
 pub record IsBegunScript (script : NodeScript) (job : Job) : Type 0 where
-  pub is : IsNodeScript job.settings.nodes job.settings.threads script
+  pub is : IsNodeScript (scope_of job) script
   pub new : has_thread job.scripts script.node script.thread ≡ false
 
 abbrev pub IsState : Place → Job → Type 0
 IsState (AtSetting setting) job = IsHead job × AreLeast setting job.settings
 IsState AtSieve job = IsHead job
-IsState AtPairs job = IsSound job × (job.handlers ≡ []) × (job.scripts ≡ []) × (job.schedule ≡ None)
+IsState AtPairs job =
+    IsSound job × (job.atomics ≡ false) × (job.handlers ≡ []) × (job.scripts ≡ []) × (job.schedule ≡ None)
+IsState AtAtomics job =
+    IsSound job × (job.atomics ≡ false) × (job.handlers ≡ []) × (job.scripts ≡ []) × (job.schedule ≡ None)
 IsState AtHandlers job = IsSound job × (job.scripts ≡ []) × (job.schedule ≡ None)
 IsState (AtBody handler) job = IsSound job × (job.scripts ≡ []) × (job.schedule ≡ None) × IsBegun handler job
 IsState AtScripts job = IsSound job × (job.schedule ≡ None)
@@ -59,9 +64,10 @@ IsState AtDone job = IsSound job × ((lines : List TimedEvent) × (job.schedule 
 IsState Over job = IsSound job
 
 pub unread : (place : Place) (job : Job) → IsState place job → IsUnread place job
-unread (AtSetting setting) job is = (is.0.pairs, is.0.handlers, is.0.scripts, is.0.schedule)
-unread AtSieve job is = (is.pairs, is.handlers, is.scripts, is.schedule)
-unread AtPairs job is = (is.1, is.2, is.3)
+unread (AtSetting setting) job is = (is.0.pairs, is.0.atomics, is.0.handlers, is.0.scripts, is.0.schedule)
+unread AtSieve job is = (is.pairs, is.atomics, is.handlers, is.scripts, is.schedule)
+unread AtPairs job is = (is.1, is.2, is.3, is.4)
+unread AtAtomics job is = (is.1, is.2, is.3, is.4)
 unread AtHandlers job is = (is.1, is.2)
 unread (AtBody handler) job is = (is.1, is.2)
 unread AtScripts job is = is.1
@@ -75,8 +81,9 @@ pub sound_completed : (place : Place) (job : Job) → IsState place job → IsSo
 sound_completed (AtSetting setting) job is = head_sound job is.0
 sound_completed AtSieve job is = head_sound job is
 sound_completed AtPairs job is = is.0
+sound_completed AtAtomics job is = is.0
 sound_completed AtHandlers job is = is.0
-sound_completed (AtBody handler) job is = handler_sound job handler is.0 is.3.is is.3.new is.3.few
+sound_completed (AtBody handler) job is = handler_sound job handler is.0 is.3.is is.3.new is.3.free is.3.few
 sound_completed AtScripts job is = is.0
 sound_completed (AtSteps script) job is = script_sound job script is.0 is.2.is is.2.new
 sound_completed AtSchedule job is = is.0
@@ -101,6 +108,7 @@ start_is = (
     numbers = least_numbers;
     sieve = record { lose = omega arith; repeat = omega arith; swap = omega arith };
     pairs = refl;
+    atomics = refl;
     handlers = refl;
     scripts = refl;
     schedule = refl;
@@ -117,6 +125,7 @@ head_more Version number job is all = record {
   numbers = all;
   sieve = is.sieve;
   pairs = is.pairs;
+  atomics = is.atomics;
   handlers = is.handlers;
   scripts = is.scripts;
   schedule = is.schedule;
@@ -125,6 +134,7 @@ head_more Patience number job is all = record {
   numbers = all;
   sieve = is.sieve;
   pairs = is.pairs;
+  atomics = is.atomics;
   handlers = is.handlers;
   scripts = is.scripts;
   schedule = is.schedule;
@@ -133,6 +143,7 @@ head_more setting number job is all = record {
   numbers = all;
   sieve = is.sieve;
   pairs = is.pairs;
+  atomics = is.atomics;
   handlers = is.handlers;
   scripts = is.scripts;
   schedule = is.schedule;
@@ -160,6 +171,7 @@ sieve_head job rule is one = record {
   numbers = numbers_sieve job rule is.numbers;
   sieve = one;
   pairs = is.pairs;
+  atomics = is.atomics;
   handlers = is.handlers;
   scripts = is.scripts;
   schedule = is.schedule;
@@ -185,7 +197,7 @@ no_entry false h = refl
 action_free : (handler : HandlerText) → action_why handler.body ≡ None → length handler.body < 64
 action_free handler h = leb-false 64 (length handler.body) (no_count (leb 64 (length handler.body)) h)
 
-opened_state : (job : Job) (s : Section) (state : State) → IsState AtScripts job → IsItem AtScripts job.settings s
+opened_state : (job : Job) (s : Section) (state : State) → IsState AtScripts job → IsItem AtScripts (scope_of job) s
     → opened job s ≡ Ok state → IsState state.place state.job
 opened_state job (section.Script node thread) state is item h =
     let p = unless_ok (section_why job.scripts (section.Script node thread)) _ state h in
@@ -205,10 +217,13 @@ opened_state job section.Schedule state is item h = subst (λ (x : State). IsSta
 opened_state job section.Done state is item h = subst (λ (x : State). IsState x.place x.job) (ok_same h) is.0
 
 headed_state : (job : Job) (item : NamedOr HandlerHeader Section) (state : State) → IsState AtHandlers job
-    → IsItem AtHandlers job.settings item → headed job item ≡ Ok state → IsState state.place state.job
+    → IsItem AtHandlers (scope_of job) item → headed job item ≡ Ok state → IsState state.place state.job
 headed_state job (Named header) state is item h =
-    let p = unless_ok (handler_why job.handlers header.index) _ state h in
-    let free = pair_free_by (has_index job.handlers header.index) (leb 128 (length job.handlers)) Entry Count p.0 in
+    let p = unless_ok (handler_why job.atomics job.handlers header.index) _ state h in
+    let most = most_handlers job.atomics in
+    let free = pair_free_by (has_index job.handlers header.index || is_reserved job.atomics header.index)
+    (leb most (length job.handlers)) Entry Count p.0 in
+    let new = or_parts (has_index job.handlers header.index) (is_reserved job.atomics header.index) free.0 in
     let tests = and_parts (eqb header.index 0 || leb 128 header.index) (are_listed 0 header.locks) item.1 in
     let one : IsBegun (begun header) job = record {
       is = record {
@@ -217,32 +232,43 @@ headed_state job (Named header) state is item h =
         count = omega arith;
         actions = tt;
       };
-      new = free.0;
-      few = leb-false 128 (length job.handlers) free.1;
+      new = new.0;
+      free = new.1;
+      few = leb-false most (length job.handlers) free.1;
     } in
     subst (λ (x : State). IsState x.place x.job) p.1 (is.0, is.1, is.2, one)
 headed_state job (Other s) state is item h = opened_state job s state (is.0, is.2) item h
 
-paired_state : (job : Job) (item : NamedOr PairCredits (NamedOr HandlerHeader Section)) (state : State)
-    → IsState AtPairs job
-    → IsItem AtPairs job.settings item → paired job item ≡ Ok state → IsState state.place state.job
+served_state : (job : Job) (item : NamedOr (Unit {0}) (NamedOr HandlerHeader Section)) (state : State)
+    → IsState AtAtomics job → IsItem AtAtomics (scope_of job) item → served job item ≡ Ok state
+    → IsState state.place state.job
+served_state job (Named line) state is one h =
+    let second = eqb-true job.settings.version 2 one.1 in
+    subst (λ (x : State). IsState x.place x.job) (ok_same h)
+    (atomics_sound job is.0 second is.2 is.3 is.4, is.3, is.4)
+served_state job (Other item) state is one h = headed_state job item state (is.0, is.3, is.4) one h
+
+paired_state : (job : Job) (item : NamedOr PairCredits (NamedOr (Unit {0}) (NamedOr HandlerHeader Section)))
+    (state : State) → IsState AtPairs job → IsItem AtPairs (scope_of job) item → paired job item ≡ Ok state
+    → IsState state.place state.job
 paired_state job (Named pair) state is item h =
     let p = unless_ok (pair_why job.settings.pairs pair) _ state h in
     let free = pair_free_by (has_pair job.settings.pairs pair) (leb 64 (length job.settings.pairs)) Entry Count p.0 in
     subst (λ (x : State). IsState x.place x.job) p.1 (
       pair_sound job pair is.0 item.1 item.0.1.1.0.0 item.0.1.1.0.1
-          free.0 (leb-false 64 (length job.settings.pairs) free.1) is.3,
+          free.0 (leb-false 64 (length job.settings.pairs) free.1) is.3 is.4,
       is.1,
       is.2,
       is.3,
+      is.4,
     )
-paired_state job (Other item) state is one h = headed_state job item state (is.0, is.2, is.3) one h
+paired_state job (Other item) state is one h = served_state job item state is one h
 
 acted_state : (handler : HandlerText) (job : Job) (item : Option Action) (state : State) → IsState
-    (AtBody handler) job → IsItem (AtBody handler) job.settings item → acted handler job item ≡ Ok state
+    (AtBody handler) job → IsItem (AtBody handler) (scope_of job) item → acted handler job item ≡ Ok state
     → IsState state.place state.job
 acted_state handler job None state is item h = subst (λ (x : State). IsState x.place x.job) (ok_same h)
-    (handler_sound job handler is.0 is.3.is is.3.new is.3.few, is.1, is.2)
+    (handler_sound job handler is.0 is.3.is is.3.new is.3.free is.3.few, is.1, is.2)
 acted_state handler job (Some a) state is item h =
     let p = unless_ok (action_why handler.body) _ state h in
     let lt = action_free handler p.0 in
@@ -254,6 +280,7 @@ acted_state handler job (Some a) state is item h =
         actions = all_more IsAction handler.body a is.3.is.actions item;
       };
       new = is.3.new;
+      free = is.3.free;
       few = is.3.few;
     } in
     subst (λ (x : State). IsState x.place x.job) p.1 (is.0, is.1, is.2, one)
@@ -263,7 +290,7 @@ step_free : (script : NodeScript) → step_why script.steps ≡ None → length 
 step_free script h = leb-false 4096 (length script.steps) (no_count (leb 4096 (length script.steps)) h)
 
 scripted_state : (script : NodeScript) (job : Job) (item : Option ScriptStep) (state : State) → IsState
-    (AtSteps script) job → IsItem (AtSteps script) job.settings item → scripted script job item ≡ Ok state
+    (AtSteps script) job → IsItem (AtSteps script) (scope_of job) item → scripted script job item ≡ Ok state
     → IsState state.place state.job
 scripted_state script job None state is item h = subst (λ (x : State). IsState x.place x.job) (ok_same h)
     (script_sound job script is.0 is.2.is is.2.new, is.1)
@@ -275,14 +302,14 @@ scripted_state script job (Some s) state is item h =
         node = is.2.is.node;
         thread = is.2.is.thread;
         count = simp length-append (omega arith);
-        steps = all_more IsStep script.steps s is.2.is.steps item;
+        steps = all_more (IsStep (scope_of job)) script.steps s is.2.is.steps item;
       };
       new = is.2.new;
     } in
     subst (λ (x : State). IsState x.place x.job) p.1 (is.0, is.1, one)
 
 scheduled_state : (job : Job) (item : Option TimedEvent) (state : State) → IsState AtSchedule job
-    → IsItem AtSchedule job.settings item → scheduled job item ≡ Ok state → IsState state.place state.job
+    → IsItem AtSchedule (scope_of job) item → scheduled job item ≡ Ok state → IsState state.place state.job
 scheduled_state job None state is item h = subst (λ (x : State). IsState x.place x.job) (ok_same h) is
 scheduled_state job (Some t) state is item h =
     let p = unless_ok (line_why job.settings.nodes (lines_of job.schedule) t) _ state h in
@@ -296,7 +323,7 @@ scheduled_state job (Some t) state is item h =
     )
 
 pub state_more : (place : Place) (job : Job) (item : Item place) (state : State) → IsState place job
-    → IsItem place job.settings item → next place job item ≡ Ok state → IsState state.place state.job
+    → IsItem place (scope_of job) item → next place job item ≡ Ok state → IsState state.place state.job
 state_more (AtSetting setting) job number state is item h =
     let one : IsNumber setting job.settings number = record { low = item.0.0.0; high = item.0.0.1; fits = item.1 } in
     subst (λ (x : State). IsState x.place x.job) (ok_same h) (setting_state setting number job is
@@ -306,11 +333,13 @@ state_more AtSieve job rule state is item h =
     let head = sieve_head job rule is one in
     subst (λ (x : State). IsState x.place x.job) (ok_same h) (
       head_sound (record job { sieve = rule }) head,
+      is.atomics,
       is.handlers,
       is.scripts,
       is.schedule,
     )
 state_more AtPairs job item state is one h = paired_state job item state is one h
+state_more AtAtomics job item state is one h = served_state job item state is one h
 state_more AtHandlers job item state is one h = headed_state job item state is one h
 state_more (AtBody handler) job item state is one h = acted_state handler job item state is one h
 state_more AtScripts job item state is one h = opened_state job item state is one h

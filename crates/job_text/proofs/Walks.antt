@@ -2,6 +2,7 @@
 use Rattle.std.proofs.Common.{◌≡◌, ◌⊎◌, inl, inr, ℕ, zero, suc, ◌+◌, List, [], ◌∷◌, ◌++◌, length, Option, Some}
 use Rattle.std.proofs.Common.{None, Result, Ok, Err, refl, sym, ap, subst, ◌∙◌, arith, append_assoc, append-nil}
 use Rattle.std.specs.List.{AllByRecursion}
+use Rattle.job_text.specs.Scopes.{scope_of}
 use Rattle.job_text.specs.Places.{Place, Over, Item, item_text}
 use Rattle.job_text.specs.JobReading.{State, BadLine, Front, line_at, why_at, next, onward, stepped, step}
 use Rattle.job_text.specs.JobReading.{from_lines, front_with, over_or, after_step, run, read}
@@ -19,11 +20,11 @@ use Rattle.job_text.proofs.States.{IsState, unread, state_more}
 -- what a step is made of
 pub record IsStepOf (state : State) (bytes : List ℕ) (to : State) (rest : List ℕ) : Type 0 where
   pub item : Item state.place
-  pub found : line_at state.place state.job.settings bytes ≡ Some (item, rest)
+  pub found : line_at state.place (scope_of state.job) bytes ≡ Some (item, rest)
   pub goes : next state.place state.job item ≡ Ok to
 
 step_on : (state : State) (bytes : List ℕ) (x : State × List ℕ) (y : Item state.place × List ℕ)
-    (r : Result State JobWhy) → line_at state.place state.job.settings bytes ≡ Some y
+    (r : Result State JobWhy) → line_at state.place (scope_of state.job) bytes ≡ Some y
     → next state.place state.job y.0 ≡ r → onward y.1 r ≡ Ok x → IsStepOf state bytes x.0 x.1
 step_on state bytes x y (Ok to) e n h =
     let same : ◌≡◌ {A = State × List ℕ} (to, y.1) x = cc in
@@ -31,15 +32,15 @@ step_on state bytes x y (Ok to) e n h =
 step_on state bytes x y (Err why) e n h = absurd (cc)
 
 step_by : (state : State) (bytes : List ℕ) (x : State × List ℕ) (o : Option (Item state.place × List ℕ))
-    → line_at state.place state.job.settings bytes ≡ o → stepped state.place state.job
-    (why_at state.place state.job.settings bytes) o ≡ Ok x → IsStepOf state bytes x.0 x.1
+    → line_at state.place (scope_of state.job) bytes ≡ o → stepped state.place state.job
+    (why_at state.place (scope_of state.job) bytes) o ≡ Ok x → IsStepOf state bytes x.0 x.1
 step_by state bytes x None e h = absurd (cc)
 step_by state bytes x (Some y) e h = step_on state bytes x y (next state.place state.job y.0) e refl h
 
 pub step_of : (state : State) (bytes : List ℕ) (x : State × List ℕ) → step state bytes ≡ Ok x
     → IsStepOf state bytes x.0 x.1
 unfolding step
-step_of state bytes x h = step_by state bytes x (line_at state.place state.job.settings bytes) refl h
+step_of state bytes x h = step_by state bytes x (line_at state.place (scope_of state.job) bytes) refl h
 
 -- and back
 pub step_is : (state : State) (bytes : List ℕ) (to : State) (rest : List ℕ) → IsStepOf state bytes to rest
@@ -59,18 +60,18 @@ pub record IsMore (state : State) (bytes : List ℕ) (to : State) (rest : List �
 pub step_keeps : (state : State) (bytes : List ℕ) (to : State) (rest : List ℕ) → IsState state.place state.job
     → IsStepOf state bytes to rest → IsMore state bytes to rest
 step_keeps state bytes to rest is one =
-    let said = (line_takes state.place state.job.settings bytes).so (one.item, rest) one.found in
+    let said = (line_takes state.place (scope_of state.job) bytes).so (one.item, rest) one.found in
     let more = says_more state.place state.job one.item to (unread state.place state.job is) one.goes in
     record {
-      line = item_text state.place state.job.settings one.item;
-      flat = (place_exact state.place state.job.settings).flat one.item said.1;
+      line = item_text state.place (scope_of state.job) one.item;
+      flat = (place_exact state.place (scope_of state.job)).flat one.item said.1;
       text = said.0;
       lines = more.0;
       is = state_more state.place state.job one.item to is said.1 one.goes;
-      again = λ rest. step_is state (item_text state.place state.job.settings one.item ++ 10 ∷ rest) to rest
+      again = λ rest. step_is state (item_text state.place (scope_of state.job) one.item ++ 10 ∷ rest) to rest
           (record {
             item = one.item;
-            found = line_again state.place state.job.settings one.item rest said.1;
+            found = line_again state.place (scope_of state.job) one.item rest said.1;
             goes = one.goes;
           });
     }
@@ -235,7 +236,7 @@ run_outcome (first ∷ later) state line bytes e =
     (after_step line (λ to. run to (line + 1) later) (step state b)))) f.0
     (some_line later state line bytes (open_or_over state.place) f.1 (λ to more h.
     let one = step_of state bytes (to, more) h in
-    let lines : from_lines bytes ≡ bytes ∷ from_lines more = lines_after state.place state.job.settings bytes
+    let lines : from_lines bytes ≡ bytes ∷ from_lines more = lines_after state.place (scope_of state.job) bytes
     (one.item, more) one.found in
     run_outcome later to (line + 1) more (tail_same (sym lines ∙ e))))
   where

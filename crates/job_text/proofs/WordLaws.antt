@@ -9,6 +9,8 @@ use Rattle.std.proofs.lemmas.Str.Parse.{digit_from_value}
 use Rattle.std.proofs.lemmas.Fmt.{digits_decimal}
 use Rattle.std.proofs.lemmas.Slice.Eq.{bytes_eq-Decides}
 use Rattle.std.proofs.lemmas.Bool.{and_parts, and_from, leb-true, le-leb, ne_eqb, eqb-true}
+use Rattle.gas_atomic.specs.declared.word.Op.{Op}
+use Rattle.gas_atomic.specs.declared.word.Op.TheVariants as op
 use Rattle.handler_rules.specs.declared.rules.CallKind.{CallKind}
 use Rattle.handler_rules.specs.declared.rules.CallKind.TheVariants as kind
 use Rattle.handler_rules.specs.declared.rules.Role.{Role as HandlerRole}
@@ -20,9 +22,9 @@ use Rattle.job_text.specs.declared.job.Operand.TheVariants as operand
 use Rattle.job_text.specs.Lines.{Word}
 use Rattle.job_text.specs.Words.{number_in, schedule_operand, body_operand, operand_word, IsOperand}
 use Rattle.job_text.specs.Words.{kind_of, kind_word, IsNamed, role_of, role_word}
-use Rattle.job_text.specs.Words.{implicit_of, implicit_word}
+use Rattle.job_text.specs.Words.{implicit_of, implicit_word, op_of, op_word}
 use Rattle.job_text.specs.declared.operands.NumberPlace.TheVariants.{Schedule, Body}
-use Rattle.job_text.specs.Forms.{Bytes, Payload, BodyPayload, Integer, Implicit}
+use Rattle.job_text.specs.Forms.{Bytes, Payload, BodyPayload, Integer, Implicit, Operation}
 use Rattle.job_text.specs.Forms.{Part, Number, NumberOf, Kind, Role, Meaning, word_text, IsSaid, word_says}
 use Rattle.job_text.proofs.Fronts.{cond_yes, cond_no}
 use Rattle.job_text.proofs.Decimals.{own, number_of-decimal}
@@ -216,6 +218,43 @@ implicit_run implicit.Puts = (refl, (refl, (refl, (refl, tt))))
 implicit_run implicit.Gets = (refl, (refl, (refl, (refl, tt))))
 implicit_run implicit.All = (refl, (refl, (refl, tt)))
 
+-- ---- operations of remote atomics
+
+-- a word that was read as an operation
+op_takes : (word : Word) → Takes (λ o. (word ≡ op_word o) × Unit {0}) (op_of word)
+unfolding op_of
+op_takes word =
+    one_of _ (λ e. (e, tt)) (one_of _ (λ e. (e, tt)) (one_of _ (λ e. (e, tt)) (one_of _ (λ e. (e, tt))
+    (one_of _ (λ e. (e, tt)) (one_of _ (λ e. (e, tt)) (one_of _ (λ e. (e, tt)) (one_of _ (λ e. (e, tt))
+    (one_of _ (λ e. (e, tt)) (one_of _ (λ e. (e, tt)) takes_none)))))))))
+
+-- an operation is read again
+op_again : (o : Op) → op_of (op_word o) ≡ Some o
+unfolding op_of
+op_again op.Get = refl
+op_again op.Swap = refl
+op_again op.CompareSwap = refl
+op_again op.Add = refl
+op_again op.Sub = refl
+op_again op.And = refl
+op_again op.Or = refl
+op_again op.Xor = refl
+op_again op.Min = refl
+op_again op.Max = refl
+
+-- its word ends nowhere within
+op_run : (o : Op) → IsRun (op_word o)
+op_run op.Swap = (refl, (refl, (refl, (refl, tt))))
+op_run op.Or = (refl, (refl, tt))
+op_run op.Get = (refl, (refl, (refl, tt)))
+op_run op.CompareSwap = (refl, (refl, (refl, tt)))
+op_run op.Add = (refl, (refl, (refl, tt)))
+op_run op.Sub = (refl, (refl, (refl, tt)))
+op_run op.And = (refl, (refl, (refl, tt)))
+op_run op.Xor = (refl, (refl, (refl, tt)))
+op_run op.Min = (refl, (refl, (refl, tt)))
+op_run op.Max = (refl, (refl, (refl, tt)))
+
 -- ---- words of each kind
 
 -- a word that was read
@@ -230,6 +269,7 @@ word_takes Payload word = payload_takes word
 word_takes BodyPayload word = body_payload_takes word
 word_takes Integer word = takes_weaker (IsInteger word) (integer_takes word) (λ z h. (h.spells, h.fits))
 word_takes Implicit word = takes_weaker (λ w. word ≡ implicit_word w) (implicit_takes word) (λ w h. (h, tt))
+word_takes Operation word = op_takes word
 
 -- a word is read again
 pub word_again : (p : Part) (x : Meaning p) → IsSaid p x → word_says p (word_text p x) ≡ Some x
@@ -243,6 +283,7 @@ word_again Payload x h = payload_again x h
 word_again BodyPayload x h = body_payload_again x h
 word_again Integer x h = integer_again x h
 word_again Implicit x h = implicit_again x
+word_again Operation x h = op_again x
 
 -- no word ends within it
 pub word_run : (p : Part) (x : Meaning p) → IsSaid p x → IsRun (word_text p x)
@@ -256,3 +297,4 @@ word_run Payload x h = payload_run x (also_in_body x h)
 word_run BodyPayload x h = payload_run x h
 word_run Integer x h = integer_run x h
 word_run Implicit x h = implicit_run x
+word_run Operation x h = op_run x

@@ -1,10 +1,17 @@
 -- The forms of calls in a schedule.
-use Rattle.std.specs.Prelude.{ℕ, List, [], ◌∷◌, Option, Bool, true, false, codes}
-use Rattle.job_text.specs.Lines.{Word}
+use Rattle.std.specs.Prelude.{ℕ, List, [], ◌∷◌, Option, Some, None, Bool, true, false, not, ◌&&◌, ◌||◌}
+use Rattle.std.specs.Prelude.{is_none, if◌then◌else◌, codes}
+use Rattle.std.specs.Str.{bytes_eq}
+use Rattle.gas_atomic.specs.BatchRequests.{batch_fault}
+use Rattle.gas_atomic.specs.declared.word.WordOp.{WordOp}
+use Rattle.job_text.specs.Lines.{Word, ◌>>=◌, front}
 use Rattle.job_text.specs.Forms.{Number, Value, Kind, Bytes, Payload, Integer, Implicit, Shape, End, ◌▸◌, Many, Maker}
+use Rattle.job_text.specs.Forms.{Bundles, Operations}
 use Rattle.job_text.specs.Forms.{Values, Row, Entry}
-use Rattle.job_text.specs.Forms.{table_at, entry_text, IsOf, none_at, none_text, none_fits, U64, U16, U8}
+use Rattle.job_text.specs.Forms.{passed, table_at, entry_text, IsOf, none_at, none_text, none_fits, U64, U16, U8}
 use Rattle.job_text.specs.Reasons.{table_form}
+use Rattle.job_text.specs.Batches.{BatchWords}
+use Rattle.job_text.specs.declared.scope.Scope.{Scope}
 use Rattle.job_text.specs.declared.job.MediumText.{MediumText}
 use Rattle.job_text.specs.declared.job.LongText.{LongText}
 use Rattle.job_text.specs.declared.job.Payload.{Payload as PayloadValue}
@@ -140,6 +147,14 @@ notify_row = form (codes "notify") (Integer ▸ U8 ▸ End) call.Notify
 abbrev pub try_barrier_row : Row ⊥ ScheduledCall
 try_barrier_row = form (codes "try-barrier") (Integer ▸ U8 ▸ End) call.TryBarrier
 
+-- remote atomics (this project's profile): the node, the place of the block, the tag, and the operations
+abbrev pub batch : (to local tag : ℕ) → List WordOp → BatchWords
+batch to local tag ops = record { to = to; request = record { local = local; tag = tag; ops = ops } }
+
+abbrev pub atomic_row : Row ⊥ ScheduledCall
+atomic_row = form (codes "atomic") (U16 ▸ U64 ▸ U64 ▸ Bundles 1 16 Operations)
+    (λ to local tag ops. call.Atomic (batch to local tag ops))
+
 -- the forms of calls on the barrier
 unfoldable pub barrier_calls : List (Row ⊥ ScheduledCall)
 barrier_calls = notify_row ∷ try_barrier_row ∷ []
@@ -172,7 +187,7 @@ later_calls = medium_row ∷ long_row ∷ async_row ∷ own_calls
 
 -- the forms of calls, in groups, each of which goes on with the next one
 unfoldable pub calls : List (Row ⊥ ScheduledCall)
-calls = short_row ∷ later_calls
+calls = short_row ∷ atomic_row ∷ later_calls
 
 -- the words of a call
 abbrev pub words : (row : Row ⊥ ScheduledCall) → Values ⊥ row.shape → Entry ⊥ ScheduledCall
@@ -223,19 +238,42 @@ call_entry call.RegionBegin = words region_begin_row tt
 call_entry (call.RegionEnd register) = words region_end_row (register, tt)
 call_entry (call.Notify id flags) = words notify_row (id, (flags, tt))
 call_entry (call.TryBarrier id flags) = words try_barrier_row (id, (flags, tt))
+call_entry (call.Atomic batch) =
+    words atomic_row (batch.to, (batch.request.local, (batch.request.tag, batch.request.ops)))
+
+-- whether batches are served in a job, and nothing is wrong with this one
+abbrev pub batch_fits : Scope → BatchWords → Bool
+batch_fits scope batch = scope.atomics && is_none (batch_fault scope.settings batch.to batch.request)
+
+-- the batch, where that is so
+abbrev pub batch_in : Scope → BatchWords → Option BatchWords
+batch_in scope batch = if batch_fits scope batch then Some batch else None
+
+-- whether a call may stand in a job
+abbrev pub call_fits : Scope → ScheduledCall → Bool
+call_fits scope (call.Atomic batch) = batch_fits scope batch
+call_fits scope call = true
+
+-- what was found, where it may stand in the job
+abbrev pub fitting : Scope → Option (ScheduledCall × List ℕ) → Option (ScheduledCall × List ℕ)
+fitting scope found = found >>= passed (call_fits scope)
 
 -- what reads a call
-unfoldable pub call_at : List ℕ → Option (ScheduledCall × List ℕ)
-call_at bytes = table_at none_at calls (λ call. true) bytes
+unfoldable pub call_at : Scope → List ℕ → Option (ScheduledCall × List ℕ)
+call_at scope bytes = table_at none_at calls (call_fits scope) bytes
+
+-- a word names a call of the job, if it names one
+abbrev pub is_call_name : Scope → Word → Bool
+is_call_name scope name = scope.atomics || not (bytes_eq name (codes "atomic"))
 
 -- whether bytes have the form of a call
-unfoldable pub call_form : List ℕ → Bool
-call_form bytes = table_form (λ bytes. false) calls bytes
+unfoldable pub call_form : Scope → List ℕ → Bool
+call_form scope bytes = table_form (λ bytes. false) calls bytes && is_call_name scope (front bytes)
 
 -- the text of a call
 abbrev pub call_text : ScheduledCall → List ℕ
 call_text call = entry_text none_text (call_entry call)
 
--- a call whose words can be said
-abbrev pub IsCall : ScheduledCall → Type 0
-IsCall call = IsOf none_fits call_entry (λ call. true) call
+-- a call whose words can be said, and which may stand in the job
+abbrev pub IsCall : Scope → ScheduledCall → Type 0
+IsCall scope call = IsOf none_fits call_entry (call_fits scope) call

@@ -6,6 +6,7 @@ use Rattle.job_text.specs.Forms.{Number, Shape, End, ◌▸◌, Inner, Maker, Va
 use Rattle.job_text.specs.Forms.{word_at, table_at, entry_text, IsOf, U64, Below}
 use Rattle.job_text.specs.Reasons.{table_form, behind}
 use Rattle.job_text.specs.Calls.{call_at, call_form, call_text, IsCall}
+use Rattle.job_text.specs.declared.scope.Scope.{Scope}
 use Rattle.job_text.specs.declared.job.ScheduledCall.{ScheduledCall}
 use Rattle.job_text.specs.declared.job.ScheduledEvent.{ScheduledEvent}
 use Rattle.job_text.specs.declared.job.ScheduledEvent.TheVariants as event
@@ -58,40 +59,43 @@ is_apart (event.Reply from to number) = not (from == to)
 is_apart event = true
 
 -- what reads an event from `tick` on
-abbrev pub later_event_at : (nodes : ℕ) → List ℕ → Option (ScheduledEvent × List ℕ)
-later_event_at nodes bytes = table_at call_at (later_events nodes) is_apart bytes
+abbrev pub later_event_at : Scope → List ℕ → Option (ScheduledEvent × List ℕ)
+later_event_at scope bytes = table_at (call_at scope) (later_events scope.settings.nodes) is_apart bytes
 
 -- what reads an event
-unfoldable pub event_at : (nodes threads : ℕ) → List ℕ → Option (ScheduledEvent × List ℕ)
-event_at nodes threads bytes = table_at call_at (events nodes threads) is_apart bytes
+unfoldable pub event_at : Scope → List ℕ → Option (ScheduledEvent × List ℕ)
+event_at scope bytes =
+    table_at (call_at scope) (events scope.settings.nodes scope.settings.threads) is_apart bytes
 
 -- whether bytes have the form of an event
-unfoldable pub event_form : (nodes threads : ℕ) → List ℕ → Bool
-event_form nodes threads bytes = table_form call_form (events nodes threads) bytes
+unfoldable pub event_form : Scope → List ℕ → Bool
+event_form scope bytes =
+    table_form (call_form scope) (events scope.settings.nodes scope.settings.threads) bytes
 
 -- whether bytes have the form of a line of a schedule: the time is any word
-unfoldable pub timed_form : (nodes threads : ℕ) → List ℕ → Bool
-timed_form nodes threads bytes = behind (event_form nodes threads) (spaced (back bytes))
+unfoldable pub timed_form : Scope → List ℕ → Bool
+timed_form scope bytes = behind (event_form scope) (spaced (back bytes))
 
 -- what reads a line of a schedule
-unfoldable pub timed_at : (nodes threads : ℕ) → List ℕ → Option (TimedEvent × List ℕ)
-timed_at nodes threads bytes =
-    word_at U64 bytes >>= λ time. spaced time.1 >>= λ rest. event_at nodes threads rest >>= λ event.
+unfoldable pub timed_at : Scope → List ℕ → Option (TimedEvent × List ℕ)
+timed_at scope bytes =
+    word_at U64 bytes >>= λ time. spaced time.1 >>= λ rest. event_at scope rest >>= λ event.
     Some (record { time = time.0; event = event.0 }, event.1)
 
 -- the text of an event
 abbrev pub event_text : (nodes threads : ℕ) → ScheduledEvent → List ℕ
 event_text nodes threads event = entry_text call_text (event_entry nodes threads event)
 
--- an event whose words can be said
-abbrev pub IsEvent : (nodes threads : ℕ) → ScheduledEvent → Type 0
-IsEvent nodes threads event = IsOf IsCall (event_entry nodes threads) is_apart event
+-- an event whose words can be said, and which may stand in the job
+abbrev pub IsEvent : Scope → ScheduledEvent → Type 0
+IsEvent scope event =
+    IsOf (IsCall scope) (event_entry scope.settings.nodes scope.settings.threads) is_apart event
 
 -- the text of a line of a schedule
 abbrev pub timed_text : (nodes threads : ℕ) → TimedEvent → List ℕ
 timed_text nodes threads timed = decimal timed.time ++ (32 ∷ event_text nodes threads timed.event)
 
--- a line of a schedule whose words can be said
-pub record IsTimed (nodes threads : ℕ) (timed : TimedEvent) : Type 0 where
+-- a line of a schedule whose words can be said, and which may stand in the job
+pub record IsTimed (scope : Scope) (timed : TimedEvent) : Type 0 where
   pub time : timed.time < 2 ^ 64
-  pub event : IsEvent nodes threads timed.event
+  pub event : IsEvent scope timed.event

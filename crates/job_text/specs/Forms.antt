@@ -10,7 +10,7 @@ use Rattle.std.specs.Str.{bytes_eq}
 use Rattle.job_text.specs.Lines.{Word, ◌>>=◌, front, back, spaced}
 use Rattle.job_text.specs.Words.{integer_of, integer_read, number_in, operand_of, operand_word, IsOperand}
 use Rattle.job_text.specs.Words.{kind_of, kind_word, IsNamed, role_of, role_word}
-use Rattle.job_text.specs.Words.{implicit_of, implicit_word}
+use Rattle.job_text.specs.Words.{implicit_of, implicit_word, op_of, op_word}
 use Rattle.job_text.specs.Payloads.{payload_of, body_payload_of, payload_word, IsPayload, IsBodyPayload, bytes_of}
 use Rattle.job_text.specs.Payloads.{bytes_word, AreBytes}
 use Rattle.job_text.specs.declared.job.ImplicitKind.{ImplicitKind}
@@ -19,6 +19,8 @@ use Rattle.job_text.specs.declared.job.Operand.TheVariants as operand
 use Rattle.job_text.specs.declared.job.Payload.{Payload as PayloadValue}
 use Rattle.job_text.specs.declared.operands.NumberPlace.{NumberPlace}
 use Rattle.job_text.specs.declared.operands.NumberPlace.TheVariants.{Schedule, Body}
+use Rattle.gas_atomic.specs.declared.word.Op.{Op}
+use Rattle.gas_atomic.specs.declared.word.WordOp.{WordOp}
 use Rattle.handler_rules.specs.declared.rules.CallKind.{CallKind}
 use Rattle.handler_rules.specs.declared.rules.Role.{Role as HandlerRole}
 
@@ -35,6 +37,7 @@ pub data Part : Type 0 where
   BodyPayload : Part  -- a payload of a handler's body: also `p`
   Integer : Part  -- a number of 32 bits, itself
   Implicit : Part  -- implicit operations
+  Operation : Part  -- an operation of remote atomics
 
 -- a number of a schedule or a script, and one of a handler's body
 abbrev pub Value : Part
@@ -54,6 +57,7 @@ Meaning Payload = PayloadValue
 Meaning BodyPayload = PayloadValue
 Meaning Integer = ℤ
 Meaning Implicit = ImplicitKind
+Meaning Operation = Op
 
 -- the word that says it
 abbrev pub word_text : (p : Part) → Meaning p → Word
@@ -66,6 +70,7 @@ word_text Payload said = payload_word said
 word_text BodyPayload said = payload_word said
 word_text Integer n = signed_decimal n
 word_text Implicit kind = implicit_word kind
+word_text Operation op = op_word op
 
 -- what can be said so
 abbrev pub IsSaid : (p : Part) → Meaning p → Type 0
@@ -78,6 +83,7 @@ IsSaid Payload said = IsPayload said
 IsSaid BodyPayload said = IsBodyPayload said
 IsSaid Integer n = FitsSigned w32 n
 IsSaid Implicit kind = Unit {0}
+IsSaid Operation op = Unit {0}
 
 -- what a word says
 abbrev pub word_says : (p : Part) → Word → Option (Meaning p)
@@ -90,6 +96,7 @@ word_says Payload word = payload_of word
 word_says BodyPayload word = body_payload_of word
 word_says Integer word = integer_of word
 word_says Implicit word = implicit_of word
+word_says Operation word = op_of word
 
 -- what the first word says, and the bytes after it
 unfoldable pub word_at : (p : Part) → List ℕ → Option (Meaning p × List ℕ)
@@ -114,14 +121,19 @@ abbrev pub has_space : List ℕ → Bool
 has_space [] = false
 has_space (b ∷ bs) = b == 32
 
--- as many such words behind spaces as there are, up to a number
-unfoldable pub parts_at : (p : Part) → (most : ℕ) → List ℕ → Option (List (Meaning p) × List ℕ)
-parts_at p zero bytes = Some ([], bytes)
-parts_at p (suc most) bytes =
-    if has_space bytes then (part_at p bytes >>= λ x. parts_at p most x.1 >>= λ xs. Some (
+-- as many as there are behind spaces, up to a number, where `at` reads one
+unfoldable pub each_at : {A : Type 0} → (at : List ℕ → Option (A × List ℕ)) → (most : ℕ) → List ℕ
+    → Option (List A × List ℕ)
+each_at at zero bytes = Some ([], bytes)
+each_at at (suc most) bytes =
+    if has_space bytes then (at bytes >>= λ x. each_at at most x.1 >>= λ xs. Some (
       x.0 ∷ xs.0,
       xs.1,
     )) else Some ([], bytes)
+
+-- as many such words
+unfoldable pub parts_at : (p : Part) → (most : ℕ) → List ℕ → Option (List (Meaning p) × List ℕ)
+parts_at p most bytes = each_at (part_at p) most bytes
 
 -- whether another word of a list follows
 abbrev pub has_more : (count most : ℕ) → List ℕ → Bool
@@ -130,6 +142,77 @@ has_more count most bytes = nat_lt count most && has_space bytes
 -- a number of them
 unfoldable pub many_at : (least most : ℕ) → (p : Part) → List ℕ → Option (List (Meaning p) × List ℕ)
 many_at least most p bytes = parts_at p most bytes >>= λ xs. if nat_le least (length xs.0) then Some xs else None
+
+-- a number of 64, of 16, and of 8 bits, and one below a count
+abbrev pub U64 : Part
+U64 = Number 0 (2 ^ 64 - 1)
+
+abbrev pub U16 : Part
+U16 = Number 0 65535
+
+abbrev pub U8 : Part
+U8 = Number 0 255
+
+abbrev pub Below : ℕ → Part
+Below count = Number 0 (count - 1)
+
+-- ---- words that stand together
+
+-- what they say
+abbrev pub Together : List Part → Type 0
+Together [] = Unit {0}
+Together (p ∷ parts) = Meaning p × Together parts
+
+-- the bytes that say it
+abbrev pub together_text : (parts : List Part) → Together parts → List ℕ
+together_text [] said = []
+together_text (p ∷ parts) said = 32 ∷ (word_text p said.0 ++ together_text parts said.1)
+
+-- what can be said so
+abbrev pub AreTogether : (parts : List Part) → Together parts → Type 0
+AreTogether [] said = Unit {0}
+AreTogether (p ∷ parts) said = IsSaid p said.0 × AreTogether parts said.1
+
+-- what the bytes say, and the bytes after them
+abbrev pub together_at : (parts : List Part) → List ℕ → Option (Together parts × List ℕ)
+together_at [] bytes = Some (tt, bytes)
+together_at (p ∷ parts) bytes =
+    part_at p bytes >>= λ x. together_at parts x.1 >>= λ xs. Some ((x.0, xs.0), xs.1)
+
+-- what such words may be that come again and again
+pub data Bundle : Type 0 where
+  Operations : Bundle  -- an operation of remote atomics, the offset of its word and its two operands
+
+abbrev pub parts_of : Bundle → List Part
+parts_of Operations = Operation ∷ U64 ∷ U64 ∷ U64 ∷ []
+
+-- the value of them
+abbrev pub Bundled : Bundle → Type 0
+Bundled Operations = WordOp
+
+abbrev pub bundled : (b : Bundle) → Together (parts_of b) → Bundled b
+bundled Operations said = record { op = said.0; offset = said.1.0; a = said.1.1.0; b = said.1.1.1.0 }
+
+-- and the words of a value
+abbrev pub unbundled : (b : Bundle) → Bundled b → Together (parts_of b)
+unbundled Operations word = (word.op, (word.offset, (word.a, (word.b, tt))))
+
+-- the bytes that say it
+abbrev pub bundle_text : (b : Bundle) → Bundled b → List ℕ
+bundle_text b value = together_text (parts_of b) (unbundled b value)
+
+-- what can be said so
+abbrev pub IsBundle : (b : Bundle) → Bundled b → Type 0
+IsBundle b value = AreTogether (parts_of b) (unbundled b value)
+
+-- what the bytes say, and the bytes after them
+unfoldable pub bundle_at : (b : Bundle) → List ℕ → Option (Bundled b × List ℕ)
+bundle_at b bytes = together_at (parts_of b) bytes >>= λ x. Some (bundled b x.0, x.1)
+
+-- a number of them
+unfoldable pub bundles_at : (least most : ℕ) → (b : Bundle) → List ℕ → Option (List (Bundled b) × List ℕ)
+bundles_at least most b bytes =
+    each_at (bundle_at b) most bytes >>= λ xs. if nat_le least (length xs.0) then Some xs else None
 
 -- ---- what follows a name
 
@@ -140,6 +223,7 @@ pub data Shape : Type 0 where
   ◌▸◌ : Part → Shape → Shape  -- a word, and more
   Many : (least most : ℕ) → Part → Shape  -- such words to the end of the line
   Any : Part → Shape  -- such words to the end of the line, however many
+  Bundles : (least most : ℕ) → Bundle → Shape  -- such words together, again and again to the end of the line
   Inner : Shape  -- a line of another table
 
 -- what they say together, where X is what the other table says
@@ -148,6 +232,7 @@ Values X End = Unit {0}
 Values X (p ▸ s) = Meaning p × Values X s
 Values X (Many least most p) = List (Meaning p)
 Values X (Any p) = List (Meaning p)
+Values X (Bundles least most b) = List (Bundled b)
 Values X Inner = X
 
 -- what makes an A of them
@@ -156,6 +241,7 @@ Maker X End A = A
 Maker X (p ▸ s) A = Meaning p → Maker X s A
 Maker X (Many least most p) A = List (Meaning p) → A
 Maker X (Any p) A = List (Meaning p) → A
+Maker X (Bundles least most b) A = List (Bundled b) → A
 Maker X Inner A = X → A
 
 -- the A that it makes
@@ -164,6 +250,7 @@ made X End make v = make
 made X (p ▸ s) make v = made X s (make v.0) v.1
 made X (Many least most p) make v = make v
 made X (Any p) make v = make v
+made X (Bundles least most b) make v = make v
 made X Inner make v = make v
 
 -- what the bytes say, and the bytes after them, where at reads a line of the other table
@@ -173,6 +260,7 @@ values_at at End bytes = Some (tt, bytes)
 values_at at (p ▸ s) bytes = part_at p bytes >>= λ x. values_at at s x.1 >>= λ xs. Some ((x.0, xs.0), xs.1)
 values_at at (Many least most p) bytes = many_at least most p bytes
 values_at at (Any p) bytes = parts_at p (length bytes) bytes
+values_at at (Bundles least most b) bytes = bundles_at least most b bytes
 values_at at Inner bytes = spaced bytes >>= at
 
 -- the bytes that say it, where text writes a line of the other table
@@ -181,6 +269,7 @@ values_text text End v = []
 values_text text (p ▸ s) v = 32 ∷ (word_text p v.0 ++ values_text text s v.1)
 values_text text (Many least most p) v = flat_map (λ x. 32 ∷ word_text p x) v
 values_text text (Any p) v = flat_map (λ x. 32 ∷ word_text p x) v
+values_text text (Bundles least most b) v = flat_map (bundle_text b) v
 values_text text Inner v = 32 ∷ text v
 
 -- what can be said so
@@ -189,6 +278,7 @@ AreSaid fits End v = Unit {0}
 AreSaid fits (p ▸ s) v = IsSaid p v.0 × AreSaid fits s v.1
 AreSaid fits (Many least most p) v = (least ≤ length v) × (length v ≤ most) × AllByRecursion (IsSaid p) v
 AreSaid fits (Any p) v = AllByRecursion (IsSaid p) v
+AreSaid fits (Bundles least most b) v = (least ≤ length v) × (length v ≤ most) × AllByRecursion (IsBundle b) v
 AreSaid fits Inner v = fits v
 
 -- ---- tables
@@ -247,16 +337,3 @@ none_text x = absurd x
 
 abbrev pub none_fits : ⊥ → Type 0
 none_fits x = ⊥
-
--- a number of 64, of 16, and of 8 bits, and one below a count
-abbrev pub U64 : Part
-U64 = Number 0 (2 ^ 64 - 1)
-
-abbrev pub U16 : Part
-U16 = Number 0 65535
-
-abbrev pub U8 : Part
-U8 = Number 0 255
-
-abbrev pub Below : ℕ → Part
-Below count = Number 0 (count - 1)

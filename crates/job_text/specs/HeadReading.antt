@@ -106,6 +106,7 @@ head_at bytes = do
       };
       patience = patience.0;
       sieve = rule.0;
+      atomics = false;
       handlers = [];
       scripts = [];
       schedule = None;

@@ -3,11 +3,15 @@ use Rattle.std.specs.Prelude.{ℕ, ◌+◌, ◌-◌, ◌*◌, List, [], ◌∷�
 use Rattle.std.specs.Prelude.{Bool, true, false}
 use Rattle.std.specs.Prelude.{not, ◌&&◌, ◌||◌, nat_le, nat_lt, ◌==◌, if◌then◌else◌}
 use Rattle.std.specs.List.{list_any}
-use Rattle.datagram_grammar.specs.Parameters.{Parameters, with_pair}
+use Rattle.datagram_grammar.specs.Parameters.{with_pair}
 use Rattle.datagram_grammar.specs.declared.pairs.PairCredits.{PairCredits}
+use Rattle.gas_atomic.specs.BatchRequests.{batch_handler, block_handler}
 use Rattle.job_text.specs.Lines.{◌>>=◌, ended}
 use Rattle.job_text.specs.Reasons.{reason}
 use Rattle.job_text.specs.Places.{Setting, Version, Nodes, Credits, Threads, Segment, Last, Resend, Patience}
+use Rattle.job_text.specs.Scopes.{scope_of}
+use Rattle.job_text.specs.declared.scope.Scope.{Scope}
+use Rattle.job_text.specs.Places.{AtAtomics}
 use Rattle.job_text.specs.Places.{Place, AtSetting, AtSieve, AtPairs, AtHandlers, AtBody, AtScripts, AtSteps}
 use Rattle.job_text.specs.Places.{AtSchedule, AtDone, Over, NamedOr, Named, Other, Item, item_at, item_form}
 use Rattle.job_text.specs.Places as places
@@ -49,6 +53,7 @@ least_job = record {
   };
   patience = 1;
   sieve = record { lose = 0; repeat = 0; swap = 0 };
+  atomics = false;
   handlers = [];
   scripts = [];
   schedule = None;
@@ -60,6 +65,7 @@ job_of_head head = record {
   settings = head.settings;
   patience = head.patience;
   sieve = head.sieve;
+  atomics = head.atomics;
   handlers = [];
   scripts = [];
   schedule = None;
@@ -98,6 +104,10 @@ behind_setting Patience = AtSieve
 -- a pair
 abbrev pub with_own : PairCredits → Job → Job
 with_own pair job = record job { settings = with_pair job.settings pair }
+
+-- the line of atomics
+abbrev pub with_atomics : Job → Job
+with_atomics job = record job { atomics = true }
 
 -- an action
 abbrev pub with_action : Action → HandlerText → HandlerText
@@ -142,6 +152,14 @@ abbrev pub has_index : List HandlerText → ℕ → Bool
 has_index handlers index = not (index == 0) && list_any (λ other. other == index) (map
     (λ handler. handler.index) handlers)
 
+-- an index that the handlers of batches have
+abbrev pub is_reserved : (atomics : Bool) → (index : ℕ) → Bool
+is_reserved atomics index = atomics && ((index == batch_handler) || (index == block_handler))
+
+-- how many handlers a job may have beside those of batches
+abbrev pub most_handlers : (atomics : Bool) → ℕ
+most_handlers atomics = if atomics then 126 else 128
+
 -- whether a thread of a node has a script
 abbrev pub has_thread : List NodeScript → (node thread : ℕ) → Bool
 has_thread scripts node thread = list_any (λ script. (script.node == node) && (script.thread == thread)) scripts
@@ -169,9 +187,10 @@ abbrev pub admitted : (nodes lines rounds : ℕ) → TimedEvent → Option Timed
 admitted nodes lines rounds timed = if is_full nodes lines rounds timed.event then None else Some timed
 
 -- why a handler with this index may not stand behind these
-abbrev pub handler_why : List HandlerText → (index : ℕ) → Option JobWhy
-handler_why handlers index =
-    if has_index handlers index then Some Entry else (if nat_le 128 (length handlers) then Some Count else None)
+abbrev pub handler_why : (atomics : Bool) → List HandlerText → (index : ℕ) → Option JobWhy
+handler_why atomics handlers index =
+    if has_index handlers index || is_reserved atomics index then Some Entry
+    else (if nat_le (most_handlers atomics) (length handlers) then Some Count else None)
 
 -- why a pair may not
 abbrev pub pair_why : List PairCredits → PairCredits → Option JobWhy
@@ -232,14 +251,20 @@ opened job section = unless (section_why job.scripts section) (behind_section jo
 -- behind the first line of a handler, or such a line
 abbrev pub headed : Job → NamedOr HandlerHeader Section → Result State JobWhy
 headed job (Named header) =
-    unless (handler_why job.handlers header.index) (record { place = AtBody (begun header); job = job })
+    unless (handler_why job.atomics job.handlers header.index) (record { place = AtBody (begun header); job = job })
 headed job (Other section) = opened job section
 
+-- behind the line of atomics, or one of these
+abbrev pub served : Job → NamedOr (Unit {0}) (NamedOr HandlerHeader Section) → Result State JobWhy
+served job (Named line) = Ok (record { place = AtHandlers; job = with_atomics job })
+served job (Other item) = headed job item
+
 -- behind a pair, or one of these
-abbrev pub paired : Job → NamedOr PairCredits (NamedOr HandlerHeader Section) → Result State JobWhy
+abbrev pub paired : Job → NamedOr PairCredits (NamedOr (Unit {0}) (NamedOr HandlerHeader Section))
+    → Result State JobWhy
 paired job (Named pair) = unless (pair_why job.settings.pairs pair)
     (record { place = AtPairs; job = with_own pair job })
-paired job (Other item) = headed job item
+paired job (Other item) = served job item
 
 -- behind an action, or the line `end`
 abbrev pub acted : HandlerText → Job → Option Action → Result State JobWhy
@@ -268,6 +293,7 @@ next (AtSetting setting) job number = Ok (record {
 })
 next AtSieve job rule = Ok (record { place = AtPairs; job = record job { sieve = rule } })
 next AtPairs job item = paired job item
+next AtAtomics job item = served job item
 next AtHandlers job item = headed job item
 next (AtBody handler) job item = acted handler job item
 next AtScripts job section = opened job section
@@ -280,12 +306,12 @@ next Over job item = absurd item
 abbrev pub lined : {A : Type 0} → (at : List ℕ → Option (A × List ℕ)) → List ℕ → Option (A × List ℕ)
 lined at bytes = at bytes >>= λ item. ended item.1 >>= λ rest. Some (item.0, rest)
 
-abbrev pub line_at : (place : Place) → Parameters → List ℕ → Option (Item place × List ℕ)
-line_at place settings bytes = lined (item_at place settings) bytes
+abbrev pub line_at : (place : Place) → Scope → List ℕ → Option (Item place × List ℕ)
+line_at place scope bytes = lined (item_at place scope) bytes
 
 -- why it says nothing
-abbrev pub why_at : (place : Place) → Parameters → List ℕ → JobWhy
-why_at place settings bytes = reason (item_form place settings) bytes
+abbrev pub why_at : (place : Place) → Scope → List ℕ → JobWhy
+why_at place scope bytes = reason (item_form place scope) bytes
 
 -- what was read, with the bytes after it
 abbrev pub onward : List ℕ → Result State JobWhy → Result (State × List ℕ) JobWhy
@@ -299,8 +325,8 @@ stepped place job why (Some item) = onward item.1 (next place job item.0)
 -- what was read with the first line, and the bytes after it; or the first reason that applies to that line
 unfoldable pub step : State → List ℕ → Result (State × List ℕ) JobWhy
 step state bytes =
-    stepped state.place state.job (why_at state.place state.job.settings bytes)
-    (line_at state.place state.job.settings bytes)
+    stepped state.place state.job (why_at state.place (scope_of state.job) bytes)
+    (line_at state.place (scope_of state.job) bytes)
 
 -- ---- line by line
 

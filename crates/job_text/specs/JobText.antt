@@ -1,6 +1,6 @@
 -- The one text of a job.
 use Rattle.std.specs.Prelude.{◌≡◌, ◌≢◌, ℕ, ◌<◌, ◌≤◌, ◌*◌, ◌^◌, ◌⊎◌, ◌++◌, List, [], ◌∷◌, length, map, take, codes}
-use Rattle.std.specs.Prelude.{Option, Some, None, slice_get, true, false}
+use Rattle.std.specs.Prelude.{Option, Some, None, slice_get, Bool, true, false, if◌then◌else◌}
 use Rattle.std.specs.List.{AllByRecursion, flat_map}
 use Rattle.datagram_grammar.specs.Parameters.{Parameters, AreInRange, credits_in_all}
 use Rattle.datagram_grammar.specs.declared.pairs.PairCredits.{PairCredits}
@@ -10,9 +10,11 @@ use Rattle.job_text.specs.Events.{timed_text, IsTimed}
 use Rattle.job_text.specs.Scripts.{step_text, IsStep}
 use Rattle.job_text.specs.Places.{Setting, Version, Nodes, Credits, Threads, Segment, Last, Resend, Patience}
 use Rattle.job_text.specs.Places as places
-use Rattle.job_text.specs.Places.{setting_entry, sieve_entry, pair_text, header_text, section_text}
+use Rattle.job_text.specs.Places.{setting_entry, sieve_entry, pair_text, atomics_text, header_text, section_text}
 use Rattle.job_text.specs.Locks.{are_listed}
-use Rattle.job_text.specs.JobReading.{has_thread, total_rounds, limit}
+use Rattle.job_text.specs.Scopes.{scope_of}
+use Rattle.job_text.specs.declared.scope.Scope.{Scope}
+use Rattle.job_text.specs.JobReading.{has_thread, total_rounds, limit, is_reserved, most_handlers}
 use Rattle.job_text.specs.declared.job.HandlerText.{HandlerText}
 use Rattle.job_text.specs.declared.job.Job.{Job}
 use Rattle.job_text.specs.declared.job.NodeScript.{NodeScript}
@@ -54,6 +56,10 @@ sieve_line rule = entry_text none_text (sieve_entry rule)
 abbrev pub pair_line : PairCredits → Line
 pair_line pair = pair_text pair
 
+-- the line of atomics, where the nodes serve batches
+abbrev pub atomics_lines : Bool → List Line
+atomics_lines atomics = if atomics then atomics_text tt ∷ [] else []
+
 abbrev pub header_line : HandlerText → Line
 header_line handler =
     header_text (record { index = handler.index; role = handler.role; locks = handler.locks })
@@ -78,15 +84,18 @@ abbrev pub schedule_lines : Parameters → Option (List TimedEvent) → List Lin
 schedule_lines settings None = []
 schedule_lines settings (Some events) = codes "schedule" ∷ (timed_lines settings events ++ codes "end" ∷ [])
 
--- the lines before the pairs, before the handlers, before the scripts, and before the schedule
+-- the lines before the pairs, before that of atomics, before the handlers, before the scripts, and before the schedule
 abbrev pub head_lines : Job → List Line
 head_lines job = map (setting_line job) all_settings ++ sieve_line job.sieve ∷ []
 
 abbrev pub lines_with_pairs : Job → List Line
 lines_with_pairs job = head_lines job ++ map pair_line job.settings.pairs
 
+abbrev pub lines_with_atomics : Job → List Line
+lines_with_atomics job = lines_with_pairs job ++ atomics_lines job.atomics
+
 abbrev pub lines_with_handlers : Job → List Line
-lines_with_handlers job = lines_with_pairs job ++ flat_map handler_lines job.handlers
+lines_with_handlers job = lines_with_atomics job ++ flat_map handler_lines job.handlers
 
 abbrev pub lines_with_scripts : Job → List Line
 lines_with_scripts job = lines_with_handlers job ++ flat_map script_lines job.scripts
@@ -110,12 +119,16 @@ AreApart handlers =
     (k l : ℕ) (one other : HandlerText) → slice_get handlers k ≡ Some one → slice_get handlers l ≡ Some other
     → one.index ≢ 0 → one.index ≡ other.index → k ≡ l
 
+-- none has an index that the handlers of batches have
+abbrev pub AreUnreserved : (atomics : Bool) → List HandlerText → Type 0
+AreUnreserved atomics handlers = AllByRecursion (λ handler. is_reserved atomics handler.index ≡ false) handlers
+
 -- a script of a thread that is there, with at most 4,096 steps
-pub record IsNodeScript (nodes threads : ℕ) (script : NodeScript) : Type 0 where
-  pub node : script.node < nodes
-  pub thread : script.thread < threads
+pub record IsNodeScript (scope : Scope) (script : NodeScript) : Type 0 where
+  pub node : script.node < scope.settings.nodes
+  pub thread : script.thread < scope.settings.threads
   pub count : length script.steps ≤ 4096
-  pub steps : AllByRecursion IsStep script.steps
+  pub steps : AllByRecursion (IsStep scope) script.steps
 
 -- no two scripts are of the same thread: behind each one there is none of its thread
 abbrev pub AreThreads : List NodeScript → Type 0
@@ -123,16 +136,16 @@ AreThreads [] = Unit {0}
 AreThreads (script ∷ scripts) = (has_thread scripts script.node script.thread ≡ false) × AreThreads scripts
 
 -- a schedule: at most 65,536 lines, and at most 4,096 rounds in all, which times the nodes are at most 262,144
-pub record IsSchedule (settings : Parameters) (events : List TimedEvent) : Type 0 where
+pub record IsSchedule (scope : Scope) (events : List TimedEvent) : Type 0 where
   pub count : length events ≤ 65536
   pub rounds : total_rounds events ≤ 4096
-  pub rounds_of_nodes : total_rounds events * settings.nodes ≤ 262144
-  pub events_are : AllByRecursion (IsTimed settings.nodes settings.threads) events
+  pub rounds_of_nodes : total_rounds events * scope.settings.nodes ≤ 262144
+  pub events_are : AllByRecursion (IsTimed scope) events
 
 -- a schedule, where there is one
-abbrev pub IsScheduleOrNone : Parameters → Option (List TimedEvent) → Type 0
-IsScheduleOrNone settings None = Unit {0}
-IsScheduleOrNone settings (Some events) = IsSchedule settings events
+abbrev pub IsScheduleOrNone : Scope → Option (List TimedEvent) → Type 0
+IsScheduleOrNone scope None = Unit {0}
+IsScheduleOrNone scope (Some events) = IsSchedule scope events
 
 -- the three numbers of the sieve are in range
 pub record IsSieve (rule : SieveRule) : Type 0 where
@@ -155,12 +168,14 @@ pub record IsJob (job : Job) : Type 0 where
   pub some_patience : 1 ≤ job.patience
   pub patience : job.patience ≤ 1000000
   pub sieve : IsSieve job.sieve
-  pub few_handlers : length job.handlers ≤ 128
+  pub atomics : job.atomics ≡ true → job.settings.version ≡ 2
+  pub few_handlers : length job.handlers ≤ most_handlers job.atomics
   pub handlers : AllByRecursion IsHandler job.handlers
   pub apart : AreApart job.handlers
-  pub scripts : AllByRecursion (IsNodeScript job.settings.nodes job.settings.threads) job.scripts
+  pub unreserved : AreUnreserved job.atomics job.handlers
+  pub scripts : AllByRecursion (IsNodeScript (scope_of job)) job.scripts
   pub threads : AreThreads job.scripts
-  pub schedule : IsScheduleOrNone job.settings job.schedule
+  pub schedule : IsScheduleOrNone (scope_of job) job.schedule
 
 -- the text of a job
 abbrev pub job_text : Job → List ℕ

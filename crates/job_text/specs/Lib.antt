@@ -2,6 +2,8 @@ pub mod Lines
 pub mod Words
 pub mod Payloads
 pub mod Locks
+pub mod Batches
+pub mod Scopes
 pub mod Forms
 pub mod Reasons
 pub mod Calls

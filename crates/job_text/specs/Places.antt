@@ -12,6 +12,8 @@ use Rattle.job_text.specs.Reasons.{table_form, words_left}
 use Rattle.job_text.specs.Bodies.{action_at, action_form, action_text, IsAction}
 use Rattle.job_text.specs.Events.{timed_at, timed_form, timed_text, IsTimed}
 use Rattle.job_text.specs.Scripts.{step_at, step_form, step_text, IsStep}
+use Rattle.job_text.specs.Scopes.{is_second}
+use Rattle.job_text.specs.declared.scope.Scope.{Scope}
 use Rattle.job_text.specs.declared.job.Action.{Action}
 use Rattle.job_text.specs.declared.job.HandlerText.{HandlerText}
 use Rattle.job_text.specs.declared.job.NodeScript.{NodeScript}
@@ -41,6 +43,7 @@ pub data Place : Type 0 where
   AtSetting : Setting → Place
   AtSieve : Place
   AtPairs : Place  -- a pair, or what may stand instead
+  AtAtomics : Place  -- the line of atomics, or what may stand instead
   AtHandlers : Place  -- a handler, or what may stand instead
   AtBody : HandlerText → Place  -- an action of this handler, whose former actions it has, or its end
   AtScripts : Place  -- a script, the schedule, or the end of the text
@@ -58,7 +61,8 @@ pub data NamedOr (A B : Type 0) : Type 0 where
 abbrev pub Item : Place → Type 0
 Item (AtSetting setting) = ℕ
 Item AtSieve = SieveRule
-Item AtPairs = NamedOr PairCredits (NamedOr HandlerHeader Section)
+Item AtPairs = NamedOr PairCredits (NamedOr (Unit {0}) (NamedOr HandlerHeader Section))
+Item AtAtomics = NamedOr (Unit {0}) (NamedOr HandlerHeader Section)
 Item AtHandlers = NamedOr HandlerHeader Section
 Item (AtBody handler) = Option Action
 Item AtScripts = Section
@@ -150,6 +154,22 @@ pair_fits settings pair =
 -- what reads a pair
 unfoldable pub pair_at : Parameters → List ℕ → Option (PairCredits × List ℕ)
 pair_at settings bytes = table_at none_at (pair_row ∷ []) (pair_fits settings) bytes
+
+-- ---- atomics
+
+abbrev pub atomics_row : Row ⊥ (Unit {0})
+atomics_row = record { name = codes "atomics"; shape = End; make = tt }
+
+abbrev pub atomics_entry : Unit {0} → Entry ⊥ (Unit {0})
+atomics_entry line = record { row = atomics_row; values = tt }
+
+-- nodes serve batches of remote atomics where the datagrams have the second version
+abbrev pub atomics_fit : Scope → Unit {0} → Bool
+atomics_fit scope line = is_second scope
+
+-- what reads the line of atomics
+unfoldable pub atomics_at : Scope → List ℕ → Option (Unit {0} × List ℕ)
+atomics_at scope bytes = table_at none_at (atomics_row ∷ []) (atomics_fit scope) bytes
 
 -- ---- handlers
 
@@ -261,6 +281,12 @@ section_text section = entry_text none_text (section_entry section)
 abbrev pub IsPairLine : Parameters → PairCredits → Type 0
 IsPairLine settings pair = IsOf none_fits pair_entry (pair_fits settings) pair
 
+abbrev pub atomics_text : Unit {0} → List ℕ
+atomics_text line = entry_text none_text (atomics_entry line)
+
+abbrev pub IsAtomicsLine : Scope → Unit {0} → Type 0
+IsAtomicsLine scope line = IsOf none_fits atomics_entry (atomics_fit scope) line
+
 abbrev pub IsHeader : HandlerHeader → Type 0
 IsHeader header = IsOf none_fits header_entry header_fits header
 
@@ -281,64 +307,86 @@ header_or_section_text item = named_or_text header_text section_text item
 abbrev pub IsHeaderOrSection : Parameters → NamedOr HandlerHeader Section → Type 0
 IsHeaderOrSection settings item = named_or_fits IsHeader (IsSection settings.nodes settings.threads) item
 
+-- the line of atomics, or one of these
+abbrev pub atomics_or_later_at : Scope → List ℕ
+    → Option (NamedOr (Unit {0}) (NamedOr HandlerHeader Section) × List ℕ)
+atomics_or_later_at scope bytes =
+    named_or (codes "atomics") (atomics_at scope) (header_or_section_at scope.settings) bytes
+
+abbrev pub atomics_or_later_form : Scope → List ℕ → Bool
+atomics_or_later_form scope bytes =
+    named_or_form (codes "atomics") (λ n. is_second scope && (n == 0)) header_or_section_form bytes
+
+abbrev pub atomics_or_later_text : NamedOr (Unit {0}) (NamedOr HandlerHeader Section) → List ℕ
+atomics_or_later_text item = named_or_text atomics_text header_or_section_text item
+
+abbrev pub IsAtomicsOrLater : Scope → NamedOr (Unit {0}) (NamedOr HandlerHeader Section) → Type 0
+IsAtomicsOrLater scope item = named_or_fits (IsAtomicsLine scope) (IsHeaderOrSection scope.settings) item
+
 -- whether a line among the pairs has a form
-abbrev pub pairs_form : List ℕ → Bool
-pairs_form bytes = named_or_form (codes "pair") (λ n. n == 3) header_or_section_form bytes
+abbrev pub pairs_form : Scope → List ℕ → Bool
+pairs_form scope bytes = named_or_form (codes "pair") (λ n. n == 3) (atomics_or_later_form scope) bytes
 
 -- the line `done`
 abbrev pub done_at : List ℕ → Option (Unit {0} × List ℕ)
 done_at bytes = if bytes_eq (front bytes) (codes "done") then Some (tt, back bytes) else None
 
 -- what reads the words of a line
-abbrev pub item_at : (place : Place) → Parameters → List ℕ → Option (Item place × List ℕ)
-item_at (AtSetting setting) settings bytes =
-    table_at none_at (setting_row setting ∷ []) (setting_fits setting settings) bytes
-item_at AtSieve settings bytes = table_at none_at (sieve_row ∷ []) (λ rule. true) bytes
-item_at AtPairs settings bytes = named_or (codes "pair") (pair_at settings) (header_or_section_at settings) bytes
-item_at AtHandlers settings bytes = header_or_section_at settings bytes
-item_at (AtBody handler) settings bytes = end_or action_at bytes
-item_at AtScripts settings bytes = section_at settings.nodes settings.threads bytes
-item_at (AtSteps script) settings bytes = end_or step_at bytes
-item_at AtSchedule settings bytes = end_or (timed_at settings.nodes settings.threads) bytes
-item_at AtDone settings bytes = done_at bytes
-item_at Over settings bytes = None
+abbrev pub item_at : (place : Place) → Scope → List ℕ → Option (Item place × List ℕ)
+item_at (AtSetting setting) scope bytes =
+    table_at none_at (setting_row setting ∷ []) (setting_fits setting scope.settings) bytes
+item_at AtSieve scope bytes = table_at none_at (sieve_row ∷ []) (λ rule. true) bytes
+item_at AtPairs scope bytes =
+    named_or (codes "pair") (pair_at scope.settings) (atomics_or_later_at scope) bytes
+item_at AtAtomics scope bytes = atomics_or_later_at scope bytes
+item_at AtHandlers scope bytes = header_or_section_at scope.settings bytes
+item_at (AtBody handler) scope bytes = end_or action_at bytes
+item_at AtScripts scope bytes = section_at scope.settings.nodes scope.settings.threads bytes
+item_at (AtSteps script) scope bytes = end_or (step_at scope) bytes
+item_at AtSchedule scope bytes = end_or (timed_at scope) bytes
+item_at AtDone scope bytes = done_at bytes
+item_at Over scope bytes = None
 
 -- whether a line has a form that may stand there, where it isn't the line `end`
-abbrev pub item_form : (place : Place) → Parameters → List ℕ → Bool
-item_form (AtSetting setting) settings bytes = table_form (λ b. false) (setting_row setting ∷ []) bytes
-item_form AtSieve settings bytes = table_form (λ b. false) (sieve_row ∷ []) bytes
-item_form AtPairs settings bytes = pairs_form bytes
-item_form AtHandlers settings bytes = header_or_section_form bytes
-item_form (AtBody handler) settings bytes = action_form bytes
-item_form AtScripts settings bytes = section_form bytes
-item_form (AtSteps script) settings bytes = step_form bytes
-item_form AtSchedule settings bytes = timed_form settings.nodes settings.threads bytes
-item_form AtDone settings bytes = false
-item_form Over settings bytes = false
+abbrev pub item_form : (place : Place) → Scope → List ℕ → Bool
+item_form (AtSetting setting) scope bytes = table_form (λ b. false) (setting_row setting ∷ []) bytes
+item_form AtSieve scope bytes = table_form (λ b. false) (sieve_row ∷ []) bytes
+item_form AtPairs scope bytes = pairs_form scope bytes
+item_form AtAtomics scope bytes = atomics_or_later_form scope bytes
+item_form AtHandlers scope bytes = header_or_section_form bytes
+item_form (AtBody handler) scope bytes = action_form bytes
+item_form AtScripts scope bytes = section_form bytes
+item_form (AtSteps script) scope bytes = step_form scope bytes
+item_form AtSchedule scope bytes = timed_form scope bytes
+item_form AtDone scope bytes = false
+item_form Over scope bytes = false
 
 -- the words of a line
-abbrev pub item_text : (place : Place) → Parameters → Item place → List ℕ
-item_text (AtSetting setting) settings number = entry_text none_text (setting_entry setting number)
-item_text AtSieve settings rule = entry_text none_text (sieve_entry rule)
-item_text AtPairs settings item = named_or_text pair_text header_or_section_text item
-item_text AtHandlers settings item = header_or_section_text item
-item_text (AtBody handler) settings item = end_or_text action_text item
-item_text AtScripts settings section = section_text section
-item_text (AtSteps script) settings item = end_or_text step_text item
-item_text AtSchedule settings item = end_or_text (timed_text settings.nodes settings.threads) item
-item_text AtDone settings item = codes "done"
-item_text Over settings item = absurd item
+abbrev pub item_text : (place : Place) → Scope → Item place → List ℕ
+item_text (AtSetting setting) scope number = entry_text none_text (setting_entry setting number)
+item_text AtSieve scope rule = entry_text none_text (sieve_entry rule)
+item_text AtPairs scope item = named_or_text pair_text atomics_or_later_text item
+item_text AtAtomics scope item = atomics_or_later_text item
+item_text AtHandlers scope item = header_or_section_text item
+item_text (AtBody handler) scope item = end_or_text action_text item
+item_text AtScripts scope section = section_text section
+item_text (AtSteps script) scope item = end_or_text step_text item
+item_text AtSchedule scope item =
+    end_or_text (timed_text scope.settings.nodes scope.settings.threads) item
+item_text AtDone scope item = codes "done"
+item_text Over scope item = absurd item
 
 -- what can be said there
-abbrev pub IsItem : (place : Place) → Parameters → Item place → Type 0
-IsItem (AtSetting setting) settings number =
-    IsOf none_fits (setting_entry setting) (setting_fits setting settings) number
-IsItem AtSieve settings rule = IsOf none_fits sieve_entry (λ r. true) rule
-IsItem AtPairs settings item = named_or_fits (IsPairLine settings) (IsHeaderOrSection settings) item
-IsItem AtHandlers settings item = IsHeaderOrSection settings item
-IsItem (AtBody handler) settings item = end_or_fits IsAction item
-IsItem AtScripts settings section = IsSection settings.nodes settings.threads section
-IsItem (AtSteps script) settings item = end_or_fits IsStep item
-IsItem AtSchedule settings item = end_or_fits (IsTimed settings.nodes settings.threads) item
-IsItem AtDone settings item = Unit {0}
-IsItem Over settings item = ⊥
+abbrev pub IsItem : (place : Place) → Scope → Item place → Type 0
+IsItem (AtSetting setting) scope number =
+    IsOf none_fits (setting_entry setting) (setting_fits setting scope.settings) number
+IsItem AtSieve scope rule = IsOf none_fits sieve_entry (λ r. true) rule
+IsItem AtPairs scope item = named_or_fits (IsPairLine scope.settings) (IsAtomicsOrLater scope) item
+IsItem AtAtomics scope item = IsAtomicsOrLater scope item
+IsItem AtHandlers scope item = IsHeaderOrSection scope.settings item
+IsItem (AtBody handler) scope item = end_or_fits IsAction item
+IsItem AtScripts scope section = IsSection scope.settings.nodes scope.settings.threads section
+IsItem (AtSteps script) scope item = end_or_fits (IsStep scope) item
+IsItem AtSchedule scope item = end_or_fits (IsTimed scope) item
+IsItem AtDone scope item = Unit {0}
+IsItem Over scope item = ⊥

@@ -1,9 +1,9 @@
 -- Why a line isn't read: the first reason that applies.
-use Rattle.std.specs.Prelude.{ℕ, zero, suc, ◌+◌, List, [], ◌∷◌, length, Option, Some, None, Result, Ok, Err, Bool}
+use Rattle.std.specs.Prelude.{ℕ, zero, suc, ◌+◌, ◌-◌, ◌*◌, ◌%◌, List, [], ◌∷◌, length, Option, Some, None, Result, Ok, Err, Bool}
 use Rattle.std.specs.Prelude.{true, false, not, ◌&&◌, nat_le, ◌==◌, if◌then◌else◌}
 use Rattle.std.specs.Str.{bytes_eq}
 use Rattle.job_text.specs.Lines.{Word, front, back, spaced}
-use Rattle.job_text.specs.Forms.{Shape, End, ◌▸◌, Many, Any, Inner, Row}
+use Rattle.job_text.specs.Forms.{Shape, End, ◌▸◌, Many, Any, Bundles, Inner, Row, parts_of}
 use Rattle.job_text.specs.declared.fault.JobWhy.{JobWhy}
 use Rattle.job_text.specs.declared.fault.JobWhy.TheVariants.{Early, Text, Form, Value as BadValue}
 
@@ -47,6 +47,12 @@ abbrev pub behind : (List ℕ → Bool) → Option (List ℕ) → Bool
 behind form None = false
 behind form (Some rest) = form rest
 
+-- whether so many words are those of bundles of a size behind others
+abbrev pub are_bundles : (before least most size words : ℕ) → Bool
+are_bundles before least most size words =
+    (nat_le (before + least * size) words && nat_le words (before + most * size))
+    && ((words - before) % size == 0)
+
 -- whether the bytes have the words of a shape, of which n came before, where form tests a line of the other table
 abbrev pub shape_form : (form : List ℕ → Bool) → (n : ℕ) → Shape → List ℕ → Bool
 shape_form form n End bytes = words_left bytes == n
@@ -54,6 +60,8 @@ shape_form form n (p ▸ s) bytes = shape_form form (n + 1) s bytes
 shape_form form n (Many least most p) bytes = nat_le (n + least) (words_left bytes) && nat_le (words_left bytes)
     (n + most)
 shape_form form n (Any p) bytes = nat_le n (words_left bytes)
+shape_form form n (Bundles least most b) bytes =
+    are_bundles n least most (length (parts_of b)) (words_left bytes)
 shape_form form n Inner bytes = behind form (spaced (after_words n bytes))
 
 -- whether a row has this name, and the bytes after it have the words of its shape

@@ -1,12 +1,13 @@
 -- What a refusal means, apart from the reader.
-use Rattle.std.specs.Prelude.{◌≡◌, ℕ, zero, suc, ◌-◌, ◌<◌, ◌≤◌, List, [], ◌∷◌, ◌++◌, length, Some, true, false, ◌==◌}
+use Rattle.std.specs.Prelude.{◌≡◌, ℕ, zero, suc, ◌-◌, ◌<◌, ◌≤◌, List, [], ◌∷◌, ◌++◌, length, Some, true, false, ◌==◌, ◌||◌}
 use Rattle.std.specs.Prelude.{if◌then◌else◌, Err}
 use Rattle.job_text.specs.Reasons.{is_text}
-use Rattle.datagram_grammar.specs.Parameters.{Parameters}
-use Rattle.job_text.specs.Places.{Place, AtPairs, AtHandlers, AtBody, AtScripts, AtSteps, AtSchedule}
+use Rattle.job_text.specs.Scopes.{scope_of}
+use Rattle.job_text.specs.declared.scope.Scope.{Scope}
+use Rattle.job_text.specs.Places.{Place, AtPairs, AtAtomics, AtHandlers, AtBody, AtScripts, AtSteps, AtSchedule}
 use Rattle.job_text.specs.Places.{NamedOr, Named, Other, Item, item_form, item_text, IsItem}
 use Rattle.job_text.specs.JobReading.{limit, job_of, front_of, with_handler, with_script, lines_of, total_rounds}
-use Rattle.job_text.specs.JobReading.{has_index}
+use Rattle.job_text.specs.JobReading.{has_index, is_reserved, most_handlers}
 use Rattle.job_text.specs.JobReading.{has_pair, has_thread, is_full}
 use Rattle.job_text.specs.declared.sections.HandlerHeader.{HandlerHeader}
 use Rattle.job_text.specs.declared.sections.Section.{Section}
@@ -63,34 +64,45 @@ completed (AtSteps script) job = with_script script job
 completed place job = job
 
 -- the first line says this
-abbrev pub Says : (place : Place) → Parameters → List ℕ → Item place → Type 0
-Says place settings rest item =
-    IsItem place settings item × ((more : List ℕ) × (rest ≡ item_text place settings item ++ 10 ∷ more))
+abbrev pub Says : (place : Place) → Scope → List ℕ → Item place → Type 0
+Says place scope rest item =
+    IsItem place scope item × ((more : List ℕ) × (rest ≡ item_text place scope item ++ 10 ∷ more))
 
--- the thread has a script, or the index or the pair stood in a line before
+-- the thread has a script, or the index or the pair stood in a line before, or the index is one of batches
 abbrev pub IsTakenThread : Job → Section → Type 0
 IsTakenThread job (section.Script node thread) = has_thread job.scripts node thread ≡ true
 IsTakenThread job other = ⊥
 
 abbrev pub IsTakenIndex : Job → NamedOr HandlerHeader Section → Type 0
-IsTakenIndex job (Named header) = has_index job.handlers header.index ≡ true
+IsTakenIndex job (Named header) =
+    (has_index job.handlers header.index || is_reserved job.atomics header.index) ≡ true
 IsTakenIndex job (Other section) = IsTakenThread job section
+
+abbrev pub IsTakenLater : Job → NamedOr (Unit {0}) (NamedOr HandlerHeader Section) → Type 0
+IsTakenLater job (Named line) = ⊥
+IsTakenLater job (Other item) = IsTakenIndex job item
 
 abbrev pub IsTaken : (place : Place) → Job → Item place → Type 0
 IsTaken AtPairs job (Named pair) = has_pair job.settings.pairs pair ≡ true
-IsTaken AtPairs job (Other item) = IsTakenIndex job item
+IsTaken AtPairs job (Other item) = IsTakenLater job item
+IsTaken AtAtomics job item = IsTakenLater job item
 IsTaken AtHandlers job item = IsTakenIndex job item
 IsTaken AtScripts job section = IsTakenThread job section
 IsTaken place job item = ⊥
 
 -- there is no room for one more
 abbrev pub IsFullOfHandlers : Job → NamedOr HandlerHeader Section → Type 0
-IsFullOfHandlers job (Named header) = 128 ≤ length job.handlers
+IsFullOfHandlers job (Named header) = most_handlers job.atomics ≤ length job.handlers
 IsFullOfHandlers job (Other section) = ⊥
+
+abbrev pub IsFullLater : Job → NamedOr (Unit {0}) (NamedOr HandlerHeader Section) → Type 0
+IsFullLater job (Named line) = ⊥
+IsFullLater job (Other item) = IsFullOfHandlers job item
 
 abbrev pub IsFull : (place : Place) → Job → Item place → Type 0
 IsFull AtPairs job (Named pair) = 64 ≤ length job.settings.pairs
-IsFull AtPairs job (Other item) = IsFullOfHandlers job item
+IsFull AtPairs job (Other item) = IsFullLater job item
+IsFull AtAtomics job item = IsFullLater job item
 IsFull AtHandlers job item = IsFullOfHandlers job item
 IsFull (AtBody handler) job item = 64 ≤ length handler.body
 IsFull (AtSteps script) job item = 4096 ≤ length script.steps
@@ -101,11 +113,11 @@ IsFull place job item = ⊥
 
 -- what is wrong with a line, where this was read before it
 abbrev pub IsAtFault : JobWhy → Place → Job → List ℕ → Type 0
-IsAtFault Form place job rest = item_form place job.settings rest ≡ false
+IsAtFault Form place job rest = item_form place (scope_of job) rest ≡ false
 IsAtFault BadValue place job rest =
-    (item_form place job.settings rest ≡ true) × ((item : Item place) → Says place job.settings rest item → ⊥)
-IsAtFault Entry place job rest = (item : Item place) × (Says place job.settings rest item × IsTaken place job item)
-IsAtFault Count place job rest = (item : Item place) × (Says place job.settings rest item × IsFull place job item)
+    (item_form place (scope_of job) rest ≡ true) × ((item : Item place) → Says place (scope_of job) rest item → ⊥)
+IsAtFault Entry place job rest = (item : Item place) × (Says place (scope_of job) rest item × IsTaken place job item)
+IsAtFault Count place job rest = (item : Item place) × (Says place (scope_of job) rest item × IsFull place job item)
 IsAtFault why place job rest = Unit {0}
 
 -- the lines before this one begin some job's text, those with it begin none, and this is wrong with it

@@ -1,10 +1,13 @@
 -- The forms of steps in a script.
-use Rattle.std.specs.Prelude.{ℕ, List, [], ◌∷◌, Option, Some, None, Bool, true, false, ◌||◌, codes}
-use Rattle.job_text.specs.Lines.{Word, ◌>>=◌}
+use Rattle.std.specs.Prelude.{ℕ, List, [], ◌∷◌, Option, Some, None, Bool, true, false, not, ◌&&◌, ◌||◌, codes}
+use Rattle.std.specs.Str.{bytes_eq}
+use Rattle.job_text.specs.Lines.{Word, ◌>>=◌, front}
 use Rattle.job_text.specs.Forms.{Value, Integer, Implicit, Shape, End, ◌▸◌, Many, Maker, Values, Row, Entry}
-use Rattle.job_text.specs.Forms.{table_at, entry_text, IsOf, none_at, none_text, none_fits, U8}
+use Rattle.job_text.specs.Forms.{table_at, entry_text, IsOf, none_at, none_text, none_fits, U64, U8}
 use Rattle.job_text.specs.Reasons.{table_form}
 use Rattle.job_text.specs.Calls.{move_shape, fill_shape, call_at, call_form, call_text, IsCall}
+use Rattle.job_text.specs.Scopes.{is_second}
+use Rattle.job_text.specs.declared.scope.Scope.{Scope}
 use Rattle.job_text.specs.declared.job.PutText.{PutText}
 use Rattle.job_text.specs.declared.job.ScriptStep.{ScriptStep}
 use Rattle.job_text.specs.declared.job.ScriptStep.TheVariants as step
@@ -21,6 +24,9 @@ form name shape make = record { name = name; shape = shape; make = make }
 
 abbrev pub until_row : Row ⊥ WaitingStep
 until_row = form (codes "until") (U8 ▸ Value ▸ End) waiting.Until
+
+abbrev pub until_word_row : Row ⊥ WaitingStep
+until_word_row = form (codes "until-word") (U64 ▸ U64 ▸ End) waiting.UntilWord
 
 -- blocking transfers (GASNet 1.8.1, extended API: gasnet_put, gasnet_get, gasnet_memset)
 abbrev pub put_row : Row ⊥ WaitingStep
@@ -64,7 +70,7 @@ barrier_wait_row = form (codes "barrier-wait") (Integer ▸ U8 ▸ End) waiting.
 
 -- from `wait` on
 unfoldable pub sync_waits : List (Row ⊥ WaitingStep)
-sync_waits = wait_row ∷ wait_all_row ∷ wait_some_row ∷ wait_implicit_row ∷ barrier_wait_row ∷ []
+sync_waits = wait_row ∷ wait_all_row ∷ wait_some_row ∷ wait_implicit_row ∷ barrier_wait_row ∷ until_word_row ∷ []
 
 -- the forms of steps that wait
 unfoldable pub waits : List (Row ⊥ WaitingStep)
@@ -93,22 +99,32 @@ waiting_entry (waiting.WaitAll registers) = words wait_all_row registers
 waiting_entry (waiting.WaitSome registers) = words wait_some_row registers
 waiting_entry (waiting.WaitImplicit which) = words wait_implicit_row (which, tt)
 waiting_entry (waiting.BarrierWait id flags) = words barrier_wait_row (id, (flags, tt))
+waiting_entry (waiting.UntilWord offset number) = words until_word_row (offset, (number, tt))
+
+-- whether such a step may stand in a job: to wait for a word, where the datagrams have the second version
+abbrev pub waiting_fits : Scope → WaitingStep → Bool
+waiting_fits scope (waiting.UntilWord offset number) = is_second scope
+waiting_fits scope step = true
 
 -- what reads a step that waits
-unfoldable pub waiting_at : List ℕ → Option (WaitingStep × List ℕ)
-waiting_at bytes = table_at none_at waits (λ step. true) bytes
+unfoldable pub waiting_at : Scope → List ℕ → Option (WaitingStep × List ℕ)
+waiting_at scope bytes = table_at none_at waits (waiting_fits scope) bytes
+
+-- a word names a step that waits of the job, if it names one
+abbrev pub is_waiting_name : Scope → Word → Bool
+is_waiting_name scope name = is_second scope || not (bytes_eq name (codes "until-word"))
 
 -- whether bytes have the form of one
-unfoldable pub waiting_form : List ℕ → Bool
-waiting_form bytes = table_form (λ bytes. false) waits bytes
+unfoldable pub waiting_form : Scope → List ℕ → Bool
+waiting_form scope bytes = table_form (λ bytes. false) waits bytes && is_waiting_name scope (front bytes)
 
 -- the text of one
 abbrev pub waiting_text : WaitingStep → List ℕ
 waiting_text step = entry_text none_text (waiting_entry step)
 
--- one whose words can be said
-abbrev pub IsWaiting : WaitingStep → Type 0
-IsWaiting step = IsOf none_fits waiting_entry (λ step. true) step
+-- one whose words can be said, and which may stand in the job
+abbrev pub IsWaiting : Scope → WaitingStep → Type 0
+IsWaiting scope step = IsOf none_fits waiting_entry (waiting_fits scope) step
 
 -- ---- steps
 
@@ -119,20 +135,21 @@ None <|> other = other
 (Some x) <|> other = Some x
 
 -- what reads a step: a call, or what scripts alone have; no two of these forms have the same name
-unfoldable pub step_at : List ℕ → Option (ScriptStep × List ℕ)
-step_at bytes =
-    (call_at bytes >>= λ x. Some (step.Call x.0, x.1)) <|> (waiting_at bytes >>= λ x. Some (step.Waiting x.0, x.1))
+unfoldable pub step_at : Scope → List ℕ → Option (ScriptStep × List ℕ)
+step_at scope bytes =
+    (call_at scope bytes >>= λ x. Some (step.Call x.0, x.1))
+    <|> (waiting_at scope bytes >>= λ x. Some (step.Waiting x.0, x.1))
 
 -- whether bytes have the form of a step
-unfoldable pub step_form : List ℕ → Bool
-step_form bytes = call_form bytes || waiting_form bytes
+unfoldable pub step_form : Scope → List ℕ → Bool
+step_form scope bytes = call_form scope bytes || waiting_form scope bytes
 
 -- the text of a step
 abbrev pub step_text : ScriptStep → List ℕ
 step_text (step.Call call) = call_text call
 step_text (step.Waiting waiting) = waiting_text waiting
 
--- a step whose words can be said
-abbrev pub IsStep : ScriptStep → Type 0
-IsStep (step.Call call) = IsCall call
-IsStep (step.Waiting waiting) = IsWaiting waiting
+-- a step whose words can be said, and which may stand in the job
+abbrev pub IsStep : Scope → ScriptStep → Type 0
+IsStep scope (step.Call call) = IsCall scope call
+IsStep scope (step.Waiting waiting) = IsWaiting scope waiting

@@ -15,6 +15,8 @@ use Rattle.job_text.specs.declared.job.Operand.{Operand}
 use Rattle.job_text.specs.declared.job.Operand.TheVariants as operand
 use Rattle.job_text.specs.declared.operands.NumberPlace.{NumberPlace}
 use Rattle.job_text.specs.declared.operands.NumberPlace.TheVariants.{Schedule, Body}
+use Rattle.gas_atomic.specs.declared.word.Op.{Op}
+use Rattle.gas_atomic.specs.declared.word.Op.TheVariants as op
 use Rattle.handler_rules.specs.declared.rules.CallKind.{CallKind}
 use Rattle.handler_rules.specs.declared.rules.CallKind.TheVariants as kind
 use Rattle.handler_rules.specs.declared.rules.Role.{Role}
@@ -177,3 +179,30 @@ implicit_of word =
     if bytes_eq word (codes "puts") then Some implicit.Puts else (
     if bytes_eq word (codes "gets") then Some implicit.Gets else (
     if bytes_eq word (codes "all") then Some implicit.All else None))
+
+-- the word of an operation of remote atomics
+abbrev pub op_word : Op → Word
+op_word op.Get = codes "get"
+op_word op.Swap = codes "swap"
+op_word op.CompareSwap = codes "cas"
+op_word op.Add = codes "add"
+op_word op.Sub = codes "sub"
+op_word op.And = codes "and"
+op_word op.Or = codes "or"
+op_word op.Xor = codes "xor"
+op_word op.Min = codes "min"
+op_word op.Max = codes "max"
+
+-- an operation by its word
+unfoldable pub op_of : Word → Option Op
+op_of word =
+    if bytes_eq word (codes "get") then Some op.Get else (
+    if bytes_eq word (codes "swap") then Some op.Swap else (
+    if bytes_eq word (codes "cas") then Some op.CompareSwap else (
+    if bytes_eq word (codes "add") then Some op.Add else (
+    if bytes_eq word (codes "sub") then Some op.Sub else (
+    if bytes_eq word (codes "and") then Some op.And else (
+    if bytes_eq word (codes "or") then Some op.Or else (
+    if bytes_eq word (codes "xor") then Some op.Xor else (
+    if bytes_eq word (codes "min") then Some op.Min else (
+    if bytes_eq word (codes "max") then Some op.Max else None)))))))))

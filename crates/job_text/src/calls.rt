@@ -1,13 +1,14 @@
 //! Reading calls.
 
-ghost use Rattle.std.specs.Prelude.{◌≡◌, false};
+ghost use Rattle.std.specs.Prelude.{◌≡◌, ◌<◌, ◌≤◌, ◌∷◌, false};
 ghost use Rattle.job_text.specs.Calls.{calls, later_calls, own_calls, segment_calls, medium_row, long_row, async_row};
-ghost use Rattle.job_text.specs.Calls.{call_at, call_form};
+ghost use Rattle.job_text.specs.Calls.{atomic_row, call_at, call_form, fitting};
 ghost use Rattle.job_text.specs.declared.job.ScheduledCall.TheVariants as call;
 ghost use Rattle.job_text.specs.Forms.{named_at, none_at, row_at};
-ghost use Rattle.job_text.specs.Reasons.{named_form};
+ghost use Rattle.job_text.specs.Reasons.{are_bundles, named_form};
 ghost use Rattle.job_text.specs.Reading.{Reads};
 
+use crate::batches::batch_at;
 use crate::digits::bytes_at;
 use crate::fault::Miss;
 use crate::job::{BoxedLong, BoxedMedium, LongText, MediumText, ScheduledCall};
@@ -17,6 +18,7 @@ use crate::operand_lists::operands_at;
 use crate::operands::{NumberPlace, value_at};
 use crate::payloads::payload_at;
 use crate::reasons::{is_between, words_left};
+use crate::scope::Scope;
 use crate::transfer_calls::{transfer_call_at, transfer_call_form};
 use crate::words::{behind_name, is_name, name_of};
 use std::alloc::Global;
@@ -160,10 +162,30 @@ fn later_call_at<'a>(
     own_call_at(alloc, name, rest)
 }
 
+/// The same from `atomic` on, where the call may stand in the job.
+fn named_call_at<'a>(
+    alloc: Global,
+    scope: &Scope,
+    name: &[u8],
+    rest: &'a [u8],
+) -> Result<(ScheduledCall, &'a [u8]), Miss>
+    ensures { Reads (λ x. (x.0, x.1.now)) result
+        (fitting scope.now (named_at none_at (atomic_row ∷ later_calls) name.now rest.now)) }
+{
+    if is_name(name, b"atomic") {
+        return batch_at(alloc, scope, rest);
+    }
+    later_call_at(alloc, name, rest)
+}
+
 /// The call that a line says, and the bytes after it.
 #[tactic(auto, unfolding(crate::specs::Calls::call_at, crate::specs::Calls::calls))]
-pub fn call_at(alloc: Global, bytes: &[u8]) -> Result<(ScheduledCall, &[u8]), Miss>
-    ensures { Reads (λ x. (x.0, x.1.now)) result (call_at bytes.now) }
+pub fn call_at<'a>(
+    alloc: Global,
+    scope: &Scope,
+    bytes: &'a [u8],
+) -> Result<(ScheduledCall, &'a [u8]), Miss>
+    ensures { Reads (λ x. (x.0, x.1.now)) result (call_at scope.now bytes.now) }
 {
     if let Some(rest) = behind_name(bytes, b"short") {
         let (to, rest) = short_at(rest, 65_535)?;
@@ -177,7 +199,7 @@ pub fn call_at(alloc: Global, bytes: &[u8]) -> Result<(ScheduledCall, &[u8]), Mi
         return Ok((call, rest));
     }
     let (name, rest) = name_of(bytes);
-    later_call_at(alloc, name, rest)
+    named_call_at(alloc, scope, name, rest)
 }
 
 /// Whether a count of words after a name is a form of call, from `show` on.
@@ -249,14 +271,39 @@ fn later_call_form(name: &[u8], rest: &[u8]) -> bool
     own_call_form(name, rest)
 }
 
-/// Whether bytes have the form of a call.
-#[tactic(auto, unfolding(crate::specs::Calls::call_form, crate::specs::Calls::calls))]
-pub fn call_form(bytes: &[u8]) -> bool
-    ensures { result ≡ call_form bytes.now }
+/// Whether a count of words is that of so many bundles of a size behind others.
+fn are_bundles(words: usize, before: usize, most: usize, size: usize) -> bool
+    requires { (0 < size) × (size ≤ 4) × (before ≤ 100) × (most ≤ 16) }
+    ensures { result ≡ are_bundles before 1 most size words }
 {
-    let (name, rest) = name_of(bytes);
+    if words < before + size {
+        return false;
+    }
+    if before + most * size < words {
+        return false;
+    }
+    (words - before) % size == 0
+}
+
+/// Whether a count of words after a name is a form of call.
+#[tactic(auto, unfolding(crate::specs::Calls::calls))]
+fn named_call_form(name: &[u8], rest: &[u8]) -> bool
+    ensures { result ≡ named_form (λ b. false) calls name.now rest.now }
+{
     if is_name(name, b"short") {
         return is_between(words_left(rest), 2, 19);
     }
+    if is_name(name, b"atomic") {
+        return are_bundles(words_left(rest), 3, 16, 4);
+    }
     later_call_form(name, rest)
+}
+
+/// Whether bytes have the form of a call.
+#[tactic(auto, unfolding(crate::specs::Calls::call_form))]
+pub fn call_form(scope: &Scope, bytes: &[u8]) -> bool
+    ensures { result ≡ call_form scope.now bytes.now }
+{
+    let (name, rest) = name_of(bytes);
+    named_call_form(name, rest) && (scope.atomics || !is_name(name, b"atomic"))
 }

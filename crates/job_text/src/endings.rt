@@ -10,6 +10,7 @@ use crate::fault::{JobFault, Other};
 use crate::job::{HandlerTexts, Head, Job, NodeScripts};
 use crate::reasons::reason_of;
 use crate::schedules::schedule_at;
+use crate::scope::Scope;
 use crate::words::{ended, is_name, name_of};
 use std::alloc::Global;
 
@@ -21,6 +22,7 @@ pub fn job_with(head: Head, handlers: HandlerTexts, scripts: NodeScripts) -> Job
         settings: head.settings,
         patience: head.patience,
         sieve: head.sieve,
+        atomics: head.atomics,
         handlers,
         scripts,
         schedule: None,
@@ -71,7 +73,11 @@ pub fn tail_at(
     if !schedule {
         return Ok((job, line, bytes));
     }
-    let (lines, line, rest) = match schedule_at(alloc, &job.settings, line, bytes) {
+    let scope = Scope {
+        settings: job.settings,
+        atomics: job.atomics,
+    };
+    let (lines, line, rest) = match schedule_at(alloc, &scope, line, bytes) {
         Ok(read) => read,
         Err(fault) => return Err(fault),
     };

@@ -10,6 +10,7 @@ use crate::fault::{Miss, Other};
 use crate::job::{ScheduledEvent, TimedEvent};
 use crate::numbers::{number_at, number_here, short_at};
 use crate::reasons::{skipped, words_left};
+use crate::scope::Scope;
 use crate::words::{behind_name, is_name, name_of, spaced};
 use std::alloc::Global;
 
@@ -22,9 +23,13 @@ fn index_at(bytes: &[u8], count: u16) -> Result<(u16, &[u8]), Other>
 }
 
 /// The event that a line says, from `tick` on, and the bytes after it.
-fn later_event_at(nodes: u16, bytes: &[u8]) -> Result<(ScheduledEvent, &[u8]), Other>
-    ensures { Finds (λ x. (x.0, x.1.now)) result (later_event_at nodes bytes.now) }
+fn later_event_at<'a>(
+    scope: &Scope,
+    bytes: &'a [u8],
+) -> Result<(ScheduledEvent, &'a [u8]), Other>
+    ensures { Finds (λ x. (x.0, x.1.now)) result (later_event_at scope.now bytes.now) }
 {
+    let nodes = scope.settings.nodes();
     if let Some(rest) = behind_name(bytes, b"tick") {
         let (node, rest) = index_at(rest, nodes)?;
         return Ok((ScheduledEvent::Tick { node }, rest));
@@ -43,18 +48,18 @@ fn later_event_at(nodes: u16, bytes: &[u8]) -> Result<(ScheduledEvent, &[u8]), O
 
 /// The event that a line says, and the bytes after it.
 #[tactic(auto, unfolding(crate::specs::Events::event_at))]
-fn event_at(
+fn event_at<'a>(
     alloc: Global,
-    nodes: u16,
-    threads: u16,
-    bytes: &[u8],
-) -> Result<(ScheduledEvent, &[u8]), Miss>
-    ensures { Reads (λ x. (x.0, x.1.now)) result (event_at nodes threads bytes.now) }
+    scope: &Scope,
+    bytes: &'a [u8],
+) -> Result<(ScheduledEvent, &'a [u8]), Miss>
+    ensures { Reads (λ x. (x.0, x.1.now)) result (event_at scope.now bytes.now) }
 {
+    let (nodes, threads) = (scope.settings.nodes(), scope.settings.threads());
     if let Some(rest) = behind_name(bytes, b"call") {
         let (node, rest) = index_at(rest, nodes)?;
         let (thread, rest) = index_at(rest, threads)?;
-        let (call, rest) = call_at(alloc, spaced(rest)?)?;
+        let (call, rest) = call_at(alloc, scope, spaced(rest)?)?;
         return Ok((ScheduledEvent::Call { node, thread, call }, rest));
     }
     if let Some(rest) = behind_name(bytes, b"request") {
@@ -75,34 +80,33 @@ fn event_at(
         }
         return Ok((ScheduledEvent::Reply { from, to, number }, rest));
     }
-    let (event, rest) = later_event_at(nodes, bytes)?;
+    let (event, rest) = later_event_at(scope, bytes)?;
     Ok((event, rest))
 }
 
 /// The line of a schedule that bytes begin with, and the bytes after it.
 #[tactic(auto, unfolding(crate::specs::Events::timed_at))]
-pub fn timed_at(
+pub fn timed_at<'a>(
     alloc: Global,
-    nodes: u16,
-    threads: u16,
-    bytes: &[u8],
-) -> Result<(TimedEvent, &[u8]), Miss>
-    ensures { Reads (λ x. (x.0, x.1.now)) result (timed_at nodes threads bytes.now) }
+    scope: &Scope,
+    bytes: &'a [u8],
+) -> Result<(TimedEvent, &'a [u8]), Miss>
+    ensures { Reads (λ x. (x.0, x.1.now)) result (timed_at scope.now bytes.now) }
 {
     let (time, rest) = number_here(bytes, 0, u64::MAX)?;
-    let (event, rest) = event_at(alloc, nodes, threads, spaced(rest)?)?;
+    let (event, rest) = event_at(alloc, scope, spaced(rest)?)?;
     Ok((TimedEvent { time, event }, rest))
 }
 
 /// Whether bytes have the form of an event.
 #[tactic(auto, unfolding(crate::specs::Events::event_form))]
-fn event_form(nodes: u16, threads: u16, bytes: &[u8]) -> bool
-    ensures { result ≡ event_form nodes threads bytes.now }
+fn event_form(scope: &Scope, bytes: &[u8]) -> bool
+    ensures { result ≡ event_form scope.now bytes.now }
 {
     let (name, rest) = name_of(bytes);
     if is_name(name, b"call") {
         return match spaced(skipped(skipped(rest))) {
-            Ok(line) => call_form(line),
+            Ok(line) => call_form(scope, line),
             Err(_) => false,
         };
     }
@@ -124,12 +128,12 @@ fn event_form(nodes: u16, threads: u16, bytes: &[u8]) -> bool
 
 /// Whether bytes have the form of a line of a schedule.
 #[tactic(auto, unfolding(crate::specs::Events::timed_form))]
-pub fn timed_form(nodes: u16, threads: u16, bytes: &[u8]) -> bool
-    ensures { result ≡ timed_form nodes threads bytes.now }
+pub fn timed_form(scope: &Scope, bytes: &[u8]) -> bool
+    ensures { result ≡ timed_form scope.now bytes.now }
 {
     let (_, rest) = name_of(bytes);
     match spaced(rest) {
-        Ok(line) => event_form(nodes, threads, line),
+        Ok(line) => event_form(scope, line),
         Err(_) => false,
     }
 }

@@ -4,7 +4,8 @@ ghost use Rattle.std.specs.Prelude.{◌≡◌, ◌+◌, ◌≤◌, ◌<◌, ◌=
 ghost use Rattle.job_text.specs.Places.{AtHandlers, AtBody, AtScripts, end_or};
 ghost use Rattle.job_text.specs.Bodies.{action_at, action_form};
 ghost use Rattle.job_text.specs.HeadReading.{told};
-ghost use Rattle.job_text.specs.JobReading.{State, begun, lined, has_index, with_body, with_handler, handler_why, read};
+ghost use Rattle.job_text.specs.JobReading.{State, begun, lined, has_index, is_reserved, most_handlers, with_body};
+ghost use Rattle.job_text.specs.JobReading.{with_handler, handler_why, read};
 ghost use Rattle.job_text.specs.Lines.{front};
 ghost use Rattle.job_text.specs.Reading.{Reads, GivesAt, Continues};
 ghost use Rattle.job_text.specs.Reasons.{reason};
@@ -21,10 +22,12 @@ use crate::operands::starts;
 use crate::reasons::reason_of;
 use crate::sections::{HandlerHeader, header_line, header_why};
 use crate::words::{begins, ended, is_name, name_of};
+use gas_atomic::{BATCH_HANDLER, BLOCK_HANDLER};
 use std::alloc::Global;
 
-/// The most handlers of a job.
+/// The most handlers of a job, and of one whose nodes serve batches.
 const HANDLERS: usize = 128;
+const BESIDE_BATCHES: usize = 126;
 /// The most actions of a handler.
 const ACTIONS: usize = 64;
 
@@ -127,14 +130,28 @@ fn has_index(handlers: &[HandlerText], index: u8) -> bool
     index != 0 && is_taken(handlers, index)
 }
 
-/// Why a handler with this index may not stand behind these.
-fn why_not(handlers: &[HandlerText], index: u8) -> Option<JobWhy>
-    ensures { result ≡ handler_why handlers.now index }
+/// Whether the handlers of batches have this index.
+fn is_reserved(atomics: bool, index: u8) -> bool
+    ensures { result ≡ is_reserved atomics index }
 {
-    if has_index(handlers, index) {
+    atomics && (index == BATCH_HANDLER || index == BLOCK_HANDLER)
+}
+
+/// How many handlers a job may have beside those of batches.
+fn most_handlers(atomics: bool) -> usize
+    ensures { result ≡ most_handlers atomics }
+{
+    if atomics { BESIDE_BATCHES } else { HANDLERS }
+}
+
+/// Why a handler with this index may not stand behind these.
+fn why_not(atomics: bool, handlers: &[HandlerText], index: u8) -> Option<JobWhy>
+    ensures { result ≡ handler_why atomics handlers.now index }
+{
+    if has_index(handlers, index) || is_reserved(atomics, index) {
         return Some(JobWhy::Entry);
     }
-    if handlers.len() >= HANDLERS {
+    if handlers.len() >= most_handlers(atomics) {
         return Some(JobWhy::Count);
     }
     None
@@ -143,12 +160,13 @@ fn why_not(handlers: &[HandlerText], index: u8) -> Option<JobWhy>
 /// The first line of a handler that may stand behind these, and the bytes after it.
 fn next_header<'a>(
     alloc: Global,
+    atomics: bool,
     before: &[HandlerText],
     line: u32,
     bytes: &'a [u8],
 ) -> Result<(HandlerHeader, &'a [u8]), JobFault>
     requires { bytes_eq (front bytes.now) (codes "handler") ≡ true }
-    ensures value { (job : JobState) → job.handlers ≡ before.now →
+    ensures value { (job : JobState) → job.atomics ≡ atomics → job.handlers ≡ before.now →
         Continues (λ x. read (record { place = AtBody (begun x.0); job = job }) (line + 1) x.1.now)
         result (read (record { place = AtHandlers; job = job }) line bytes.now) }
     ensures room { IfOk result (λ x. length before.now < 128) }
@@ -161,7 +179,7 @@ fn next_header<'a>(
             return Err(JobFault::Bad { line, why });
         }
     };
-    match why_not(before, header.index) {
+    match why_not(atomics, before, header.index) {
         Some(why) => Err(JobFault::Bad { line, why }),
         None => Ok((header, rest)),
     }
@@ -170,11 +188,12 @@ fn next_header<'a>(
 /// The handlers up to the first line of another kind, with its number and the bytes from it on.
 pub fn handlers_at(
     alloc: Global,
+    atomics: bool,
     first: u32,
     bytes: &[u8],
 ) -> Result<(HandlerTexts, u32, &[u8]), JobFault>
     requires { first ≤ 1000 }
-    ensures value { (job : JobState) →
+    ensures value { (job : JobState) → job.atomics ≡ atomics →
         Continues (λ x. read (record {
           place = AtScripts;
           job = record job { handlers = x.0 };
@@ -187,7 +206,7 @@ pub fn handlers_at(
     let mut rest = bytes;
     let mut line = first;
     while begins(b"handler", rest) {
-        let (header, after) = match next_header(alloc, &texts, line, rest) {
+        let (header, after) = match next_header(alloc, atomics, &texts, line, rest) {
             Ok(read) => read,
             Err(fault) => return Err(fault),
         };

@@ -269,6 +269,7 @@ pub fn head_at(bytes: &[u8]) -> Result<(Head, &[u8]), JobFault>
                     settings,
                     patience,
                     sieve,
+                    atomics: false,
                 },
                 rest,
             ))

@@ -2,11 +2,13 @@
 
 ghost use Rattle.std.specs.Prelude.{◌≡◌, ◌≤◌, length, true};
 ghost use Rattle.datagram_grammar.specs.Parameters.{upgraded};
+ghost use Rattle.gas_atomic.specs.BatchRequests.{batch_arguments, spelled_ops};
 ghost use Rattle.job_text.specs.Locks.{are_listed, listed_by};
 ghost use Rattle.job_text.specs.JobReading.{lines_of};
 
 use crate::locks::listed_by;
 use datagram_grammar::Settings;
+use gas_atomic::WordOp;
 use handler_rules::{CallKind, Role};
 use std::marker::Model;
 
@@ -160,6 +162,48 @@ impl Model for BoxedTransfer {
     ghost use Rattle.job_text.specs.declared.job.TransferText.{TransferText};
 
     ghost Value = { TransferText };
+
+    ghost view = { λ b. box_value b.inside };
+}
+
+/// A batch of remote atomics of a schedule: 1 to 16 operations where the job was read, and the message that asks them.
+#[derive(Debug, Drop)]
+pub struct BatchText {
+    pub(crate) to: u16,
+    pub(crate) local: u64,
+    pub(crate) tag: u64,
+    pub(crate) ops: Vec<WordOp>,
+    pub(crate) arguments: [i32; 4],
+    pub(crate) payload: Vec<u8>,
+}
+
+impl Model for BatchText {
+    ghost use Rattle.std.specs.Prelude.{◌≡◌};
+    ghost use Rattle.gas_atomic.specs.BatchRequests.{batch_arguments, spelled_ops};
+    ghost use Rattle.job_text.specs.Batches.{BatchWords};
+
+    ghost Value = { BatchWords };
+
+    ghost view = { λ b. record {
+      to = b.to;
+      request = record { local = b.local; tag = b.tag; ops = b.ops.items };
+    } };
+
+    ghost invariant = { λ b. (b.arguments ≡ batch_arguments b.local b.tag)
+        × (b.payload.items ≡ spelled_ops b.ops.items) };
+}
+
+/// A batch in an allocation of its own, so that a line of a schedule stays small.
+#[derive(Debug, Drop)]
+pub struct BoxedBatch {
+    pub(crate) inside: Box<BatchText>,
+}
+
+impl Model for BoxedBatch {
+    ghost use Rattle.std.specs.Box.{box_value};
+    ghost use Rattle.job_text.specs.Batches.{BatchWords};
+
+    ghost Value = { BatchWords };
 
     ghost view = { λ b. box_value b.inside };
 }
@@ -368,6 +412,10 @@ pub enum ScheduledCall {
         id: i32,
         flags: u8,
     },
+    /// A batch of remote atomics, as a Medium request.
+    Atomic {
+        batch: BoxedBatch,
+    },
 }
 
 /// What a line of the schedule asks for.
@@ -429,6 +477,8 @@ pub struct PutText {
 pub enum WaitingStep {
     /// Waits until the cell holds the number at least.
     Until { cell: u8, operand: Operand },
+    /// Waits until the word of 64 bits at a place of the own segment is this number.
+    UntilWord { offset: u64, number: u64 },
     /// A transfer, until it is complete (GASNet 1.8.1, extended API: gasnet_put, gasnet_get and gasnet_memset).
     Transfer { transfer: BoxedTransfer },
     /// Begins an explicit put, whose handle is put into the register, and waits until all of it was sent
@@ -576,6 +626,8 @@ pub struct Job {
     pub patience: u32,
     /// What a link's sieve does.
     pub sieve: SieveRule,
+    /// Whether the nodes serve batches of remote atomics: their two handlers are registered before all others.
+    pub atomics: bool,
     /// The handlers, in the order in which they stand in the text.
     pub handlers: HandlerTexts,
     /// The scripts, in the order in which they stand in the text.
@@ -593,6 +645,8 @@ pub(crate) struct Head {
     pub patience: u32,
     /// What a link's sieve does.
     pub sieve: SieveRule,
+    /// Whether the nodes serve batches of remote atomics.
+    pub atomics: bool,
 }
 
 impl Operands {
@@ -635,6 +689,59 @@ impl BoxedLong {
 impl BoxedTransfer {
     /// The transfer.
     pub fn text(&self) -> &TransferText
+        ensures { result.now ≡ self.now }
+    {
+        &self.inside
+    }
+}
+
+impl BatchText {
+    /// The node that it is for.
+    pub fn to(&self) -> u16
+        ensures { result ≡ self.now.to }
+    {
+        self.to
+    }
+
+    /// Where the block of its reply goes in the own segment, in bytes.
+    pub fn local(&self) -> u64
+        ensures { result ≡ self.now.request.local }
+    {
+        self.local
+    }
+
+    /// What comes back behind the words.
+    pub fn tag(&self) -> u64
+        ensures { result ≡ self.now.request.tag }
+    {
+        self.tag
+    }
+
+    /// Its operations, in order; 1 to 16 where the job was read.
+    pub fn ops(&self) -> &[WordOp]
+        ensures { result.now ≡ self.now.request.ops }
+    {
+        &self.ops
+    }
+
+    /// The arguments of its request: the place of the block and the tag, each as two words with the upper half first.
+    pub fn arguments(&self) -> &[i32]
+        ensures { result.now ≡ batch_arguments self.now.request.local self.now.request.tag }
+    {
+        &self.arguments
+    }
+
+    /// The payload of its request: 32 bytes for each operation.
+    pub fn payload(&self) -> &[u8]
+        ensures { result.now ≡ spelled_ops self.now.request.ops }
+    {
+        &self.payload
+    }
+}
+
+impl BoxedBatch {
+    /// The batch.
+    pub fn text(&self) -> &BatchText
         ensures { result.now ≡ self.now }
     {
         &self.inside

@@ -1,13 +1,14 @@
-//! Kinds of calls and of implicit operations, and roles, as words of a line.
+//! Kinds of calls and of implicit operations, roles, and operations of remote atomics, as words of a line.
 
 ghost use Rattle.std.specs.Prelude.{◌≡◌};
-ghost use Rattle.job_text.specs.Words.{implicit_of, kind_of, role_of};
-ghost use Rattle.job_text.specs.Forms.{Implicit, Kind, Role as RolePart, part_at};
+ghost use Rattle.job_text.specs.Words.{implicit_of, kind_of, op_of, role_of};
+ghost use Rattle.job_text.specs.Forms.{Implicit, Kind, Operation, Role as RolePart, part_at};
 ghost use Rattle.job_text.specs.Reading.{Finds};
 
 use crate::fault::Other;
 use crate::job::ImplicitKind;
 use crate::words::{is_name, name_of, spaced};
+use gas_atomic::Op;
 use handler_rules::{CallKind, Role};
 
 /// The kind of calls that a word names.
@@ -110,4 +111,55 @@ pub fn implicit_at(bytes: &[u8]) -> Result<(ImplicitKind, &[u8]), Other>
         return Err(Other);
     };
     Ok((kind, rest))
+}
+
+/// The operation of remote atomics that a word names.
+#[tactic(auto, unfolding(crate::specs::Words::op_of))]
+fn op_of(word: &[u8]) -> Option<Op>
+    ensures { result ≡ op_of word.now }
+{
+    if is_name(word, b"get") {
+        return Some(Op::Get);
+    }
+    if is_name(word, b"swap") {
+        return Some(Op::Swap);
+    }
+    if is_name(word, b"cas") {
+        return Some(Op::CompareSwap);
+    }
+    if is_name(word, b"add") {
+        return Some(Op::Add);
+    }
+    if is_name(word, b"sub") {
+        return Some(Op::Sub);
+    }
+    if is_name(word, b"and") {
+        return Some(Op::And);
+    }
+    if is_name(word, b"or") {
+        return Some(Op::Or);
+    }
+    if is_name(word, b"xor") {
+        return Some(Op::Xor);
+    }
+    if is_name(word, b"min") {
+        return Some(Op::Min);
+    }
+    if is_name(word, b"max") {
+        return Some(Op::Max);
+    }
+    None
+}
+
+/// An operation of remote atomics behind a space.
+#[tactic(auto, unfolding(crate::specs::Forms::part_at, crate::specs::Forms::word_at))]
+pub fn op_at(bytes: &[u8]) -> Result<(Op, &[u8]), Other>
+    ensures { Finds (λ x. (x.0, x.1.now)) result (part_at Operation bytes.now) }
+{
+    let bytes = spaced(bytes)?;
+    let (word, rest) = name_of(bytes);
+    let Some(op) = op_of(word) else {
+        return Err(Other);
+    };
+    Ok((op, rest))
 }

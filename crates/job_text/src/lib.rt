@@ -14,6 +14,8 @@
 //! long.
 #![tactic(auto)]
 
+mod atomics_line;
+mod batches;
 mod bodies;
 mod calls;
 mod digits;
@@ -33,6 +35,7 @@ mod payloads;
 mod reading;
 mod reasons;
 mod schedules;
+mod scope;
 mod script_lines;
 mod sections;
 mod transfer_calls;
@@ -41,9 +44,10 @@ mod words;
 
 pub use fault::{JobFault, JobWhy};
 pub use job::{
-    Action, Body, BoxedLong, BoxedMedium, BoxedTransfer, Bytes, HandlerText, HandlerTexts,
-    ImplicitKind, Job, ListedLocks, LongText, MediumText, NodeScript, NodeScripts, Operand,
-    Operands, Payload, PutText, Registers, ReplyAction, Schedule, ScheduledCall, ScheduledEvent,
-    ScriptStep, ScriptSteps, SieveRule, TimedEvent, TransferText, WaitingStep,
+    Action, BatchText, Body, BoxedBatch, BoxedLong, BoxedMedium, BoxedTransfer, Bytes,
+    HandlerText, HandlerTexts, ImplicitKind, Job, ListedLocks, LongText, MediumText,
+    NodeScript, NodeScripts, Operand, Operands, Payload, PutText, Registers, ReplyAction,
+    Schedule, ScheduledCall, ScheduledEvent, ScriptStep, ScriptSteps, SieveRule, TimedEvent,
+    TransferText, WaitingStep,
 };
 pub use reading::{read_job, read_job_front};

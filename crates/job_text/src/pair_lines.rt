@@ -6,9 +6,10 @@ ghost use Rattle.datagram_grammar.specs.Parameters.{AreInRange, credits_in_all};
 ghost use Rattle.job_text.specs.Lines.{front};
 ghost use Rattle.job_text.specs.Forms.{Number, part_at};
 ghost use Rattle.job_text.specs.JobReading.{State, lined, has_pair, job_of_head, read};
-ghost use Rattle.job_text.specs.Places.{AtPairs, AtHandlers, pair_at, pair_fits, pairs_form};
+ghost use Rattle.job_text.specs.Places.{AtAtomics, AtPairs, pair_at, pair_fits, pairs_form};
 ghost use Rattle.job_text.specs.Reading.{Finds, Continues, IsPaired};
 ghost use Rattle.job_text.specs.Reasons.{reason};
+ghost use Rattle.job_text.specs.declared.scope.Scope.{Scope as AnyScope};
 
 use crate::fault::{JobFault, JobWhy, Other};
 use crate::job::Head;
@@ -94,7 +95,7 @@ fn pair_line<'a>(
 /// Why a line that begins with `pair` isn't read.
 fn pair_why(bytes: &[u8]) -> JobWhy
     requires { bytes_eq (front bytes.now) (codes "pair") ≡ true }
-    ensures { result ≡ reason pairs_form bytes.now }
+    ensures { (scope : AnyScope) → result ≡ reason (pairs_form scope) bytes.now }
 {
     let (_, rest) = name_of(bytes);
     reason_of(words_left(rest) == 3, bytes)
@@ -154,7 +155,7 @@ fn even_sum(settings: &Settings) -> u32
 pub fn pairs_at(first: Head, bytes: &[u8]) -> Result<(Head, u32, &[u8]), JobFault>
     requires { first.settings.pairs ≡ [] }
     ensures value { Continues
-        (λ x. read (record { place = AtHandlers; job = job_of_head x.0 }) x.1 x.2.now)
+        (λ x. read (record { place = AtAtomics; job = job_of_head x.0 }) x.1 x.2.now)
         result (read (record { place = AtPairs; job = job_of_head first }) 11 bytes.now) }
     ensures later { IfOk result (λ x. x.1 ≤ 75) }
 {

@@ -7,6 +7,7 @@ ghost use Rattle.job_text.specs.HeadReading.{told};
 ghost use Rattle.job_text.specs.JobReading.{State, lined, rounds_of, are_too_many, is_full, admitted, read};
 ghost use Rattle.job_text.specs.Reading.{Reads, Continues, GivesAt};
 ghost use Rattle.job_text.specs.Reasons.{reason};
+ghost use Rattle.job_text.specs.Scopes.{scope_of};
 ghost use Rattle.job_text.specs.declared.job.Job.{Job as JobState};
 
 use crate::events::{timed_at, timed_form};
@@ -14,29 +15,28 @@ use crate::fault::{JobFault, JobWhy, Miss};
 use crate::handler_lines::is_end;
 use crate::job::{Schedule, ScheduledEvent, TimedEvent};
 use crate::reasons::reason_of;
+use crate::scope::Scope;
 use crate::words::{ended, name_of};
-use datagram_grammar::Settings;
 use std::alloc::Global;
 
 /// The most lines of a schedule.
 const LINES: usize = 65_536;
 
 /// A line of the schedule, or none at the line `end`, and the bytes after it.
-fn timed_or_end(
+fn timed_or_end<'a>(
     alloc: Global,
-    nodes: u16,
-    threads: u16,
-    bytes: &[u8],
-) -> Result<(Option<TimedEvent>, &[u8]), Miss>
+    scope: &Scope,
+    bytes: &'a [u8],
+) -> Result<(Option<TimedEvent>, &'a [u8]), Miss>
     ensures { Reads (λ x. (x.0, x.1.now)) result
-        (lined (end_or (timed_at nodes threads)) bytes.now) }
+        (lined (end_or (timed_at scope.now)) bytes.now) }
 {
     if is_end(bytes) {
         let (_, rest) = name_of(bytes);
         let rest = ended(rest)?;
         return Ok((None, rest));
     }
-    let (event, rest) = timed_at(alloc, nodes, threads, bytes)?;
+    let (event, rest) = timed_at(alloc, scope, bytes)?;
     let rest = ended(rest)?;
     Ok((Some(event), rest))
 }
@@ -44,21 +44,19 @@ fn timed_or_end(
 /// The next line of a schedule, or none at the line `end`, and the bytes after it; or why it isn't read.
 fn next_timed<'a>(
     alloc: Global,
-    settings: &Settings,
+    scope: &Scope,
     line: u32,
     bytes: &'a [u8],
 ) -> Result<(Option<TimedEvent>, &'a [u8]), JobFault>
-    ensures { let nodes = settings.now.nodes in let threads = settings.now.threads in
-        GivesAt (λ x. (x.0, x.1.now)) result
-        (told line (reason (timed_form nodes threads) bytes.now)
-        (lined (end_or (timed_at nodes threads)) bytes.now)) }
+    ensures { GivesAt (λ x. (x.0, x.1.now)) result
+        (told line (reason (timed_form scope.now) bytes.now)
+        (lined (end_or (timed_at scope.now)) bytes.now)) }
 {
-    let (nodes, threads) = (settings.nodes(), settings.threads());
-    match timed_or_end(alloc, nodes, threads, bytes) {
+    match timed_or_end(alloc, scope, bytes) {
         Ok(read) => Ok(read),
         Err(Miss::NoMemory) => Err(JobFault::NoMemory),
         Err(Miss::Unlike) => {
-            let why = reason_of(timed_form(nodes, threads, bytes), bytes);
+            let why = reason_of(timed_form(scope, bytes), bytes);
             Err(JobFault::Bad { line, why })
         }
     }
@@ -104,12 +102,12 @@ fn admitted(nodes: u16, lines: usize, rounds: u32, event: TimedEvent) -> Option<
 /// The lines of a job's schedule up to the line `end`, with the next line's number and the bytes after it.
 pub fn schedule_at<'a>(
     alloc: Global,
-    settings: &Settings,
+    scope: &Scope,
     first: u32,
     bytes: &'a [u8],
 ) -> Result<(Schedule, u32, &'a [u8]), JobFault>
     requires { first ≤ 20000000 }
-    ensures value { (job : JobState) → job.settings ≡ settings.now → Continues
+    ensures value { (job : JobState) → scope_of job ≡ scope.now → Continues
         (λ x. read (record { place = AtDone; job = record job { schedule = Some x.0 } })
         x.1 x.2.now)
         result (read (record { place = AtSchedule; job = record job { schedule = Some [] } })
@@ -121,14 +119,14 @@ pub fn schedule_at<'a>(
     let mut line = first;
     let mut rounds: u32 = 0;
     loop {
-        let (next, after) = match next_timed(alloc, settings, line, rest) {
+        let (next, after) = match next_timed(alloc, scope, line, rest) {
             Ok(read) => read,
             Err(fault) => return Err(fault),
         };
         let Some(event) = next else {
             return Ok((Schedule { lines }, line + 1, after));
         };
-        let Some(event) = admitted(settings.nodes(), lines.len(), rounds, event) else {
+        let Some(event) = admitted(scope.settings.nodes(), lines.len(), rounds, event) else {
             let why = JobWhy::Count;
             return Err(JobFault::Bad { line, why });
         };

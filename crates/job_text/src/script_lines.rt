@@ -8,6 +8,7 @@ ghost use Rattle.job_text.specs.JobReading.{State, begun_script, behind_scripts,
 ghost use Rattle.job_text.specs.JobReading.{is_schedule, lined, read, section_why, with_script, with_steps};
 ghost use Rattle.job_text.specs.Reading.{Reads, Continues, GivesAt};
 ghost use Rattle.job_text.specs.Reasons.{reason};
+ghost use Rattle.job_text.specs.Scopes.{scope_of};
 ghost use Rattle.job_text.specs.declared.job.Job.{Job as JobState};
 ghost use Rattle.job_text.specs.declared.job.NodeScript.{NodeScript as ScriptValue};
 
@@ -15,6 +16,7 @@ use crate::fault::{JobFault, JobWhy, Miss, Other};
 use crate::handler_lines::is_end;
 use crate::job::{NodeScript, NodeScripts, ScriptStep, ScriptSteps};
 use crate::reasons::reason_of;
+use crate::scope::Scope;
 use crate::sections::{Section, section_form, section_line};
 use crate::waiting_steps::{step_at, step_form};
 use crate::words::{ended, name_of};
@@ -25,42 +27,52 @@ use std::alloc::Global;
 const STEPS: usize = 4_096;
 
 /// A step, or none at the line `end`, and the bytes after the line.
-fn step_or_end(alloc: Global, bytes: &[u8]) -> Result<(Option<ScriptStep>, &[u8]), Miss>
-    ensures { Reads (λ x. (x.0, x.1.now)) result (lined (end_or step_at) bytes.now) }
+fn step_or_end<'a>(
+    alloc: Global,
+    scope: &Scope,
+    bytes: &'a [u8],
+) -> Result<(Option<ScriptStep>, &'a [u8]), Miss>
+    ensures { Reads (λ x. (x.0, x.1.now)) result (lined (end_or (step_at scope.now)) bytes.now) }
 {
     if is_end(bytes) {
         let (_, rest) = name_of(bytes);
         let rest = ended(rest)?;
         return Ok((None, rest));
     }
-    let (step, rest) = step_at(alloc, bytes)?;
+    let (step, rest) = step_at(alloc, scope, bytes)?;
     let rest = ended(rest)?;
     Ok((Some(step), rest))
 }
 
 /// The step of the next line, or none at the line `end`, and the bytes after it; or why it isn't read.
-fn next_step(
+fn next_step<'a>(
     alloc: Global,
+    scope: &Scope,
     line: u32,
-    bytes: &[u8],
-) -> Result<(Option<ScriptStep>, &[u8]), JobFault>
-    ensures { GivesAt (λ x. (x.0, x.1.now)) result (told line (reason step_form bytes.now)
-        (lined (end_or step_at) bytes.now)) }
+    bytes: &'a [u8],
+) -> Result<(Option<ScriptStep>, &'a [u8]), JobFault>
+    ensures { GivesAt (λ x. (x.0, x.1.now)) result (told line (reason (step_form scope.now) bytes.now)
+        (lined (end_or (step_at scope.now)) bytes.now)) }
 {
-    match step_or_end(alloc, bytes) {
+    match step_or_end(alloc, scope, bytes) {
         Ok(read) => Ok(read),
         Err(Miss::NoMemory) => Err(JobFault::NoMemory),
         Err(Miss::Unlike) => {
-            let why = reason_of(step_form(bytes), bytes);
+            let why = reason_of(step_form(scope, bytes), bytes);
             Err(JobFault::Bad { line, why })
         }
     }
 }
 
 /// The steps of a script up to the line `end`, with the next line's number and the bytes after it.
-fn steps_at(alloc: Global, first: u32, bytes: &[u8]) -> Result<(ScriptSteps, u32, &[u8]), JobFault>
+fn steps_at<'a>(
+    alloc: Global,
+    scope: &Scope,
+    first: u32,
+    bytes: &'a [u8],
+) -> Result<(ScriptSteps, u32, &'a [u8]), JobFault>
     requires { first ≤ 20000000 }
-    ensures value { (script : ScriptValue) (job : JobState) →
+    ensures value { (script : ScriptValue) (job : JobState) → scope_of job ≡ scope.now →
         Continues (λ x. read (record {
           place = AtScripts;
           job = with_script (with_steps x.0 script) job;
@@ -72,7 +84,7 @@ fn steps_at(alloc: Global, first: u32, bytes: &[u8]) -> Result<(ScriptSteps, u32
     let mut rest = bytes;
     let mut line = first;
     loop {
-        let (next, after) = match next_step(alloc, line, rest) {
+        let (next, after) = match next_step(alloc, scope, line, rest) {
             Ok(read) => read,
             Err(fault) => return Err(fault),
         };
@@ -160,12 +172,12 @@ fn script_of(node: u16, thread: u16, steps: ScriptSteps) -> NodeScript
 /// The scripts of a job, whether a schedule comes behind them, and its line's number and the bytes from it on.
 pub fn scripts_at<'a>(
     alloc: Global,
-    settings: &Settings,
+    scope: &Scope,
     first: u32,
     bytes: &'a [u8],
 ) -> Result<(NodeScripts, bool, u32, &'a [u8]), JobFault>
     requires { first ≤ 10000 }
-    ensures value { (job : JobState) → job.settings ≡ settings.now →
+    ensures value { (job : JobState) → scope_of job ≡ scope.now →
         Continues (λ x. read (behind_scripts x.1 (record job { scripts = x.0 })) x.2 x.3.now) result
         (read (record { place = AtScripts; job = record job { scripts = [] } }) first bytes.now) }
     ensures later { IfOk result (λ x. x.2 ≤ first + 16785409) }
@@ -174,7 +186,7 @@ pub fn scripts_at<'a>(
     let mut rest = bytes;
     let mut line = first;
     loop {
-        let (section, after) = match next_section(settings, &scripts, line, rest) {
+        let (section, after) = match next_section(&scope.settings, &scripts, line, rest) {
             Ok(read) => read,
             Err(fault) => return Err(fault),
         };
@@ -182,7 +194,7 @@ pub fn scripts_at<'a>(
             let schedule = is_schedule(section);
             return Ok((NodeScripts { scripts }, schedule, line + 1, after));
         };
-        let (steps, later, after) = match steps_at(alloc, line + 1, after) {
+        let (steps, later, after) = match steps_at(alloc, scope, line + 1, after) {
             Ok(read) => read,
             Err(fault) => return Err(fault),
         };

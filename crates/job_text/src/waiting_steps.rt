@@ -4,16 +4,19 @@ ghost use Rattle.std.specs.Prelude.{◌≡◌, false};
 ghost use Rattle.job_text.specs.Forms.{named_at, none_at};
 ghost use Rattle.job_text.specs.Reading.{Reads};
 ghost use Rattle.job_text.specs.Reasons.{named_form};
-ghost use Rattle.job_text.specs.Scripts.{put, step_at, step_form, sync_waits, waiting_at, waiting_form, waits};
+ghost use Rattle.job_text.specs.Scripts.{put, step_at, step_form, sync_waits, waiting_at, waiting_fits};
+ghost use Rattle.job_text.specs.Scripts.{waiting_form, waits};
 
+use crate::atomics_line::is_second;
 use crate::calls::{call_at, call_form};
 use crate::fault::Miss;
 use crate::job::{PutText, ScriptStep, WaitingStep};
 use crate::kinds::implicit_at;
-use crate::numbers::byte_at;
+use crate::numbers::{byte_at, number_at};
 use crate::operand_lists::registers_at;
 use crate::operands::{integer_at, value_at};
 use crate::reasons::{is_between, words_left};
+use crate::scope::Scope;
 use crate::transfer_calls::{Move, boxed, fill_at, get_of, memset_of, move_at, put_of};
 use crate::words::{is_name, name_of};
 use std::alloc::Global;
@@ -59,6 +62,11 @@ fn sync_wait_at<'a>(
         let (id, rest) = integer_at(rest)?;
         let (flags, rest) = byte_at(rest, 255)?;
         return Ok((WaitingStep::BarrierWait { id, flags }, rest));
+    }
+    if is_name(name, b"until-word") {
+        let (offset, rest) = number_at(rest, 0, u64::MAX)?;
+        let (number, rest) = number_at(rest, 0, u64::MAX)?;
+        return Ok((WaitingStep::UntilWord { offset, number }, rest));
     }
     Err(Miss::Unlike)
 }
@@ -106,25 +114,47 @@ fn named_wait_at<'a>(
     sync_wait_at(alloc, name, rest)
 }
 
+/// Whether a step that scripts alone have may stand in the job.
+fn waiting_fits(scope: &Scope, step: &WaitingStep) -> bool
+    ensures { result ≡ waiting_fits scope.now step.now }
+{
+    match step {
+        WaitingStep::UntilWord { .. } => is_second(scope),
+        _ => true,
+    }
+}
+
 /// The step that scripts alone have and a line says, and the bytes after it.
 #[tactic(auto, unfolding(crate::specs::Scripts::waiting_at))]
-fn waiting_at(alloc: Global, bytes: &[u8]) -> Result<(WaitingStep, &[u8]), Miss>
-    ensures { Reads (λ x. (x.0, x.1.now)) result (waiting_at bytes.now) }
+fn waiting_at<'a>(
+    alloc: Global,
+    scope: &Scope,
+    bytes: &'a [u8],
+) -> Result<(WaitingStep, &'a [u8]), Miss>
+    ensures { Reads (λ x. (x.0, x.1.now)) result (waiting_at scope.now bytes.now) }
 {
     let (name, rest) = name_of(bytes);
-    named_wait_at(alloc, name, rest)
+    let (step, rest) = named_wait_at(alloc, name, rest)?;
+    if !waiting_fits(scope, &step) {
+        return Err(Miss::Unlike);
+    }
+    Ok((step, rest))
 }
 
 /// The step that a line says, and the bytes after it.
 #[tactic(auto, unfolding(crate::specs::Scripts::step_at))]
-pub fn step_at(alloc: Global, bytes: &[u8]) -> Result<(ScriptStep, &[u8]), Miss>
-    ensures { Reads (λ x. (x.0, x.1.now)) result (step_at bytes.now) }
+pub fn step_at<'a>(
+    alloc: Global,
+    scope: &Scope,
+    bytes: &'a [u8],
+) -> Result<(ScriptStep, &'a [u8]), Miss>
+    ensures { Reads (λ x. (x.0, x.1.now)) result (step_at scope.now bytes.now) }
 {
-    match call_at(alloc, bytes) {
+    match call_at(alloc, scope, bytes) {
         Ok((call, rest)) => Ok((ScriptStep::Call { call }, rest)),
         Err(Miss::NoMemory) => Err(Miss::NoMemory),
         Err(Miss::Unlike) => {
-            let (step, rest) = waiting_at(alloc, bytes)?;
+            let (step, rest) = waiting_at(alloc, scope, bytes)?;
             Ok((ScriptStep::Waiting { step }, rest))
         }
     }
@@ -169,22 +199,25 @@ fn named_wait_form(name: &[u8], rest: &[u8]) -> bool
     if is_name(name, b"barrier-wait") {
         return count == 2;
     }
+    if is_name(name, b"until-word") {
+        return count == 2;
+    }
     false
 }
 
 /// Whether bytes have the form of a step that scripts alone have.
 #[tactic(auto, unfolding(crate::specs::Scripts::waiting_form))]
-fn waiting_form(bytes: &[u8]) -> bool
-    ensures { result ≡ waiting_form bytes.now }
+fn waiting_form(scope: &Scope, bytes: &[u8]) -> bool
+    ensures { result ≡ waiting_form scope.now bytes.now }
 {
     let (name, rest) = name_of(bytes);
-    named_wait_form(name, rest)
+    named_wait_form(name, rest) && (is_second(scope) || !is_name(name, b"until-word"))
 }
 
 /// Whether bytes have the form of a step.
 #[tactic(auto, unfolding(crate::specs::Scripts::step_form))]
-pub fn step_form(bytes: &[u8]) -> bool
-    ensures { result ≡ step_form bytes.now }
+pub fn step_form(scope: &Scope, bytes: &[u8]) -> bool
+    ensures { result ≡ step_form scope.now bytes.now }
 {
-    call_form(bytes) || waiting_form(bytes)
+    call_form(scope, bytes) || waiting_form(scope, bytes)
 }

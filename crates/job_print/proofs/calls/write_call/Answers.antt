@@ -86,3 +86,6 @@ returns-in-TryBarrier g c =
     (codes "try-barrier" ++ values_text none_text notify_row.shape (id, (c.in-TryBarrier.flags, tt)))
     c.write_barrier-in-TryBarrier.result in
     rw c.in-TryBarrier.is (subst Written (to_z-of_z w32 c.in-TryBarrier.id fits) c.write_barrier-in-TryBarrier.ensures)
+
+pub returns-in-Atomic : goal.returns-in-Atomic
+returns-in-Atomic g c = rw c.in-Atomic.is (rw c.text-in-Atomic.ensures at c.write_batch.ensures)

@@ -17,14 +17,26 @@ returns-in-Fault-write_pairs g c =
     c.in_default.ensures)
     (rw c.pairs.ensures at c.in-Fault-write_pairs.ensures)
 
-pub returns-in-Fault-write_handlers : goal.returns-in-Fault-write_handlers
-returns-in-Fault-write_handlers g c =
+pub returns-in-Fault-write_atomics : goal.returns-in-Fault-write_atomics
+returns-in-Fault-write_atomics g c =
     past_fault _ _ _ _ _ _ _ refl
     (past_done _ _ _ _ _ _ _ refl
     (past_done _ _ _ _ _ _ _ (text_parts c.args.job.now)
     (nothing_yet _ _)
     c.in_default.ensures)
     (rw c.pairs.ensures at c.in_default-write_pairs.ensures))
+    c.in-Fault-write_atomics.ensures
+
+pub returns-in-Fault-write_handlers : goal.returns-in-Fault-write_handlers
+returns-in-Fault-write_handlers g c =
+    past_fault _ _ _ _ _ _ _ refl
+    (past_done _ _ _ _ _ _ _ refl
+    (past_done _ _ _ _ _ _ _ refl
+    (past_done _ _ _ _ _ _ _ (text_parts c.args.job.now)
+    (nothing_yet _ _)
+    c.in_default.ensures)
+    (rw c.pairs.ensures at c.in_default-write_pairs.ensures))
+    c.in_default-write_atomics.ensures)
     (rw c.texts.ensures at c.in-Fault-write_handlers.ensures)
 
 pub returns-in-Fault-write_scripts : goal.returns-in-Fault-write_scripts
@@ -32,10 +44,12 @@ returns-in-Fault-write_scripts g c =
     past_fault _ _ _ _ _ _ _ refl
     (past_done _ _ _ _ _ _ _ refl
     (past_done _ _ _ _ _ _ _ refl
+    (past_done _ _ _ _ _ _ _ refl
     (past_done _ _ _ _ _ _ _ (text_parts c.args.job.now)
     (nothing_yet _ _)
     c.in_default.ensures)
     (rw c.pairs.ensures at c.in_default-write_pairs.ensures))
+    c.in_default-write_atomics.ensures)
     (rw c.texts.ensures at c.in_default-write_handlers.ensures))
     (rw c.scripts.ensures at c.in-Fault-write_scripts.ensures)
 
@@ -45,10 +59,12 @@ returns-in-Fault-write_schedule g c =
     (past_done _ _ _ _ _ _ _ refl
     (past_done _ _ _ _ _ _ _ refl
     (past_done _ _ _ _ _ _ _ refl
+    (past_done _ _ _ _ _ _ _ refl
     (past_done _ _ _ _ _ _ _ (text_parts c.args.job.now)
     (nothing_yet _ _)
     c.in_default.ensures)
     (rw c.pairs.ensures at c.in_default-write_pairs.ensures))
+    c.in_default-write_atomics.ensures)
     (rw c.texts.ensures at c.in_default-write_handlers.ensures))
     (rw c.scripts.ensures at c.in_default-write_scripts.ensures))
     (c.in-Fault-write_schedule.ensures (c.args.job.now).settings)
@@ -60,10 +76,12 @@ returns g c =
     (past_done _ _ _ _ _ _ _ refl
     (past_done _ _ _ _ _ _ _ refl
     (past_done _ _ _ _ _ _ _ refl
+    (past_done _ _ _ _ _ _ _ refl
     (past_done _ _ _ _ _ _ _ (text_parts c.args.job.now)
     (nothing_yet _ _)
     c.in_default.ensures)
     (rw c.pairs.ensures at c.in_default-write_pairs.ensures))
+    c.in_default-write_atomics.ensures)
     (rw c.texts.ensures at c.in_default-write_handlers.ensures))
     (rw c.scripts.ensures at c.in_default-write_scripts.ensures))
     (c.in_default-write_schedule.ensures (c.args.job.now).settings))

@@ -37,3 +37,6 @@ returns-in-BarrierWait g c =
     (codes "barrier-wait" ++ values_text none_text notify_row.shape (id, (c.in-BarrierWait.flags, tt)))
     c.write_barrier.result in
     rw c.in-BarrierWait.is (subst Written (to_z-of_z w32 c.in-BarrierWait.id fits) c.write_barrier.ensures)
+
+pub returns-in-UntilWord : goal.returns-in-UntilWord
+returns-in-UntilWord g c = rw c.in-UntilWord.is c.write-in-UntilWord.ensures

@@ -1,5 +1,6 @@
 use Rattle.std.proofs.Common.{◌∙◌, ◌+◌, sym, ap, arith}
 use Rattle.job_text.specs.Places.{AtPairs}
+use Rattle.job_text.specs.Scopes.{scope_of}
 use Rattle.job_text.specs.JobReading.{job_of_head, read}
 use Rattle.job_text.specs.declared.job.Job.{Job}
 use Rattle.job_text.proofs.HandlerRuns.{told_by}
@@ -11,7 +12,7 @@ returns-in-Err-clause-value c =
     told_by _ c.loop-head.line _ c.pair_why-why.result
     (sym c.loop-head.invariant.so_far ∙ pair_bad (job_of_head c.loop-head.head) c.loop-head.line c.loop-head.rest.now
     (sym c.begins.ensures ∙ c.loop-head-test.true) c.in-Err.ensures.value)
-    c.pair_why-why.ensures
+    (c.pair_why-why.ensures (scope_of (job_of_head c.loop-head.head)))
 
 pub returns-in-Err-with_pair-clause-value : goal.returns-in-Err-with_pair-clause-value
 returns-in-Err-with_pair-clause-value c =

@@ -5,6 +5,7 @@ use Rattle.job_text.specs.JobReading.{BadLine, Front, is_full, total_rounds, wit
 use Rattle.job_text.specs.Reading.{FailsAt}
 use Rattle.job_text.specs.declared.fault.JobWhy.TheVariants.{Count}
 use Rattle.job_text.specs.declared.job.Job.{Job}
+use Rattle.job_text.specs.declared.scope.Scope.{Scope}
 use Rattle.job_text.specs.declared.job.TimedEvent.{TimedEvent}
 use Rattle.job_text.proofs.HandlerRuns.{let_in, kept_out, rounds_more, few_more}
 use Rattle.job_text.proofs.LineRuns.{read_on, read_full, told_ok, line_fails}
@@ -32,9 +33,10 @@ returns-in_default-admitted-clause-value c = λ plain same.
     let len : c.len.result ≡ length lines = omega (arith, c.len.ensures) in
     let none = rw (c.nodes.ensures.nodes, len, c.loop-read.invariant.rounds) at (sym c.admitted.ensures
     ∙ c.in_default-admitted.is) in
-    let out = kept_out c.args.settings.now.nodes (length lines) (total_rounds lines) c.in-Some.event none in
+    let out = kept_out c.args.scope.now.settings.nodes (length lines) (total_rounds lines) c.in-Some.event none in
+    let settings : plain.settings ≡ c.args.scope.now.settings = ap (λ (s : Scope). s.settings) same in
     let full : is_full plain.settings.nodes (length lines) (total_rounds lines) c.in-Some.event.event ≡ true =
-    rw same out in
+    rw settings out in
     sym (c.loop-read.invariant.so_far plain same) ∙ read_full AtSchedule job c.loop-read.line c.loop-read.rest.now
     c.in-Ok.read.1.now c.in-Ok.read.0 Count (rw same found) (rw (c.in-Some.is, full) refl)
 
@@ -44,15 +46,16 @@ loop-read-preserved c =
     let given = sym c.admitted.ensures ∙ c.in-Some-admitted.is in
     let len : c.len.result ≡ length lines = omega (arith, c.len.ensures) in
     let some = rw (c.nodes.ensures.nodes, len, c.loop-read.invariant.rounds) at given in
-    let in_ = let_in c.args.settings.now.nodes (length lines) (total_rounds lines) c.in-Some.event
+    let in_ = let_in c.args.scope.now.settings.nodes (length lines) (total_rounds lines) c.in-Some.event
     c.in-Some-admitted.event some in
     let few = few_more c.nodes.result c.len.result c.loop-read.rounds c.in-Some.event c.in-Some-admitted.event
     given in
     let found = told_ok c.loop-read.line _ _ (c.in-Ok.read.0, c.in-Ok.read.1.now) c.in-Ok.ensures in
     record {
       so_far = λ plain same. let job : Job = record plain { schedule = Some lines } in
+          let settings : plain.settings ≡ c.args.scope.now.settings = ap (λ (s : Scope). s.settings) same in
           let free : is_full plain.settings.nodes (length lines) (total_rounds lines) c.in-Some.event.event ≡ false =
-          rw same in_.0 in
+          rw settings in_.0 in
           ap (λ (ls : List TimedEvent). read (record {
             place = AtSchedule;
             job = record plain { schedule = Some ls };

@@ -1,12 +1,13 @@
 use Rattle.std.proofs.Common.{◌≡◌, ◌≤◌, ◌+◌, ◌-◌, length, [], Some}
 use Rattle.job_text.specs.JobReading.{total_rounds, read}
 use Rattle.job_text.specs.Places.{AtSchedule}
+use Rattle.job_text.specs.Scopes.{scope_of}
 use Rattle.job_text.specs.declared.job.Job.{Job}
 use Rattle.job_text.proofs.schedules.schedule_at.Given as goal
 
 abbrev pub invariant-loop-read : goal.invariant-loop-read
 invariant-loop-read l = record {
-  so_far : (job : Job) → job.settings ≡ l.settings →
+  so_far : (job : Job) → scope_of job ≡ l.scope →
       read (record { place = AtSchedule; job = record job { schedule = Some l.lines.items } }) l.line l.rest
       ≡ read (record { place = AtSchedule; job = record job { schedule = Some [] } }) l.first l.bytes;
   rounds : l.rounds ≡ total_rounds l.lines.items;

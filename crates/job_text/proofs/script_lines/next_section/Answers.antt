@@ -1,4 +1,4 @@
-use Rattle.std.proofs.Common.{◌∙◌, refl, sym, ap, List}
+use Rattle.std.proofs.Common.{◌∙◌, refl, sym, ap, List, false}
 use Rattle.job_text.specs.Places.{AtScripts, section_form}
 use Rattle.job_text.specs.JobReading.{behind_section, section_why}
 use Rattle.job_text.specs.declared.job.NodeScript.{NodeScript}
@@ -34,7 +34,7 @@ pub returns-in-None-clause-there : goal.returns-in-None-clause-there
 returns-in-None-clause-there c =
     let found = rw (c.nodes.ensures.nodes, c.threads.ensures) at c.in-Ok.ensures in
     let settings = c.args.settings.now in
-    let said = (line_takes AtScripts settings c.args.bytes.now).so (c.in-Ok.read.0, c.in-Ok.read.1.now) found in
+    let said = (line_takes AtScripts (record { settings = settings; atomics = false }) c.args.bytes.now).so (c.in-Ok.read.0, c.in-Ok.read.1.now) found in
     there_among settings.nodes settings.threads c.in-Ok.read.0 said.1.1 c.nodes.ensures.range.nodes
     c.nodes.ensures.range.threads
 

@@ -6,6 +6,7 @@ use Rattle.job_text.specs.JobReading.{with_steps, read}
 use Rattle.job_text.specs.Reading.{FailsAt}
 use Rattle.job_text.specs.declared.job.NodeScript.{NodeScript}
 use Rattle.job_text.specs.declared.job.Job.{Job}
+use Rattle.job_text.specs.declared.scope.Scope.{Scope}
 use Rattle.job_text.specs.declared.sections.Section.{Section}
 use Rattle.job_text.proofs.HandlerRuns.{other_section, script_there, script_new}
 use Rattle.job_text.proofs.JobLaws.{all_more}
@@ -15,12 +16,12 @@ use Rattle.job_text.proofs.script_lines.scripts_at.Goals as goal
 pub returns-in-Err-clause-value : goal.returns-in-Err-clause-value
 returns-in-Err-clause-value c = λ plain same.
     subst (λ (r : Result Front BadLine). FailsAt c.in-Err.fault r) (c.loop-read.invariant.so_far plain same)
-    (c.in-Err.ensures.value (record plain { scripts = c.loop-read.scripts.items }) same (sym c.deref.ensures.value))
+    (c.in-Err.ensures.value (record plain { scripts = c.loop-read.scripts.items }) (ap (λ (s : Scope). s.settings) same) (sym c.deref.ensures.value))
 
 pub returns-in_default-clause-value : goal.returns-in_default-clause-value
 returns-in_default-clause-value c = λ plain same.
     let job : Job = record plain { scripts = c.loop-read.scripts.items } in
-    sym (c.loop-read.invariant.so_far plain same) ∙ c.in-Ok.ensures.value job same (sym c.deref.ensures.value)
+    sym (c.loop-read.invariant.so_far plain same) ∙ c.in-Ok.ensures.value job (ap (λ (s : Scope). s.settings) same) (sym c.deref.ensures.value)
     ∙ ap (λ s. read s (c.loop-read.line + 1) c.in-Ok.read.1.now)
     (other_section job c.in-Ok.read.0 (λ node thread e. c.in_default.not-Script node thread e)
     ∙ ap (λ (b : Bool). behind_scripts b job) (sym c.is_schedule-schedule.ensures))
@@ -29,10 +30,10 @@ pub returns-in-Err-steps_at-clause-value : goal.returns-in-Err-steps_at-clause-v
 returns-in-Err-steps_at-clause-value c = λ plain same.
     let job : Job = record plain { scripts = c.loop-read.scripts.items } in
     let begun = sym (c.loop-read.invariant.so_far plain same)
-    ∙ c.in-Ok.ensures.value job same (sym c.deref.ensures.value)
+    ∙ c.in-Ok.ensures.value job (ap (λ (s : Scope). s.settings) same) (sym c.deref.ensures.value)
     ∙ ap (λ (s : Section). read (behind_section job s) (c.loop-read.line + 1) c.in-Ok.read.1.now) c.in-Script.is in
     subst (λ (r : Result Front BadLine). FailsAt c.in-Err-steps_at.fault r) (sym begun)
-    (c.in-Err-steps_at.ensures.value (begun_script c.in-Script.node c.in-Script.thread) job)
+    (c.in-Err-steps_at.ensures.value (begun_script c.in-Script.node c.in-Script.thread) job same)
 
 pub loop-read-preserved : goal.loop-read-preserved
 loop-read-preserved c =
@@ -52,10 +53,10 @@ loop-read-preserved c =
             place = AtScripts;
             job = record plain { scripts = ss };
           }) c.in-Ok-steps_at.read.1 c.in-Ok-steps_at.read.2.now) pushed
-          ∙ sym (c.in-Ok-steps_at.ensures.value (begun_script c.in-Script.node c.in-Script.thread) job)
+          ∙ sym (c.in-Ok-steps_at.ensures.value (begun_script c.in-Script.node c.in-Script.thread) job same)
           ∙ ap (λ (s : Section). read (behind_section job s) (c.loop-read.line + 1) c.in-Ok.read.1.now)
           (sym c.in-Script.is)
-          ∙ sym (c.in-Ok.ensures.value job same (sym c.deref.ensures.value))
+          ∙ sym (c.in-Ok.ensures.value job (ap (λ (s : Scope). s.settings) same) (sym c.deref.ensures.value))
           ∙ c.loop-read.invariant.so_far plain same;
       threads = rw pushed are;
       there = rw pushed there;

@@ -3,13 +3,14 @@ use Rattle.std.specs.List.{AllByRecursion}
 use Rattle.job_text.specs.JobReading.{read}
 use Rattle.job_text.specs.JobText.{AreThreads}
 use Rattle.job_text.specs.Places.{AtScripts}
+use Rattle.job_text.specs.Scopes.{scope_of}
 use Rattle.job_text.specs.declared.job.Job.{Job}
 use Rattle.job_text.proofs.Threads.{IsThere}
 use Rattle.job_text.proofs.script_lines.scripts_at.Given as goal
 
 abbrev pub invariant-loop-read : goal.invariant-loop-read
 invariant-loop-read l = record {
-  so_far : (job : Job) → job.settings ≡ l.settings →
+  so_far : (job : Job) → scope_of job ≡ l.scope →
       read (record { place = AtScripts; job = record job { scripts = l.scripts.items } }) l.line l.rest
       ≡ read (record { place = AtScripts; job = record job { scripts = [] } }) l.first l.bytes;
   threads : AreThreads l.scripts.items;

@@ -1,13 +1,14 @@
 use Rattle.std.proofs.Common.{◌≡◌, ◌≤◌, ◌+◌, ◌-◌, length, []}
 use Rattle.job_text.specs.JobReading.{read, with_steps}
 use Rattle.job_text.specs.Places.{AtSteps}
+use Rattle.job_text.specs.Scopes.{scope_of}
 use Rattle.job_text.specs.declared.job.NodeScript.{NodeScript}
 use Rattle.job_text.specs.declared.job.Job.{Job}
 use Rattle.job_text.proofs.script_lines.steps_at.Given as goal
 
 abbrev pub invariant-loop-read : goal.invariant-loop-read
 invariant-loop-read l = record {
-  so_far : (script : NodeScript) (job : Job) →
+  so_far : (script : NodeScript) (job : Job) → scope_of job ≡ l.scope →
       read (record { place = AtSteps (with_steps l.steps.items script); job = job }) l.line l.rest
       ≡ read (record { place = AtSteps (with_steps [] script); job = job }) l.first l.bytes;
   line : l.line ≡ l.first + length l.steps.items;

@@ -1,0 +1,89 @@
+//! Reading the line of atomics.
+
+ghost use Rattle.std.specs.Prelude.{◌≡◌, ◌≤◌, ◌+◌, codes, IfOk, true};
+ghost use Rattle.std.specs.Str.{bytes_eq};
+ghost use Rattle.job_text.specs.Lines.{front};
+ghost use Rattle.job_text.specs.JobReading.{State, job_of_head, lined, read};
+ghost use Rattle.job_text.specs.Places.{AtAtomics, AtHandlers, atomics_at, atomics_or_later_form};
+ghost use Rattle.job_text.specs.Reading.{Continues, Finds};
+ghost use Rattle.job_text.specs.Reasons.{reason};
+ghost use Rattle.job_text.specs.Scopes.{is_second};
+
+use crate::fault::{JobFault, JobWhy, Other};
+use crate::job::Head;
+use crate::reasons::{reason_of, words_left};
+use crate::scope::Scope;
+use crate::words::{begins, ended, is_name, name_of};
+
+/// Whether the datagrams have the second version.
+pub fn is_second(scope: &Scope) -> bool
+    ensures { result ≡ is_second scope.now }
+{
+    scope.settings.version() == 2
+}
+
+/// The bytes after the words of the line of atomics.
+#[tactic(auto, unfolding(crate::specs::Places::atomics_at))]
+fn atomics_at<'a>(scope: &Scope, bytes: &'a [u8]) -> Result<&'a [u8], Other>
+    ensures { Finds (λ rest. (tt, rest.now)) result (atomics_at scope.now bytes.now) }
+{
+    let (name, rest) = name_of(bytes);
+    if !is_name(name, b"atomics") {
+        return Err(Other);
+    }
+    if !is_second(scope) {
+        return Err(Other);
+    }
+    Ok(rest)
+}
+
+/// The bytes after the line of atomics.
+fn atomics_line<'a>(scope: &Scope, bytes: &'a [u8]) -> Result<&'a [u8], Other>
+    ensures { Finds (λ rest. (tt, rest.now)) result (lined (atomics_at scope.now) bytes.now) }
+{
+    let rest = atomics_at(scope, bytes)?;
+    ended(rest)
+}
+
+/// Why a line that begins with `atomics` isn't read.
+fn atomics_why(scope: &Scope, bytes: &[u8]) -> JobWhy
+    requires { bytes_eq (front bytes.now) (codes "atomics") ≡ true }
+    ensures { result ≡ reason (atomics_or_later_form scope.now) bytes.now }
+{
+    let (_, rest) = name_of(bytes);
+    reason_of(is_second(scope) && words_left(rest) == 0, bytes)
+}
+
+/// The head with the line of atomics, if it comes next, with the next line's number and the bytes from it on.
+pub fn atomics_from(
+    head: Head,
+    line: u32,
+    bytes: &[u8],
+) -> Result<(Head, u32, &[u8]), JobFault>
+    requires { line ≤ 75 }
+    ensures value { Continues
+        (λ x. read (record { place = AtHandlers; job = job_of_head x.0 }) x.1 x.2.now)
+        result (read (record { place = AtAtomics; job = job_of_head head }) line bytes.now) }
+    ensures later { IfOk result (λ x. x.1 ≤ 76) }
+{
+    if !begins(b"atomics", bytes) {
+        return Ok((head, line, bytes));
+    }
+    let scope = Scope {
+        settings: head.settings,
+        atomics: head.atomics,
+    };
+    match atomics_line(&scope, bytes) {
+        Ok(rest) => {
+            let head = Head {
+                atomics: true,
+                ..head
+            };
+            Ok((head, line + 1, rest))
+        }
+        Err(Other) => {
+            let why = atomics_why(&scope, bytes);
+            Err(JobFault::Bad { line, why })
+        }
+    }
+}
