@@ -43,7 +43,7 @@ use Rattle.node_runs.specs.Scripts.{ThreadCall}
 use Rattle.node_runs.specs.Turn.{as_tried, first_events, node_run, tried_answer, tried_call}
 use Rattle.node_script.specs.AnswersTold.{HasRange, NamesWhatIs}
 use Rattle.node_script.specs.Bodies.{script_meaning}
-use Rattle.node_script.specs.Registration.{registered}
+use Rattle.node_script.specs.Registration.{handlers_of, registered}
 use Rattle.script_steps.specs.Forms.{as_synced, begun_handle, is_issued, step_form, tried_while}
 use Rattle.script_steps.specs.Forms.{waiting_form, waits_of}
 use Rattle.world_run.proofs.ToldAnswers.{asked_names, plain_names, show_names}
@@ -274,8 +274,8 @@ ended_names job rank machine entry endpoint handles stands same =
     let all = script_job job in
     let before = as_tried all rank machine entry.thread entry.now entry.got in
     let call = tried_call all rank machine entry.thread entry.now entry.got in
-    let table = (registered job.handlers).table in
-    let meaning = script_meaning job.handlers in
+    let table = (registered (handlers_of job)).table in
+    let meaning = script_meaning (handlers_of job) in
     let there : EndpointStands endpoint (node_run (job_of job.settings table meaning) rank entry.now
     (option_to_list (option_map (node_event entry.thread) call)) before) =
     subst (EndpointStands endpoint) (run_append job.settings table meaning rank entry.now

@@ -7,7 +7,7 @@ use Rattle.job_text.specs.declared.job.ScriptStep.{ScriptStep}
 use Rattle.machine.specs.Replay.{after_entry, replayed}
 use Rattle.machine.specs.declared.entry.Entry.{Entry}
 use Rattle.node_script.specs.Bodies.{script_meaning}
-use Rattle.node_script.specs.Registration.{registered}
+use Rattle.node_script.specs.Registration.{handlers_of, registered}
 use Rattle.node_runs.specs.Actions.{OwnScripts}
 use Rattle.node_runs.specs.Merged.{Carries, carried, nodes_from}
 use Rattle.node_runs.specs.Order.{Ranked, job_steps}
@@ -31,9 +31,9 @@ states_carry job = record {
 
 pub traces_run : StepsFit → AreTracesARun
 traces_run fit job traces ranks is few reaches =
-    states_run job.settings (registered job.handlers).table (script_meaning job.handlers) step_form (state_of job)
+    states_run job.settings (registered (handlers_of job)).table (script_meaning (handlers_of job)) step_form (state_of job)
     state_steps (scripts_at job) traces ranks
-    (job_fits job.settings job.handlers is.settings is.job_fits is.last_fits is.handlers)
+    (job_fits job.settings (handlers_of job) is.settings is.job_fits is.last_fits is.handlers)
     (λ node. fit (scripts_at job node)
     (λ thread. steps_said job.settings.nodes job.settings.threads job.scripts node thread is.scripts))
     few (states_carry job) reaches

@@ -16,7 +16,7 @@ use Rattle.job_text.specs.Scripts.{IsStep}
 use Rattle.job_text.specs.declared.job.Job.{Job as JobState}
 use Rattle.job_text.specs.declared.job.NodeScript.{NodeScript}
 use Rattle.job_text.specs.declared.job.ScriptStep.{ScriptStep}
-use Rattle.node_script.specs.Registration.{registered}
+use Rattle.node_script.specs.Registration.{handlers_of, registered}
 use Rattle.node_runs.specs.Actions.{Progress}
 use Rattle.node_machine.specs.Cursors.{progress_of, progress_of_all}
 use Rattle.node_machine.specs.declared.cursor.Cursor.{Cursor}
@@ -89,7 +89,7 @@ opened job endpoint scripts =
     record { job = job; endpoint = endpoint; scripts = scripts; outgoing = []; answer = None }
 
 pub opened_stands : (job : JobState) (me : ℕ) (endpoint : EndpointState) (scripts : List (Progress ScriptStep))
-    → IsJob job → IsNodeOf job.settings (registered job.handlers).table me endpoint
+    → IsJob job → IsNodeOf job.settings (registered (handlers_of job)).table me endpoint
     → EndpointStands endpoint (opening_node (nothing_begun job.settings)) → AreFirst job me job.settings.threads scripts
     → NodeStands (opened job endpoint scripts) (opening_state job me)
 opened_stands job me endpoint scripts is node stands first = record {
@@ -108,7 +108,7 @@ opened_stands job me endpoint scripts is node stands first = record {
 }
 
 pub opened_is : (job : JobState) (me : ℕ) (endpoint : EndpointState) (scripts : List (Progress ScriptStep))
-    → IsJob job → IsNodeOf job.settings (registered job.handlers).table me endpoint
+    → IsJob job → IsNodeOf job.settings (registered (handlers_of job)).table me endpoint
     → EndpointStands endpoint (opening_node (nothing_begun job.settings)) → AreFirst job me job.settings.threads scripts
     → IsMachine (opened job endpoint scripts)
 opened_is job me endpoint scripts is node stands first = record {
