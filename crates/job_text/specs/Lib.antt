@@ -2,6 +2,7 @@ pub mod Lines
 pub mod Words
 pub mod Payloads
 pub mod Locks
+pub mod Batches
 pub mod Forms
 pub mod Reasons
 pub mod Calls

@@ -21,6 +21,7 @@ pub fn job_with(head: Head, handlers: HandlerTexts, scripts: NodeScripts) -> Job
         settings: head.settings,
         patience: head.patience,
         sieve: head.sieve,
+        atomics: false,
         handlers,
         scripts,
         schedule: None,

@@ -2,11 +2,14 @@
 
 ghost use Rattle.std.specs.Prelude.{◌≡◌, ◌≤◌, length, true};
 ghost use Rattle.datagram_grammar.specs.Parameters.{upgraded};
+ghost use Rattle.gas_atomic.specs.BatchRequests.{batch_arguments, spelled_ops};
 ghost use Rattle.job_text.specs.Locks.{are_listed, listed_by};
 ghost use Rattle.job_text.specs.JobReading.{lines_of};
 
 use crate::locks::listed_by;
 use datagram_grammar::Settings;
+use gas_atomic::WordOp;
+use gas_strided::{Level, Plan, Way};
 use handler_rules::{CallKind, Role};
 use std::marker::Model;
 
@@ -162,6 +165,133 @@ impl Model for BoxedTransfer {
     ghost Value = { TransferText };
 
     ghost view = { λ b. box_value b.inside };
+}
+
+/// A batch of remote atomics of a schedule: 1 to 16 operations where the job was read, and the message that asks them.
+#[derive(Debug, Drop)]
+pub struct BatchText {
+    pub(crate) to: u16,
+    pub(crate) local: u64,
+    pub(crate) tag: u64,
+    pub(crate) ops: Vec<WordOp>,
+    pub(crate) arguments: [i32; 4],
+    pub(crate) payload: Vec<u8>,
+}
+
+impl Model for BatchText {
+    ghost use Rattle.gas_atomic.specs.BatchRequests.{batch_arguments, spelled_ops};
+    ghost use Rattle.job_text.specs.Batches.{BatchWords};
+
+    ghost Value = { BatchWords };
+
+    ghost view = { λ b. record {
+      to = b.to;
+      request = record { local = b.local; tag = b.tag; ops = b.ops.items };
+    } };
+
+    ghost invariant = { λ b. (b.arguments ≡ batch_arguments b.local b.tag)
+        × (b.payload.items ≡ spelled_ops b.ops.items) };
+}
+
+/// A batch in an allocation of its own, so that a line of a schedule stays small.
+#[derive(Debug, Drop)]
+pub struct BoxedBatch {
+    pub(crate) inside: Box<BatchText>,
+}
+
+impl Model for BoxedBatch {
+    ghost use Rattle.std.specs.Box.{box_value};
+    ghost use Rattle.job_text.specs.Batches.{BatchWords};
+
+    ghost Value = { BatchWords };
+
+    ghost view = { λ b. box_value b.inside };
+}
+
+/// The levels of a strided transfer, at most 4.
+#[derive(Debug, Drop)]
+pub struct Levels {
+    pub(crate) items: Vec<Level>,
+}
+
+impl Model for Levels {
+    ghost use Rattle.std.specs.Prelude.{◌≤◌, List, length};
+    ghost use Rattle.gas_strided.specs.declared.shapes.Level.{Level};
+
+    ghost Value = { List Level };
+
+    ghost view = { λ l. l.items.items };
+
+    ghost invariant = { λ l. length l.items.items ≤ 4 };
+}
+
+/// Ranges of a segment, at most 16, of at least one where the job was read: the first byte of each, and its length.
+#[derive(Debug, Drop)]
+pub struct Ranges {
+    pub(crate) items: Vec<(u64, u64)>,
+}
+
+impl Model for Ranges {
+    ghost use Rattle.std.specs.Prelude.{◌≤◌, ◌×◌, ℕ, List, length};
+
+    ghost Value = { List (ℕ × ℕ) };
+
+    ghost view = { λ r. r.items.items };
+
+    ghost invariant = { λ r. length r.items.items ≤ 16 };
+}
+
+/// Which bytes a transfer of many pieces moves, as a line says it; offsets and lengths are in bytes.
+#[derive(Debug, Drop)]
+pub enum VisShape {
+    /// `len` bytes for each vector of indexes below the counts of the levels.
+    Strided {
+        remote: u64,
+        local: u64,
+        len: u64,
+        levels: Levels,
+    },
+    /// The bytes of ranges there with those of ranges here.
+    Indexed { remote: Ranges, local: Ranges },
+}
+
+/// The words of a line that begins a transfer of many pieces.
+#[derive(Debug, Drop)]
+pub struct VisWords {
+    /// The register of its handle.
+    pub register: u8,
+    /// The piece to begin from, at most as many as the plan has where the job was read.
+    pub from: u16,
+    /// Which way the bytes go.
+    pub way: Way,
+    /// The other node.
+    pub to: u16,
+    /// Which bytes.
+    pub shape: VisShape,
+}
+
+/// A transfer of many pieces: what the line says, and the plan that was made of it for the job's settings.
+#[derive(Drop)]
+pub struct VisText {
+    /// What the line says.
+    pub words: VisWords,
+    /// The plan of these words.
+    pub plan: Plan,
+}
+
+/// A transfer of many pieces in an allocation of its own, so that a line of a schedule stays small.
+#[derive(Drop)]
+pub struct BoxedVis {
+    pub(crate) inside: Box<VisText>,
+}
+
+impl Model for BoxedVis {
+    ghost use Rattle.std.specs.Box.{box_value};
+    ghost use Rattle.job_text.specs.declared.job.VisText.{VisText};
+
+    ghost Value = { VisText };
+
+    ghost view = { λ v. box_value v.inside };
 }
 
 /// A list of at most 16 registers of a thread's handles; of at least one where the job was read.
@@ -368,16 +498,26 @@ pub enum ScheduledCall {
         id: i32,
         flags: u8,
     },
+    /// A batch of remote atomics, as a Medium request.
+    Atomic {
+        batch: BoxedBatch,
+    },
 }
 
 /// What a line of the schedule asks for.
-#[derive(Debug, Drop)]
+#[derive(Drop)]
 pub enum ScheduledEvent {
     /// A thread of a node makes a call.
     Call {
         node: u16,
         thread: u16,
         call: ScheduledCall,
+    },
+    /// A thread of a node begins a transfer of many pieces.
+    Vis {
+        node: u16,
+        thread: u16,
+        vis: BoxedVis,
     },
     /// The delivery of a request.
     Request {
@@ -402,7 +542,7 @@ pub enum ScheduledEvent {
 }
 
 /// A line of the schedule.
-#[derive(Debug, Drop)]
+#[derive(Drop)]
 pub struct TimedEvent {
     /// The time, in milliseconds.
     pub time: u64,
@@ -429,6 +569,8 @@ pub struct PutText {
 pub enum WaitingStep {
     /// Waits until the cell holds the number at least.
     Until { cell: u8, operand: Operand },
+    /// Waits until the word of 64 bits at a place of the own segment is this number.
+    UntilWord { offset: u64, number: u64 },
     /// A transfer, until it is complete (GASNet 1.8.1, extended API: gasnet_put, gasnet_get and gasnet_memset).
     Transfer { transfer: BoxedTransfer },
     /// Begins an explicit put, whose handle is put into the register, and waits until all of it was sent
@@ -449,16 +591,18 @@ pub enum WaitingStep {
 }
 
 /// A step of a script.
-#[derive(Debug, Drop)]
+#[derive(Drop)]
 pub enum ScriptStep {
     /// A call, as a line of a schedule has it.
     Call { call: ScheduledCall },
+    /// Begins a transfer of many pieces.
+    Vis { vis: BoxedVis },
     /// What scripts alone have.
     Waiting { step: WaitingStep },
 }
 
 /// The steps of a script, at most 4,096 where the job was read.
-#[derive(Debug, Drop)]
+#[derive(Drop)]
 pub struct ScriptSteps {
     pub(crate) steps: Vec<ScriptStep>,
 }
@@ -473,7 +617,7 @@ impl Model for ScriptSteps {
 }
 
 /// What a thread of a node does, step by step.
-#[derive(Debug, Drop)]
+#[derive(Drop)]
 pub struct NodeScript {
     /// The node, below the job's nodes where the job was read.
     pub node: u16,
@@ -484,7 +628,7 @@ pub struct NodeScript {
 }
 
 /// The scripts of a job, no two of the same thread where it was read.
-#[derive(Debug, Drop)]
+#[derive(Drop)]
 pub struct NodeScripts {
     pub(crate) scripts: Vec<NodeScript>,
 }
@@ -542,7 +686,7 @@ impl Model for HandlerTexts {
 }
 
 /// The lines of a schedule, at most 65,536 where the job was read.
-#[derive(Debug, Drop)]
+#[derive(Drop)]
 pub struct Schedule {
     pub(crate) lines: Vec<TimedEvent>,
 }
@@ -576,6 +720,8 @@ pub struct Job {
     pub patience: u32,
     /// What a link's sieve does.
     pub sieve: SieveRule,
+    /// Whether the nodes serve batches of remote atomics: their two handlers are registered before all others.
+    pub atomics: bool,
     /// The handlers, in the order in which they stand in the text.
     pub handlers: HandlerTexts,
     /// The scripts, in the order in which they stand in the text.
@@ -635,6 +781,88 @@ impl BoxedLong {
 impl BoxedTransfer {
     /// The transfer.
     pub fn text(&self) -> &TransferText
+        ensures { result.now ≡ self.now }
+    {
+        &self.inside
+    }
+}
+
+impl BatchText {
+    /// The node that it is for.
+    pub fn to(&self) -> u16
+        ensures { result ≡ self.now.to }
+    {
+        self.to
+    }
+
+    /// Where the block of its reply goes in the own segment, in bytes.
+    pub fn local(&self) -> u64
+        ensures { result ≡ self.now.request.local }
+    {
+        self.local
+    }
+
+    /// What comes back behind the words.
+    pub fn tag(&self) -> u64
+        ensures { result ≡ self.now.request.tag }
+    {
+        self.tag
+    }
+
+    /// Its operations, in order; 1 to 16 where the job was read.
+    pub fn ops(&self) -> &[WordOp]
+        ensures { result.now ≡ self.now.request.ops }
+    {
+        &self.ops
+    }
+
+    /// The arguments of its request: the place of the block and the tag, each as two words with the upper half first.
+    pub fn arguments(&self) -> &[i32]
+        ensures { result.now ≡ batch_arguments self.now.request.local self.now.request.tag }
+    {
+        &self.arguments
+    }
+
+    /// The payload of its request: 32 bytes for each operation.
+    pub fn payload(&self) -> &[u8]
+        ensures { result.now ≡ spelled_ops self.now.request.ops }
+    {
+        &self.payload
+    }
+}
+
+impl BoxedBatch {
+    /// The batch.
+    pub fn text(&self) -> &BatchText
+        ensures { result.now ≡ self.now }
+    {
+        &self.inside
+    }
+}
+
+impl Levels {
+    /// The levels, at most 4.
+    pub fn items(&self) -> &[Level]
+        ensures items { result.now ≡ self.now }
+        ensures few { length result.now ≤ 4 }
+    {
+        &self.items
+    }
+}
+
+impl Ranges {
+    /// The ranges, at most 16.
+    pub fn items(&self) -> &[(u64, u64)]
+        ensures items { result.now ≡ self.now }
+        ensures few { length result.now ≤ 16 }
+    {
+        &self.items
+    }
+}
+
+impl BoxedVis {
+    /// The transfer.
+    pub fn text(&self) -> &VisText
         ensures { result.now ≡ self.now }
     {
         &self.inside

@@ -41,9 +41,10 @@ mod words;
 
 pub use fault::{JobFault, JobWhy};
 pub use job::{
-    Action, Body, BoxedLong, BoxedMedium, BoxedTransfer, Bytes, HandlerText, HandlerTexts,
-    ImplicitKind, Job, ListedLocks, LongText, MediumText, NodeScript, NodeScripts, Operand,
-    Operands, Payload, PutText, Registers, ReplyAction, Schedule, ScheduledCall, ScheduledEvent,
-    ScriptStep, ScriptSteps, SieveRule, TimedEvent, TransferText, WaitingStep,
+    Action, BatchText, Body, BoxedBatch, BoxedLong, BoxedMedium, BoxedTransfer, BoxedVis, Bytes,
+    HandlerText, HandlerTexts, ImplicitKind, Job, Levels, ListedLocks, LongText, MediumText,
+    NodeScript, NodeScripts, Operand, Operands, Payload, PutText, Ranges, Registers, ReplyAction,
+    Schedule, ScheduledCall, ScheduledEvent, ScriptStep, ScriptSteps, SieveRule, TimedEvent,
+    TransferText, VisShape, VisText, VisWords, WaitingStep,
 };
 pub use reading::{read_job, read_job_front};
