@@ -4,6 +4,7 @@ use Rattle.std.specs.Prelude.{ℤ, ◌≡◌, ◌<◌, ◌^◌, ◌×◌, List, 
 use Rattle.std.specs.List.{AllByRecursion}
 use Rattle.datagram_grammar.specs.Parameters.{Parameters, AreInRange}
 use Rattle.gas_atomic.specs.Served.{HasBatches, ServesBatches}
+use Rattle.atomic_laws.specs.AtomicLaws.{AtomicsHold}
 use Rattle.job_text.specs.Calls.{IsCall}
 use Rattle.job_text.specs.JobText.{IsHandler}
 use Rattle.job_text.specs.declared.job.ScheduledCall.{ScheduledCall}
@@ -30,9 +31,14 @@ abbrev pub CallsFit : Type 0
 CallsFit =
     (cells : List ℤ) (call : ScheduledCall) → AreNumbers cells → IsCall call → CallFits (meant_by cells call)
 
--- where a job has atomics, both handlers of batches are registered, and run as batches are served: so the laws of
--- batches hold of its runs
+-- where a job has atomics, both handlers of batches are registered, and run as batches are served
 abbrev pub BatchesAreServed : Type 0
 BatchesAreServed =
     (handlers : JobHandlers) → handlers.atomics ≡ true
     → HasBatches (registered handlers).table × ServesBatches (script_meaning handlers)
+
+-- so the laws of batches hold of every run with its handlers, where its settings are in range
+abbrev pub BatchesHold : Type 0
+BatchesHold =
+    (settings : Parameters) (handlers : JobHandlers) → AreInRange settings → handlers.atomics ≡ true
+    → AtomicsHold settings (registered handlers).table (script_meaning handlers)

@@ -46,6 +46,7 @@ use Rattle.endpoint_rules.specs.EndpointRules.{with_barrier}
 use Rattle.endpoint_rules.specs.declared.answer.Answer.{Answer}
 use Rattle.endpoint_rules.specs.declared.answer.Answer.TheVariants as answers
 use Rattle.endpoint_rules.specs.declared.answer.Region.TheVariants as region
+use Rattle.gas_atomic.specs.Asking.{batch_asking}
 use Rattle.job_text.specs.declared.job.ScheduledCall.{ScheduledCall}
 use Rattle.job_text.specs.declared.job.ScheduledCall.TheVariants as call
 use Rattle.job_text.specs.declared.job.ScriptStep.{ScriptStep}
@@ -293,6 +294,7 @@ call_calm place node (call.LongAsync text) =
     request_leaves place node text.to
     (long_asking text.handler (map (operand_value node.local.core.cells []) text.operands) (given_from text.payload)
     text.offset)
+call_calm place node (call.Atomic batch) = request_leaves place node batch.to (batch_asking batch.request)
 call_calm place node (call.Lock lock) = lock_leaves place node lock
 call_calm place node _ = tt
 

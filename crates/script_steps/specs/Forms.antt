@@ -59,6 +59,7 @@ waits_of (call.Short to handler operands) = Some is_put_off
 waits_of (call.Medium text) = Some is_put_off
 waits_of (call.Long text) = Some is_put_off
 waits_of (call.LongAsync text) = Some is_put_off
+waits_of (call.Atomic batch) = Some is_put_off
 waits_of (call.Lock lock) = Some is_held
 waits_of _ = None
 

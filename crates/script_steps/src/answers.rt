@@ -44,7 +44,8 @@ pub(crate) fn waits_at(call: &ScheduledCall, answer: &Answer) -> bool
         ScheduledCall::Short { .. }
         | ScheduledCall::Medium { .. }
         | ScheduledCall::Long { .. }
-        | ScheduledCall::LongAsync { .. } => is_put_off(answer),
+        | ScheduledCall::LongAsync { .. }
+        | ScheduledCall::Atomic { .. } => is_put_off(answer),
         ScheduledCall::Lock { .. } => is_held(answer),
         _ => false,
     }
