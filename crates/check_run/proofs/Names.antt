@@ -37,15 +37,15 @@ use Rattle.job_text.specs.declared.job.WaitingStep.{WaitingStep}
 use Rattle.job_text.specs.declared.job.WaitingStep.TheVariants as waiting
 use Rattle.machine.specs.declared.entry.Entry.{Entry}
 use Rattle.node_machine.specs.NodeState.{script_job}
-use Rattle.node_runs.specs.Actions.{Form, Once, Again, Until, Twice, Looks, Progress, begins, ended_by}
-use Rattle.node_runs.specs.Actions.{progress_after, reached, tried_step, unless}
-use Rattle.node_runs.specs.Scripts.{ThreadCall}
-use Rattle.node_runs.specs.Turn.{as_tried, first_events, node_run, tried_answer, tried_call}
+use Rattle.node_runs.specs.Actions.{Form, Once, Again, Until, Twice, Looks, Several, Progress, begins, calls_of}
+use Rattle.node_runs.specs.Actions.{ended_by, next_calls, progress_after, tried_step, unless}
+use Rattle.node_runs.specs.Scripts.{ThreadCall, TryContext}
+use Rattle.node_runs.specs.Turn.{as_tried, context, events_of, first_answer, first_events, node_run, tried_answer}
 use Rattle.node_script.specs.AnswersTold.{HasRange, NamesWhatIs}
 use Rattle.node_script.specs.Bodies.{script_meaning}
 use Rattle.node_script.specs.Registration.{handlers_of, registered}
-use Rattle.script_steps.specs.Forms.{as_synced, begun_handle, is_issued, step_form, tried_while}
-use Rattle.script_steps.specs.Forms.{waiting_form, waits_of}
+use Rattle.script_steps.specs.Forms.{as_synced, begun_handle, is_issued, reached, step_form, tried_while}
+use Rattle.script_steps.specs.Forms.{waiting_form, waits_of, word_reached}
 use Rattle.world_run.proofs.ToldAnswers.{asked_names, plain_names, show_names}
 use Rattle.endpoint_rules.proofs.PlainAnswers.{answers_plain}
 use Rattle.check_run.specs.Recording.{HasHandles, ScriptedNode}
@@ -109,39 +109,51 @@ thread_names endpoint settings table meaning me thread now node (Requests to ask
 thread_names endpoint settings table meaning me thread now node (Performs call) stands same =
     call_names endpoint settings table meaning me thread now node call stands same
 
+-- at most one call
+abbrev AtMostOne : List ThreadCall → Type 0
+AtMostOne [] = Unit {0}
+AtMostOne (call ∷ []) = Unit {0}
+AtMostOne (call ∷ later ∷ calls) = ⊥
+
+one_or_none : (call : Option ThreadCall) → AtMostOne (option_to_list call)
+one_or_none None = tt
+one_or_none (Some call) = tt
+
 -- the call that a try makes, if it makes one
 made_names : (endpoint : EndpointState) (settings : Parameters) (table : List (Option TableEntry)) (meaning : Meaning)
-    (me thread now : ℕ) (node : Node EndpointLocal) (call : Option ThreadCall)
-    → EndpointStands endpoint (node_run (job_of settings table meaning) me now
-    (option_to_list (option_map (node_event thread) call)) node)
-    → endpoint.core.settings ≡ settings
-    → IfSome (option_map (λ (made : ThreadCall).
-    told (node_answer (job_of settings table meaning) me node now (node_event thread made))) call)
-    (NamesWhatIs endpoint)
-made_names endpoint settings table meaning me thread now node None stands same = tt
-made_names endpoint settings table meaning me thread now node (Some call) stands same =
+    (me thread now : ℕ) (node : Node EndpointLocal) (calls : List ThreadCall)
+    → EndpointStands endpoint (node_run (job_of settings table meaning) me now (events_of thread calls) node)
+    → endpoint.core.settings ≡ settings → AtMostOne calls
+    → IfSome (first_answer (job_of settings table meaning) me thread now calls node) (NamesWhatIs endpoint)
+made_names endpoint settings table meaning me thread now node [] stands same few = tt
+made_names endpoint settings table meaning me thread now node (call ∷ []) stands same few =
     thread_names endpoint settings table meaning me thread now node call stands same
+made_names endpoint settings table meaning me thread now node (call ∷ later ∷ calls) stands same few = absurd few
 
 -- ---- forms of steps
 
--- what the form says of its calls' answers names no more than these do
+-- what the form says of its calls' answers names no more than these do; what it says without them names nothing
 abbrev SaysNoMore : Form EndpointLocal → Type 0
 SaysNoMore (Once call) = Unit {0}
 SaysNoMore (Again waits call) = Unit {0}
-SaysNoMore (Until cell value) = Unit {0}
+SaysNoMore (Until call ends) =
+    (endpoint : EndpointState) (answer : Answer) → NamesWhatIs endpoint answer
+    → IfSome (ends answer) (NamesWhatIs endpoint)
 SaysNoMore (Twice begin next waits says) =
     (endpoint : EndpointState) (answer : Answer) → NamesWhatIs endpoint answer → NamesWhatIs endpoint (says answer)
 SaysNoMore (Looks begin ready) = Unit {0}
+SaysNoMore (Several calls says) = (endpoint : EndpointState) → NamesWhatIs endpoint says
 
 -- where its first call began something, the answer has a handle
 abbrev BeginsByHandle : Form EndpointLocal → Type 0
 BeginsByHandle (Once call) = Unit {0}
 BeginsByHandle (Again waits call) = Unit {0}
-BeginsByHandle (Until cell value) = Unit {0}
+BeginsByHandle (Until call ends) = Unit {0}
 BeginsByHandle (Twice begin next waits says) =
     (answer : Answer) → is_some (next answer) ≡ true → is_some (begun_handle answer) ≡ true
 BeginsByHandle (Looks begin ready) =
     (answer : Answer) (node : Node EndpointLocal) → ready answer node ≡ false → is_some (begun_handle answer) ≡ true
+BeginsByHandle (Several calls says) = Unit {0}
 
 record IsSound (form : Form EndpointLocal) : Type 0 where
   says : SaysNoMore form
@@ -167,8 +179,31 @@ sent_handle : (handle : Option Handle) (node : Node EndpointLocal) → is_issued
 sent_handle None node is = absurd (true≢false is)
 sent_handle (Some handle) node is = refl
 
+-- what ends a step that looks at its own node
+reached_said : (endpoint : EndpointState) (enough : Bool)
+    → IfSome (if enough then Some (answers.Local local.Done) else None) (NamesWhatIs endpoint)
+reached_said endpoint true = tt
+reached_said endpoint false = tt
+
+reached_names : (endpoint : EndpointState) (value : ℤ) (answer : Answer)
+    → IfSome (reached value answer) (NamesWhatIs endpoint)
+reached_names endpoint value (answers.Local (local.Cell number)) = reached_said endpoint (int_le value number)
+reached_names endpoint value answer = tt
+
+word_names : (endpoint : EndpointState) (number : ℕ) (answer : Answer) → NamesWhatIs endpoint answer
+    → IfSome (word_reached number answer) (NamesWhatIs endpoint)
+word_names endpoint number (answers.Local (local.Number found)) names = reached_said endpoint (found == number)
+word_names endpoint number answer names = names
+
 waiting_sound : (cells : List ℤ) (waiting : WaitingStep) → IsSound (waiting_form cells waiting)
-waiting_sound cells (waiting.Until cell operand) = record { says = tt; begins = tt }
+waiting_sound cells (waiting.Until cell operand) = record {
+  says = λ endpoint answer names. reached_names endpoint (operand_value cells [] operand) answer;
+  begins = tt;
+}
+waiting_sound cells (waiting.UntilWord offset number) = record {
+  says = λ endpoint answer names. word_names endpoint number answer names;
+  begins = tt;
+}
 waiting_sound cells (waiting.Transfer transfer) = record {
   says = synced_names;
   begins = λ answer. some_mapped (begun_handle answer) _;
@@ -188,9 +223,9 @@ waiting_sound cells (waiting.WaitImplicit which) = record { says = tt; begins = 
 waiting_sound cells (waiting.BarrierWait id flags) = record { says = tt; begins = tt }
 
 -- so is that of each step of a script
-step_sound : (step : ScriptStep) (node : Node EndpointLocal) → IsSound (step_form step node)
-step_sound (step.Call call) node = while_sound (waits_of call) _
-step_sound (step.Waiting waiting) node = waiting_sound node.local.core.cells waiting
+step_sound : (step : ScriptStep) (at : TryContext) (node : Node EndpointLocal) → IsSound (step_form step at node)
+step_sound (step.Call call) at node = while_sound (waits_of call) _
+step_sound (step.Waiting waiting) at node = waiting_sound node.local.core.cells waiting
 
 -- ---- how a try ended
 
@@ -206,53 +241,48 @@ unless_said : (endpoint : EndpointState) (waits : Bool) (answer : Answer) → Na
 unless_said endpoint true answer names = tt
 unless_said endpoint false answer names = names
 
-reached_said : (endpoint : EndpointState) (enough : Bool)
-    → IfSome (if enough then Some (answers.Local local.Done) else None) (NamesWhatIs endpoint)
-reached_said endpoint true = tt
-reached_said endpoint false = tt
-
-reached_names : (endpoint : EndpointState) (value : ℤ) (answer : Answer)
-    → IfSome (reached value answer) (NamesWhatIs endpoint)
-reached_names endpoint value (answers.Local (local.Cell number)) = reached_said endpoint (int_le value number)
-reached_names endpoint value answer = tt
-
 -- by the form of the step
 form_names : (endpoint : EndpointState) (form : Form EndpointLocal) (began : Option Answer)
     (after : Node EndpointLocal) (answer : Option Answer) → SaysNoMore form
-    → IfSome began (λ first. is_some (begun_handle first) ≡ true) → IfSome answer (NamesWhatIs endpoint)
+    → IfSome began (λ first. is_some (begun_handle first) ≡ true)
+    → (AtMostOne (calls_of form began) → IfSome answer (NamesWhatIs endpoint))
     → IfSome (ended_by form began after answer) (NamesWhatIs endpoint)
-form_names endpoint (Once call) began after answer sound handle names = names
+form_names endpoint (Once call) began after answer sound handle names = names tt
 form_names endpoint (Again waits call) began after None sound handle names = tt
 form_names endpoint (Again waits call) began after (Some answer) sound handle names =
-    unless_said endpoint (waits answer) answer names
-form_names endpoint (Until cell value) began after None sound handle names = tt
-form_names endpoint (Until cell value) began after (Some answer) sound handle names =
-    reached_names endpoint value answer
+    unless_said endpoint (waits answer) answer (names tt)
+form_names endpoint (Until call ends) began after None sound handle names = tt
+form_names endpoint (Until call ends) began after (Some answer) sound handle names =
+    sound endpoint answer names
 form_names endpoint (Twice begin next waits says) None after None sound handle names = tt
 form_names endpoint (Twice begin next waits says) None after (Some answer) sound handle names =
-    unless_said endpoint (is_some (next answer)) (says answer) (sound endpoint answer names)
+    unless_said endpoint (is_some (next answer)) (says answer) (sound endpoint answer (names tt))
 form_names endpoint (Twice begin next waits says) (Some first) after None sound handle names = tt
 form_names endpoint (Twice begin next waits says) (Some first) after (Some answer) sound handle names =
-    unless_said endpoint (waits answer) (says answer) (sound endpoint answer names)
+    unless_said endpoint (waits answer) (says answer) (sound endpoint answer (names (one_or_none (next first))))
 form_names endpoint (Looks begin ready) None after None sound handle names = tt
 form_names endpoint (Looks begin ready) None after (Some answer) sound handle names =
-    unless_said endpoint (not (ready answer after)) answer names
+    unless_said endpoint (not (ready answer after)) answer (names tt)
 form_names endpoint (Looks begin ready) (Some first) after answer sound handle names =
     unless_said endpoint (not (ready first after)) first (handle_names endpoint first handle)
+form_names endpoint (Several calls says) began after answer sound handle names = sound endpoint
 
 -- by what is left of the script
-step_names : (endpoint : EndpointState) (progress : Progress ScriptStep) (before after : Node EndpointLocal)
-    (answer : Option Answer) → IfSome progress.began (λ first. is_some (begun_handle first) ≡ true)
-    → IfSome answer (NamesWhatIs endpoint)
-    → IfSome (tried_step step_form progress.began progress.left before after answer).ended (NamesWhatIs endpoint)
-step_names endpoint progress before after answer handle names = by_left progress.left
+step_names : (endpoint : EndpointState) (at : TryContext) (progress : Progress ScriptStep)
+    (before after : Node EndpointLocal) (answer : Option Answer)
+    → IfSome progress.began (λ first. is_some (begun_handle first) ≡ true)
+    → (AtMostOne (next_calls step_form at progress.began progress.left before)
+    → IfSome answer (NamesWhatIs endpoint))
+    → IfSome (tried_step step_form at progress.began progress.left before after answer).ended (NamesWhatIs endpoint)
+step_names endpoint at progress before after answer handle names = by_left progress.left names
   where
     by_left : (left : List ScriptStep)
-        → IfSome (tried_step step_form progress.began left before after answer).ended (NamesWhatIs endpoint)
-    by_left [] = tt
-    by_left (action ∷ rest) =
-        form_names endpoint (step_form action before) progress.began after answer (step_sound action before).says handle
-        names
+        → (AtMostOne (next_calls step_form at progress.began left before) → IfSome answer (NamesWhatIs endpoint))
+        → IfSome (tried_step step_form at progress.began left before after answer).ended (NamesWhatIs endpoint)
+    by_left [] few = tt
+    by_left (action ∷ rest) few =
+        form_names endpoint (step_form action at before) progress.began after answer
+        (step_sound action at before).says handle few
 
 -- events one after another
 run_append : (settings : Parameters) (table : List (Option TableEntry)) (meaning : Meaning) (me now : ℕ)
@@ -273,17 +303,17 @@ pub ended_names : (job : JobState) (rank : ℕ) (machine : ScriptedNode) (entry 
 ended_names job rank machine entry endpoint handles stands same =
     let all = script_job job in
     let before = as_tried all rank machine entry.thread entry.now entry.got in
-    let call = tried_call all rank machine entry.thread entry.now entry.got in
+    let at = context all rank entry.thread entry.now in
+    let calls = all.scripts.calls at machine.own before in
     let table = (registered (handlers_of job)).table in
     let meaning = script_meaning (handlers_of job) in
     let there : EndpointStands endpoint (node_run (job_of job.settings table meaning) rank entry.now
-    (option_to_list (option_map (node_event entry.thread) call)) before) =
+    (events_of entry.thread calls) before) =
     subst (EndpointStands endpoint) (run_append job.settings table meaning rank entry.now
-    (first_events all machine entry.thread entry.got) (option_to_list (option_map (node_event entry.thread) call))
-    machine.node) stands in
-    step_names endpoint (machine.own entry.thread) before (after_entry job rank machine entry).node
+    (first_events all machine entry.thread entry.got) (events_of entry.thread calls) machine.node) stands in
+    step_names endpoint at (machine.own entry.thread) before (after_entry job rank machine entry).node
     (tried_answer all rank machine entry.thread entry.now entry.got) (handles entry.thread)
-    (made_names endpoint job.settings table meaning rank entry.thread entry.now before call there same)
+    (made_names endpoint job.settings table meaning rank entry.thread entry.now before calls there same)
 
 -- ---- what is left of the script
 
@@ -301,10 +331,11 @@ form_handles : (form : Form EndpointLocal) (after : Node EndpointLocal) (answer 
     → IfSome answer (λ first. is_some (begun_handle first) ≡ true)
 form_handles (Once call) after answer sound begun none = absurd (false≢true begun)
 form_handles (Again waits call) after answer sound begun none = absurd (false≢true begun)
-form_handles (Until cell value) after answer sound begun none = absurd (false≢true begun)
+form_handles (Until call ends) after answer sound begun none = absurd (false≢true begun)
 form_handles (Twice begin next waits says) after None sound begun none = tt
 form_handles (Twice begin next waits says) after (Some answer) sound begun none =
     sound answer (waited (is_some (next answer)) (says answer) none)
+form_handles (Several calls says) after answer sound begun none = absurd (false≢true begun)
 form_handles (Looks begin ready) after None sound begun none = tt
 form_handles (Looks begin ready) after (Some answer) sound begun none =
     sound answer after (not_true (ready answer after) (waited (not (ready answer after)) answer none))
@@ -342,19 +373,19 @@ progress_handles form action rest began after answer sound handle = by_end (ende
     by_end (Some said) is = tt
     by_end None is = by_begin (begins form) refl began refl is
 
-step_handles : (progress : Progress ScriptStep) (before after : Node EndpointLocal) (answer : Option Answer)
-    → IfSome progress.began (λ first. is_some (begun_handle first) ≡ true)
-    → IfSome (tried_step step_form progress.began progress.left before after answer).left.began
+step_handles : (at : TryContext) (progress : Progress ScriptStep) (before after : Node EndpointLocal)
+    (answer : Option Answer) → IfSome progress.began (λ first. is_some (begun_handle first) ≡ true)
+    → IfSome (tried_step step_form at progress.began progress.left before after answer).left.began
     (λ first. is_some (begun_handle first) ≡ true)
-step_handles progress before after answer handle = by_left progress.left
+step_handles at progress before after answer handle = by_left progress.left
   where
     by_left : (left : List ScriptStep)
-        → IfSome (tried_step step_form progress.began left before after answer).left.began
+        → IfSome (tried_step step_form at progress.began left before after answer).left.began
         (λ first. is_some (begun_handle first) ≡ true)
     by_left [] = handle
     by_left (action ∷ rest) =
-        progress_handles (step_form action before) action rest progress.began after answer
-        (step_sound action before).begins handle
+        progress_handles (step_form action at before) action rest progress.began after answer
+        (step_sound action at before).begins handle
 
 -- one of two
 either_handles : (here : Bool) (one other : Progress ScriptStep)
@@ -370,9 +401,9 @@ pub after_handles : (job : JobState) (rank : ℕ) (machine : ScriptedNode) (entr
 after_handles job rank machine entry handles thread =
     let all = script_job job in
     either_handles (thread == entry.thread) _ (machine.own thread)
-    (step_handles (machine.own entry.thread) (as_tried all rank machine entry.thread entry.now entry.got)
-    (after_entry job rank machine entry).node (tried_answer all rank machine entry.thread entry.now entry.got)
-    (handles entry.thread))
+    (step_handles (context all rank entry.thread entry.now) (machine.own entry.thread)
+    (as_tried all rank machine entry.thread entry.now entry.got) (after_entry job rank machine entry).node
+    (tried_answer all rank machine entry.thread entry.now entry.got) (handles entry.thread))
     (handles thread)
 
 -- before all turns no step was begun

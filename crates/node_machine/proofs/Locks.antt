@@ -3,7 +3,8 @@ use Rattle.std.proofs.Common.{◌≡◌, ℕ, Bool, true, false, true≢false, L
 use Rattle.std.proofs.Common.{◌∙◌}
 use Rattle.std.proofs.Common.{inl, inr, subst}
 use Rattle.std.specs.Prelude.{◌==◌}
-use Rattle.std.specs.Option.{option_map, option_to_list}
+use Rattle.std.specs.List.{AllByRecursion}
+use Rattle.std.specs.Option.{option_map}
 use Rattle.std.proofs.lemmas.Bool.{cases_Bool}
 use Rattle.std.proofs.lemmas.Option.{same_Some}
 use Rattle.datagram_grammar.specs.Content.{Content, code, is_ack, content_of}
@@ -45,14 +46,14 @@ use Rattle.job_text.specs.declared.job.ScheduledCall.TheVariants as call
 use Rattle.job_text.specs.declared.job.ScriptStep.{ScriptStep}
 use Rattle.job_text.specs.declared.job.ScriptStep.TheVariants as step
 use Rattle.job_text.specs.declared.job.WaitingStep.TheVariants as waiting
-use Rattle.node_runs.specs.Actions.{Form, Once, Again, Until, Twice, Looks, call_of, ended_by, FormMay, unless}
-use Rattle.node_runs.specs.Actions.{next_call}
-use Rattle.node_runs.specs.Actions.{tried_step}
-use Rattle.node_runs.specs.Scripts.{ThreadCall}
-use Rattle.node_runs.specs.Turn.{node_run, coming, before_try}
+use Rattle.node_runs.specs.Actions.{FormMay, Progress, calls_of, unless}
+use Rattle.node_runs.specs.Scripts.{ThreadCall, TryContext}
+use Rattle.node_runs.specs.Turn.{node_run, coming, before_try, events_of}
+use Rattle.node_runs.proofs.Acting.{calls_may}
 use Rattle.script_steps.specs.Forms.{step_form, is_held, begun_handle, sync_of, on_transfers}
 use Rattle.lists.proofs.Tests.{some_none}
 use Rattle.script_steps.proofs.Calm.{waits_there}
+use Rattle.node_machine.specs.Scripted.{after_next, tried_next}
 
 -- the locks that are held
 abbrev pub locks_in : Node EndpointLocal → List Held
@@ -122,16 +123,15 @@ call_keeps settings table meaning me thread now node (Performs made) free =
 abbrev pub IsFree : ThreadCall → Type 0
 IsFree made = is_locking made ≡ false
 
-call_of_free : (form : Form EndpointLocal) (began : Option Answer) (made : ThreadCall)
-    → FormMay IsFree form → call_of form began ≡ Some made → IsFree made
-call_of_free (Once one) began made free e = subst IsFree (same_Some one made e) free
-call_of_free (Again waits one) began made free e = subst IsFree (same_Some one made e) free
-call_of_free (Until cell value) began made free e =
-    subst IsFree (same_Some (Performs (OnCore (Cell cell))) made e) refl
-call_of_free (Twice begin next waits says) None made free e = subst IsFree (same_Some begin made e) free.0
-call_of_free (Twice begin next waits says) (Some answer) made free e = free.1 answer made e
-call_of_free (Looks begin ready) None made free e = subst IsFree (same_Some begin made e) free
-call_of_free (Looks begin ready) (Some answer) made free e = absurd (some_none (sym e))
+-- so they leave who holds locks
+calls_keep : (at : TryContext) (calls : List ThreadCall) (node : Node EndpointLocal) → AllByRecursion IsFree calls
+    → locks_in (node_run (job_of at.settings at.table at.meaning) at.me at.now (events_of at.thread calls) node)
+    ≡ locks_in node
+calls_keep at [] node free = refl
+calls_keep at (made ∷ calls) node free =
+    calls_keep at calls
+    (node_after (job_of at.settings at.table at.meaning) at.me node at.now (node_event at.thread made)) free.1
+    ∙ call_keeps at.settings at.table at.meaning at.me at.thread at.now node made free.0
 
 -- the second call of a blocking transfer
 sync_free : (first : Answer) (made : ThreadCall) → sync_of first ≡ Some made → IsFree made
@@ -148,13 +148,13 @@ is_lock_step (step.Call (call.Lock lock)) = true
 is_lock_step (step.Call (call.Unlock lock)) = true
 is_lock_step _ = false
 
-step_free : (one : ScriptStep) (node : Node EndpointLocal) → is_lock_step one ≡ false
-    → FormMay IsFree (step_form one node)
-step_free (step.Call (call.Lock lock)) node free = absurd (true≢false free)
-step_free (step.Call (call.Unlock lock)) node free = absurd (true≢false free)
-step_free (step.Call _) node free = refl
-step_free (step.Waiting (waiting.Transfer transfer)) node free = (refl, sync_free)
-step_free (step.Waiting _) node free = refl
+step_free : (one : ScriptStep) (at : TryContext) (node : Node EndpointLocal) → is_lock_step one ≡ false
+    → FormMay IsFree (step_form one at node)
+step_free (step.Call (call.Lock lock)) at node free = absurd (true≢false free)
+step_free (step.Call (call.Unlock lock)) at node free = absurd (true≢false free)
+step_free (step.Call _) at node free = refl
+step_free (step.Waiting (waiting.Transfer transfer)) at node free = (refl, sync_free)
+step_free (step.Waiting _) at node free = refl
 
 -- a lock that another one holds is not taken
 held_stays : (held : List Held) (thread lock : ℕ) (answer : LockAnswer)
@@ -174,37 +174,22 @@ lock_waits settings table meaning me thread now lock node waits =
     held_stays (locks_in node) thread lock (lock_answer (locks_in node) (owner.Thread thread) lock 0) refl
     (waits_there _ _ waits)
 
--- a call at which its step waits
-waiting_keeps : (settings : Parameters) (table : List (Option Entry)) (meaning : Meaning) (me thread now : ℕ)
-    (one : ScriptStep) (node : Node EndpointLocal) (began : Option Answer) (made : ThreadCall)
-    → call_of (step_form one node) began ≡ Some made
-    → let job = job_of settings table meaning in
-    let after = node_after job me node now (node_event thread made) in
-    ended_by (step_form one node) began after (Some (told (node_answer job me node now (node_event thread made))))
-    ≡ None
-    → locks_in after ≡ locks_in node
-waiting_keeps settings table meaning me thread now one node began made is waits =
-    by_step one (is_lock_step one) refl is waits
+-- the calls of a step that waits
+waiting_keeps : (at : TryContext) (one : ScriptStep) (node : Node EndpointLocal) (began : Option Answer)
+    → let progress : Progress ScriptStep = record { left = one ∷ []; began = began } in
+    (tried_next at progress node).ended ≡ None → locks_in (after_next at progress node) ≡ locks_in node
+waiting_keeps at one node began waits = by_step one (is_lock_step one) refl waits
   where
     by_step : (one : ScriptStep) (locks : Bool) → is_lock_step one ≡ locks
-        → call_of (step_form one node) began ≡ Some made
-        → let job = job_of settings table meaning in
-        let after = node_after job me node now (node_event thread made) in
-        ended_by (step_form one node) began after (Some (told (node_answer job me node now (node_event thread made))))
-        ≡ None
-        → locks_in after ≡ locks_in node
-    by_step one false free is waits =
-        call_keeps settings table meaning me thread now node made
-        (call_of_free (step_form one node) began made (step_free one node free) is)
-    by_step (step.Call (call.Lock lock)) true locks is waits =
-        subst (λ (m : ThreadCall).
-        unless (is_held (told (node_answer (job_of settings table meaning) me node now (node_event thread m))))
-        (told (node_answer (job_of settings table meaning) me node now (node_event thread m))) ≡ None
-        → locks_in (node_after (job_of settings table meaning) me node now (node_event thread m)) ≡ locks_in node)
-        (same_Some (Performs (OnCore (Lock lock))) made is) (lock_waits settings table meaning me thread now lock node)
-        waits
-    by_step (step.Call (call.Unlock lock)) true locks is waits = absurd (some_none waits)
-    by_step _ true locks is waits = absurd (true≢false (sym locks))
+        → let progress : Progress ScriptStep = record { left = one ∷ []; began = began } in
+        (tried_next at progress node).ended ≡ None → locks_in (after_next at progress node) ≡ locks_in node
+    by_step one false free waits =
+        calls_keep at (calls_of (step_form one at node) began) node
+        (calls_may IsFree (step_form one at node) began (step_free one at node free))
+    by_step (step.Call (call.Lock lock)) true locks waits =
+        lock_waits at.settings at.table at.meaning at.me at.thread at.now lock node waits
+    by_step (step.Call (call.Unlock lock)) true locks waits = absurd (some_none waits)
+    by_step _ true locks waits = absurd (true≢false (sym locks))
 
 -- ---- a turn
 
@@ -240,40 +225,20 @@ are_before version true (Some bytes) = by_refusal (first_refusal version bytes)
     by_refusal (Some reason) = tt
 
 -- the try of a thread's next step, where it didn't end it
-next_keeps : (settings : Parameters) (table : List (Option Entry)) (meaning : Meaning) (me thread now : ℕ)
-    (left : List ScriptStep) (began : Option Answer) (node : Node EndpointLocal)
-    → let job = job_of settings table meaning in
-    let made = next_call step_form began left node in
-    let after = node_run job me now (option_to_list (option_map (node_event thread) made)) node in
-    (tried_step step_form began left node after
-    (option_map (λ call. told (node_answer job me node now (node_event thread call))) made)).ended ≡ None
-    → locks_in after ≡ locks_in node
-next_keeps settings table meaning me thread now [] began node waits = refl
-next_keeps settings table meaning me thread now (one ∷ left) began node waits =
-    by_call (call_of (step_form one node) began) refl waits
-  where
-    by_call : (made : Option ThreadCall) → call_of (step_form one node) began ≡ made
-        → let job = job_of settings table meaning in
-        let after = node_run job me now (option_to_list (option_map (node_event thread) made)) node in
-        ended_by (step_form one node) began after
-        (option_map (λ call. told (node_answer job me node now (node_event thread call))) made) ≡ None
-        → locks_in after ≡ locks_in node
-    by_call None is waits = refl
-    by_call (Some made) is waits =
-        waiting_keeps settings table meaning me thread now one node began made is waits
+next_keeps : (at : TryContext) (left : List ScriptStep) (began : Option Answer) (node : Node EndpointLocal)
+    → let progress : Progress ScriptStep = record { left = left; began = began } in
+    (tried_next at progress node).ended ≡ None → locks_in (after_next at progress node) ≡ locks_in node
+next_keeps at [] began node waits = refl
+next_keeps at (one ∷ left) began node waits = waiting_keeps at one node began waits
 
 -- a turn of a thread that didn't end its step
-pub turn_keeps : (settings : Parameters) (table : List (Option Entry)) (meaning : Meaning) (me thread now version : ℕ)
-    (polls : Bool) (got : Option (List ℕ)) (left : List ScriptStep) (began : Option Answer)
-    (node : Node EndpointLocal)
-    → let job = job_of settings table meaning in
-    let first = before_try version polls got in
-    let mid = node_run job me now first node in
-    let made = next_call step_form began left mid in
-    let after = node_run job me now (option_to_list (option_map (node_event thread) made)) mid in
-    (tried_step step_form began left mid after
-    (option_map (λ call. told (node_answer job me mid now (node_event thread call))) made)).ended ≡ None
-    → locks_in after ≡ locks_in node
-turn_keeps settings table meaning me thread now version polls got left began node waits =
-    next_keeps settings table meaning me thread now left began _ waits
-    ∙ before_keep settings table meaning me now (before_try version polls got) node (are_before version polls got)
+pub turn_keeps : (at : TryContext) (version : ℕ) (polls : Bool) (got : Option (List ℕ)) (left : List ScriptStep)
+    (began : Option Answer) (node : Node EndpointLocal)
+    → let progress : Progress ScriptStep = record { left = left; began = began } in
+    let mid =
+    node_run (job_of at.settings at.table at.meaning) at.me at.now (before_try version polls got) node in
+    (tried_next at progress mid).ended ≡ None → locks_in (after_next at progress mid) ≡ locks_in node
+turn_keeps at version polls got left began node waits =
+    next_keeps at left began _ waits
+    ∙ before_keep at.settings at.table at.meaning at.me at.now (before_try version polls got) node
+    (are_before version polls got)

@@ -16,8 +16,8 @@ use Rattle.node_record.specs.Record.{Node}
 use Rattle.node_record.specs.SlotMessages.{message_at}
 use Rattle.node_record.specs.declared.answer.SlotRef.{SlotRef}
 use Rattle.plain_world.specs.Sent.{Packet, Asking, Replying}
+use Rattle.am_core.specs.CoreContracts.{IsSameNode}
 use Rattle.endpoint_rules.specs.EndpointLocal.{EndpointLocal, IsEndpointKept}
-use Rattle.endpoint_rules.specs.EndpointRules.{job_of}
 use Rattle.endpoint_rules.specs.declared.answer.Answer.{Answer}
 use Rattle.endpoint_rules.proofs.Sound.{rules_sound}
 use Rattle.gas_endpoint.specs.EndpointState.{EndpointState, EndpointStands, ForItsRecord}
@@ -26,17 +26,16 @@ use Rattle.job_text.specs.declared.job.ScriptStep.{ScriptStep}
 use Rattle.node_runs.specs.Actions.{Progress, OwnScripts, tried_step}
 use Rattle.node_runs.specs.Laws.{GotBytes}
 use Rattle.node_runs.specs.Outgoing.{slot_of, SentStands}
-use Rattle.node_runs.specs.Scripts.{NodeJob, Tried as FormTried}
+use Rattle.node_runs.specs.Scripts.{NodeJob, Tried as FormTried, TryContext}
 use Rattle.node_runs.specs.Turn.{MachineState, before_try, first_events, as_tried, turn_events, tried_answer}
 use Rattle.node_runs.specs.Turn.{node_run, is_some_there, datagram, receiver, message_of}
 use Rattle.node_runs.proofs.Outgoings.{sent_stand, turns_come_first}
 use Rattle.script_steps.specs.Forms.{step_form}
-use Rattle.script_steps.specs.Tries.{HasHappened, Happen}
+use Rattle.script_steps.specs.Tries.{HasHappened, Happen, context_here}
 use Rattle.script_steps.specs.declared.trial.Tried.{Tried}
 use Rattle.node_machine.specs.Kept.{CanBeSaid}
 use Rattle.node_machine.specs.Parts.{at_once}
-use Rattle.node_machine.specs.Scripted.{NextTrial, TriesNext, after_next, answer_of_next, events_of_next, as_said}
-use Rattle.node_machine.specs.Scripted.{progress_after}
+use Rattle.node_machine.specs.Scripted.{NextTrial, TriesNext, events_of_next, tried_next, as_said, progress_after}
 use Rattle.node_machine.specs.NodeState.{datagram_at, as_there}
 use Rattle.node_machine.specs.Turns.{slots_of, job_at, TurnTaken, turn_by, GoesAsTurn, TakesTurn}
 use Rattle.node_machine.specs.declared.turn.Done.{Done}
@@ -84,7 +83,8 @@ tried_is : (meaning : Meaning) (old mid new : EndpointState) (taken : TurnTaken)
     → let job = job_at meaning old in
     let me = old.core.me in
     let node = as_tried job me state taken.thread taken.now taken.got in
-    tried_step step_form (state.own taken.thread).began (state.own taken.thread).left node
+    tried_step step_form (context_here meaning old taken.thread taken.now) (state.own taken.thread).began
+    (state.own taken.thread).left node
     (node_run job.job me taken.now (turn_events job me state taken.thread taken.now taken.got) state.node)
     (tried_answer job me state taken.thread taken.now taken.got)
     ≡ as_said (record { now = taken.now; thread = taken.thread; progress = state.own taken.thread }) tried
@@ -95,16 +95,36 @@ tried_is meaning old mid new taken state slots tried stands before tries =
     record { now = taken.now; thread = taken.thread; progress = state.own taken.thread } in
     let first = first_events job state taken.thread taken.got in
     let node = as_tried job me state taken.thread taken.now taken.got in
-    let run = run-append job.job me taken.now first (events_of_next trial node) state.node in
-    let so = at_same old.core mid.core (λ settings table at.
-    tried_step step_form trial.progress.began trial.progress.left node
-    (after_next (job_of settings table meaning) at trial node)
-    (answer_of_next (job_of settings table meaning) at trial node)
+    let at : TryContext = context_here meaning old taken.thread taken.now in
+    let run = run-append job.job me taken.now first (events_of_next at trial.progress node) state.node in
+    let so = at_same old.core mid.core (λ settings table me.
+    tried_next (record at { settings = settings; table = table; me = me }) trial.progress node
     ≡ as_said trial tried) before.same
     (tries.tried_so node (before.happened state.node stands).stands) in
-    ap (λ (after : Node EndpointLocal). tried_step step_form trial.progress.began trial.progress.left node after
+    ap (λ (after : Node EndpointLocal). tried_step step_form at trial.progress.began trial.progress.left node after
     (tried_answer job me state taken.thread taken.now taken.got)) run
     ∙ so
+
+-- what the try did at the node after the events before it, as at the node before them
+try_at : (meaning : Meaning) (old mid new : EndpointState) (trial : NextTrial) (slots : List SlotRef)
+    → IsSameNode old.core mid.core
+    → Happen meaning mid (record {
+      now = trial.now;
+      events = events_of_next (context_here meaning mid trial.thread trial.now) trial.progress;
+      slots = slots;
+    }) new
+    → Happen meaning mid (record {
+      now = trial.now;
+      events = events_of_next (context_here meaning old trial.thread trial.now) trial.progress;
+      slots = slots;
+    }) new
+try_at meaning old mid new trial slots same happen =
+    let at : TryContext = context_here meaning old trial.thread trial.now in
+    at_same old.core mid.core (λ settings table me. Happen meaning mid (record {
+      now = trial.now;
+      events = events_of_next (record at { settings = settings; table = table; me = me }) trial.progress;
+      slots = slots;
+    }) new) same happen
 
 same_changed : (got slots packets ended began : Bool) (more less : Bool) → slots ≡ packets → ended ≡ more → began ≡ less
     → (got || packets || more || less) ≡ (got || slots || ended || began)
@@ -158,21 +178,30 @@ state_goes meaning old mid new taken state slots tried done lawful bytes stands 
     trial : NextTrial
     trial = record { now = taken.now; thread = taken.thread; progress = state.own taken.thread }
 
+    at : TryContext
+    at = context_here meaning old taken.thread taken.now
+
     node : Node EndpointLocal
     node = as_tried job me state taken.thread taken.now taken.got
 
     all : HasHappened job.job me (record {
       now = taken.now;
       events = λ (x : Node EndpointLocal). first_events job state taken.thread taken.got
-          ++ events_of_next trial (node_run job.job me taken.now (first_events job state taken.thread taken.got) x);
+          ++ events_of_next at trial.progress
+          (node_run job.job me taken.now (first_events job state taken.thread taken.got) x);
       slots = slots ++ option_to_list tried.sent;
     }) state.node new
     all = (happen_then meaning old mid new
         (at_once taken.now (first_events job state taken.thread taken.got) slots)
-        (record { now = taken.now; events = events_of_next trial; slots = option_to_list tried.sent }) refl before
-        tries.happen).happened state.node stands
+        (record {
+          now = taken.now;
+          events = events_of_next at trial.progress;
+          slots = option_to_list tried.sent;
+        }) refl before
+        (try_at meaning old mid new trial (option_to_list tried.sent) before.same tries.happen)).happened state.node
+        stands
 
-    went : tried_step step_form (state.own taken.thread).began (state.own taken.thread).left node
+    went : tried_step step_form at (state.own taken.thread).began (state.own taken.thread).left node
         (node_run job.job me taken.now (turn_events job me state taken.thread taken.now taken.got) state.node)
         (tried_answer job me state taken.thread taken.now taken.got)
         ≡ as_said trial tried
@@ -188,12 +217,12 @@ state_goes meaning old mid new taken state slots tried done lawful bytes stands 
         → (turn_by job me taken state).after.node.local.core.locks ≡ state.node.local.core.locks
     kept none =
         let run = run-append job.job me taken.now (first_events job state taken.thread taken.got)
-        (events_of_next trial node) state.node in
+        (events_of_next at trial.progress node) state.node in
         ap (λ (x : Node EndpointLocal). x.local.core.locks) run
-        ∙ turn_keeps settings old.core.table meaning me taken.thread taken.now settings.version
-        (job.polls taken.thread state.node.local) taken.got trial.progress.left trial.progress.began state.node
-        (ap (λ (after : Node EndpointLocal). (tried_step step_form trial.progress.began trial.progress.left node after
-        (tried_answer job me state taken.thread taken.now taken.got)).ended) (sym run)
+        ∙ turn_keeps at settings.version (job.polls taken.thread state.node.local) taken.got trial.progress.left
+        trial.progress.began state.node
+        (ap (λ (after : Node EndpointLocal). (tried_step step_form at trial.progress.began trial.progress.left node
+        after (tried_answer job me state taken.thread taken.now taken.got)).ended) (sym run)
         ∙ (ap (λ (t : FormTried (Progress ScriptStep)). t.ended) went ∙ none))
 
 -- what can be said of a script can be said of its rest

@@ -1,21 +1,19 @@
 -- The try of a thread's next step, by what is left of its script.
 -- Origin: this project's profile.
 use Rattle.std.specs.Prelude.{ℕ, ◌≡◌, if◌then◌else◌, List, [], ◌∷◌, Option, None, is_some}
-use Rattle.std.specs.Option.{option_map, option_or, option_to_list}
+use Rattle.std.specs.Option.{option_or, option_to_list}
 use Rattle.handler_rules.specs.Runs.{Meaning}
-use Rattle.node_record.specs.NodeStep.{node_answer}
 use Rattle.node_record.specs.Record.{Node}
-use Rattle.endpoint_rules.specs.Called.{node_event}
 use Rattle.endpoint_rules.specs.EndpointLocal.{EndpointLocal}
-use Rattle.endpoint_rules.specs.EndpointRules.{RecordEvent, told}
+use Rattle.endpoint_rules.specs.EndpointRules.{RecordEvent, job_of}
 use Rattle.endpoint_rules.specs.declared.answer.Answer.{Answer}
-use Rattle.gas_endpoint.specs.EndpointState.{EndpointState, ForItsRecord, job_here}
+use Rattle.gas_endpoint.specs.EndpointState.{EndpointState, ForItsRecord}
 use Rattle.job_text.specs.declared.job.ScriptStep.{ScriptStep}
-use Rattle.node_runs.specs.Actions.{Progress, next_call, tried_step}
-use Rattle.node_runs.specs.Scripts.{ThreadCall, Tried as FormTried}
-use Rattle.node_runs.specs.Turn.{node_run}
+use Rattle.node_runs.specs.Actions.{Progress, next_calls, tried_step}
+use Rattle.node_runs.specs.Scripts.{ThreadCall, Tried as FormTried, TryContext}
+use Rattle.node_runs.specs.Turn.{node_run, events_of, first_answer}
 use Rattle.script_steps.specs.Forms.{step_form}
-use Rattle.script_steps.specs.Tries.{EndpointJob, Happen}
+use Rattle.script_steps.specs.Tries.{Happen, context_here}
 use Rattle.script_steps.specs.declared.trial.Tried.{Tried}
 
 -- a try of the next step of a thread's script, of which this is left
@@ -24,23 +22,29 @@ pub record NextTrial : Type 0 where
   pub thread : ℕ
   pub progress : Progress ScriptStep
 
--- the call that it makes, if it makes one, by the record that it finds
-abbrev pub call_of_next : NextTrial → Node EndpointLocal → Option ThreadCall
-call_of_next trial node = next_call step_form trial.progress.began trial.progress.left node
+-- the calls that it makes, in order, by the record that it finds
+abbrev pub calls_of_next : TryContext → Progress ScriptStep → Node EndpointLocal → List ThreadCall
+calls_of_next at progress node = next_calls step_form at progress.began progress.left node
 
--- the event of that call
-abbrev pub events_of_next : NextTrial → Node EndpointLocal → List RecordEvent
-events_of_next trial node = option_to_list (option_map (node_event trial.thread) (call_of_next trial node))
+-- the events of these calls
+abbrev pub events_of_next : TryContext → Progress ScriptStep → Node EndpointLocal → List RecordEvent
+events_of_next at progress node = events_of at.thread (calls_of_next at progress node)
 
--- its answer
-abbrev pub answer_of_next : EndpointJob → (me : ℕ) → NextTrial → Node EndpointLocal → Option Answer
-answer_of_next job me trial node =
-    option_map (λ call. told (node_answer job me node trial.now (node_event trial.thread call)))
-    (call_of_next trial node)
+-- the answer of the first of them
+abbrev pub answer_of_next : TryContext → Progress ScriptStep → Node EndpointLocal → Option Answer
+answer_of_next at progress node =
+    first_answer (job_of at.settings at.table at.meaning) at.me at.thread at.now (calls_of_next at progress node) node
 
--- the record after it
-abbrev pub after_next : EndpointJob → (me : ℕ) → NextTrial → Node EndpointLocal → Node EndpointLocal
-after_next job me trial node = node_run job me trial.now (events_of_next trial node) node
+-- the record after them
+abbrev pub after_next : TryContext → Progress ScriptStep → Node EndpointLocal → Node EndpointLocal
+after_next at progress node =
+    node_run (job_of at.settings at.table at.meaning) at.me at.now (events_of_next at progress node) node
+
+-- how the try goes
+abbrev pub tried_next : TryContext → Progress ScriptStep → Node EndpointLocal → FormTried (Progress ScriptStep)
+tried_next at progress node =
+    tried_step step_form at progress.began progress.left node (after_next at progress node)
+    (answer_of_next at progress node)
 
 -- what is left of a script, behind this step, after a try of the step that went so
 abbrev pub left_after : (step : ScriptStep) → (rest : List ScriptStep) → (began : Option Answer) → Tried
@@ -61,15 +65,15 @@ abbrev pub as_said : NextTrial → Tried → FormTried (Progress ScriptStep)
 as_said trial tried =
     record { left = progress_after trial.progress tried; ended = tried.ended; began = is_some tried.began }
 
--- the next step was tried, if there is one: of every record for which the endpoint stood, the try made the one call
--- that the step's form makes, if that makes one, and went as the form says
+-- the next step was tried, if there is one: of every record for which the endpoint stood, the try made the calls that
+-- the step's form makes, in order, and went as the form says
 pub record TriesNext
     (meaning : Meaning) (old : EndpointState) (trial : NextTrial) (tried : Tried) (new : EndpointState) : Type 0
   where
-    pub happen : Happen meaning old
-        (record { now = trial.now; events = events_of_next trial; slots = option_to_list tried.sent }) new
+    pub happen : Happen meaning old (record {
+      now = trial.now;
+      events = events_of_next (context_here meaning old trial.thread trial.now) trial.progress;
+      slots = option_to_list tried.sent;
+    }) new
     pub tried_so : ForItsRecord old (λ node.
-        tried_step step_form trial.progress.began trial.progress.left node
-        (after_next (job_here meaning old) old.core.me trial node)
-        (answer_of_next (job_here meaning old) old.core.me trial node)
-        ≡ as_said trial tried)
+        tried_next (context_here meaning old trial.thread trial.now) trial.progress node ≡ as_said trial tried)

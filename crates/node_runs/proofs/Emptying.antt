@@ -1,8 +1,7 @@
 -- An empty turn leaves the machine as it was.
 use Rattle.std.proofs.Common.{◌≡◌, ℕ, zero, suc, Bool, true, false, true≢false, cond, ◌||◌, List, [], ◌∷◌, ◌++◌, map}
-use Rattle.std.proofs.Common.{Option, None, Some, refl, sym, ap, ap₂, ◌∙◌, subst, append-nil}
+use Rattle.std.proofs.Common.{Option, None, Some, refl, sym, ap, ap₂, ◌∙◌, subst}
 use Rattle.std.specs.Prelude.{is_some}
-use Rattle.std.specs.Option.{option_map, option_to_list}
 use Rattle.lists.specs.Numbered.{numbered, change}
 use Rattle.lists.proofs.Update.{update-None}
 use Rattle.lists.specs.Put.{put}
@@ -10,14 +9,13 @@ use Rattle.lists.proofs.Put.{put_own}
 use Rattle.node_record.specs.Record.{Request, Node}
 use Rattle.node_record.specs.Requests.{sent_at}
 use Rattle.node_record.specs.Step.{Site, TickChoice, Resends, Sends, Rests, tick_choice, after_tick}
-use Rattle.node_record.specs.NodeStep.{NodeEvent, Ticks, site_of, node_after, node_answer}
+use Rattle.node_record.specs.NodeStep.{NodeEvent, Ticks, site_of, node_after}
 use Rattle.plain_world.specs.Sent.{Packet, asking, ticked_sends, sends}
-use Rattle.endpoint_rules.specs.Called.{node_event}
-use Rattle.endpoint_rules.specs.EndpointRules.{OtherCall, told}
+use Rattle.endpoint_rules.specs.EndpointRules.{OtherCall}
 use Rattle.endpoint_rules.specs.declared.answer.Answer.{Answer}
-use Rattle.node_runs.specs.Scripts.{NodeJob, ThreadCall}
+use Rattle.node_runs.specs.Scripts.{NodeJob}
 use Rattle.node_runs.specs.Turn.{MachineState, turn, node_run, node_sends, is_some_there, as_tried, try_of}
-use Rattle.node_runs.specs.Turn.{datagram}
+use Rattle.node_runs.specs.Turn.{datagram, context, try_events, try_answer}
 use Rattle.node_runs.specs.Empty.{IsCalm, EmptyTurnsLeave}
 
 -- ---- a tick that sends nothing
@@ -80,37 +78,23 @@ machine_is {Kept} {Own} state changed node own datagrams answer e f h =
     }) state) (sym e)
     (ap₂ (λ (n : Node Kept) (o : Own). record state { node = n; own = o }) f h)
 
--- the try, at this record
-try_calm : {Kept Own : Type 0} (job : NodeJob Kept Own) (me thread now : ℕ) (own : Own) (node : Node Kept)
-    (call : Option ThreadCall) → IsCalm job → job.scripts.call thread own node ≡ call
-    → let events = option_to_list (option_map (node_event thread) call) in
-    let tried = job.scripts.tried thread own node (node_run job.job me now events node)
-    (option_map (λ made. told (node_answer job.job me node now (node_event thread made))) call) in
-    tried.ended ≡ None → tried.began ≡ false → node_sends job.job me now events node ≡ []
-    → node_run job.job me now events node ≡ node
-try_calm job me thread now own node None C is e b s = refl
-try_calm job me thread now own node (Some call) C is e b s =
-    C.node me thread now own node call is e b (sym (append-nil _) ∙ s)
-
 -- of a turn of a thread that polls or doesn't
 turn_calm : {Kept Own : Type 0} (job : NodeJob Kept Own) (me thread now : ℕ) (state : MachineState Kept Own)
     (polls : Bool) → IsCalm job
     → let first : List (NodeEvent OtherCall) = cond polls (Ticks ∷ []) [] in
     let mid = node_run job.job me now first state.node in
-    let call = job.scripts.call thread state.own mid in
-    let events = first ++ option_to_list (option_map (node_event thread) call) in
-    let tried = job.scripts.tried thread state.own mid (node_run job.job me now events state.node)
-    (option_map (λ made. told (node_answer job.job me mid now (node_event thread made))) call) in
+    let events = first ++ try_events job me thread now state.own mid in
+    let tried = job.scripts.tried (context job me thread now) state.own mid (node_run job.job me now events state.node)
+    (try_answer job me thread now state.own mid) in
     tried.ended ≡ None → tried.began ≡ false → node_sends job.job me now events state.node ≡ []
     → node_run job.job me now events state.node ≡ state.node
-turn_calm job me thread now state false C e b s =
-    try_calm job me thread now state.own state.node (job.scripts.call thread state.own state.node) C refl e b s
+turn_calm job me thread now state false C e b s = C.node me thread now state.own state.node e b s
 turn_calm {Kept} {Own} job me thread now state true C e b s =
     let mid = node_after job.job me state.node now Ticks in
     let parts = nil_parts (sends job.job me state.node now Ticks) _ s in
     let ticked : mid ≡ state.node =
     tick_calm (site_of job.job me) me now state.node (tick_choice (site_of job.job me) state.node now) parts.0 in
-    try_calm job me thread now state.own mid (job.scripts.call thread state.own mid) C refl e b parts.1 ∙ ticked
+    C.node me thread now state.own mid e b parts.1 ∙ ticked
 
 pub empty_turns : {Kept Own : Type 0} (job : NodeJob Kept Own) → IsCalm job → EmptyTurnsLeave job
 empty_turns {Kept} {Own} job C me thread now state changed =
@@ -122,4 +106,4 @@ empty_turns {Kept} {Own} job C me thread now state changed =
     machine_is state it.changed it.after.node it.after.own (map (datagram job.job.settings) it.packets) tried.ended
     changed
     (turn_calm job me thread now state (job.polls thread state.node.local) C ended a.1 (no_packets it.packets b.0))
-    (C.left thread state.own (as_tried job me state thread now None) it.after.node _ ended a.1)
+    (C.left (context job me thread now) state.own (as_tried job me state thread now None) it.after.node _ ended a.1)

@@ -3,7 +3,6 @@ use Rattle.std.proofs.Common.{◌≡◌, ◌≢◌, ◌⊎◌, inl, inr, ℕ, �
 use Rattle.std.proofs.Common.{◌∷◌, ◌++◌, length, Option, None, Some, refl, sym, ap, ap₂, ◌∙◌, subst, arith, ne_eqb}
 use Rattle.std.proofs.Common.{eq-eqb}
 use Rattle.std.proofs.lemmas.List.{length-append}
-use Rattle.std.specs.Option.{option_map, option_to_list}
 use Rattle.std.proofs.lemmas.Bool.{cases_eq}
 use Rattle.std.proofs.lemmas.Bool.Decides.{nat_tests}
 use Rattle.datagram_grammar.specs.Parameters.{Parameters, credits_of}
@@ -31,7 +30,7 @@ use Rattle.plain_world.specs.MostHeld.{most_then, most_after}
 use Rattle.endpoint_rules.specs.Called.{Requests, Performs, node_event}
 use Rattle.endpoint_rules.specs.EndpointRules.{OtherCall}
 use Rattle.node_runs.specs.Scripts.{NodeJob, ThreadCall}
-use Rattle.node_runs.specs.Turn.{MachineState, Turn, turn, turn_events, node_run, coming, comes}
+use Rattle.node_runs.specs.Turn.{MachineState, Turn, turn, turn_events, node_run, coming, comes, events_of}
 use Rattle.node_runs.specs.Order.{NodeEntry, own_entries, Machines, turn_of, after_entry}
 use Rattle.node_runs.specs.WorldRun.{AreEvents, AreTurns, joined}
 use Rattle.node_runs.specs.Most.{most_in}
@@ -121,10 +120,10 @@ abbrev AtMostOne : {Call : Type 0} → List (NodeEvent Call) → Type 0
 AtMostOne [] = Unit {0}
 AtMostOne (event ∷ events) = AreAllOwn events
 
-call_own : (thread : ℕ) (call : Option ThreadCall) → AreAllOwn (option_to_list (option_map (node_event thread) call))
-call_own thread None = tt
-call_own thread (Some (Requests to asking)) = (tt, tt)
-call_own thread (Some (Performs call)) = (tt, tt)
+calls_own : (thread : ℕ) (calls : List ThreadCall) → AreAllOwn (events_of thread calls)
+calls_own thread [] = tt
+calls_own thread (Requests to asking ∷ calls) = (tt, calls_own thread calls)
+calls_own thread (Performs call ∷ calls) = (tt, calls_own thread calls)
 
 own_then : (Call : Type 0) (events : List (NodeEvent Call)) → AreAllOwn events → AtMostOne events
 own_then Call [] h = tt
@@ -144,7 +143,7 @@ turn_at_most Call version true (Some bytes) more own = by_refusal (first_refusal
 events_at_most : {Kept Own : Type 0} (job : NodeJob Kept Own) (me : ℕ) (state : MachineState Kept Own)
     (thread now : ℕ) (got : Option (List ℕ)) → AtMostOne (turn_events job me state thread now got)
 events_at_most job me state thread now got =
-    turn_at_most OtherCall job.job.settings.version (job.polls thread state.node.local) got _ (call_own thread _)
+    turn_at_most OtherCall job.job.settings.version (job.polls thread state.node.local) got _ (calls_own thread _)
 
 -- ---- the most that was held, over the events of a turn
 

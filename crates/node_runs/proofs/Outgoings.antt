@@ -4,7 +4,7 @@ use Rattle.std.proofs.Common.{◌∷◌, ◌++◌, Option, None, Some, refl, sym
 use Rattle.std.proofs.Common.{eq-eqb, lt-ltb}
 use Rattle.std.specs.Prelude.{if◌then◌else◌, nat_lt, ◌+◌, nat_le}
 use Rattle.std.specs.List.{AllByRecursion, Contains}
-use Rattle.std.specs.Option.{option_map, option_to_list}
+use Rattle.std.specs.Option.{option_map}
 use Rattle.std.proofs.lemmas.Bool.{cases_Bool, eqb-true, ltb-true}
 use Rattle.std.proofs.lemmas.List.Elements.{Contains-append_cases}
 use Rattle.std.proofs.lemmas.Option.{same_Some}
@@ -52,6 +52,7 @@ use Rattle.endpoint_rules.proofs.Asked.{Stay, stay_push, stay_sent}
 use Rattle.node_runs.specs.Scripts.{NodeJob, ThreadCall}
 use Rattle.node_runs.specs.Laws.{GotBytes}
 use Rattle.node_runs.specs.Turn.{message_of, node_run, node_sends, MachineState, coming, comes, turn_events}
+use Rattle.node_runs.specs.Turn.{events_of}
 use Rattle.node_runs.specs.Outgoing.{slot_of, StaysWell, AreOwn, IsFirst, ComesFirst, SentStands}
 use Rattle.node_runs.proofs.Mosts.{IsOwn}
 use Rattle.lists.proofs.Tests.{gate}
@@ -523,10 +524,10 @@ sent_stand job IsKept me now (event ∷ events) node sound first well packet h =
 
 -- ---- a turn
 
-call_own : (thread : ℕ) (call : Option ThreadCall) → AreOwn (option_to_list (option_map (node_event thread) call))
-call_own thread None = tt
-call_own thread (Some (Requests to asking)) = tt
-call_own thread (Some (Performs call)) = tt
+calls_own : (thread : ℕ) (calls : List ThreadCall) → AreOwn (events_of thread calls)
+calls_own thread [] = tt
+calls_own thread (Requests to asking ∷ calls) = calls_own thread calls
+calls_own thread (Performs call ∷ calls) = calls_own thread calls
 
 own_then : (events : List RecordEvent) → AreOwn events → ComesFirst events
 own_then [] own = tt
@@ -550,4 +551,4 @@ pub turns_come_first : {Own : Type 0} (job : NodeJob EndpointLocal Own) (me thre
     → is_version job.job.settings.version ≡ true → GotBytes got
     → ComesFirst (turn_events job me state thread now got)
 turns_come_first job me thread now state got known bytes =
-    turn_first job.job.settings.version (job.polls thread state.node.local) got _ known bytes (call_own thread _)
+    turn_first job.job.settings.version (job.polls thread state.node.local) got _ known bytes (calls_own thread _)

@@ -16,7 +16,7 @@ use Rattle.plain_world.proofs.Sending.{sent_are_recorded}
 use Rattle.endpoint_rules.specs.EndpointRules.{OtherCall}
 use Rattle.endpoint_rules.specs.declared.answer.Answer.{Answer}
 use Rattle.node_runs.specs.Scripts.{NodeJob}
-use Rattle.node_runs.specs.Turn.{MachineState, datagram, node_answers, node_sends, node_run}
+use Rattle.node_runs.specs.Turn.{MachineState, datagram, node_answers, node_sends, node_run, context}
 use Rattle.node_runs.specs.Order.{NodeEntry, Machines, at_first, turn_of, after_entry, given_by, after_all}
 use Rattle.node_runs.specs.Order.{given_by_all}
 use Rattle.node_runs.specs.Order.{answers_by_all, GoInOrder}
@@ -141,7 +141,8 @@ follows_on {Kept} {Own} job IsKept Fits May Written start past world machines gi
       written = λ other. elim (cases_eq other node) [
         | inl is ↦ subst (λ (m : MachineState Kept Own). Written m.own)
             (sym (ap (after_entry job machines item) is ∙ put_same machines node turn.after))
-            (J.written.left item.entry.thread (machines node).own _ turn.after.node _ (F.written node))
+            (J.written.left (context job node item.entry.thread item.entry.now) (machines node).own _ turn.after.node _
+            (F.written node))
         | inr apart ↦ subst (λ (m : MachineState Kept Own). Written m.own)
             (sym (put_other machines node turn.after other apart)) (F.written other)
       ];

@@ -2,7 +2,6 @@
 use Rattle.std.proofs.Common.{◌≡◌, ◌≢◌, ℕ, ◌<◌, List, [], ◌∷◌, ◌++◌, map, Option, None, Some, refl, sym, ap, ap₂, ◌∙◌}
 use Rattle.std.proofs.Common.{subst}
 use Rattle.std.specs.List.{AllByRecursion}
-use Rattle.std.specs.Option.{option_map, option_to_list}
 use Rattle.datagram_grammar.specs.Parameters.{Parameters}
 use Rattle.datagram_grammar.specs.Content.{Content}
 use Rattle.lists.proofs.Put.{put_same, put_other}
@@ -18,7 +17,7 @@ use Rattle.endpoint_rules.specs.Called.{Requests, Performs, node_event}
 use Rattle.endpoint_rules.specs.EndpointRules.{OtherCall}
 use Rattle.endpoint_rules.specs.declared.answer.Answer.{Answer}
 use Rattle.node_runs.specs.Scripts.{ThreadCall}
-use Rattle.node_runs.specs.Turn.{node_run, node_answers, node_sends, receiver, message_of}
+use Rattle.node_runs.specs.Turn.{node_run, node_answers, node_sends, receiver, message_of, events_of}
 use Rattle.node_runs.specs.WorldRun.{AreEvents}
 use Rattle.node_runs.proofs.Lasting.{AreSpoken, Lasts, lasts_on}
 
@@ -90,36 +89,35 @@ stage_more {Call = Call} {Told = Told} job IsKept Fits world node now event firs
       others = λ other apart. S.others other apart ∙ fallen_other job world node event timed is other apart;
     }
 
--- ---- the try of a script's step
+-- ---- the calls of a try, one after another
 
 pub try_stage : {Local : Type 0} (job : Job Local OtherCall Answer) (IsKept : (me : ℕ) → Local → Type 0)
     (Fits : Local → Type 0) (May : NodeEvent OtherCall → Type 0) (world : World Local) (node now thread : ℕ)
-    (call : Option ThreadCall) → IsAllSound job.behaviour IsKept → AreSpoken job IsKept Fits May
+    (calls : List ThreadCall) → IsAllSound job.behaviour IsKept → AreSpoken job IsKept Fits May
     → node < job.settings.nodes → Lasts job IsKept Fits world
-    → ((made : ThreadCall) → call ≡ Some made → May (node_event thread made))
-    → (happened : List (Timed OtherCall))
-    × Stage job IsKept Fits world node now (option_to_list (option_map (node_event thread) call)) happened
-try_stage job IsKept Fits May world node now thread None sound spoken here L may =
+    → AllByRecursion (λ (made : ThreadCall). May (node_event thread made)) calls
+    → (happened : List (Timed OtherCall)) × Stage job IsKept Fits world node now (events_of thread calls) happened
+try_stage job IsKept Fits May world node now thread [] sound spoken here L may =
     ([], stage_none job IsKept Fits world node now L)
-try_stage job IsKept Fits May world node now thread (Some (Requests to asking)) sound spoken here L may =
+try_stage job IsKept Fits May world node now thread (Requests to asking ∷ calls) sound spoken here L may =
     let call = Requests to asking in
     let first : Event OtherCall = Asks node (record { thread = thread; to = to; what = asking }) in
-    let timed : Timed OtherCall = record { now = now; event = first } in (
-      timed ∷ [],
-      stage_more job IsKept Fits world node now (node_event thread call) first [] [] here refl
-          (stage_none job IsKept Fits _ node now
-          (lasts_on job IsKept Fits May world node (node_event thread call) timed sound spoken L here refl
-          (may call refl))),
+    let timed : Timed OtherCall = record { now = now; event = first } in
+    let later = try_stage job IsKept Fits May (world_after job world timed) node now thread calls sound spoken here
+    (lasts_on job IsKept Fits May world node (node_event thread call) timed sound spoken L here refl may.0) may.1 in (
+      timed ∷ later.0,
+      stage_more job IsKept Fits world node now (node_event thread call) first (events_of thread calls) later.0 here
+          refl later.1,
     )
-try_stage job IsKept Fits May world node now thread (Some (Performs done)) sound spoken here L may =
+try_stage job IsKept Fits May world node now thread (Performs done ∷ calls) sound spoken here L may =
     let call = Performs done in
     let first : Event OtherCall = Does node thread done in
-    let timed : Timed OtherCall = record { now = now; event = first } in (
-      timed ∷ [],
-      stage_more job IsKept Fits world node now (node_event thread call) first [] [] here refl
-          (stage_none job IsKept Fits _ node now
-          (lasts_on job IsKept Fits May world node (node_event thread call) timed sound spoken L here refl
-          (may call refl))),
+    let timed : Timed OtherCall = record { now = now; event = first } in
+    let later = try_stage job IsKept Fits May (world_after job world timed) node now thread calls sound spoken here
+    (lasts_on job IsKept Fits May world node (node_event thread call) timed sound spoken L here refl may.0) may.1 in (
+      timed ∷ later.0,
+      stage_more job IsKept Fits world node now (node_event thread call) first (events_of thread calls) later.0 here
+          refl later.1,
     )
 
 -- ---- the delivery of what was sent

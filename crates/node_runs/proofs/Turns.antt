@@ -1,8 +1,7 @@
 -- A turn of a node is events of the world.
 use Rattle.std.proofs.Common.{◌≡◌, inl, inr, ℕ, ◌<◌, Bool, true, false, cond, List, [], ◌∷◌, ◌++◌, Option, None, Some}
 use Rattle.std.proofs.Common.{refl, sym, ap, ◌∙◌, subst}
-use Rattle.std.specs.List.{Contains}
-use Rattle.std.specs.Option.{option_map, option_to_list}
+use Rattle.std.specs.List.{AllByRecursion, Contains}
 use Rattle.std.proofs.lemmas.Bool.{cases_Bool}
 use Rattle.datagram_grammar.specs.Parameters.{Parameters}
 use Rattle.datagram_grammar.specs.Content.{spelling}
@@ -16,8 +15,9 @@ use Rattle.plain_world.specs.Sent.{Packet, Asking, Replying, IsRecorded, sender}
 use Rattle.endpoint_rules.specs.Called.{node_event}
 use Rattle.endpoint_rules.specs.EndpointRules.{OtherCall}
 use Rattle.endpoint_rules.specs.declared.answer.Answer.{Answer}
-use Rattle.node_runs.specs.Scripts.{NodeJob, ThreadCall}
+use Rattle.node_runs.specs.Scripts.{NodeJob, ThreadCall, TryContext}
 use Rattle.node_runs.specs.Turn.{MachineState, node_run, receiver, message_of, datagram, coming, comes, turn_events}
+use Rattle.node_runs.specs.Turn.{context, try_events}
 use Rattle.node_runs.specs.Order.{MayGet}
 use Rattle.node_runs.specs.WorldRun.{Brings}
 use Rattle.node_runs.proofs.Lasting.{AreSpoken, Lasts, lasts_on, recorded_among, recorded_message}
@@ -27,10 +27,10 @@ use Rattle.node_runs.proofs.Stages.{Stage, stage_more, try_stage, fallen_here, d
 pub record AreWritten
     {Kept Own : Type 0} (job : NodeJob Kept Own) (Fits : Kept → Type 0) (May : NodeEvent OtherCall → Type 0)
     (Written : Own → Type 0) : Type 0 where
-  pub calls : (thread : ℕ) (own : Own) (node : Node Kept) (call : ThreadCall)
-      → Written own → Fits node.local → job.scripts.call thread own node ≡ Some call → May (node_event thread call)
-  pub left : (thread : ℕ) (own : Own) (before after : Node Kept) (answer : Option Answer)
-      → Written own → Written (job.scripts.tried thread own before after answer).left
+  pub calls : (at : TryContext) (own : Own) (node : Node Kept) → Written own → Fits node.local
+      → AllByRecursion (λ (call : ThreadCall). May (node_event at.thread call)) (job.scripts.calls at own node)
+  pub left : (at : TryContext) (own : Own) (before after : Node Kept) (answer : Option Answer)
+      → Written own → Written (job.scripts.tried at own before after answer).left
 
 -- all that is asked of a job
 pub record IsSoundJob
@@ -51,8 +51,7 @@ abbrev pub events_by : {Kept Own : Type 0} → NodeJob Kept Own → (me : ℕ) �
     → (front : List (NodeEvent OtherCall)) → Node Kept → List (NodeEvent OtherCall)
 events_by job me taken polls front node =
     let first : List (NodeEvent OtherCall) = cond polls (front ++ NodeTicks ∷ []) [] in
-    first ++ option_to_list (option_map (node_event taken.thread)
-    (job.scripts.call taken.thread taken.own (node_run job.job me taken.now first node)))
+    first ++ try_events job me taken.thread taken.now taken.own (node_run job.job me taken.now first node)
 
 -- the bytes of a message: it comes
 comes_is : (Call : Type 0) (version : ℕ) (bytes : List ℕ) (message : Message) → IsMessage message
@@ -77,9 +76,9 @@ try_on : {Kept Own : Type 0} (job : NodeJob Kept Own) (IsKept : (me : ℕ) → K
     → (happened : List (Timed OtherCall))
     × Stage job.job IsKept Fits world node taken.now (events_by job node taken false front (world node)) happened
 try_on job IsKept Fits May Written world node taken front J here L W =
-    try_stage job.job IsKept Fits May world node taken.now taken.thread
-    (job.scripts.call taken.thread taken.own (world node)) J.sound J.spoken here L
-    (λ call is. J.written.calls taken.thread taken.own (world node) call W (L.fits node) is)
+    let at = context job node taken.thread taken.now in
+    try_stage job.job IsKept Fits May world node taken.now taken.thread (job.scripts.calls at taken.own (world node))
+    J.sound J.spoken here L (J.written.calls at taken.own (world node) W (L.fits node))
 
 -- a tick, and the try
 tick_on : {Kept Own : Type 0} (job : NodeJob Kept Own) (IsKept : (me : ℕ) → Kept → Type 0) (Fits : Kept → Type 0)

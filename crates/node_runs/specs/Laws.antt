@@ -14,7 +14,7 @@ use Rattle.endpoint_rules.specs.declared.answer.Answer.{Answer}
 use Rattle.machine.specs.declared.entry.Entry.{Entry}
 use Rattle.machine.specs.Fronts.{Node, start, full, Reaches}
 use Rattle.machine.specs.Replay.{Steps}
-use Rattle.node_runs.specs.Scripts.{NodeJob}
+use Rattle.node_runs.specs.Scripts.{NodeJob, TryContext}
 use Rattle.node_runs.specs.Turn.{MachineState, turn_events}
 use Rattle.node_runs.specs.Outgoing.{StaysWell, ComesFirst, SentStands}
 use Rattle.node_runs.specs.Actions.{Reading, OwnScripts, scripts_of, ActionsMay}
@@ -111,7 +111,7 @@ TheySentStands =
 -- a try that ends and begins nothing leaves the scripts
 abbrev pub WaitingLeaves : {Action : Type 0} → Reading EndpointLocal Action → Type 0
 WaitingLeaves {Action} form =
-    (thread : ℕ) (own : OwnScripts Action) (before after : Record EndpointLocal) (answer : Option Answer)
-    → ((scripts_of form).tried thread own before after answer).ended ≡ None
-    → ((scripts_of form).tried thread own before after answer).began ≡ false
-    → ((scripts_of form).tried thread own before after answer).left ≡ own
+    (at : TryContext) (own : OwnScripts Action) (before after : Record EndpointLocal) (answer : Option Answer)
+    → ((scripts_of form).tried at own before after answer).ended ≡ None
+    → ((scripts_of form).tried at own before after answer).began ≡ false
+    → ((scripts_of form).tried at own before after answer).left ≡ own

@@ -1,6 +1,9 @@
 -- What the scripts of a node's threads do, whatever their steps are.
 -- Origin: this project's profile.
-use Rattle.std.specs.Prelude.{ℕ, Bool, Option}
+use Rattle.std.specs.Prelude.{ℕ, Bool, List, Option}
+use Rattle.datagram_grammar.specs.Parameters.{Parameters}
+use Rattle.handler_rules.specs.declared.table.Entry.{Entry as TableEntry}
+use Rattle.handler_rules.specs.Runs.{Meaning}
 use Rattle.node_record.specs.Record.{Node}
 use Rattle.node_record.specs.NodeStep.{Job}
 use Rattle.endpoint_rules.specs.Called.{Meant}
@@ -17,15 +20,26 @@ pub record Tried (Own : Type 0) : Type 0 where
   pub ended : Option Answer  -- the answer of the step, where the try ended it
   pub began : Bool  -- the try began the operation of its step, and didn't end it
 
--- what a try of the thread's next step does: at most one call, by the record of the node as the try begins; and then
--- what that record, the record after the call and the call's answer, if one was made, say
-pub record Scripts (Kept Own : Type 0) : Type 0 where
-  pub call : (thread : ℕ) → Own → (before : Node Kept) → Option ThreadCall
-  pub tried : (thread : ℕ) → Own → (before after : Node Kept) → (answer : Option Answer) → Tried Own
+-- in which job a step is tried, at which node, by which thread and when
+pub record TryContext : Type 0 where
+  pub settings : Parameters
+  pub table : List (Option TableEntry)
+  pub meaning : Meaning
+  pub me : ℕ
+  pub thread : ℕ
+  pub now : ℕ
 
--- what all nodes of a job know: its settings and what its nodes do, which threads poll, by what a node keeps, and what
--- scripts do
+-- what a try of the thread's next step does: calls, in this order, by the record of the node as the try begins; and
+-- then what that record, the record after the calls and the answer of the first of them, if any was made, say
+pub record Scripts (Kept Own : Type 0) : Type 0 where
+  pub calls : TryContext → Own → (before : Node Kept) → List ThreadCall
+  pub tried : TryContext → Own → (before after : Node Kept) → (answer : Option Answer) → Tried Own
+
+-- what all nodes of a job know: its settings and what its nodes do, its table of handlers and what these mean, which
+-- threads poll, by what a node keeps, and what scripts do
 pub record NodeJob (Kept Own : Type 0) : Type 0 where
   pub job : Job Kept OtherCall Answer
+  pub table : List (Option TableEntry)
+  pub meaning : Meaning
   pub polls : (thread : ℕ) → Kept → Bool
   pub scripts : Scripts Kept Own

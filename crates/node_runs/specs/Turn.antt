@@ -1,8 +1,8 @@
 -- A turn of a thread of a node: one delivery and one tick, where the thread polls, and one try of its script's step.
 -- Origin: this project's profile.
 use Rattle.std.specs.Prelude.{ℕ, Bool, true, false, ◌||◌, if◌then◌else◌, List, [], ◌∷◌, ◌++◌, map, Option, None, Some}
-use Rattle.std.specs.Prelude.{is_some}
-use Rattle.std.specs.Option.{option_map, option_to_list}
+use Rattle.std.specs.Prelude.{is_some, slice_get}
+use Rattle.std.specs.Option.{option_map}
 use Rattle.datagram_grammar.specs.Parameters.{Parameters}
 use Rattle.datagram_grammar.specs.Content.{Content, addressed, spelling}
 use Rattle.datagram_grammar.specs.Message.{Message}
@@ -15,9 +15,9 @@ use Rattle.node_record.specs.Invariant.{address_in}
 use Rattle.node_record.specs.NodeStep.{Job, NodeEvent, Comes, Ticks, NodeAnswer, node_answer, node_after}
 use Rattle.plain_world.specs.Sent.{Packet, Asking, Replying, sends}
 use Rattle.endpoint_rules.specs.Called.{node_event}
-use Rattle.endpoint_rules.specs.EndpointRules.{RecordEvent, told}
+use Rattle.endpoint_rules.specs.EndpointRules.{OtherCall, RecordEvent, told}
 use Rattle.endpoint_rules.specs.declared.answer.Answer.{Answer}
-use Rattle.node_runs.specs.Scripts.{ThreadCall, Tried, NodeJob}
+use Rattle.node_runs.specs.Scripts.{ThreadCall, Tried, TryContext, NodeJob}
 
 -- ---- several events of a node at one time
 
@@ -66,6 +66,41 @@ message_of settings packet = addressed (address settings packet) (says packet)
 abbrev pub datagram : Parameters → Packet → ℕ × List ℕ
 datagram settings packet = (receiver packet, spelling (message_of settings packet))
 
+-- ---- the try of a thread's next step
+
+-- of a thread of the node `me` at this time
+abbrev pub context : {Kept Own : Type 0} → NodeJob Kept Own → (me thread now : ℕ) → TryContext
+context job me thread now = record {
+  settings = job.job.settings;
+  table = job.table;
+  meaning = job.meaning;
+  me = me;
+  thread = thread;
+  now = now;
+}
+
+-- the events of calls of a thread
+abbrev pub events_of : (thread : ℕ) → List ThreadCall → List RecordEvent
+events_of thread calls = map (node_event thread) calls
+
+-- the answer of the first of these calls
+abbrev pub first_answer : {Kept : Type 0}
+    → Job Kept OtherCall Answer → (me thread now : ℕ) → List ThreadCall → Node Kept → Option Answer
+first_answer job me thread now calls node =
+    option_map (λ call. told (node_answer job me node now (node_event thread call))) (slice_get calls 0)
+
+-- the events of the calls that it makes, where this is left of the scripts and it finds this record
+abbrev pub try_events : {Kept Own : Type 0}
+    → NodeJob Kept Own → (me thread now : ℕ) → Own → Node Kept → List RecordEvent
+try_events job me thread now own node =
+    events_of thread (job.scripts.calls (context job me thread now) own node)
+
+-- the answer of the first of its calls
+abbrev pub try_answer : {Kept Own : Type 0}
+    → NodeJob Kept Own → (me thread now : ℕ) → Own → Node Kept → Option Answer
+try_answer job me thread now own node =
+    first_answer job.job me thread now (job.scripts.calls (context job me thread now) own node) node
+
 -- ---- the machine of a node
 
 pub record MachineState (Kept Own : Type 0) : Type 0 where
@@ -109,34 +144,25 @@ abbrev pub as_tried : {Kept Own : Type 0}
     → NodeJob Kept Own → (me : ℕ) → MachineState Kept Own → (thread now : ℕ) → (got : Option (List ℕ)) → Node Kept
 as_tried job me state thread now got = node_run job.job me now (first_events job state thread got) state.node
 
--- the call that the try makes, if it makes one
-abbrev pub tried_call : {Kept Own : Type 0}
-    → NodeJob Kept Own → (me : ℕ) → MachineState Kept Own → (thread now : ℕ) → (got : Option (List ℕ))
-    → Option ThreadCall
-tried_call job me state thread now got =
-    job.scripts.call thread state.own (as_tried job me state thread now got)
-
--- the events of a turn: those before the try, and the call that the try makes
+-- the events of a turn: those before the try, and the calls that the try makes
 abbrev pub turn_events : {Kept Own : Type 0}
     → NodeJob Kept Own → (me : ℕ) → MachineState Kept Own → (thread now : ℕ) → (got : Option (List ℕ))
     → List RecordEvent
 turn_events job me state thread now got =
     first_events job state thread got
-    ++ option_to_list (option_map (node_event thread) (tried_call job me state thread now got))
+    ++ try_events job me thread now state.own (as_tried job me state thread now got)
 
--- the answer of that call
+-- the answer of the first of these calls
 abbrev pub tried_answer : {Kept Own : Type 0}
     → NodeJob Kept Own → (me : ℕ) → MachineState Kept Own → (thread now : ℕ) → (got : Option (List ℕ)) → Option Answer
 tried_answer job me state thread now got =
-    let node = as_tried job me state thread now got in
-    option_map (λ call. told (node_answer job.job me node now (node_event thread call)))
-    (tried_call job me state thread now got)
+    try_answer job me thread now state.own (as_tried job me state thread now got)
 
 -- how the try went
 abbrev pub try_of : {Kept Own : Type 0}
     → NodeJob Kept Own → (me : ℕ) → MachineState Kept Own → (thread now : ℕ) → (got : Option (List ℕ)) → Tried Own
 try_of job me state thread now got =
-    job.scripts.tried thread state.own (as_tried job me state thread now got)
+    job.scripts.tried (context job me thread now) state.own (as_tried job me state thread now got)
     (node_run job.job me now (turn_events job me state thread now got) state.node)
     (tried_answer job me state thread now got)
 

@@ -75,6 +75,8 @@ abbrev pub endpoint_job : {Own : Type 0}
     → Parameters → List (Option TableEntry) → Meaning → Scripts EndpointLocal Own → NodeJob EndpointLocal Own
 endpoint_job settings table meaning scripts = record {
   job = job_of settings table meaning;
+  table = table;
+  meaning = meaning;
   polls = λ thread local. not (holds (owner.Thread thread) local.core.locks);
   scripts = scripts;
 }

@@ -2,16 +2,19 @@
 use Rattle.std.proofs.Common.{◌≡◌, ℕ, ℤ, Bool, true, false, true≢false, cond, ◌&&◌, map, List, [], ◌∷◌, ◌++◌, Option}
 use Rattle.std.proofs.Common.{None, Some, refl, sym, ap, ◌∙◌, subst}
 use Rattle.std.specs.Prelude.{◌==◌, is_some, is_none, Result, Ok, Err}
-use Rattle.std.specs.Option.{option_map}
+use Rattle.std.specs.Int.{w64, from_le_bytes}
+use Rattle.std.specs.Option.{option_map, option_to_list}
 use Rattle.std.proofs.lemmas.List.{append-nil}
 use Rattle.std.proofs.lemmas.Option.{same_Some}
 use Rattle.datagram_grammar.specs.Parameters.{Parameters}
 use Rattle.handler_rules.specs.Runs.{Meaning, lock_refusal}
+use Rattle.raw_segment.specs.Bytes.{part}
+use Rattle.raw_segment.specs.Image.{Write}
 use Rattle.handler_rules.specs.declared.rules.Forbidden.{Forbidden}
 use Rattle.handler_rules.specs.declared.rules.CallKind.TheVariants as kinds
 use Rattle.handler_rules.specs.declared.rules.Violation.{Violation}
 use Rattle.handler_rules.specs.declared.table.Entry.{Entry}
-use Rattle.am_core.specs.Kept.{Local, with_locks}
+use Rattle.am_core.specs.Kept.{Local, with_locks, segment_of}
 use Rattle.am_core.specs.ClientRules.{with_violations, short_asking, medium_asking, long_asking}
 use Rattle.hsl_locks.specs.Locks.{lock_answer, after_lock}
 use Rattle.hsl_locks.specs.declared.answer.LockAnswer.{LockAnswer}
@@ -34,7 +37,8 @@ use Rattle.node_record.specs.Step.{Site, request_answer, after_request, with_loc
 use Rattle.node_record.specs.NodeStep.{Job, site_of, node_answer, node_after}
 use Rattle.node_record.specs.declared.answer.Asked.{Asked}
 use Rattle.node_record.specs.declared.answer.Asked.TheVariants as asked
-use Rattle.endpoint_rules.specs.CoreCalls.{Cell, Lock}
+use Rattle.endpoint_rules.specs.CoreCalls.{Lock, OnSegment}
+use Rattle.endpoint_rules.specs.Memory.{LoadWord, unless_fault, word_fault}
 use Rattle.endpoint_rules.specs.BarrierCalls.{TryBarrier, barrier_does}
 use Rattle.endpoint_rules.specs.TransferCalls.{Caller, TransferCall, transfer_does, Sync, SyncHandle, SyncAll, SyncSome}
 use Rattle.endpoint_rules.specs.TransferCalls.{SyncImplicit, transfer_kind, handle_in, emptied_by, whole_registers}
@@ -45,6 +49,8 @@ use Rattle.endpoint_rules.specs.EndpointRules.{unless_forbidden}
 use Rattle.endpoint_rules.specs.EndpointRules.{with_barrier}
 use Rattle.endpoint_rules.specs.declared.answer.Answer.{Answer}
 use Rattle.endpoint_rules.specs.declared.answer.Answer.TheVariants as answers
+use Rattle.endpoint_rules.specs.declared.answer.Local.{Local as LocalAnswer}
+use Rattle.endpoint_rules.specs.declared.answer.Local.TheVariants as local
 use Rattle.endpoint_rules.specs.declared.answer.Region.TheVariants as region
 use Rattle.gas_atomic.specs.Asking.{batch_asking}
 use Rattle.job_text.specs.declared.job.ScheduledCall.{ScheduledCall}
@@ -55,10 +61,11 @@ use Rattle.job_text.specs.declared.job.WaitingStep.{WaitingStep}
 use Rattle.job_text.specs.declared.job.WaitingStep.TheVariants as waiting
 use Rattle.node_script.specs.Bodies.{operand_value}
 use Rattle.node_script.specs.ScheduledCalls.{meant_by, given_from, some_of}
-use Rattle.node_runs.specs.Actions.{Form, Once, Again, Until, Twice, Looks, call_of, ended_by, begins, OwnScripts}
-use Rattle.node_runs.specs.Actions.{next_call, tried_step, scripts_of, unless}
+use Rattle.node_runs.specs.Actions.{Form, Once, Again, Until, Twice, Looks, Several, calls_of, ended_by, begins}
+use Rattle.node_runs.specs.Actions.{OwnScripts, next_calls, tried_step, scripts_of, unless}
 use Rattle.node_runs.specs.Empty.{IsCalm}
-use Rattle.node_runs.specs.Scripts.{ThreadCall}
+use Rattle.node_runs.specs.Scripts.{ThreadCall, TryContext}
+use Rattle.node_runs.specs.Turn.{node_run, events_of, first_answer}
 use Rattle.node_runs.specs.WorldRun.{endpoint_job}
 use Rattle.node_runs.proofs.Acting.{scripts_same}
 use Rattle.script_steps.specs.Forms.{is_put_off, is_held, is_not_ready, call_form, waiting_form, step_form}
@@ -67,26 +74,17 @@ use Rattle.script_steps.specs.Tries.{EndpointJob}
 
 -- ---- calls, and answers at which a step waits
 
--- the node of a job in which a thread makes a call
-record Place : Type 0 where
-  pub settings : Parameters
-  pub table : List (Option Entry)
-  pub meaning : Meaning
-  pub me : ℕ
-  pub thread : ℕ
-  pub now : ℕ
-
-abbrev job_at : Place → EndpointJob
+abbrev job_at : TryContext → EndpointJob
 job_at place = job_of place.settings place.table place.meaning
 
-abbrev answer_of : Place → Node EndpointLocal → ThreadCall → Answer
+abbrev answer_of : TryContext → Node EndpointLocal → ThreadCall → Answer
 answer_of place node made = told (node_answer (job_at place) place.me node place.now (node_event place.thread made))
 
-abbrev after_of : Place → Node EndpointLocal → ThreadCall → Node EndpointLocal
+abbrev after_of : TryContext → Node EndpointLocal → ThreadCall → Node EndpointLocal
 after_of place node made = node_after (job_at place) place.me node place.now (node_event place.thread made)
 
 -- a call whose answer is one to wait at leaves the record
-abbrev Leaves : (waits : Answer → Bool) → Place → Node EndpointLocal → ThreadCall → Type 0
+abbrev Leaves : (waits : Answer → Bool) → TryContext → Node EndpointLocal → ThreadCall → Type 0
 Leaves waits place node made = waits (answer_of place node made) ≡ true → after_of place node made ≡ node
 
 -- a request
@@ -100,7 +98,7 @@ asked_leaves site node now ask (asked.LockBusy lock) e = refl
 asked_leaves site node now ask asked.WornOut e = refl
 asked_leaves site node now ask asked.NotYet e = refl
 
-request_leaves : (place : Place) (node : Node EndpointLocal) (to : ℕ) (what : Asking)
+request_leaves : (place : TryContext) (node : Node EndpointLocal) (to : ℕ) (what : Asking)
     → Leaves is_put_off place node (Requests to what)
 request_leaves place node to what e =
     let ask : Ask = record { thread = place.thread; to = to; what = what } in
@@ -127,7 +125,7 @@ held_after locks by lock e = go (lock_answer locks by lock 0) e
     go locking.Held h = refl
     go (locking.Refused why) h = refl
 
-lock_leaves : (place : Place) (node : Node EndpointLocal) (lock : ℕ)
+lock_leaves : (place : TryContext) (node : Node EndpointLocal) (lock : ℕ)
     → Leaves is_held place node (Performs (OnCore (Lock lock)))
 lock_leaves place node lock e =
     let core = node.local.core in
@@ -180,7 +178,7 @@ record MayWait (call : TransferCall) : Type 0 where
   pub leaves : (caller : Caller) (local : EndpointLocal) → is_not_ready (transfer_does caller call local).0 ≡ true
       → (transfer_does caller call local).1 ≡ local
 
-transfer_leaves : (place : Place) (node : Node EndpointLocal) (call : TransferCall) → MayWait call
+transfer_leaves : (place : TryContext) (node : Node EndpointLocal) (call : TransferCall) → MayWait call
     → Leaves is_not_ready place node (on_transfers call)
 transfer_leaves place node call may e =
     let behaviour = (job_at place).behaviour.messages in
@@ -242,6 +240,20 @@ sync_implicit_waits some = record {
       e;
 }
 
+-- a look at a word
+nothing_written : (fault : Option LocalAnswer) (answer : LocalAnswer) (writes : List Write)
+    → writes ++ (unless_fault fault (answer, [])).1 ≡ writes
+nothing_written None answer writes = append-nil writes
+nothing_written (Some fault) answer writes = append-nil writes
+
+word_leaves : (place : Place) (node : Node EndpointLocal) (offset : ℕ)
+    → after_of place node (Performs (OnCore (OnSegment (LoadWord offset)))) ≡ node
+word_leaves place node offset =
+    let segment = segment_of place.settings node.local.core in
+    ap (λ (writes : List Write). with_local node (with_core node.local (record node.local.core { writes = writes })))
+    (nothing_written (word_fault segment offset) (local.Number (from_le_bytes w64 (part segment offset 8)))
+    node.local.core.writes)
+
 -- the barrier
 tried_leaves : (kept : BarrierRecord) (says : BarrierAnswer) → is_not_ready (answers.Barrier says) ≡ true
     → try_after kept says ≡ kept
@@ -252,7 +264,7 @@ tried_leaves kept barrier.NoNotify e = absurd (true≢false (sym e))
 tried_leaves kept barrier.BadFlags e = absurd (true≢false (sym e))
 tried_leaves kept (barrier.WornOut node) e = absurd (true≢false (sym e))
 
-barrier_leaves : (place : Place) (node : Node EndpointLocal) (id : ℤ) (flags : ℕ)
+barrier_leaves : (place : TryContext) (node : Node EndpointLocal) (id : ℤ) (flags : ℕ)
     → Leaves is_not_ready place node (Performs (OnBarrier (TryBarrier id flags)))
 barrier_leaves place node id flags e =
     let behaviour = (job_at place).behaviour.messages in
@@ -271,15 +283,16 @@ barrier_leaves place node id flags e =
 -- ---- steps
 
 -- the calls of the form at whose answers it waits leave the record
-abbrev WaitsCalm : Place → Node EndpointLocal → Form EndpointLocal → Type 0
+abbrev WaitsCalm : TryContext → Node EndpointLocal → Form EndpointLocal → Type 0
 WaitsCalm place node (Once made) = Unit {0}
 WaitsCalm place node (Again waits made) = Leaves waits place node made
-WaitsCalm place node (Until cell value) = Unit {0}
+WaitsCalm place node (Until call ends) = after_of place node call ≡ node
 WaitsCalm place node (Twice begin next waits says) =
     (first : Answer) (made : ThreadCall) → next first ≡ Some made → Leaves waits place node made
 WaitsCalm place node (Looks begin ready) = Unit {0}
+WaitsCalm place node (Several calls says) = Unit {0}
 
-call_calm : (place : Place) (node : Node EndpointLocal) (one : ScheduledCall)
+call_calm : (place : TryContext) (node : Node EndpointLocal) (one : ScheduledCall)
     → WaitsCalm place node (call_form one (meant_by node.local.core.cells one))
 call_calm place node (call.Short to handler operands) =
     request_leaves place node to (short_asking handler (map (operand_value node.local.core.cells []) operands))
@@ -299,16 +312,18 @@ call_calm place node (call.Lock lock) = lock_leaves place node lock
 call_calm place node _ = tt
 
 -- the second call of a blocking transfer
-second_calm : (place : Place) (node : Node EndpointLocal) (handle : Option Handle) (made : ThreadCall)
+second_calm : (place : TryContext) (node : Node EndpointLocal) (handle : Option Handle) (made : ThreadCall)
     → option_map (λ handle. on_transfers (SyncHandle handle)) handle ≡ Some made → Leaves is_not_ready place node made
 second_calm place node None made e = absurd (cc)
 second_calm place node (Some handle) made e =
     subst (Leaves is_not_ready place node) (same_Some (on_transfers (SyncHandle handle)) made e)
     (transfer_leaves place node (SyncHandle handle) (sync_handle_waits handle))
 
-waiting_calm : (place : Place) (node : Node EndpointLocal) (one : WaitingStep)
+waiting_calm : (place : TryContext) (node : Node EndpointLocal) (one : WaitingStep)
     → WaitsCalm place node (waiting_form node.local.core.cells one)
-waiting_calm place node (waiting.Until cell operand) = tt
+waiting_calm place node (waiting.Until cell operand) = refl
+waiting_calm place node (waiting.UntilWord offset number) =
+    word_leaves place node offset
 waiting_calm place node (waiting.Transfer transfer) =
     λ first made e. second_calm place node (begun_handle first) made e
 waiting_calm place node (waiting.PutBegin register put) = tt
@@ -322,8 +337,8 @@ waiting_calm place node (waiting.WaitImplicit which) =
     transfer_leaves place node (SyncImplicit (some_of which)) (sync_implicit_waits (some_of which))
 waiting_calm place node (waiting.BarrierWait id flags) = barrier_leaves place node id flags
 
-step_calm : (place : Place) (node : Node EndpointLocal) (one : ScriptStep)
-    → WaitsCalm place node (step_form one node)
+step_calm : (place : TryContext) (node : Node EndpointLocal) (one : ScriptStep)
+    → WaitsCalm place node (step_form one place node)
 step_calm place node (step.Call made) = call_calm place node made
 step_calm place node (step.Waiting one) = waiting_calm place node one
 
@@ -337,42 +352,54 @@ begun_now : (ended : Option Answer) → ended ≡ None → is_none ended ≡ fal
 begun_now None e not = true≢false not
 begun_now (Some answer) e not = cc
 
+-- the record after calls of a thread, and the answer of the first of them
+abbrev after_calls : TryContext → Node EndpointLocal → List ThreadCall → Node EndpointLocal
+after_calls place node calls = node_run (job_at place) place.me place.now (events_of place.thread calls) node
+
+abbrev answer_to : TryContext → Node EndpointLocal → List ThreadCall → Option Answer
+answer_to place node calls = first_answer (job_at place) place.me place.thread place.now calls node
+
+-- the second call of a step that began with this answer, and waits
+second_waits : (place : TryContext) (node after : Node EndpointLocal) (begin : ThreadCall)
+    (next : Answer → Option ThreadCall) (waits : Answer → Bool) (says : Answer → Answer) (first : Answer)
+    (call : Option ThreadCall) → ((made : ThreadCall) → call ≡ Some made → Leaves waits place node made)
+    → ended_by (Twice begin next waits says) (Some first) after (answer_to place node (option_to_list call)) ≡ None
+    → after_calls place node (option_to_list call) ≡ node
+second_waits place node after begin next waits says first None calm e = refl
+second_waits place node after begin next waits says first (Some made) calm e = calm made refl (waits_there _ _ e)
+
 -- a try that neither ends nor begins its step
-form_calm : (place : Place) (node : Node EndpointLocal) (form : Form EndpointLocal) (began : Option Answer)
-    (made : ThreadCall) → WaitsCalm place node form → call_of form began ≡ Some made
-    → ended_by form began (after_of place node made) (Some (answer_of place node made)) ≡ None
-    → (begins form && is_none began
-    && is_none (ended_by form began (after_of place node made) (Some (answer_of place node made)))) ≡ false
-    → after_of place node made ≡ node
-form_calm place node (Once call) began made calm is e b = absurd (cc)
-form_calm place node (Again waits call) began made calm is e b =
-    subst (Leaves waits place node) (same_Some call made is) calm (waits_there _ _ e)
-form_calm place node (Until cell value) began made calm is e b =
-    subst (λ (c : ThreadCall). after_of place node c ≡ node)
-    (same_Some (Performs (OnCore (Cell cell))) made is) refl
-form_calm place node (Twice begin next waits says) None made calm is e b = absurd (begun_now _ e b)
-form_calm place node (Twice begin next waits says) (Some first) made calm is e b =
-    calm first made is (waits_there _ _ e)
-form_calm place node (Looks begin ready) None made calm is e b = absurd (begun_now _ e b)
-form_calm place node (Looks begin ready) (Some first) made calm is e b = absurd (cc)
+form_calm : (place : TryContext) (node : Node EndpointLocal) (form : Form EndpointLocal) (began : Option Answer)
+    → WaitsCalm place node form
+    → let calls = calls_of form began in
+    let ended = ended_by form began (after_calls place node calls) (answer_to place node calls) in
+    ended ≡ None → (begins form && is_none began && is_none ended) ≡ false → after_calls place node calls ≡ node
+form_calm place node (Once call) began calm e b = absurd (cc)
+form_calm place node (Again waits call) began calm e b = calm (waits_there _ _ e)
+form_calm place node (Until call ends) began calm e b = calm
+form_calm place node (Twice begin next waits says) None calm e b = absurd (begun_now _ e b)
+form_calm place node (Twice begin next waits says) (Some first) calm e b =
+    second_waits place node (after_calls place node (option_to_list (next first))) begin next waits says first
+    (next first) (calm first) e
+form_calm place node (Looks begin ready) None calm e b = absurd (begun_now _ e b)
+form_calm place node (Looks begin ready) (Some first) calm e b = refl
+form_calm place node (Several calls says) began calm e b = absurd (cc)
 
 -- of what is left of a script
-left_calm : (place : Place) (node : Node EndpointLocal) (left : List ScriptStep) (began : Option Answer)
-    (made : ThreadCall) → next_call step_form began left node ≡ Some made
-    → (tried_step step_form began left node (after_of place node made) (Some (answer_of place node made))).ended ≡ None
-    → (tried_step step_form began left node (after_of place node made) (Some (answer_of place node made))).began
-    ≡ false
-    → after_of place node made ≡ node
-left_calm place node [] began made is e b = absurd (cc)
-left_calm place node (one ∷ rest) began made is e b =
-    form_calm place node (step_form one node) began made (step_calm place node one) is e b
+left_calm : (place : TryContext) (node : Node EndpointLocal) (left : List ScriptStep) (began : Option Answer)
+    → let calls = next_calls step_form place began left node in
+    let tried = tried_step step_form place began left node (after_calls place node calls) (answer_to place node calls) in
+    tried.ended ≡ None → tried.began ≡ false → after_calls place node calls ≡ node
+left_calm place node [] began e b = refl
+left_calm place node (one ∷ rest) began e b =
+    form_calm place node (step_form one place node) began (step_calm place node one) e b
 
 pub waiting_is_calm : (settings : Parameters) (table : List (Option Entry)) (meaning : Meaning)
     → IsCalm (endpoint_job settings table meaning (scripts_of step_form))
 waiting_is_calm settings table meaning = record {
-  node = λ me thread now own node made is e b sent.
+  node = λ me thread now own node e b sent.
       left_calm
       (record { settings = settings; table = table; meaning = meaning; me = me; thread = thread; now = now })
-      node (own thread).left (own thread).began made is e b;
-  left = λ thread own before after answer e b. scripts_same step_form thread own before after answer e b;
+      node (own thread).left (own thread).began e b;
+  left = λ at own before after answer e b. scripts_same step_form at own before after answer e b;
 }

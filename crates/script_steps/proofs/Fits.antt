@@ -15,7 +15,7 @@ use Rattle.job_text.specs.declared.job.WaitingStep.{WaitingStep}
 use Rattle.job_text.specs.declared.job.WaitingStep.TheVariants as waiting
 use Rattle.node_runs.specs.Actions.{FormMay, OwnScripts, ActionsMay}
 use Rattle.node_runs.specs.Fitting.{KeptFits, CallFits}
-use Rattle.node_runs.specs.Scripts.{ThreadCall}
+use Rattle.node_runs.specs.Scripts.{ThreadCall, TryContext}
 use Rattle.script_laws.proofs.Calls.{calls_fit}
 use Rattle.script_steps.specs.Forms.{tried_while, waits_of, waiting_form, step_form, begun_handle, on_transfers}
 use Rattle.script_steps.specs.Forms.{sync_of}
@@ -35,6 +35,7 @@ sync_may (Some handle) made e = subst CallFits (same_Some (on_transfers (SyncHan
 -- a step that scripts alone have
 waiting_may : (cells : List ℤ) (one : WaitingStep) → FormMay CallFits (waiting_form cells one)
 waiting_may cells (waiting.Until cell operand) = tt
+waiting_may cells (waiting.UntilWord offset number) = tt
 waiting_may cells (waiting.Transfer transfer) = (tt, λ first made e. sync_may (begun_handle first) made e)
 waiting_may cells (waiting.PutBegin register put) = tt
 waiting_may cells (waiting.PutImplicit put) = tt
@@ -44,16 +45,16 @@ waiting_may cells (waiting.WaitSome registers) = tt
 waiting_may cells (waiting.WaitImplicit which) = tt
 waiting_may cells (waiting.BarrierWait id flags) = tt
 
-step_may : (one : ScriptStep) → IsStep one → (node : Node EndpointLocal) → KeptFits node.local
-    → FormMay CallFits (step_form one node)
-step_may (step.Call made) is node fits =
+step_may : (one : ScriptStep) → IsStep one → (at : TryContext) (node : Node EndpointLocal) → KeptFits node.local
+    → FormMay CallFits (step_form one at node)
+step_may (step.Call made) is at node fits =
     call_may (waits_of made) _ (calls_fit node.local.core.cells made fits.cells is)
-step_may (step.Waiting one) is node fits = waiting_may node.local.core.cells one
+step_may (step.Waiting one) is at node fits = waiting_may node.local.core.cells one
 
 all_may : (steps : List ScriptStep) → AllByRecursion IsStep steps
     → AllByRecursion
-    (λ (one : ScriptStep). (node : Node EndpointLocal) → KeptFits node.local → FormMay CallFits (step_form one node))
-    steps
+    (λ (one : ScriptStep). (at : TryContext) (node : Node EndpointLocal) → KeptFits node.local
+    → FormMay CallFits (step_form one at node)) steps
 all_may [] all = tt
 all_may (one ∷ steps) all = (step_may one all.0, all_may steps all.1)
 

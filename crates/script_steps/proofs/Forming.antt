@@ -1,5 +1,5 @@
 -- The tries of the forms of steps, by the answers of their calls.
-use Rattle.std.proofs.Common.{◌≡◌, Bool, true, false, List, [], Option, None, Some, refl, sym, ap, ◌∙◌, subst}
+use Rattle.std.proofs.Common.{◌≡◌, Bool, true, false, List, [], ◌∷◌, Option, None, Some, refl, sym, ap, ◌∙◌, subst}
 use Rattle.std.specs.Prelude.{is_some, not}
 use Rattle.handler_rules.specs.Runs.{Meaning}
 use Rattle.node_record.specs.Record.{Node}
@@ -14,7 +14,7 @@ use Rattle.job_text.specs.declared.job.ScheduledCall.{ScheduledCall}
 use Rattle.job_text.specs.declared.job.ScheduledCall.TheVariants as call
 use Rattle.job_text.specs.declared.job.TransferText.{TransferText}
 use Rattle.job_text.specs.declared.job.WaitingStep.TheVariants as waiting
-use Rattle.node_runs.specs.Actions.{Form, Once, Again, Until, Twice, Looks, call_of, ended_by, begins, unless}
+use Rattle.node_runs.specs.Actions.{Form, Once, Again, Until, Twice, Looks, calls_of, ended_by, begins, unless}
 use Rattle.node_runs.specs.Scripts.{ThreadCall}
 use Rattle.node_script.specs.ScheduledCalls.{meant_by, transfer_of}
 use Rattle.script_steps.specs.Forms.{call_form, tried_while, waits_of, waiting_form, waits_at, begun_handle}
@@ -22,7 +22,7 @@ use Rattle.script_steps.specs.Forms.{as_synced, on_transfers}
 use Rattle.script_steps.specs.Tries.{Makes, TriesForm, made_by, read_as, begun_by}
 use Rattle.script_steps.specs.declared.trial.Trial.{Trial}
 use Rattle.script_steps.specs.declared.trial.Tried.{Tried}
-use Rattle.script_steps.proofs.Trying.{CallOf, goes_so, tries_call}
+use Rattle.script_steps.proofs.Trying.{CallsOf, goes_so, tries_call}
 
 -- what a try tells whose call was answered so
 abbrev pub ended_with : (waits : Bool) → (call step : Answer) → Tried
@@ -35,7 +35,7 @@ begun_with answer = record { sent = sends answer; ended = None; began = Some ans
 
 -- the call of such a form
 call_made_once : (waits : Option (Answer → Bool)) (meant : ThreadCall) (began : Option Answer)
-    → call_of (tried_while waits meant) began ≡ Some meant
+    → calls_of (tried_while waits meant) began ≡ meant ∷ []
 call_made_once None meant began = refl
 call_made_once (Some waits) meant began = refl
 
@@ -73,7 +73,7 @@ tries_scheduled meaning old new trial one meant answer waits tried makes meant_i
       thread_is = refl;
       call_is = λ node stands.
           call_made_once (waits_of one) (meant_by node.local.core.cells one) trial.began
-          ∙ ap (λ (made : ThreadCall). Some made) (sym (meant_is node stands));
+          ∙ ap (λ (made : ThreadCall). made ∷ []) (sym (meant_is node stands));
       sent = ap (λ (t : Tried). t.sent) tried_is;
       ended = λ node after stands stands_after.
           ap (λ (t : Tried). t.ended) tried_is
@@ -140,5 +140,5 @@ tries_alike meaning old new trial form other tried alike tries =
     let happened = tries.happen.happened node stands in
     let went = tries.went node stands in
     subst (λ (one : Form EndpointLocal).
-    CallOf meaning old (read_as trial (λ x. one)) tried new node (call_of one trial.began)) (sym (alike node))
+    CallsOf meaning old (read_as trial (λ x. one)) tried new node (calls_of one trial.began)) (sym (alike node))
     (happened.stands, happened.slots_are, happened.well, went.ended, went.began))

@@ -2,7 +2,7 @@
 use Rattle.std.proofs.Common.{◌≡◌, ℕ, Bool, true, false, true≢false, cond, ◌&&◌, List, [], ◌∷◌, ◌++◌, map, Option}
 use Rattle.std.proofs.Common.{None, Some}
 use Rattle.std.proofs.Common.{refl, sym, ap, ◌∙◌, subst}
-use Rattle.std.specs.Prelude.{is_some, is_none}
+use Rattle.std.specs.Prelude.{is_some, is_none, slice_get}
 use Rattle.std.specs.Option.{option_map, option_or, option_to_list}
 use Rattle.handler_rules.specs.Runs.{Meaning}
 use Rattle.node_record.specs.Record.{Node}
@@ -24,14 +24,15 @@ use Rattle.endpoint_rules.specs.declared.call.Call.{Call}
 use Rattle.gas_endpoint.specs.EndpointState.{EndpointState, EndpointStands, ForItsRecord, NodeSteps, job_here}
 use Rattle.gas_endpoint.specs.Sends.{AreThatOf, NodeSends, slot_of as endpoint_slot}
 use Rattle.job_text.specs.declared.job.ScriptStep.{ScriptStep}
-use Rattle.node_runs.specs.Actions.{Form, Once, Again, Until, Twice, Looks, Progress, call_of, ended_by, begins}
+use Rattle.node_runs.specs.Actions.{Form, Once, Again, Until, Twice, Looks, Several, Progress, calls_of, ended_by}
+use Rattle.node_runs.specs.Actions.{begins}
 use Rattle.node_runs.specs.Actions.{progress_after, tried_form}
 use Rattle.node_runs.specs.Outgoing.{slot_of, StaysWell}
 use Rattle.node_runs.specs.Scripts.{ThreadCall, Tried as FormTried}
-use Rattle.node_runs.specs.Turn.{node_run, node_sends}
+use Rattle.node_runs.specs.Turn.{node_run, node_sends, events_of, first_answer}
 use Rattle.script_steps.specs.Tries.{EndpointJob, Happening, HasHappened, Happen, Made, made_happening, Makes}
 use Rattle.script_steps.specs.Tries.{FormTrial}
-use Rattle.script_steps.specs.Tries.{trial_call, trial_events, trial_answer, trial_after, begun_by, WentSo}
+use Rattle.script_steps.specs.Tries.{trial_calls, trial_events, trial_answer, trial_after, begun_by, WentSo}
 use Rattle.script_steps.specs.Tries.{trial_happening, TriesForm, as_form, left_by, as_tried, IsTriedSo, Tries}
 use Rattle.script_steps.specs.declared.trial.Trial.{Trial}
 use Rattle.script_steps.specs.declared.trial.Tried.{Tried}
@@ -102,22 +103,21 @@ pub record Calls (old : EndpointState) (trial : FormTrial) (tried : Tried) (made
   where
     pub now_is : made.now ≡ trial.now
     pub thread_is : made.thread ≡ trial.thread
-    pub call_is : ForItsRecord old (λ node. trial_call trial node ≡ Some made.meant)
+    pub call_is : ForItsRecord old (λ node. trial_calls trial node ≡ made.meant ∷ [])
     pub sent : tried.sent ≡ sends made.answer
     pub ended : (node after : Node EndpointLocal) → EndpointStands old node → EndpointStands new after
         → tried.ended ≡ ended_by (trial.form node) trial.began after (Some made.answer)
     pub began : ForItsRecord old (λ node.
         tried.began ≡ begun_by (trial.form node) trial.began tried.ended (Some made.answer))
 
--- of a call that a form makes
-abbrev pub CallOf : (meaning : Meaning) (old : EndpointState) (trial : FormTrial) (tried : Tried) (new : EndpointState)
-    (node : Node EndpointLocal) → Option ThreadCall → Type 0
-CallOf meaning old trial tried new node call =
+-- of the calls that a form makes
+abbrev pub CallsOf : (meaning : Meaning) (old : EndpointState) (trial : FormTrial) (tried : Tried) (new : EndpointState)
+    (node : Node EndpointLocal) → List ThreadCall → Type 0
+CallsOf meaning old trial tried new node calls =
     let job = job_here meaning old in
-    let events = option_to_list (option_map (node_event trial.thread) call) in
+    let events = events_of trial.thread calls in
     let after = node_run job old.core.me trial.now events node in
-    let answer = option_map
-    (λ call. told (node_answer job old.core.me node trial.now (node_event trial.thread call))) call in
+    let answer = first_answer job old.core.me trial.thread trial.now calls node in
     EndpointStands new after
     × (option_to_list tried.sent ≡ map slot_of (node_sends job old.core.me trial.now events node))
     × StaysWell job (IsEndpointKept job.settings) old.core.me trial.now events node
@@ -127,7 +127,7 @@ CallOf meaning old trial tried new node call =
 -- so the try went
 pub goes_so : (meaning : Meaning) (old new : EndpointState) (trial : FormTrial) (tried : Tried)
     → IsSameNode old.core new.core
-    → ForItsRecord old (λ node. CallOf meaning old trial tried new node (trial_call trial node))
+    → ForItsRecord old (λ node. CallsOf meaning old trial tried new node (trial_calls trial node))
     → TriesForm meaning old trial tried new
 goes_so meaning old new trial tried same all =
     record {
@@ -143,17 +143,17 @@ pub tries_call : (meaning : Meaning) (old new : EndpointState) (trial : FormTria
     → Makes meaning old made new → Calls old trial tried made new → TriesForm meaning old trial tried new
 tries_call meaning old new trial tried made makes calls =
     goes_so meaning old new trial tried makes.happen.same
-    (λ node stands. subst (CallOf meaning old trial tried new node) (sym (calls.call_is node stands))
+    (λ node stands. subst (CallsOf meaning old trial tried new node) (sym (calls.call_is node stands))
     (with_call node stands trial.now trial.thread calls.now_is calls.thread_is))
   where
     with_call : (node : Node EndpointLocal) → EndpointStands old node → (now thread : ℕ) → made.now ≡ now
         → made.thread ≡ thread
-        → CallOf meaning old (record trial { now = now; thread = thread }) tried new node (Some made.meant)
+        → CallsOf meaning old (record trial { now = now; thread = thread }) tried new node (made.meant ∷ [])
     with_call node stands now thread now_is thread_is =
-        subst (λ t. CallOf meaning old (record trial { now = now; thread = t }) tried new node (Some made.meant))
+        subst (λ t. CallsOf meaning old (record trial { now = now; thread = t }) tried new node (made.meant ∷ []))
         thread_is
         (subst
-        (λ n. CallOf meaning old (record trial { now = n; thread = made.thread }) tried new node (Some made.meant))
+        (λ n. CallsOf meaning old (record trial { now = n; thread = made.thread }) tried new node (made.meant ∷ []))
         now_is
         (let happened = makes.happen.happened node stands in
         let answered = makes.answered node stands in (
@@ -175,13 +175,13 @@ none_begun false = refl
 -- a try that makes no call
 pub tries_nothing : (meaning : Meaning) (endpoint : EndpointState) (trial : FormTrial) (tried : Tried)
     → tried.sent ≡ None
-    → ForItsRecord endpoint (λ node. trial_call trial node ≡ None)
+    → ForItsRecord endpoint (λ node. trial_calls trial node ≡ [])
     → ForItsRecord endpoint (λ node. tried.ended ≡ ended_by (trial.form node) trial.began node None)
     → tried.began ≡ None → TriesForm meaning endpoint trial tried endpoint
 tries_nothing meaning endpoint trial tried sent none ended began =
     goes_so meaning endpoint endpoint trial tried
     (record { settings = refl; me_is = refl; table = refl; segment_length = refl })
-    (λ node stands. subst (CallOf meaning endpoint trial tried endpoint node) (sym (none node stands)) (
+    (λ node stands. subst (CallsOf meaning endpoint trial tried endpoint node) (sym (none node stands)) (
       stands,
       ap option_to_list sent,
       well_of endpoint node stands,
@@ -192,12 +192,14 @@ tries_nothing meaning endpoint trial tried sent none ended began =
 -- ---- the try of a step
 
 -- a form that begins something makes its first call
-first_call : (form : Form EndpointLocal) → begins form ≡ true → (call : ThreadCall) × (call_of form None ≡ Some call)
+first_call : (form : Form EndpointLocal) → begins form ≡ true
+    → (call : ThreadCall) × (slice_get (calls_of form None) 0 ≡ Some call)
 first_call (Once call) starts = (call, refl)
 first_call (Again waits call) starts = (call, refl)
-first_call (Until cell value) starts = absurd (true≢false (sym starts))
+first_call (Until call ends) starts = absurd (true≢false (sym starts))
 first_call (Twice begin next waits says) starts = (begin, refl)
 first_call (Looks begin ready) starts = (begin, refl)
+first_call (Several calls says) starts = absurd (true≢false (sym starts))
 
 -- how a try went by whether it begins something, the answer with which its step began, whether and how it ended it, and
 -- the answer of its call
@@ -258,27 +260,30 @@ told_so form trial tried after answer ended began says rest =
     ∙ ap (as_told tried.ended) (sym began))
 
 pub tries_step : (meaning : Meaning) (old new : EndpointState) (trial : Trial) (tried : Tried)
-    → TriesForm meaning old (as_form trial) tried new → Tries meaning old trial tried new
+    → TriesForm meaning old (as_form meaning old trial) tried new → Tries meaning old trial tried new
 tries_step meaning old new trial tried tries =
     record {
       happen = tries.happen;
       tried_so = λ node stands rest.
-          let job = job_here meaning old in
-          let form = (as_form trial).form node in
+          let form = (as_form meaning old trial).form node in
           let went = tries.went node stands in
-          told_so form trial tried (trial_after job old.core.me (as_form trial) node)
-          (trial_answer job old.core.me (as_form trial) node) went.ended went.began
-          (λ starts none. answered job old.core.me node form (first_call form starts) none) rest;
+          told_so form trial tried
+          (trial_after (job_here meaning old) old.core.me (as_form meaning old trial) node)
+          (trial_answer (job_here meaning old) old.core.me (as_form meaning old trial) node) went.ended went.began
+          (λ starts none. answered node form (first_call form starts) none) rest;
     }
   where
-    answered : (job : EndpointJob) (me : ℕ) (node : Node EndpointLocal) (form : Form EndpointLocal)
-        → (call : ThreadCall) × (call_of form None ≡ Some call) → trial.began ≡ None
+    told_of : Node EndpointLocal → ThreadCall → Answer
+    told_of node call =
+        told (node_answer (job_here meaning old) old.core.me node trial.time (node_event trial.thread call))
+
+    answered : (node : Node EndpointLocal) (form : Form EndpointLocal)
+        → (call : ThreadCall) × (slice_get (calls_of form None) 0 ≡ Some call) → trial.began ≡ None
         → (said : Answer)
-        × (option_map (λ call. told (node_answer job me node trial.time (node_event trial.thread call)))
-        (call_of form trial.began) ≡ Some said)
-    answered job me node form call none = (
-      told (node_answer job me node trial.time (node_event trial.thread call.0)),
-      ap (λ (o : Option Answer). option_map
-          (λ call. told (node_answer job me node trial.time (node_event trial.thread call))) (call_of form o)) none
-          ∙ ap (option_map (λ call. told (node_answer job me node trial.time (node_event trial.thread call)))) call.1,
+        × (first_answer (job_here meaning old) old.core.me trial.thread trial.time (calls_of form trial.began) node
+        ≡ Some said)
+    answered node form call none = (
+      told_of node call.0,
+      ap (λ (o : Option Answer). option_map (told_of node) (slice_get (calls_of form o) 0)) none
+          ∙ ap (option_map (told_of node)) call.1,
     )

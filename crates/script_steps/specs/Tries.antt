@@ -2,7 +2,7 @@
 -- Origin: this project's profile.
 use Rattle.std.specs.Prelude.{ℕ, ◌≡◌, List, [], ◌∷◌, Bool, ◌&&◌, if◌then◌else◌, map, Option, None, Some}
 use Rattle.std.specs.Prelude.{is_some, is_none, not}
-use Rattle.std.specs.Option.{option_map, option_or, option_to_list}
+use Rattle.std.specs.Option.{option_or, option_to_list}
 use Rattle.handler_rules.specs.Runs.{Meaning}
 use Rattle.node_record.specs.Record.{Node}
 use Rattle.node_record.specs.NodeStep.{Job, node_answer}
@@ -15,10 +15,10 @@ use Rattle.endpoint_rules.specs.Sends.{sends}
 use Rattle.endpoint_rules.specs.declared.answer.Answer.{Answer}
 use Rattle.gas_endpoint.specs.EndpointState.{EndpointState, EndpointStands, ForItsRecord, job_here}
 use Rattle.job_text.specs.declared.job.ScriptStep.{ScriptStep}
-use Rattle.node_runs.specs.Actions.{Form, Progress, call_of, ended_by, begins, tried_form, unless}
+use Rattle.node_runs.specs.Actions.{Form, Progress, calls_of, ended_by, begins, tried_form, unless}
 use Rattle.node_runs.specs.Outgoing.{slot_of, StaysWell}
-use Rattle.node_runs.specs.Scripts.{ThreadCall, Tried as FormTried}
-use Rattle.node_runs.specs.Turn.{node_run, node_sends}
+use Rattle.node_runs.specs.Scripts.{ThreadCall, Tried as FormTried, TryContext}
+use Rattle.node_runs.specs.Turn.{node_run, node_sends, events_of, first_answer}
 use Rattle.script_steps.specs.Forms.{is_sent, step_form}
 use Rattle.script_steps.specs.declared.trial.Trial.{Trial}
 use Rattle.script_steps.specs.declared.trial.Tried.{Tried}
@@ -81,18 +81,17 @@ pub record FormTrial : Type 0 where
   pub form : Node EndpointLocal → Form EndpointLocal
   pub began : Option Answer
 
--- the call that it makes, if it makes one, by the record that it finds
-abbrev pub trial_call : FormTrial → Node EndpointLocal → Option ThreadCall
-trial_call trial node = call_of (trial.form node) trial.began
+-- the calls that it makes, in order, by the record that it finds
+abbrev pub trial_calls : FormTrial → Node EndpointLocal → List ThreadCall
+trial_calls trial node = calls_of (trial.form node) trial.began
 
--- the event of the call
+-- the events of the calls
 abbrev pub trial_events : FormTrial → Node EndpointLocal → List RecordEvent
-trial_events trial node = option_to_list (option_map (node_event trial.thread) (trial_call trial node))
+trial_events trial node = events_of trial.thread (trial_calls trial node)
 
--- the answer of the call
+-- the answer of the first of them
 abbrev pub trial_answer : EndpointJob → (me : ℕ) → FormTrial → Node EndpointLocal → Option Answer
-trial_answer job me trial node =
-    option_map (λ call. told (node_answer job me node trial.now (node_event trial.thread call))) (trial_call trial node)
+trial_answer job me trial node = first_answer job me trial.thread trial.now (trial_calls trial node) node
 
 -- the record after it
 abbrev pub trial_after : EndpointJob → (me : ℕ) → FormTrial → Node EndpointLocal → Node EndpointLocal
@@ -119,7 +118,7 @@ abbrev pub trial_happening : FormTrial → Tried → Happening
 trial_happening trial tried =
     record { now = trial.now; events = trial_events trial; slots = option_to_list tried.sent }
 
--- the endpoint was asked what the try calls, and the try went so
+-- the endpoint was asked what the try calls, in order, and the try went so
 pub record TriesForm
     (meaning : Meaning) (old : EndpointState) (trial : FormTrial) (tried : Tried) (new : EndpointState) : Type 0
   where
@@ -138,9 +137,21 @@ abbrev pub read_as : Trial → (form : Node EndpointLocal → Form EndpointLocal
 read_as trial form =
     record { now = trial.time; thread = trial.thread; form = form; began = trial.began }
 
--- the step, as it is read
-abbrev pub as_form : Trial → FormTrial
-as_form trial = read_as trial (step_form trial.step.now)
+-- a try of a thread of the endpoint's node at this time
+abbrev pub context_here : Meaning → EndpointState → (thread now : ℕ) → TryContext
+context_here meaning endpoint thread now = record {
+  settings = endpoint.core.settings;
+  table = endpoint.core.table;
+  meaning = meaning;
+  me = endpoint.core.me;
+  thread = thread;
+  now = now;
+}
+
+-- the step, as it is read there
+abbrev pub as_form : Meaning → EndpointState → Trial → FormTrial
+as_form meaning endpoint trial =
+    read_as trial (step_form trial.step.now (context_here meaning endpoint trial.thread trial.time))
 
 -- what is left of the script whose step was tried, and behind which this is left
 abbrev pub left_by : Trial → Tried → (rest : List ScriptStep) → Progress ScriptStep
@@ -154,16 +165,18 @@ as_tried trial tried rest =
     record { left = left_by trial tried rest; ended = tried.ended; began = is_some tried.began }
 
 -- of a record that the try found: it went as the step's form says
-abbrev pub IsTriedSo : EndpointJob → (me : ℕ) → Trial → Tried → Node EndpointLocal → Type 0
-IsTriedSo job me trial tried node =
+abbrev pub IsTriedSo : Meaning → EndpointState → Trial → Tried → Node EndpointLocal → Type 0
+IsTriedSo meaning old trial tried node =
+    let job = job_here meaning old in
+    let form = as_form meaning old trial in
     (rest : List ScriptStep)
-    → tried_form (step_form trial.step.now node) trial.step.now rest trial.began
-    (trial_after job me (as_form trial) node) (trial_answer job me (as_form trial) node)
+    → tried_form (form.form node) trial.step.now rest trial.began
+    (trial_after job old.core.me form node) (trial_answer job old.core.me form node)
     ≡ as_tried trial tried rest
 
--- a step was tried: of every record for which the endpoint stood, the try made the one call that the step's form makes,
--- if that makes one, and went as the form says
+-- a step was tried: of every record for which the endpoint stood, the try made the calls that the step's form makes, in
+-- order, and went as the form says
 pub record Tries (meaning : Meaning) (old : EndpointState) (trial : Trial) (tried : Tried) (new : EndpointState)
     : Type 0 where
-  pub happen : Happen meaning old (trial_happening (as_form trial) tried) new
-  pub tried_so : ForItsRecord old (IsTriedSo (job_here meaning old) old.core.me trial tried)
+  pub happen : Happen meaning old (trial_happening (as_form meaning old trial) tried) new
+  pub tried_so : ForItsRecord old (IsTriedSo meaning old trial tried)

@@ -9,10 +9,10 @@
 //!
 //! What is proved:
 //!
-//! - `attempt` [`tries`: `Tries`]: of every record for which the endpoint stood, the try makes at most one call,
-//!   that of the step's form; the endpoint stands for the record after it (`Happen`), what the call sent stands in
-//!   the slot that is told, and the step ends, begins or stays as the form says (`IsTriedSo`). It is asked for a
-//!   thread of the job and a step of which a text can say each word.
+//! - `attempt` [`tries`: `Tries`]: of every record for which the endpoint stood, the try makes the calls of the
+//!   step's form, in order; the endpoint stands for the record after them (`Happen`), what they sent stands in the
+//!   slot that is told, and the step ends, begins or stays as the form says (`IsTriedSo`). It is asked for a thread
+//!   of the job and a step of which a text can say each word.
 //! - `steps_law` [`fitting`]: the calls of scripts whose steps a text can say may be made in a run of the world
 //!   (`ActionsMay`); [`calm`]: a try that waits leaves the record of its node and the scripts (`IsCalm`), so that an
 //!   empty turn leaves the machine.

@@ -11,7 +11,7 @@ use gas_endpoint::Endpoint;
 use handler_rules::Handlers;
 use job_text::ScriptStep;
 
-/// Tries a step of a thread's script, with at most one call of the endpoint.
+/// Tries a step of a thread's script, with the calls of the endpoint that its form makes.
 pub fn attempt<H: Handlers>(endpoint: &mut Endpoint, handlers: &H, trial: &Trial<'_>) -> Tried
     requires thread { trial.now.thread < endpoint.old.core.settings.threads }
     requires step { IsStep trial.now.step.now }

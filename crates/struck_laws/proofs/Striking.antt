@@ -1,25 +1,24 @@
 -- A turn that got bytes which its node refuses does what the turn that gets nothing does.
 use Rattle.std.proofs.Common.{◌≡◌, ℕ, Bool, true, false, List, [], ◌∷◌, ◌++◌, Option, None, Some, refl, sym, ap, ◌∙◌}
 use Rattle.std.specs.Prelude.{◌||◌, if◌then◌else◌, is_some}
-use Rattle.std.specs.Option.{option_map, option_to_list}
 use Rattle.std.proofs.lemmas.List.{append_assoc}
 use Rattle.datagram_grammar.specs.Message.{Message}
 use Rattle.datagram_grammar.specs.Reading.{message_at}
 use Rattle.datagram_grammar.specs.Refusals.{first_refusal}
 use Rattle.datagram_grammar.specs.declared.refused.Refused.{Refused as BadBytes}
-use Rattle.endpoint_rules.specs.Called.{node_event}
 use Rattle.endpoint_rules.specs.EndpointLocal.{EndpointLocal}
-use Rattle.endpoint_rules.specs.EndpointRules.{OtherCall, told}
-use Rattle.endpoint_rules.specs.declared.answer.Answer.{Answer}
+use Rattle.endpoint_rules.specs.EndpointRules.{OtherCall}
 use Rattle.machine.specs.declared.entry.Entry.{Entry}
-use Rattle.node_record.specs.NodeStep.{Job, NodeEvent, Comes, Ticks, site_of, node_answer, node_after}
+use Rattle.node_record.specs.NodeStep.{Job, NodeEvent, Comes, Ticks, site_of, node_after}
 use Rattle.node_record.specs.Record.{Node}
 use Rattle.node_record.specs.Step.{Verdict, after_delivery, refusal, verdict}
 use Rattle.node_record.specs.Step.{unless_refused as verdict_unless}
 use Rattle.node_record.specs.Step.Verdict.{Refused}
 use Rattle.node_record.specs.declared.answer.Why.{Why}
+use Rattle.node_runs.specs.Empty.{tried_at}
 use Rattle.node_runs.specs.Scripts.{NodeJob, Tried}
-use Rattle.node_runs.specs.Turn.{MachineState, before_try, coming, first_events, node_run, node_sends}
+use Rattle.node_runs.specs.Turn.{MachineState, before_try, coming, context, first_events, node_run, node_sends}
+use Rattle.node_runs.specs.Turn.{try_answer, try_events}
 use Rattle.plain_world.specs.Sent.{Packet, delivered_sends, sends}
 use Rattle.struck_laws.specs.Struck.{DoTheSame, HaveSameNode, IsReplayTheSame, packets_by, struck_entry}
 use Rattle.struck_laws.specs.Struck.{turn_of_entry, unless_refused}
@@ -126,21 +125,13 @@ module _ {L C T : Type 0} (job : Job L C T) (me now : ℕ) where
 -- ---- the turn, by the record as its try begins
 
 module _ {Own : Type 0} (job : NodeJob EndpointLocal Own) (me : ℕ) where
-  -- the event of the try
-  abbrev called : (thread : ℕ) → Own → Node EndpointLocal → List (NodeEvent OtherCall)
-  called thread own node = option_to_list (option_map (node_event thread) (job.scripts.call thread own node))
-
-  -- its answer
-  abbrev answered : (now thread : ℕ) → Own → Node EndpointLocal → Option Answer
-  answered now thread own node =
-      option_map (λ call. told (node_answer job.job me node now (node_event thread call)))
-      (job.scripts.call thread own node)
+  -- the events of the try
+  abbrev called : (now thread : ℕ) → Own → Node EndpointLocal → List (NodeEvent OtherCall)
+  called now thread own node = try_events job me thread now own node
 
   -- how it went
   abbrev tried : (now thread : ℕ) → Own → Node EndpointLocal → Tried Own
-  tried now thread own node =
-      job.scripts.tried thread own node (node_run job.job me now (called thread own node) node)
-      (answered now thread own node)
+  tried now thread own node = tried_at job me thread now own node
 
   -- an entry as one that got this
   abbrev with_got : Entry → Option (List ℕ) → Entry
@@ -150,10 +141,10 @@ module _ {Own : Type 0} (job : NodeJob EndpointLocal Own) (me : ℕ) where
   record GoesBy (machine : MachineState EndpointLocal Own) (entry : Entry) (node : Node EndpointLocal)
       (sent : List Packet) : Type 0 where
     pub node_is : (turn_of_entry job me machine entry).after.node
-        ≡ node_run job.job me entry.now (called entry.thread machine.own node) node
+        ≡ node_run job.job me entry.now (called entry.now entry.thread machine.own node) node
     pub own_is : (turn_of_entry job me machine entry).after.own ≡ (tried entry.now entry.thread machine.own node).left
     pub packets_are : (turn_of_entry job me machine entry).packets
-        ≡ sent ++ node_sends job.job me entry.now (called entry.thread machine.own node) node
+        ≡ sent ++ node_sends job.job me entry.now (called entry.now entry.thread machine.own node) node
     pub stepped_is : (turn_of_entry job me machine entry).stepped
         ≡ is_some (tried entry.now entry.thread machine.own node).ended
 
@@ -164,14 +155,15 @@ module _ {Own : Type 0} (job : NodeJob EndpointLocal Own) (me : ℕ) where
   goes_by machine entry =
       let first = first_events job machine entry.thread entry.got in
       let node = node_run job.job me entry.now first machine.node in
-      let call = called entry.thread machine.own node in
+      let call = called entry.now entry.thread machine.own node in
       let joined = run_both job.job me entry.now first call machine.node in
-      let answer = answered entry.now entry.thread machine.own node in
+      let answer = try_answer job me entry.thread entry.now machine.own node in
+      let at = context job me entry.thread entry.now in
       record {
         node_is = joined;
-        own_is = ap (λ after. (job.scripts.tried entry.thread machine.own node after answer).left) joined;
+        own_is = ap (λ after. (job.scripts.tried at machine.own node after answer).left) joined;
         packets_are = sends_both job.job me entry.now first call machine.node;
-        stepped_is = ap (λ after. is_some (job.scripts.tried entry.thread machine.own node after answer).ended) joined;
+        stepped_is = ap (λ after. is_some (job.scripts.tried at machine.own node after answer).ended) joined;
       }
 
   -- the turn goes by the record that the try finds, by the scripts, and by what was sent before
@@ -181,10 +173,10 @@ module _ {Own : Type 0} (job : NodeJob EndpointLocal Own) (me : ℕ) where
       → DoTheSame (turn_of_entry job me one entry) (turn_of_entry job me other second)
   same_by one other entry second n m sent given thread now own node gives first then_ =
       let P : ℕ → ℕ → Own → Node EndpointLocal → List Packet → List Packet =
-      λ t at o k before. before ++ node_sends job.job me at (called t o k) k in
+      λ t at o k before. before ++ node_sends job.job me at (called at t o k) k in
       record {
         after = record {
-          node = first.node_is ∙ five (λ t at o k _. node_run job.job me at (called t o k) k) ∙ sym then_.node_is;
+          node = first.node_is ∙ five (λ t at o k _. node_run job.job me at (called at t o k) k) ∙ sym then_.node_is;
           own = first.own_is ∙ five (λ t at o k _. (tried at t o k).left) ∙ sym then_.own_is;
         };
         packets = first.packets_are ∙ five P ∙ sym then_.packets_are;
