@@ -42,7 +42,7 @@ use Rattle.node_runs.specs.Actions.{ended_by, next_calls, progress_after, tried_
 use Rattle.node_runs.specs.Scripts.{ThreadCall, TryContext}
 use Rattle.node_runs.specs.Turn.{as_tried, context, events_of, first_answer, first_events, node_run, tried_answer}
 use Rattle.node_script.specs.AnswersTold.{HasRange, NamesWhatIs}
-use Rattle.node_script.specs.Bodies.{script_meaning}
+use Rattle.node_script.specs.Bodies.{operand_value, script_meaning}
 use Rattle.node_script.specs.Registration.{handlers_of, registered}
 use Rattle.script_steps.specs.Forms.{as_synced, begun_handle, is_issued, reached, step_form, tried_while}
 use Rattle.script_steps.specs.Forms.{waiting_form, waits_of, word_reached}

@@ -2,6 +2,7 @@
 use Rattle.std.proofs.Common.{◌≡◌, ℕ, zero, suc, ◌+◌, List, [], ◌∷◌, map, Some, refl, ap, ◌∙◌, arith, slice_get}
 use Rattle.std.specs.Option.{option_map}
 use Rattle.endpoint_rules.specs.EndpointLocal.{EndpointLocal}
+use Rattle.job_text.specs.Scopes.{scope_of}
 use Rattle.job_text.specs.declared.job.Job.{Job as JobState}
 use Rattle.job_text.specs.declared.job.ScriptStep.{ScriptStep}
 use Rattle.machine.specs.Replay.{after_entry, replayed}
@@ -35,7 +36,7 @@ traces_run fit job traces ranks is few reaches =
     state_steps (scripts_at job) traces ranks
     (job_fits job.settings (handlers_of job) is.settings is.job_fits is.last_fits is.handlers)
     (λ node. fit (scripts_at job node)
-    (λ thread. steps_said job.settings.nodes job.settings.threads job.scripts node thread is.scripts))
+    (λ thread. steps_said (scope_of job) job.scripts node thread is.scripts))
     few (states_carry job) reaches
 
 -- ---- the nodes before all turns, and the replays of their traces

@@ -9,7 +9,7 @@ use Rattle.endpoint_rules.specs.declared.answer.Answer.{Answer}
 use Rattle.gas_endpoint.specs.EndpointState.{EndpointState, IsNodeOf}
 use Rattle.gas_endpoint.specs.Parts.{HasRecord}
 use Rattle.job_text.specs.JobText.{IsJob}
-use Rattle.job_text.specs.Scripts.{IsStep}
+use Rattle.script_steps.specs.Forms.{IsJobStep}
 use Rattle.job_text.specs.declared.job.Job.{Job as JobState}
 use Rattle.job_text.specs.declared.job.ScriptStep.{ScriptStep}
 use Rattle.node_script.specs.Registration.{handlers_of, registered}
@@ -49,7 +49,7 @@ are_done scripts = list_all is_done scripts
 
 -- each word of the steps that are left can be said in a text
 abbrev pub CanBeSaid : Progress ScriptStep → Type 0
-CanBeSaid progress = AllByRecursion IsStep progress.left
+CanBeSaid progress = AllByRecursion IsJobStep progress.left
 
 -- ---- the machine
 

@@ -16,6 +16,7 @@ use Rattle.job_text.specs.declared.job.Payload.{Payload}
 use Rattle.job_text.specs.declared.job.Payload.TheVariants as payload
 use Rattle.job_text.specs.declared.job.ScheduledCall.{ScheduledCall}
 use Rattle.job_text.specs.declared.job.ScheduledCall.TheVariants as call
+use Rattle.job_text.specs.declared.scope.Scope.{Scope}
 use Rattle.node_script.specs.Bodies.{operand_value}
 use Rattle.node_script.specs.ScheduledCalls.{meant_by, given_from}
 use Rattle.node_runs.specs.Fitting.{AreBytes, AreNumbers, CallFits, PayloadFits}
@@ -68,17 +69,18 @@ spelled_fit : (ops : List WordOp) → AreBytes (spelled_ops ops)
 spelled_fit [] = bytes_none
 spelled_fit (word ∷ ops) = bytes_append (spelled_op word) (spelled_ops ops) (op_fits word) (spelled_fit ops)
 
-pub calls_fit : (cells : List ℤ) (one : ScheduledCall) → AreNumbers cells → IsCall one → CallFits (meant_by cells one)
-calls_fit cells (call.Short to handler operands) all is = (operands_fit cells operands all is.0.1.1.2, bytes_none)
-calls_fit cells (call.Medium text) all is =
+pub calls_fit : (scope : Scope) (cells : List ℤ) (one : ScheduledCall) → AreNumbers cells → IsCall scope one
+    → CallFits (meant_by cells one)
+calls_fit scope cells (call.Short to handler operands) all is = (operands_fit cells operands all is.0.1.1.2, bytes_none)
+calls_fit scope cells (call.Medium text) all is =
     (operands_fit cells text.operands all is.0.1.1.1.2, payload_fits text.payload is.0.1.1.0)
-calls_fit cells (call.Long text) all is =
+calls_fit scope cells (call.Long text) all is =
     (operands_fit cells text.operands all is.0.1.1.1.1.2, payload_fits text.payload is.0.1.1.0)
-calls_fit cells (call.LongAsync text) all is =
+calls_fit scope cells (call.LongAsync text) all is =
     (operands_fit cells text.operands all is.0.1.1.1.1.2, payload_fits text.payload is.0.1.1.0)
-calls_fit cells (call.Atomic batch) all is =
-    (arguments_fit batch.request.local batch.request.tag is.local is.tag, spelled_fit batch.request.ops)
-calls_fit cells (call.SetCell cell number) all is = operand_fits cells number all is.0.1.0
-calls_fit cells (call.Set offset bytes) all is = said_bytes bytes is.0.1.0.1
-calls_fit cells (call.Fill offset len byte) all is = let low = is.0.1.1.0.1 in omega (arith, low)
-calls_fit cells _ all is = tt
+calls_fit scope cells (call.Atomic batch) all is =
+    (arguments_fit batch.request.local batch.request.tag is.0.1.0.1 is.0.1.1.0.1, spelled_fit batch.request.ops)
+calls_fit scope cells (call.SetCell cell number) all is = operand_fits cells number all is.0.1.0
+calls_fit scope cells (call.Set offset bytes) all is = said_bytes bytes is.0.1.0.1
+calls_fit scope cells (call.Fill offset len byte) all is = let low = is.0.1.1.0.1 in omega (arith, low)
+calls_fit scope cells _ all is = tt

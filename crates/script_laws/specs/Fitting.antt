@@ -8,6 +8,7 @@ use Rattle.atomic_laws.specs.AtomicLaws.{AtomicsHold}
 use Rattle.job_text.specs.Calls.{IsCall}
 use Rattle.job_text.specs.JobText.{IsHandler}
 use Rattle.job_text.specs.declared.job.ScheduledCall.{ScheduledCall}
+use Rattle.job_text.specs.declared.scope.Scope.{Scope}
 use Rattle.node_script.specs.Bodies.{script_meaning}
 use Rattle.node_script.specs.Registration.{JobHandlers, registered}
 use Rattle.node_script.specs.ScheduledCalls.{meant_by}
@@ -29,7 +30,8 @@ JobsFit =
 -- what a call that can be said says and writes fits, where the cells of its node are numbers of 32 bits
 abbrev pub CallsFit : Type 0
 CallsFit =
-    (cells : List ℤ) (call : ScheduledCall) → AreNumbers cells → IsCall call → CallFits (meant_by cells call)
+    (scope : Scope) (cells : List ℤ) (call : ScheduledCall) → AreNumbers cells → IsCall scope call
+    → CallFits (meant_by cells call)
 
 -- where a job has atomics, both handlers of batches are registered, and run as batches are served
 abbrev pub BatchesAreServed : Type 0

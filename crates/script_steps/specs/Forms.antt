@@ -23,6 +23,9 @@ use Rattle.endpoint_rules.specs.declared.answer.Answer.{Answer}
 use Rattle.endpoint_rules.specs.declared.answer.Answer.TheVariants as answers
 use Rattle.endpoint_rules.specs.declared.answer.Begun.TheVariants as begun
 use Rattle.endpoint_rules.specs.declared.answer.Local.TheVariants as local
+use Rattle.job_text.specs.Calls.{IsCall}
+use Rattle.job_text.specs.Scripts.{IsStep}
+use Rattle.job_text.specs.declared.scope.Scope.{Scope}
 use Rattle.job_text.specs.declared.job.PutText.{PutText}
 use Rattle.job_text.specs.declared.job.ScheduledCall.{ScheduledCall}
 use Rattle.job_text.specs.declared.job.ScheduledCall.TheVariants as call
@@ -158,6 +161,14 @@ step_form (step.Call call) at node = call_form call (meant_by node.local.core.ce
 step_form (step.Waiting waiting) at node = waiting_form node.local.core.cells waiting
 
 -- ---- kinds of steps
+
+-- the call may stand in some job
+abbrev pub IsJobCall : ScheduledCall → Type 0
+IsJobCall call = (scope : Scope) × IsCall scope call
+
+-- so may the step
+abbrev pub IsJobStep : ScriptStep → Type 0
+IsJobStep step = (scope : Scope) × IsStep scope step
 
 -- the step begins a put, and waits until its chunks are issued
 abbrev pub IsPut : WaitingStep → Type 0
