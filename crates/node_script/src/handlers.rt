@@ -120,9 +120,9 @@ fn register_first(atomics: bool, table: &mut Table)
     ensures { table.new ≡ entries_first atomics }
 {
     if atomics {
-        let [requests, replies] = entries();
-        let _ = table.register(requests);
-        let _ = table.register(replies);
+        let entries = entries();
+        let _ = table.register(entries[0]);
+        let _ = table.register(entries[1]);
     }
 }
 
