@@ -27,7 +27,7 @@ use Rattle.node_record.specs.NodeStep.{node_after}
 use Rattle.node_record.proofs.Slots.{taken_push, unreturned-sent}
 use Rattle.plain_world.specs.World.{World, Timed, world_after, run}
 use Rattle.plain_world.specs.MostHeld.{most_then, most_after}
-use Rattle.endpoint_rules.specs.Called.{Requests, Performs, node_event}
+use Rattle.endpoint_rules.specs.Called.{Requests, Performs}
 use Rattle.endpoint_rules.specs.EndpointRules.{OtherCall}
 use Rattle.node_runs.specs.Scripts.{NodeJob, ThreadCall}
 use Rattle.node_runs.specs.Turn.{MachineState, Turn, turn, turn_events, node_run, coming, comes, events_of}

@@ -45,14 +45,14 @@ use Rattle.node_record.proofs.Runs.{run_at_says, last_new}
 use Rattle.plain_world.specs.Sent.{Place, Packet, Asking, Replying, asking, replying, asked_sends, delivered_sends}
 use Rattle.plain_world.specs.Sent.{ticked_sends, sends}
 use Rattle.plain_world.proofs.PlainTicks.{IsOpenAt, all_dues_open, earliest_has}
-use Rattle.endpoint_rules.specs.Called.{Requests, Performs, node_event}
+use Rattle.endpoint_rules.specs.Called.{Requests, Performs}
 use Rattle.endpoint_rules.specs.EndpointLocal.{EndpointLocal}
 use Rattle.endpoint_rules.specs.EndpointRules.{RecordEvent}
 use Rattle.endpoint_rules.proofs.Asked.{Stay, stay_push, stay_sent}
 use Rattle.node_runs.specs.Scripts.{NodeJob, ThreadCall}
 use Rattle.node_runs.specs.Laws.{GotBytes}
 use Rattle.node_runs.specs.Turn.{message_of, node_run, node_sends, MachineState, coming, comes, turn_events}
-use Rattle.node_runs.specs.Turn.{events_of}
+use Rattle.node_runs.specs.Turn.{as_tried, context, events_of}
 use Rattle.node_runs.specs.Outgoing.{slot_of, StaysWell, AreOwn, IsFirst, ComesFirst, SentStands}
 use Rattle.node_runs.proofs.Mosts.{IsOwn}
 use Rattle.lists.proofs.Tests.{gate}
@@ -551,4 +551,5 @@ pub turns_come_first : {Own : Type 0} (job : NodeJob EndpointLocal Own) (me thre
     → is_version job.job.settings.version ≡ true → GotBytes got
     → ComesFirst (turn_events job me state thread now got)
 turns_come_first job me thread now state got known bytes =
-    turn_first job.job.settings.version (job.polls thread state.node.local) got _ known bytes (calls_own thread _)
+    turn_first job.job.settings.version (job.polls thread state.node.local) got _ known bytes
+    (calls_own thread (job.scripts.calls (context job me thread now) state.own (as_tried job me state thread now got)))
