@@ -193,7 +193,8 @@ pub record Records (entry : Entry) (old new : RecorderKept) (turned : Turned) : 
 pub own_node : (kept : MachineKept) (endpoint : EndpointState) → endpoint ≡ kept.endpoint
     → IsNodeOf kept.job.settings (registered (handlers_of kept.job)).table endpoint.core.me endpoint → IsOfItsJob kept
 own_node kept endpoint same node =
-    subst (λ (one : EndpointState). IsNodeOf kept.job.settings (registered (handlers_of kept.job)).table one.core.me one)
+    subst
+    (λ (one : EndpointState). IsNodeOf kept.job.settings (registered (handlers_of kept.job)).table one.core.me one)
     same node
 
 pub own_held : (kept : MachineKept) (endpoint : EndpointState) (value : ℕ) → endpoint ≡ kept.endpoint

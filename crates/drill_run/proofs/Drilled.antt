@@ -136,7 +136,8 @@ pub same_drill : (P : WorldJob → Type 0) (text : JobState) (world : WorldState
     → P (job_by text world) → P (world_job bare_job)
 same_drill P text world same drilled h =
     subst
-    (λ (table : List (Option Entry)). P (job_of drill_settings table (script_meaning (handlers_of bare_job)))) drilled.table
+    (λ (table : List (Option Entry)). P (job_of drill_settings table (script_meaning (handlers_of bare_job))))
+    drilled.table
     (subst (λ (s : Parameters). P (job_of s world.table (script_meaning (handlers_of bare_job)))) drilled.settings
     (subst (λ (t : JobState). P (job_by t world)) same h))
 

@@ -32,7 +32,8 @@ states_carry job = record {
 
 pub traces_run : StepsFit → AreTracesARun
 traces_run fit job traces ranks is few reaches =
-    states_run job.settings (registered (handlers_of job)).table (script_meaning (handlers_of job)) step_form (state_of job)
+    states_run job.settings (registered (handlers_of job)).table (script_meaning (handlers_of job)) step_form
+    (state_of job)
     state_steps (scripts_at job) traces ranks
     (job_fits job.settings (handlers_of job) is.settings is.job_fits is.last_fits is.handlers)
     (λ node. fit (scripts_at job node)

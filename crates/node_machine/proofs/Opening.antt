@@ -31,7 +31,8 @@ use Rattle.node_machine.specs.NodeState.{NodeStands, opening_state, scripts_at, 
 
 -- a thread that isn't there has none
 no_thread : (scope : Scope) (scripts : List NodeScript) (node thread : ℕ)
-    → AllByRecursion (IsNodeScript scope) scripts → scope.settings.threads ≤ thread → steps_of_thread scripts node thread ≡ []
+    → AllByRecursion (IsNodeScript scope) scripts → scope.settings.threads ≤ thread
+    → steps_of_thread scripts node thread ≡ []
 no_thread scope [] node thread are past = refl
 no_thread scope (script ∷ scripts) node thread are past =
     let low = are.0.thread in

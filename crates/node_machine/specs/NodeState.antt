@@ -32,7 +32,8 @@ state_of job ranked = record { job = job; ranked = ranked }
 -- what all nodes of the job know
 abbrev pub script_job : JobState → NodeJob EndpointLocal (OwnScripts ScriptStep)
 script_job job =
-    endpoint_job job.settings (registered (handlers_of job)).table (script_meaning (handlers_of job)) (scripts_of step_form)
+    endpoint_job job.settings (registered (handlers_of job)).table (script_meaning (handlers_of job))
+    (scripts_of step_form)
 
 -- ---- what is known of such states
 

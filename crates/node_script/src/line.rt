@@ -16,7 +16,8 @@ use endpoint_rules::Call;
 use gas_atomic::BATCH_HANDLER;
 use handler_rules::Cells;
 use job_text::{
-    BatchText, ImplicitKind, LongText, MediumText, Operands, Payload as Given, ScheduledCall, TransferText,
+    BatchText, ImplicitKind, LongText, MediumText, Operands, Payload as Given, ScheduledCall,
+    TransferText,
 };
 use put_get::{Some3, Transfer};
 

@@ -267,9 +267,10 @@ body_is (body ∷ bodies) index all = elim (cases_Bool (body.0 == index)) [
 
 changes_fit : (segment : List ℕ) (ops : List WordOp) → WriteBytes (changes_of segment ops)
 changes_fit segment [] = tt
-changes_fit segment (word ∷ ops) =
-    (bytes_word (applied_by (word_in segment word.offset) word),
-    changes_fit (overwritten segment (change_of segment word)) ops)
+changes_fit segment (word ∷ ops) = (
+  bytes_word (applied_by (word_in segment word.offset) word),
+  changes_fit (overwritten segment (change_of segment word)) ops,
+)
 
 words_fit : (numbers : List ℕ) → AreBytes (flat_map (to_le_bytes w64) numbers)
 words_fit [] = bytes_none
@@ -309,6 +310,7 @@ handlers_fit handlers is index frame start finds = by_handler (is_for_batches ha
   where
     nothing : LeavesFitting (untouched start)
     nothing = record { cells = finds.cells; writes = tt; reply = tt }
+
     by_handler : (batches : Bool)
         → LeavesFitting
         (if batches then served index frame start (untouched start)
