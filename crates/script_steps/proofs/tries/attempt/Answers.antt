@@ -2,22 +2,28 @@
 use Rattle.std.proofs.Common.{sym, subst}
 use Rattle.job_text.specs.declared.job.ScriptStep.{ScriptStep}
 use Rattle.script_steps.specs.Forms.{step_form}
-use Rattle.script_steps.specs.Tries.{TriesForm, read_as}
+use Rattle.script_steps.specs.Tries.{TriesForm, context_here, read_as}
 use Rattle.script_steps.proofs.Trying.{tries_step}
 use Rattle.script_steps.proofs.tries.attempt.Goals as goal
 
 pub returns-in-Call : goal.returns-in-Call
-returns-in-Call g c = record {
-  tries = tries_step _ _ _ _ _
-      (subst (λ (one : ScriptStep). TriesForm (g.H.Handlers.meaning c.args.handlers.now) c.args.endpoint.now
-      (read_as c.args.trial.now (step_form one)) c.try_call.result c.try_call.new.endpoint)
-      (sym c.in-Call.is) c.try_call.ensures);
-}
+returns-in-Call g c =
+    let meaning = g.H.Handlers.meaning c.args.handlers.now in
+    let at = context_here meaning c.args.endpoint.now c.args.trial.now.thread c.args.trial.now.time in
+    record {
+      tries = tries_step _ _ _ _ _
+          (subst (λ (one : ScriptStep). TriesForm meaning c.args.endpoint.now
+          (read_as c.args.trial.now (step_form one at)) c.try_call.result c.try_call.new.endpoint)
+          (sym c.in-Call.is) c.try_call.ensures);
+    }
 
 pub returns-in-Waiting : goal.returns-in-Waiting
-returns-in-Waiting g c = record {
-  tries = tries_step _ _ _ _ _
-      (subst (λ (one : ScriptStep). TriesForm (g.H.Handlers.meaning c.args.handlers.now) c.args.endpoint.now
-      (read_as c.args.trial.now (step_form one)) c.try_waiting.result c.try_waiting.new.endpoint)
-      (sym c.in-Waiting.is) c.try_waiting.ensures);
-}
+returns-in-Waiting g c =
+    let meaning = g.H.Handlers.meaning c.args.handlers.now in
+    let at = context_here meaning c.args.endpoint.now c.args.trial.now.thread c.args.trial.now.time in
+    record {
+      tries = tries_step _ _ _ _ _
+          (subst (λ (one : ScriptStep). TriesForm meaning c.args.endpoint.now
+          (read_as c.args.trial.now (step_form one at)) c.try_waiting.result c.try_waiting.new.endpoint)
+          (sym c.in-Waiting.is) c.try_waiting.ensures);
+    }
