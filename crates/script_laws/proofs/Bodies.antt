@@ -45,6 +45,7 @@ use Rattle.node_script.specs.LawfulBodies.{lawful-script}
 use Rattle.node_script.specs.Registration.{JobHandlers, Registry, with_index, register, in_turn, registered}
 use Rattle.node_script.specs.Registration.{body_among, body_for, registered_first}
 use Rattle.node_runs.specs.Fitting.{AreNumbers, AreBytes, ContentFits, ReplyFits, FindsFitting, LeavesFitting}
+use Rattle.node_runs.specs.Fitting.{WriteBytes}
 use Rattle.node_runs.specs.Fitting.{IsFittingMeaning, IsFittingJob}
 use Rattle.node_runs.proofs.Bytes.{bytes_append, bytes_none, bytes_part, bytes_word, bytes_written}
 use Rattle.node_runs.proofs.Speaking.{numbers_set}

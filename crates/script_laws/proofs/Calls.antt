@@ -1,5 +1,5 @@
 -- What a call of a schedule says and writes fits, where the cells of its node do.
-use Rattle.std.proofs.Common.{ℕ, zero, suc, ◌<◌, ◌^◌, List, [], ◌∷◌, map, arith, ℤ}
+use Rattle.std.proofs.Common.{ℕ, zero, suc, ◌<◌, ◌^◌, ◌++◌, List, [], ◌∷◌, map, arith, ℤ}
 use Rattle.std.specs.List.{AllByRecursion}
 use Rattle.std.specs.Int.{w32, w64, to_be_bytes}
 use Rattle.std.specs.Int.RustNames.{FitsSigned}
@@ -61,8 +61,10 @@ big_bytes value (suc (suc (suc (suc (suc (suc (suc (suc place)))))))) = omega ar
 
 op_fits : (word : WordOp) → AreBytes (spelled_op word)
 op_fits word =
-    bytes_append (to_be_bytes w64 (code_of word.op)) _ (big_bytes (code_of word.op))
-    (bytes_append (to_be_bytes w64 word.offset) _ (big_bytes word.offset)
+    let operands = to_be_bytes w64 word.a ++ to_be_bytes w64 word.b in
+    bytes_append (to_be_bytes w64 (code_of word.op)) (to_be_bytes w64 word.offset ++ operands)
+    (big_bytes (code_of word.op))
+    (bytes_append (to_be_bytes w64 word.offset) operands (big_bytes word.offset)
     (bytes_append (to_be_bytes w64 word.a) (to_be_bytes w64 word.b) (big_bytes word.a) (big_bytes word.b)))
 
 spelled_fit : (ops : List WordOp) → AreBytes (spelled_ops ops)
@@ -79,7 +81,12 @@ calls_fit scope cells (call.Long text) all is =
 calls_fit scope cells (call.LongAsync text) all is =
     (operands_fit cells text.operands all is.0.1.1.1.1.2, payload_fits text.payload is.0.1.1.0)
 calls_fit scope cells (call.Atomic batch) all is =
-    (arguments_fit batch.request.local batch.request.tag is.0.1.0.1 is.0.1.1.0.1, spelled_fit batch.request.ops)
+    let low = is.0.1.0.1 in
+    let small = is.0.1.1.0.1 in
+    (
+      arguments_fit batch.request.local batch.request.tag (omega (arith, low)) (omega (arith, small)),
+      spelled_fit batch.request.ops,
+    )
 calls_fit scope cells (call.SetCell cell number) all is = operand_fits cells number all is.0.1.0
 calls_fit scope cells (call.Set offset bytes) all is = said_bytes bytes is.0.1.0.1
 calls_fit scope cells (call.Fill offset len byte) all is = let low = is.0.1.1.0.1 in omega (arith, low)

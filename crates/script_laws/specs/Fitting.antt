@@ -1,6 +1,6 @@
 -- The handlers and settings that a text can say make a fitting job, and its calls say what fits.
 -- Origin: this project's profile.
-use Rattle.std.specs.Prelude.{ℤ, ◌≡◌, ◌<◌, ◌^◌, ◌×◌, List, true}
+use Rattle.std.specs.Prelude.{ℤ, ◌≡◌, ◌<◌, ◌^◌, List, true}
 use Rattle.std.specs.List.{AllByRecursion}
 use Rattle.datagram_grammar.specs.Parameters.{Parameters, AreInRange}
 use Rattle.gas_atomic.specs.Served.{HasBatches, ServesBatches}
