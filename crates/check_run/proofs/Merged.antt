@@ -25,7 +25,7 @@ use Rattle.node_machine.specs.NodeState.{NodeState, polls_in, scripts_at, sent, 
 use Rattle.node_runs.specs.Merged.{carried, nodes_from}
 use Rattle.node_runs.proofs.Carrying.{full_same}
 use Rattle.node_runs.specs.WorldRun.{opening_machines}
-use Rattle.node_script.specs.Registration.{registered}
+use Rattle.node_script.specs.Registration.{handlers_of, registered}
 use Rattle.check_run.specs.CheckInputs.{IsTraceOf}
 use Rattle.check_run.specs.Merging.{AreFirstRecorders, AreReports, ClosesAll, IsMerged, IsReportOf, MergesTraces}
 use Rattle.check_run.specs.Recording.{RecordedState, RecorderKept, RecorderStands, opening_record, record_after}
@@ -210,9 +210,9 @@ module _ (job : JobState) (traces : List Trace) (then_ : List RecorderKept) (all
   node_after rank endpoint (Some kept) at same =
       some_same _ _ (slice_get traces rank) (λ trace stands.
       subst (IsNodeAfter job rank trace) (same_Some kept.node.endpoint endpoint same) (record {
-        node = subst (λ (me : ℕ). IsNodeOf job.settings (registered job.handlers).table me kept.node.endpoint)
+        node = subst (λ (me : ℕ). IsNodeOf job.settings (registered (handlers_of job)).table me kept.node.endpoint)
             (sym stands.node.me_is)
-            (subst (λ (one : JobState). IsNodeOf one.settings (registered one.handlers).table
+            (subst (λ (one : JobState). IsNodeOf one.settings (registered (handlers_of one)).table
             kept.node.endpoint.core.me kept.node.endpoint) (sym stands.node.job_is) (closes.each rank kept at).own);
         stands = stands.node.node;
       })) (stands_after job traces then_ rank kept replays at)

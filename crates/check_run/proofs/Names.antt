@@ -38,14 +38,14 @@ use Rattle.job_text.specs.declared.job.WaitingStep.TheVariants as waiting
 use Rattle.machine.specs.declared.entry.Entry.{Entry}
 use Rattle.node_machine.specs.NodeState.{script_job}
 use Rattle.node_runs.specs.Actions.{Form, Once, Again, Until, Twice, Looks, Several, Progress, begins, calls_of}
-use Rattle.node_runs.specs.Actions.{ended_by, next_calls, progress_after, reached, tried_step, unless}
+use Rattle.node_runs.specs.Actions.{ended_by, next_calls, progress_after, tried_step, unless}
 use Rattle.node_runs.specs.Scripts.{ThreadCall, TryContext}
 use Rattle.node_runs.specs.Turn.{as_tried, context, events_of, first_answer, first_events, node_run, tried_answer}
 use Rattle.node_script.specs.AnswersTold.{HasRange, NamesWhatIs}
-use Rattle.node_script.specs.Bodies.{script_meaning}
-use Rattle.node_script.specs.Registration.{registered}
-use Rattle.script_steps.specs.Forms.{as_synced, begun_handle, is_issued, step_form, tried_while}
-use Rattle.script_steps.specs.Forms.{waiting_form, waits_of}
+use Rattle.node_script.specs.Bodies.{operand_value, script_meaning}
+use Rattle.node_script.specs.Registration.{handlers_of, registered}
+use Rattle.script_steps.specs.Forms.{as_synced, begun_handle, is_issued, reached, step_form, tried_while}
+use Rattle.script_steps.specs.Forms.{waiting_form, waits_of, word_reached}
 use Rattle.world_run.proofs.ToldAnswers.{asked_names, plain_names, show_names}
 use Rattle.endpoint_rules.proofs.PlainAnswers.{answers_plain}
 use Rattle.check_run.specs.Recording.{HasHandles, ScriptedNode}
@@ -136,7 +136,9 @@ made_names endpoint settings table meaning me thread now node (call ∷ later �
 abbrev SaysNoMore : Form EndpointLocal → Type 0
 SaysNoMore (Once call) = Unit {0}
 SaysNoMore (Again waits call) = Unit {0}
-SaysNoMore (Until cell value) = Unit {0}
+SaysNoMore (Until call ends) =
+    (endpoint : EndpointState) (answer : Answer) → NamesWhatIs endpoint answer
+    → IfSome (ends answer) (NamesWhatIs endpoint)
 SaysNoMore (Twice begin next waits says) =
     (endpoint : EndpointState) (answer : Answer) → NamesWhatIs endpoint answer → NamesWhatIs endpoint (says answer)
 SaysNoMore (Looks begin ready) = Unit {0}
@@ -146,7 +148,7 @@ SaysNoMore (Several calls says) = (endpoint : EndpointState) → NamesWhatIs end
 abbrev BeginsByHandle : Form EndpointLocal → Type 0
 BeginsByHandle (Once call) = Unit {0}
 BeginsByHandle (Again waits call) = Unit {0}
-BeginsByHandle (Until cell value) = Unit {0}
+BeginsByHandle (Until call ends) = Unit {0}
 BeginsByHandle (Twice begin next waits says) =
     (answer : Answer) → is_some (next answer) ≡ true → is_some (begun_handle answer) ≡ true
 BeginsByHandle (Looks begin ready) =
@@ -177,8 +179,31 @@ sent_handle : (handle : Option Handle) (node : Node EndpointLocal) → is_issued
 sent_handle None node is = absurd (true≢false is)
 sent_handle (Some handle) node is = refl
 
+-- what ends a step that looks at its own node
+reached_said : (endpoint : EndpointState) (enough : Bool)
+    → IfSome (if enough then Some (answers.Local local.Done) else None) (NamesWhatIs endpoint)
+reached_said endpoint true = tt
+reached_said endpoint false = tt
+
+reached_names : (endpoint : EndpointState) (value : ℤ) (answer : Answer)
+    → IfSome (reached value answer) (NamesWhatIs endpoint)
+reached_names endpoint value (answers.Local (local.Cell number)) = reached_said endpoint (int_le value number)
+reached_names endpoint value answer = tt
+
+word_names : (endpoint : EndpointState) (number : ℕ) (answer : Answer) → NamesWhatIs endpoint answer
+    → IfSome (word_reached number answer) (NamesWhatIs endpoint)
+word_names endpoint number (answers.Local (local.Number found)) names = reached_said endpoint (found == number)
+word_names endpoint number answer names = names
+
 waiting_sound : (cells : List ℤ) (waiting : WaitingStep) → IsSound (waiting_form cells waiting)
-waiting_sound cells (waiting.Until cell operand) = record { says = tt; begins = tt }
+waiting_sound cells (waiting.Until cell operand) = record {
+  says = λ endpoint answer names. reached_names endpoint (operand_value cells [] operand) answer;
+  begins = tt;
+}
+waiting_sound cells (waiting.UntilWord offset number) = record {
+  says = λ endpoint answer names. word_names endpoint number answer names;
+  begins = tt;
+}
 waiting_sound cells (waiting.Transfer transfer) = record {
   says = synced_names;
   begins = λ answer. some_mapped (begun_handle answer) _;
@@ -216,16 +241,6 @@ unless_said : (endpoint : EndpointState) (waits : Bool) (answer : Answer) → Na
 unless_said endpoint true answer names = tt
 unless_said endpoint false answer names = names
 
-reached_said : (endpoint : EndpointState) (enough : Bool)
-    → IfSome (if enough then Some (answers.Local local.Done) else None) (NamesWhatIs endpoint)
-reached_said endpoint true = tt
-reached_said endpoint false = tt
-
-reached_names : (endpoint : EndpointState) (value : ℤ) (answer : Answer)
-    → IfSome (reached value answer) (NamesWhatIs endpoint)
-reached_names endpoint value (answers.Local (local.Cell number)) = reached_said endpoint (int_le value number)
-reached_names endpoint value answer = tt
-
 -- by the form of the step
 form_names : (endpoint : EndpointState) (form : Form EndpointLocal) (began : Option Answer)
     (after : Node EndpointLocal) (answer : Option Answer) → SaysNoMore form
@@ -236,9 +251,9 @@ form_names endpoint (Once call) began after answer sound handle names = names tt
 form_names endpoint (Again waits call) began after None sound handle names = tt
 form_names endpoint (Again waits call) began after (Some answer) sound handle names =
     unless_said endpoint (waits answer) answer (names tt)
-form_names endpoint (Until cell value) began after None sound handle names = tt
-form_names endpoint (Until cell value) began after (Some answer) sound handle names =
-    reached_names endpoint value answer
+form_names endpoint (Until call ends) began after None sound handle names = tt
+form_names endpoint (Until call ends) began after (Some answer) sound handle names =
+    sound endpoint answer names
 form_names endpoint (Twice begin next waits says) None after None sound handle names = tt
 form_names endpoint (Twice begin next waits says) None after (Some answer) sound handle names =
     unless_said endpoint (is_some (next answer)) (says answer) (sound endpoint answer (names tt))
@@ -290,8 +305,8 @@ ended_names job rank machine entry endpoint handles stands same =
     let before = as_tried all rank machine entry.thread entry.now entry.got in
     let at = context all rank entry.thread entry.now in
     let calls = all.scripts.calls at machine.own before in
-    let table = (registered job.handlers).table in
-    let meaning = script_meaning job.handlers in
+    let table = (registered (handlers_of job)).table in
+    let meaning = script_meaning (handlers_of job) in
     let there : EndpointStands endpoint (node_run (job_of job.settings table meaning) rank entry.now
     (events_of entry.thread calls) before) =
     subst (EndpointStands endpoint) (run_append job.settings table meaning rank entry.now
@@ -316,7 +331,7 @@ form_handles : (form : Form EndpointLocal) (after : Node EndpointLocal) (answer 
     → IfSome answer (λ first. is_some (begun_handle first) ≡ true)
 form_handles (Once call) after answer sound begun none = absurd (false≢true begun)
 form_handles (Again waits call) after answer sound begun none = absurd (false≢true begun)
-form_handles (Until cell value) after answer sound begun none = absurd (false≢true begun)
+form_handles (Until call ends) after answer sound begun none = absurd (false≢true begun)
 form_handles (Twice begin next waits says) after None sound begun none = tt
 form_handles (Twice begin next waits says) after (Some answer) sound begun none =
     sound answer (waited (is_some (next answer)) (says answer) none)

@@ -38,7 +38,7 @@ use Rattle.node_record.specs.declared.answer.Delivered.{Delivered}
 use Rattle.node_record.specs.declared.answer.SlotRef.{SlotRef}
 use Rattle.node_record.specs.declared.answer.Why.{Why}
 use Rattle.node_script.specs.Bodies.{script_meaning}
-use Rattle.node_script.specs.Registration.{registered}
+use Rattle.node_script.specs.Registration.{handlers_of, registered}
 use Rattle.am_core.specs.Library.{note_handler, note_said}
 use Rattle.struck_laws.specs.Struck.{is_refused, struck_entry}
 use Rattle.struck_laws.specs.Struck.{unless_refused as unless_refused_got}
@@ -145,8 +145,8 @@ pub refuses_told : (endpoint : EndpointState) (bytes : List ℕ) (answer : Deliv
     → IsBytes bytes → WouldDeliver endpoint bytes answer → IsEndpointAt job rank endpoint
     → is_refusal answer ≡ refuses_at job rank bytes
 refuses_told endpoint bytes answer job rank are would at =
-    let meaning = script_meaning job.handlers in
-    let table = (registered job.handlers).table in
+    let meaning = script_meaning (handlers_of job) in
+    let table = (registered (handlers_of job)).table in
     told_refused meaning endpoint bytes answer at.record_ are would
     ∙ ap (λ (settings : Parameters). is_refused (job_of settings endpoint.core.table meaning) endpoint.core.me bytes)
     at.node.settings_are
@@ -267,12 +267,12 @@ untouched job rank entries shown same none =
 -- the endpoint of a recorder that stands for the opening of a node
 pub endpoint_at : (job : JobState) (rank : ℕ) (kept : RecorderKept) (endpoint : EndpointState)
     → endpoint ≡ kept.node.endpoint
-    → IsNodeOf kept.node.job.settings (registered kept.node.job.handlers).table endpoint.core.me endpoint
+    → IsNodeOf kept.node.job.settings (registered (handlers_of kept.node.job)).table endpoint.core.me endpoint
     → RecorderStands kept (opening_record job rank) → IsEndpointAt job rank endpoint
 endpoint_at job rank kept endpoint same node stands = record {
-  node = subst (λ (me : ℕ). IsNodeOf job.settings (registered job.handlers).table me endpoint)
+  node = subst (λ (me : ℕ). IsNodeOf job.settings (registered (handlers_of job)).table me endpoint)
       (ap (λ (one : EndpointState). one.core.me) same ∙ sym stands.node.me_is)
-      (subst (λ (one : JobState). IsNodeOf one.settings (registered one.handlers).table endpoint.core.me endpoint)
+      (subst (λ (one : JobState). IsNodeOf one.settings (registered (handlers_of one)).table endpoint.core.me endpoint)
       (sym stands.node.job_is) node);
   record_ = subst HasRecord (sym same) (_, stands.node.node);
 }

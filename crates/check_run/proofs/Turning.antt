@@ -25,7 +25,7 @@ use Rattle.node_runs.specs.Turn.{is_some_there, try_of, turn}
 use Rattle.node_script.specs.AnswersTold.{NamesWhatIs, sight_at}
 use Rattle.node_script.specs.AnswerWords.{answer_words, sight_of}
 use Rattle.node_script.specs.Lines.{Line, line_text, spell}
-use Rattle.node_script.specs.Registration.{registered}
+use Rattle.node_script.specs.Registration.{handlers_of, registered}
 use Rattle.endpoint_rules.specs.declared.answer.Answer.{Answer}
 use Rattle.check_run.specs.Merging.{IsOfItsJob}
 use Rattle.check_run.specs.Recording.{HasHandles, RecordedState, RecorderKept, RecorderStands, ScriptedNode}
@@ -191,9 +191,10 @@ pub record Records (entry : Entry) (old new : RecorderKept) (turned : Turned) : 
 
 -- so it is where the endpoint of the node told this
 pub own_node : (kept : MachineKept) (endpoint : EndpointState) → endpoint ≡ kept.endpoint
-    → IsNodeOf kept.job.settings (registered kept.job.handlers).table endpoint.core.me endpoint → IsOfItsJob kept
+    → IsNodeOf kept.job.settings (registered (handlers_of kept.job)).table endpoint.core.me endpoint → IsOfItsJob kept
 own_node kept endpoint same node =
-    subst (λ (one : EndpointState). IsNodeOf kept.job.settings (registered kept.job.handlers).table one.core.me one)
+    subst
+    (λ (one : EndpointState). IsNodeOf kept.job.settings (registered (handlers_of kept.job)).table one.core.me one)
     same node
 
 pub own_held : (kept : MachineKept) (endpoint : EndpointState) (value : ℕ) → endpoint ≡ kept.endpoint

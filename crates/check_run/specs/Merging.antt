@@ -10,7 +10,7 @@ use Rattle.gasnet_trace.specs.declared.trace.Trace.{Trace}
 use Rattle.job_text.specs.declared.job.Job.{Job as JobState}
 use Rattle.node_machine.specs.Kept.{MachineKept}
 use Rattle.node_script.specs.Lines.{spell}
-use Rattle.node_script.specs.Registration.{registered}
+use Rattle.node_script.specs.Registration.{handlers_of, registered}
 use Rattle.check_run.specs.Recording.{RecorderKept, RecorderStands, opening_record}
 use Rattle.check_run.specs.StepLines.{most_held, step_lines}
 use Rattle.check_run.specs.TracesRun.{AreNodesAfter, AreNoRun, AreRanked, RunOfTraces, first_machine}
@@ -27,7 +27,7 @@ pub record AreFirstRecorders (job : JobState) (recorders : List RecorderKept) : 
 -- the endpoint of a machine is that of a node of its job
 abbrev pub IsOfItsJob : MachineKept → Type 0
 IsOfItsJob machine =
-    IsNodeOf machine.job.settings (registered machine.job.handlers).table machine.endpoint.core.me machine.endpoint
+    IsNodeOf machine.job.settings (registered (handlers_of machine.job)).table machine.endpoint.core.me machine.endpoint
 
 -- these are the endpoint of a recorder whose text is whole, and what was recorded
 pub record ClosesRecorder (kept : RecorderKept) (endpoint : EndpointState) (report : NodeReport) : Type 0 where

@@ -9,7 +9,7 @@ use Rattle.machine.specs.declared.entry.Entry.{Entry}
 use Rattle.node_machine.specs.NodeState.{script_job}
 use Rattle.node_record.specs.declared.answer.Delivered.{Delivered}
 use Rattle.node_record.specs.declared.answer.Delivered.TheVariants as delivered
-use Rattle.node_script.specs.Registration.{registered}
+use Rattle.node_script.specs.Registration.{handlers_of, registered}
 use Rattle.struck_laws.specs.Struck.{is_refused, struck}
 
 -- the entries of the node of this rank: where one got bytes that the node refuses, whatever it did before, it got
@@ -34,7 +34,7 @@ struck_traces job traces = struck_from job 0 traces
 
 -- the endpoint is one of the node of this rank of the job
 pub record IsEndpointAt (job : JobState) (rank : ℕ) (endpoint : EndpointState) : Type 0 where
-  pub node : IsNodeOf job.settings (registered job.handlers).table rank endpoint
+  pub node : IsNodeOf job.settings (registered (handlers_of job)).table rank endpoint
   pub record_ : HasRecord endpoint
 
 -- of whatever node of a job the endpoint is one, this holds of it

@@ -16,7 +16,7 @@ use Rattle.node_runs.specs.Actions.{OwnScripts}
 use Rattle.node_runs.specs.Order.{own_entries, replay}
 use Rattle.node_runs.specs.Turn.{MachineState}
 use Rattle.node_runs.specs.WorldRun.{opening_machines}
-use Rattle.node_script.specs.Registration.{registered}
+use Rattle.node_script.specs.Registration.{handlers_of, registered}
 use Rattle.endpoint_rules.specs.EndpointLocal.{EndpointLocal}
 use Rattle.endpoint_rules.specs.EndpointRules.{OtherCall}
 use Rattle.plain_world.specs.World.{Timed}
@@ -65,7 +65,7 @@ last_record job rank entries = (replay (script_job job) rank (first_machine job 
 
 -- the endpoint is that node, after its trace
 pub record IsNodeAfter (job : JobState) (rank : ℕ) (trace : Trace) (endpoint : EndpointState) : Type 0 where
-  pub node : IsNodeOf job.settings (registered job.handlers).table rank endpoint
+  pub node : IsNodeOf job.settings (registered (handlers_of job)).table rank endpoint
   pub stands : EndpointStands endpoint (last_record job rank trace.entries)
 
 -- they are the nodes of the job after their traces, in rising order of ranks

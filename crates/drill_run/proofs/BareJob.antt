@@ -1,6 +1,6 @@
 -- The text of the drill's job, without its schedule.
 use Rattle.std.proofs.Common.{◌≡◌, ◌≢◌, ℕ, zero, suc, ◌≤◌, List, [], ◌∷◌, ◌⊎◌, refl, ap, subst, inl, inr, lit<, lit≤}
-use Rattle.std.proofs.Common.{arith}
+use Rattle.std.proofs.Common.{arith, false≢true}
 use Rattle.std.specs.Fmt.{digits}
 use Rattle.std.proofs.lemmas.Option.{same_Some}
 use Rattle.datagram_grammar.specs.Parameters.{AreInRange, credits_of, credits_in_all}
@@ -90,9 +90,11 @@ bare_is = record {
   some_patience = lit≤ tt;
   patience = lit≤ tt;
   sieve = record { lose = lit≤ tt; repeat = lit≤ tt; swap = lit≤ tt };
+  atomics = λ has. absurd (false≢true has);
   few_handlers = lit≤ tt;
   handlers = (request_is, (reply_is, tt));
   apart = are_apart;
+  unreserved = (refl, (refl, tt));
   scripts = tt;
   threads = tt;
   schedule = tt;

@@ -68,7 +68,7 @@ use Rattle.job_text.specs.declared.job.Action.TheVariants as action
 use Rattle.job_text.specs.declared.job.Operand.TheVariants as operand
 use Rattle.job_text.specs.declared.job.ReplyAction.TheVariants as reply
 use Rattle.node_script.specs.Bodies.{act, acts, operand_at, operand_value, script_meaning}
-use Rattle.node_script.specs.Registration.{registered}
+use Rattle.node_script.specs.Registration.{handlers_of, registered}
 use Rattle.world_run.specs.Schedules.{schedule_events}
 use Rattle.world_run.specs.RunText.{any_violation, is_violated, run_records, violations}
 use Rattle.drill_run.specs.Draws.{before_round, round_at}
@@ -152,7 +152,7 @@ by_index frame start false false which locks = (locks, refl)
 
 pub meaning_quiet : (index : ℕ) (frame : Frame) (start : Start)
     → (eqb 128 index ≡ true → frame.arrival.role ≡ role.Request) → start.locks ≡ []
-    → IsQuiet (script_meaning bare_job.handlers index frame start)
+    → IsQuiet (script_meaning (handlers_of bare_job) index frame start)
 meaning_quiet index frame start which locks = by_index frame start (eqb 128 index) (eqb 129 index) which locks
 
 -- ---- what a core keeps
@@ -163,7 +163,7 @@ IsClean local = (local.locks ≡ []) × (local.violations ≡ [])
 
 -- a node by these handlers
 abbrev handlers : List (Option Entry) → NodeHandlers
-handlers table = handlers_of drill_settings table (script_meaning bare_job.handlers)
+handlers table = handlers_of drill_settings table (script_meaning (handlers_of bare_job))
 
 outcome_by : (table : List (Option Entry)) (which : Role) (contact : Contact) (content : Content) (start : Start)
     (library : Bool) → (eqb 128 content.handler ≡ true → which ≡ role.Request) → start.locks ≡ []
@@ -173,7 +173,7 @@ outcome_by : (table : List (Option Entry)) (which : Role) (contact : Contact) (c
 outcome_by table which contact content start true right locks = refl
 outcome_by table which contact content start false right locks =
     let frame = frame_of_run (handlers table) which contact content in
-    closed_quiet frame (script_meaning bare_job.handlers content.handler frame start)
+    closed_quiet frame (script_meaning (handlers_of bare_job) content.handler frame start)
     (meaning_quiet content.handler frame start right locks)
 
 outcome_quiet : (table : List (Option Entry)) (which : Role) (contact : Contact) (content : Content) (start : Start)
@@ -218,7 +218,7 @@ take_clean table contact content local other clean =
 
 -- the drill's world, by this table
 abbrev job : List (Option Entry) → WorldJob
-job table = job_of drill_settings table (script_meaning bare_job.handlers)
+job table = job_of drill_settings table (script_meaning (handlers_of bare_job))
 
 -- a thread without locks may make a request, a transfer and a synchronisation
 request_allowed : (thread : ℕ) (local : Local) → local.locks ≡ []
@@ -302,7 +302,7 @@ sync_clean : (table : List (Option Entry)) (me : ℕ) (node : Node EndpointLocal
     → IsClean node.local.core
     → IsClean (node_after (job table) me node now (NodeDoes thread (OnTransfers (SyncImplicit some)))).local.core
 sync_clean table me node now thread some clean =
-    let rules = endpoint_rules drill_settings table (script_meaning bare_job.handlers) in
+    let rules = endpoint_rules drill_settings table (script_meaning (handlers_of bare_job)) in
     allowed_does rules thread (rules.judges thread call.Sync node.local) node.local
     (transfer_does (caller me thread node) (SyncImplicit some) node.local)
     (sync_allowed thread node.local.core clean.0) (both_clean _ _ _ clean clean)
@@ -318,7 +318,7 @@ begin_clean : (table : List (Option Entry)) (me : ℕ) (node : Node EndpointLoca
     → IsClean node.local.core
     → IsClean (node_after (job table) me node now (NodeDoes thread (OnTransfers (BeginImplicit transfer)))).local.core
 begin_clean table me node now thread transfer clean =
-    let rules = endpoint_rules drill_settings table (script_meaning bare_job.handlers) in
+    let rules = endpoint_rules drill_settings table (script_meaning (handlers_of bare_job)) in
     let who = caller me thread node in
     allowed_does rules thread (rules.judges thread call.Transfer node.local) node.local
     (transfer_does who (BeginImplicit transfer) node.local) (transfer_allowed thread node.local.core clean.0)
@@ -507,5 +507,5 @@ pub drill_calm : (seed : ℕ) → is_violated (drill_job seed) ≡ false
 unfolding drill_schedule
 drill_calm seed =
     none_noted (run_records (drill_job seed)) 0 4
-    (rounds_clean (registered bare_job.handlers).table seed 20000 (at_the_opening drill_settings) refl
+    (rounds_clean (registered (handlers_of bare_job)).table seed 20000 (at_the_opening drill_settings) refl
     (λ node. (refl, refl)))

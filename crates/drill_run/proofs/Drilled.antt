@@ -20,6 +20,7 @@ use Rattle.job_text.specs.declared.job.ScheduledEvent.{ScheduledEvent}
 use Rattle.job_text.specs.declared.job.TimedEvent.{TimedEvent}
 use Rattle.node_script.specs.AnswerWords.{Sight, sight_of}
 use Rattle.node_script.specs.Bodies.{script_meaning}
+use Rattle.node_script.specs.Registration.{handlers_of}
 use Rattle.world_run.specs.Schedules.{line_events, schedule_events, world_job}
 use Rattle.world_run.specs.RunText.{line_words, node_of, run_most, run_records, world_words}
 use Rattle.world_run.specs.ScheduleRun.{StandsAfter}
@@ -124,7 +125,7 @@ pub two_lines : (text : JobState) (old mid new : Stage) (first second : TimedEve
     → CountsLines (job_by text old.world) (λ records. first ∷ second ∷ []) old new
 two_lines text old mid new first second settings table h k =
     lines_then (job_by text old.world) (λ records. first ∷ []) (λ records. second ∷ []) old mid new h
-    (same_job (λ job. CountsLines job (λ records. second ∷ []) mid new) (script_meaning text.handlers) old.world
+    (same_job (λ job. CountsLines job (λ records. second ∷ []) mid new) (script_meaning (handlers_of text)) old.world
     mid.world
     settings table k)
 
@@ -135,8 +136,9 @@ pub same_drill : (P : WorldJob → Type 0) (text : JobState) (world : WorldState
     → P (job_by text world) → P (world_job bare_job)
 same_drill P text world same drilled h =
     subst
-    (λ (table : List (Option Entry)). P (job_of drill_settings table (script_meaning bare_job.handlers))) drilled.table
-    (subst (λ (s : Parameters). P (job_of s world.table (script_meaning bare_job.handlers))) drilled.settings
+    (λ (table : List (Option Entry)). P (job_of drill_settings table (script_meaning (handlers_of bare_job))))
+    drilled.table
+    (subst (λ (s : Parameters). P (job_of s world.table (script_meaning (handlers_of bare_job)))) drilled.settings
     (subst (λ (t : JobState). P (job_by t world)) same h))
 
 pub no_rounds : (job : WorldJob) (seed : ℕ) (old : Stage) → CountsLines job (rounds_lines job seed 0) old old

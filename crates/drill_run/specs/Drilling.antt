@@ -11,7 +11,7 @@ use Rattle.job_text.specs.declared.job.Job.{Job as JobState}
 use Rattle.job_text.specs.declared.job.TimedEvent.{TimedEvent}
 use Rattle.node_script.specs.Bodies.{script_meaning}
 use Rattle.node_script.specs.Lines.{Line}
-use Rattle.node_script.specs.Registration.{registered}
+use Rattle.node_script.specs.Registration.{handlers_of, registered}
 use Rattle.world_run.specs.Schedules.{schedule_events}
 use Rattle.world_run.specs.RunText.{event_words}
 use Rattle.world_run.specs.ScheduleRun.{StandsAfter}
@@ -46,9 +46,9 @@ CountsLines job lines =
 
 -- by what the nodes of the world do with the handlers of this job
 abbrev pub job_by : JobState → WorldState → WorldJob
-job_by text world = job_in (script_meaning text.handlers) world
+job_by text world = job_in (script_meaning (handlers_of text)) world
 
 -- the world is one of the drill
 pub record IsDrilled (world : WorldState) : Type 0 where
   pub settings : world.settings ≡ drill_settings
-  pub table : world.table ≡ (registered bare_job.handlers).table
+  pub table : world.table ≡ (registered (handlers_of bare_job)).table

@@ -1,5 +1,6 @@
 -- The schedule of the drill.
 use Rattle.std.specs.Prelude.{ℕ, zero, suc, ◌-◌, ◌*◌, ◌%◌, ◌^◌, max, pos, List, [], ◌∷◌, ◌++◌, map, length, Some, None}
+use Rattle.std.specs.Prelude.{false}
 use Rattle.plain_world.specs.World.{run}
 use Rattle.plain_world.specs.Plain.{plain_of}
 use Rattle.endpoint_rules.specs.EndpointRules.{Records, at_the_opening}
@@ -94,6 +95,7 @@ bare_job = record {
   settings = drill_settings;
   patience = 1;
   sieve = record { lose = 0; repeat = 0; swap = 0 };
+  atomics = false;
   handlers = request_handler ∷ reply_handler ∷ [];
   scripts = [];
   schedule = None;

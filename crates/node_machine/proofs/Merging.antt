@@ -2,12 +2,13 @@
 use Rattle.std.proofs.Common.{◌≡◌, ℕ, zero, suc, ◌+◌, List, [], ◌∷◌, map, Some, refl, ap, ◌∙◌, arith, slice_get}
 use Rattle.std.specs.Option.{option_map}
 use Rattle.endpoint_rules.specs.EndpointLocal.{EndpointLocal}
+use Rattle.job_text.specs.Scopes.{scope_of}
 use Rattle.job_text.specs.declared.job.Job.{Job as JobState}
 use Rattle.job_text.specs.declared.job.ScriptStep.{ScriptStep}
 use Rattle.machine.specs.Replay.{after_entry, replayed}
 use Rattle.machine.specs.declared.entry.Entry.{Entry}
 use Rattle.node_script.specs.Bodies.{script_meaning}
-use Rattle.node_script.specs.Registration.{registered}
+use Rattle.node_script.specs.Registration.{handlers_of, registered}
 use Rattle.node_runs.specs.Actions.{OwnScripts}
 use Rattle.node_runs.specs.Merged.{Carries, carried, nodes_from}
 use Rattle.node_runs.specs.Order.{Ranked, job_steps}
@@ -31,11 +32,12 @@ states_carry job = record {
 
 pub traces_run : StepsFit → AreTracesARun
 traces_run fit job traces ranks is few reaches =
-    states_run job.settings (registered job.handlers).table (script_meaning job.handlers) step_form (state_of job)
+    states_run job.settings (registered (handlers_of job)).table (script_meaning (handlers_of job)) step_form
+    (state_of job)
     state_steps (scripts_at job) traces ranks
-    (job_fits job.settings job.handlers is.settings is.job_fits is.last_fits is.handlers)
+    (job_fits job.settings (handlers_of job) is.settings is.job_fits is.last_fits is.handlers)
     (λ node. fit (scripts_at job node)
-    (λ thread. steps_said job.settings.nodes job.settings.threads job.scripts node thread is.scripts))
+    (λ thread. steps_said (scope_of job) job.scripts node thread is.scripts))
     few (states_carry job) reaches
 
 -- ---- the nodes before all turns, and the replays of their traces

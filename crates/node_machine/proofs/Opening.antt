@@ -13,10 +13,13 @@ use Rattle.endpoint_rules.specs.EndpointLocal.{nothing_begun}
 use Rattle.gas_endpoint.specs.EndpointState.{EndpointState, EndpointStands, IsNodeOf}
 use Rattle.job_text.specs.JobText.{IsJob, IsNodeScript}
 use Rattle.job_text.specs.Scripts.{IsStep}
+use Rattle.job_text.specs.Scopes.{scope_of}
 use Rattle.job_text.specs.declared.job.Job.{Job as JobState}
 use Rattle.job_text.specs.declared.job.NodeScript.{NodeScript}
 use Rattle.job_text.specs.declared.job.ScriptStep.{ScriptStep}
-use Rattle.node_script.specs.Registration.{registered}
+use Rattle.job_text.specs.declared.scope.Scope.{Scope}
+use Rattle.script_steps.specs.Forms.{IsJobStep}
+use Rattle.node_script.specs.Registration.{handlers_of, registered}
 use Rattle.node_runs.specs.Actions.{Progress}
 use Rattle.node_machine.specs.Cursors.{progress_of, progress_of_all}
 use Rattle.node_machine.specs.declared.cursor.Cursor.{Cursor}
@@ -27,28 +30,35 @@ use Rattle.node_machine.specs.NodeState.{NodeStands, opening_state, scripts_at, 
 -- ---- the steps of a thread
 
 -- a thread that isn't there has none
-no_thread : (nodes threads : ℕ) (scripts : List NodeScript) (node thread : ℕ)
-    → AllByRecursion (IsNodeScript nodes threads) scripts → threads ≤ thread → steps_of_thread scripts node thread ≡ []
-no_thread nodes threads [] node thread are past = refl
-no_thread nodes threads (script ∷ scripts) node thread are past =
+no_thread : (scope : Scope) (scripts : List NodeScript) (node thread : ℕ)
+    → AllByRecursion (IsNodeScript scope) scripts → scope.settings.threads ≤ thread
+    → steps_of_thread scripts node thread ≡ []
+no_thread scope [] node thread are past = refl
+no_thread scope (script ∷ scripts) node thread are past =
     let low = are.0.thread in
     let apart : script.thread ≢ thread = omega (arith, low) in
-    let later = no_thread nodes threads scripts node thread are.1 past in
+    let later = no_thread scope scripts node thread are.1 past in
     elim (cases_Bool (eqb script.node node)) [
       | inl here ↦ rw (here, ne_eqb script.thread thread apart) later
       | inr other ↦ rw other later
     ]
 
+-- steps of a job are steps of some job
+some_steps : (scope : Scope) (steps : List ScriptStep) → AllByRecursion (IsStep scope) steps
+    → AllByRecursion IsJobStep steps
+some_steps scope [] are = tt
+some_steps scope (one ∷ steps) are = ((scope, are.0), some_steps scope steps are.1)
+
 -- each of them can be said
-pub steps_said : (nodes threads : ℕ) (scripts : List NodeScript) (node thread : ℕ)
-    → AllByRecursion (IsNodeScript nodes threads) scripts → AllByRecursion IsStep (steps_of_thread scripts node thread)
-steps_said nodes threads [] node thread are = tt
-steps_said nodes threads (script ∷ scripts) node thread are =
-    by_test (is_of node thread script) (steps_said nodes threads scripts node thread are.1)
+pub steps_said : (scope : Scope) (scripts : List NodeScript) (node thread : ℕ)
+    → AllByRecursion (IsNodeScript scope) scripts → AllByRecursion IsJobStep (steps_of_thread scripts node thread)
+steps_said scope [] node thread are = tt
+steps_said scope (script ∷ scripts) node thread are =
+    by_test (is_of node thread script) (steps_said scope scripts node thread are.1)
   where
-    by_test : (b : Bool) → AllByRecursion IsStep (steps_of_thread scripts node thread)
-        → AllByRecursion IsStep (steps_or_none (cond b (Some script) (find (is_of node thread) scripts)))
-    by_test true later = are.0.steps
+    by_test : (b : Bool) → AllByRecursion IsJobStep (steps_of_thread scripts node thread)
+        → AllByRecursion IsJobStep (steps_or_none (cond b (Some script) (find (is_of node thread) scripts)))
+    by_test true later = some_steps scope script.steps are.0.steps
     by_test false later = later
 
 -- ---- the threads, one after another
@@ -89,7 +99,7 @@ opened job endpoint scripts =
     record { job = job; endpoint = endpoint; scripts = scripts; outgoing = []; answer = None }
 
 pub opened_stands : (job : JobState) (me : ℕ) (endpoint : EndpointState) (scripts : List (Progress ScriptStep))
-    → IsJob job → IsNodeOf job.settings (registered job.handlers).table me endpoint
+    → IsJob job → IsNodeOf job.settings (registered (handlers_of job)).table me endpoint
     → EndpointStands endpoint (opening_node (nothing_begun job.settings)) → AreFirst job me job.settings.threads scripts
     → NodeStands (opened job endpoint scripts) (opening_state job me)
 opened_stands job me endpoint scripts is node stands first = record {
@@ -100,7 +110,7 @@ opened_stands job me endpoint scripts is node stands first = record {
     | inl there ↦ sym (ap progress_or_none (first.each thread there))
     | inr past ↦
         ap (λ (left : List ScriptStep). record { left = left; began = None })
-        (no_thread job.settings.nodes job.settings.threads job.scripts me thread is.scripts past)
+        (no_thread (scope_of job) job.scripts me thread is.scripts past)
         ∙ sym (ap progress_or_none (slice_get_past scripts thread (subst (λ n. n ≤ thread) (sym first.threads) past)))
   ]);
   outgoing_is = refl;
@@ -108,7 +118,7 @@ opened_stands job me endpoint scripts is node stands first = record {
 }
 
 pub opened_is : (job : JobState) (me : ℕ) (endpoint : EndpointState) (scripts : List (Progress ScriptStep))
-    → IsJob job → IsNodeOf job.settings (registered job.handlers).table me endpoint
+    → IsJob job → IsNodeOf job.settings (registered (handlers_of job)).table me endpoint
     → EndpointStands endpoint (opening_node (nothing_begun job.settings)) → AreFirst job me job.settings.threads scripts
     → IsMachine (opened job endpoint scripts)
 opened_is job me endpoint scripts is node stands first = record {
@@ -119,6 +129,6 @@ opened_is job me endpoint scripts is node stands first = record {
       let inside = slice_get_within scripts thread progress at in
       let there : thread < job.settings.threads = subst (λ n. thread < n) first.threads inside in
       subst CanBeSaid (same_Some (scripts_at job me thread) progress (sym (first.each thread there) ∙ at))
-      (steps_said job.settings.nodes job.settings.threads job.scripts me thread is.scripts);
+      (steps_said (scope_of job) job.scripts me thread is.scripts);
   record_ = (opening_node (nothing_begun job.settings), stands);
 }

@@ -23,11 +23,10 @@ use Rattle.node_record.specs.declared.answer.SlotRef.{SlotRef}
 use Rattle.endpoint_rules.specs.EndpointLocal.{EndpointLocal}
 use Rattle.endpoint_rules.specs.declared.answer.Answer.{Answer}
 use Rattle.gas_endpoint.specs.EndpointState.{EndpointState, EndpointStands}
-use Rattle.job_text.specs.declared.job.HandlerText.{HandlerText}
 use Rattle.job_text.specs.declared.job.Job.{Job as JobState}
 use Rattle.job_text.specs.declared.job.ScriptStep.{ScriptStep}
 use Rattle.node_script.specs.Bodies.{script_meaning}
-use Rattle.node_script.specs.Registration.{registered}
+use Rattle.node_script.specs.Registration.{JobHandlers, handlers_of, registered}
 use Rattle.node_runs.specs.Actions.{Progress, OwnScripts, scripts_of}
 use Rattle.node_runs.specs.Scripts.{NodeJob}
 use Rattle.node_runs.specs.Turn.{MachineState, try_of, datagram, is_some_there}
@@ -77,7 +76,7 @@ pub record IsTurning (it : Turning) : Type 0 where
   pub inside : it.taken.thread < length it.machine.scripts
   pub before : Progress ScriptStep
   pub there : slice_get it.machine.scripts it.taken.thread ≡ Some before
-  pub takes : TakesTurn (script_meaning it.machine.job.handlers) (it.machine.endpoint, before) it.taken it.done
+  pub takes : TakesTurn (script_meaning (handlers_of it.machine.job)) (it.machine.endpoint, before) it.taken it.done
       (it.endpoint, it.progress)
 
 -- the scripts after it
@@ -103,16 +102,16 @@ pub record Facts (it : Turning) (state : MachineState EndpointLocal (OwnScripts 
 
 -- the job of a machine is that of its endpoint
 job_same : (machine : MachineKept) → IsMachine machine
-    → job_at (script_meaning machine.job.handlers) machine.endpoint ≡ script_job machine.job
+    → job_at (script_meaning (handlers_of machine.job)) machine.endpoint ≡ script_job machine.job
 job_same machine is = ap₂ (λ (settings : Parameters) (table : List (Option Entry)).
-    endpoint_job settings table (script_meaning machine.job.handlers) (scripts_of step_form))
+    endpoint_job settings table (script_meaning (handlers_of machine.job)) (scripts_of step_form))
     is.node.settings_are is.node.table_is
 
 facts_at : (it : Turning) → IsTurning it → (state : MachineState EndpointLocal (OwnScripts ScriptStep))
     → EndpointStands it.machine.endpoint state.node → state.own ≡ own_scripts it.machine.scripts
     → Facts it state (script_job it.machine.job) it.machine.endpoint.core.me
 facts_at it T state stands own =
-    let meaning = script_meaning it.machine.job.handlers in
+    let meaning = script_meaning (handlers_of it.machine.job) in
     let G = T.takes.goes state stands
     (ap (λ (f : OwnScripts ScriptStep). f it.taken.thread) own ∙ ap progress_or_none T.there) in
     subst (λ (job : NodeJob EndpointLocal (OwnScripts ScriptStep)).
@@ -173,7 +172,7 @@ empty_leaves calm state thread now quiet =
     ap (λ (machine : MachineState EndpointLocal (OwnScripts ScriptStep)).
     state_of state.job (record { me = state.ranked.me; state = machine }))
     (empty_turns (script_job state.job)
-    (calm state.job.settings (registered state.job.handlers).table (script_meaning state.job.handlers))
+    (calm state.job.settings (registered (handlers_of state.job)).table (script_meaning (handlers_of state.job)))
     state.ranked.me thread now state.ranked.state quiet)
 
 none_got : (got : Option (List ℕ)) → is_some got ≡ false → got ≡ None
@@ -332,10 +331,10 @@ read_said job endpoint cursors outgoing answer thread cursor is R =
     (slice_get-map progress_of cursors thread ∙ ap (option_map progress_of) R.read)
 
 pub turning_is : (job : JobState) (endpoint : EndpointState) (cursors : List Cursor) (outgoing : List SlotRef)
-    (answer : Option Answer) (taken : TurnTaken) (cursor : Cursor) (handlers : List HandlerText) (done : Done)
+    (answer : Option Answer) (taken : TurnTaken) (cursor : Cursor) (handlers : JobHandlers) (done : Done)
     (later : EndpointState) (progress : Progress ScriptStep)
     → IsMachine (machine_at job endpoint cursors outgoing answer) → Reads job cursors taken.thread cursor
-    → handlers ≡ job.handlers
+    → handlers ≡ handlers_of job
     → TakesTurn (script_meaning handlers) (endpoint, progress_of cursor) taken done (later, progress)
     → IsTurning (record {
       machine = machine_at job endpoint cursors outgoing answer;
@@ -349,8 +348,8 @@ turning_is job endpoint cursors outgoing answer taken cursor handlers done later
   inside = subst (λ (n : ℕ). taken.thread < n) (sym is.threads) R.low;
   before = progress_of cursor;
   there = slice_get-map progress_of cursors taken.thread ∙ ap (option_map progress_of) R.read;
-  takes = subst (λ (texts : List HandlerText).
-      TakesTurn (script_meaning texts) (endpoint, progress_of cursor) taken done (later, progress)) same takes;
+  takes = subst (λ (of : JobHandlers).
+      TakesTurn (script_meaning of) (endpoint, progress_of cursor) taken done (later, progress)) same takes;
 }
 
 -- the scripts, where one cursor went on
@@ -381,9 +380,9 @@ pub record Took (job : JobState) (endpoint : EndpointState) (cursors : List Curs
 
 pub took : WaitingIsCalm → (job : JobState) (endpoint : EndpointState) (cursors : List Cursor)
     (outgoing : List SlotRef) (answer : Option Answer) (taken : TurnTaken) (place : ℕ) (cursor next : Cursor)
-    (handlers : List HandlerText) (done : Done) (later : EndpointState)
+    (handlers : JobHandlers) (done : Done) (later : EndpointState)
     → IsMachine (machine_at job endpoint cursors outgoing answer) → Reads job cursors taken.thread cursor
-    → place ≡ taken.thread → handlers ≡ job.handlers
+    → place ≡ taken.thread → handlers ≡ handlers_of job
     → TakesTurn (script_meaning handlers) (endpoint, progress_of cursor) taken done (later, progress_of next)
     → Took job endpoint cursors outgoing answer taken done later (slice_set cursors place next)
 took calm job endpoint cursors outgoing answer taken place cursor next handlers done later is R at same takes =

@@ -21,7 +21,7 @@ use Rattle.endpoint_rules.specs.EndpointLocal.{EndpointLocal, IsEndpointKept}
 use Rattle.endpoint_rules.specs.declared.answer.Answer.{Answer}
 use Rattle.endpoint_rules.proofs.Sound.{rules_sound}
 use Rattle.gas_endpoint.specs.EndpointState.{EndpointState, EndpointStands, ForItsRecord}
-use Rattle.job_text.specs.Scripts.{IsStep}
+use Rattle.script_steps.specs.Forms.{IsJobStep}
 use Rattle.job_text.specs.declared.job.ScriptStep.{ScriptStep}
 use Rattle.node_runs.specs.Actions.{Progress, OwnScripts, tried_step}
 use Rattle.node_runs.specs.Laws.{GotBytes}
@@ -227,8 +227,8 @@ state_goes meaning old mid new taken state slots tried done lawful bytes stands 
 
 -- what can be said of a script can be said of its rest
 rest_said : (step : ScriptStep) (rest : List ScriptStep) (began : Option Answer) (ended : Option Answer)
-    (later : Option Answer) → AllByRecursion IsStep (step ∷ rest)
-    → AllByRecursion IsStep (cond {A = Progress ScriptStep} (is_some ended) (record { left = rest; began = None })
+    (later : Option Answer) → AllByRecursion IsJobStep (step ∷ rest)
+    → AllByRecursion IsJobStep (cond {A = Progress ScriptStep} (is_some ended) (record { left = rest; began = None })
     (record { left = step ∷ rest; began = later })).left
 rest_said step rest began None later said = said
 rest_said step rest began (Some answer) later said = said.1
@@ -237,7 +237,7 @@ progress_said : (progress : Progress ScriptStep) (tried : Tried) → CanBeSaid p
     → CanBeSaid (progress_after progress tried)
 progress_said progress tried said = by_left progress.left progress.began said
   where
-    by_left : (left : List ScriptStep) (began : Option Answer) → AllByRecursion IsStep left
+    by_left : (left : List ScriptStep) (began : Option Answer) → AllByRecursion IsJobStep left
         → CanBeSaid (progress_after (record { left = left; began = began }) tried)
     by_left [] began said = said
     by_left (step ∷ rest) began said = rest_said step rest began tried.ended (option_or tried.began began) said

@@ -9,10 +9,10 @@ use Rattle.endpoint_rules.specs.declared.answer.Answer.{Answer}
 use Rattle.gas_endpoint.specs.EndpointState.{EndpointState, IsNodeOf}
 use Rattle.gas_endpoint.specs.Parts.{HasRecord}
 use Rattle.job_text.specs.JobText.{IsJob}
-use Rattle.job_text.specs.Scripts.{IsStep}
+use Rattle.script_steps.specs.Forms.{IsJobStep}
 use Rattle.job_text.specs.declared.job.Job.{Job as JobState}
 use Rattle.job_text.specs.declared.job.ScriptStep.{ScriptStep}
-use Rattle.node_script.specs.Registration.{registered}
+use Rattle.node_script.specs.Registration.{handlers_of, registered}
 use Rattle.node_runs.specs.Actions.{Progress, OwnScripts}
 
 -- the machine of a node of a job
@@ -49,7 +49,7 @@ are_done scripts = list_all is_done scripts
 
 -- each word of the steps that are left can be said in a text
 abbrev pub CanBeSaid : Progress ScriptStep → Type 0
-CanBeSaid progress = AllByRecursion IsStep progress.left
+CanBeSaid progress = AllByRecursion IsJobStep progress.left
 
 -- ---- the machine
 
@@ -60,7 +60,7 @@ polls_at machine thread = not (holds (owner.Thread thread) machine.endpoint.core
 -- what holds of every machine
 pub record IsMachine (machine : MachineKept) : Type 0 where
   pub job : IsJob machine.job
-  pub node : IsNodeOf machine.job.settings (registered machine.job.handlers).table machine.endpoint.core.me
+  pub node : IsNodeOf machine.job.settings (registered (handlers_of machine.job)).table machine.endpoint.core.me
       machine.endpoint
   pub threads : length machine.scripts ≡ machine.job.settings.threads
   pub said : (thread : ℕ) (progress : Progress ScriptStep) → slice_get machine.scripts thread ≡ Some progress

@@ -10,7 +10,7 @@ use Rattle.endpoint_rules.specs.EndpointRules.{OtherCall}
 use Rattle.job_text.specs.JobText.{IsJob}
 use Rattle.job_text.specs.declared.job.Job.{Job as JobState}
 use Rattle.node_script.specs.Bodies.{script_meaning}
-use Rattle.node_script.specs.Registration.{registered}
+use Rattle.node_script.specs.Registration.{handlers_of, registered}
 use Rattle.node_runs.specs.Actions.{scripts_of}
 use Rattle.node_runs.specs.Laws.{nodes_with}
 use Rattle.node_runs.specs.Merged.{carried, order_of}
@@ -48,8 +48,8 @@ order_by job traces ranks = order_of (nodes_of job traces) (start (nodes_of job 
 -- these entries, in this order, are a run of the job's world, whose turns are these events
 abbrev pub IsRunOf : JobState → List NodeEntry → (turns : List (List (Timed OtherCall))) → Type 0
 IsRunOf job items turns =
-    IsWorldRun job.settings (registered job.handlers).table (script_meaning job.handlers) (scripts_of step_form)
-    (scripts_at job) items turns
+    IsWorldRun job.settings (registered (handlers_of job)).table (script_meaning (handlers_of job))
+    (scripts_of step_form) (scripts_at job) items turns
 
 -- of a job that a text says: where a list of ranks reaches the front that has all entries of the nodes' traces, they
 -- are a run of the world in its order, and the entries of each node in it are the node's trace

@@ -13,7 +13,7 @@ use Rattle.job_text.specs.declared.job.Job.{Job as JobState}
 use Rattle.job_text.specs.declared.job.NodeScript.{NodeScript}
 use Rattle.job_text.specs.declared.job.ScriptStep.{ScriptStep}
 use Rattle.node_script.specs.Bodies.{script_meaning}
-use Rattle.node_script.specs.Registration.{registered}
+use Rattle.node_script.specs.Registration.{handlers_of, registered}
 use Rattle.node_runs.specs.Actions.{OwnScripts, scripts_of}
 use Rattle.node_runs.specs.Order.{Ranked, job_steps}
 use Rattle.node_runs.specs.Scripts.{NodeJob}
@@ -32,7 +32,8 @@ state_of job ranked = record { job = job; ranked = ranked }
 -- what all nodes of the job know
 abbrev pub script_job : JobState → NodeJob EndpointLocal (OwnScripts ScriptStep)
 script_job job =
-    endpoint_job job.settings (registered job.handlers).table (script_meaning job.handlers) (scripts_of step_form)
+    endpoint_job job.settings (registered (handlers_of job)).table (script_meaning (handlers_of job))
+    (scripts_of step_form)
 
 -- ---- what is known of such states
 

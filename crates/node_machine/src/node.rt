@@ -3,7 +3,7 @@
 ghost use Rattle.std.specs.Prelude.{◌≡◌, ◌<◌, IfOk, IsSome, true, find, option_copied};
 ghost use Rattle.gas_endpoint.specs.EndpointState.{IsNodeOf};
 ghost use Rattle.job_text.specs.JobText.{IsJob};
-ghost use Rattle.node_script.specs.Registration.{registered};
+ghost use Rattle.node_script.specs.Registration.{handlers_of, registered};
 ghost use Rattle.node_machine.specs.Cursors.{progress_of_all};
 ghost use Rattle.node_machine.specs.Kept.{polls_at};
 ghost use Rattle.node_machine.specs.Machines.{MachineTakes};
@@ -125,7 +125,7 @@ impl<'a> NodeMachine<'a> {
     /// The endpoint.
     pub fn endpoint(&self) -> &Endpoint
         ensures is { result.now ≡ self.now.endpoint }
-        ensures node { IsNodeOf self.now.job.settings (registered self.now.job.handlers).table
+        ensures node { IsNodeOf self.now.job.settings (registered (handlers_of self.now.job)).table
             result.now.core.me result.now }
     {
         &self.endpoint
@@ -155,7 +155,7 @@ impl<'a> NodeMachine<'a> {
     /// The endpoint alone.
     pub fn into_endpoint(self) -> Endpoint
         ensures is { result ≡ self.entry.endpoint }
-        ensures node { IsNodeOf self.entry.job.settings (registered self.entry.job.handlers).table
+        ensures node { IsNodeOf self.entry.job.settings (registered (handlers_of self.entry.job)).table
             result.core.me result }
     {
         let NodeMachine { endpoint, .. } = self;

@@ -17,7 +17,7 @@ bytes_on : (byte : ℕ) (bytes : List ℕ) → byte < 2 ^ 8 → AreBytes bytes �
 bytes_on byte bytes low rest zero = low
 bytes_on byte bytes low rest (suc place) = rest place
 
-bytes_append : (first second : List ℕ) → AreBytes first → AreBytes second → AreBytes (first ++ second)
+pub bytes_append : (first second : List ℕ) → AreBytes first → AreBytes second → AreBytes (first ++ second)
 bytes_append [] second h k = k
 bytes_append (byte ∷ first) second h k =
     bytes_on byte (first ++ second) (h 0) (bytes_append first second (λ place. h (suc place)) k)

@@ -1,17 +1,12 @@
 -- The steps of scripts: how each is tried, and when it ends.
 -- Origin: this project's profile; waiting is that of the blocking calls of GASNet 1.8.1.
-use Rattle.std.specs.Prelude.{ℕ, ℤ, int_le, ◌≡◌, Bool, true, false, not, ◌&&◌, if◌then◌else◌, List, [], ◌∷◌}
+use Rattle.std.specs.Prelude.{ℕ, ◌≡◌, Bool, true, false, not, ◌&&◌, if◌then◌else◌, List, [], ◌∷◌}
 use Rattle.std.specs.Prelude.{Option, None, Some, is_some, is_none}
 use Rattle.std.specs.List.{AllByRecursion}
 use Rattle.std.specs.Option.{option_to_list}
 use Rattle.lists.specs.Put.{put}
 use Rattle.node_record.specs.Record.{Node}
-use Rattle.endpoint_rules.specs.Called.{Performs}
-use Rattle.endpoint_rules.specs.CoreCalls.{Cell}
-use Rattle.endpoint_rules.specs.EndpointRules.{OnCore}
 use Rattle.endpoint_rules.specs.declared.answer.Answer.{Answer}
-use Rattle.endpoint_rules.specs.declared.answer.Answer.TheVariants as answers
-use Rattle.endpoint_rules.specs.declared.answer.Local.TheVariants as local
 use Rattle.node_runs.specs.Scripts.{ThreadCall, Tried, TryContext, Scripts}
 
 -- how a step is tried
@@ -21,8 +16,8 @@ pub data Form (Kept : Type 0) : Type 0 where
   -- one call, again at each turn while its answer is one to wait at: a request at not-yet, a lock at held, a wait and a
   -- barrier-wait at not-ready
   Again : (waits : Answer → Bool) → ThreadCall → Form Kept
-  -- until the cell is at least the value; the answer is then ok
-  Until : (cell : ℕ) → (value : ℤ) → Form Kept
+  -- one call, again at each turn until its answer gives one of the step: a cell or a word is looked at
+  Until : ThreadCall → (ends : Answer → Option Answer) → Form Kept
   -- the first try begins, and ends the step only where its answer names no second call; each later try makes the second
   -- call, again while its answer is one to wait at: a blocking transfer, whose second call is the sync of the handle
   -- that was given. `says` is the answer of the step
@@ -39,18 +34,12 @@ pub data Form (Kept : Type 0) : Type 0 where
 abbrev pub calls_of : {Kept : Type 0} → Form Kept → (began : Option Answer) → List ThreadCall
 calls_of (Once call) began = call ∷ []
 calls_of (Again waits call) began = call ∷ []
-calls_of (Until cell value) began = Performs (OnCore (Cell cell)) ∷ []
+calls_of (Until call ends) began = call ∷ []
 calls_of (Twice begin next waits says) None = begin ∷ []
 calls_of (Twice begin next waits says) (Some answer) = option_to_list (next answer)
 calls_of (Looks begin ready) None = begin ∷ []
 calls_of (Looks begin ready) (Some answer) = []
 calls_of (Several calls says) began = calls
-
--- ok, where the cell that was read is at least the value
-abbrev pub reached : (value : ℤ) → Answer → Option Answer
-reached value (answers.Local (local.Cell number)) =
-    if int_le value number then Some (answers.Local local.Done) else None
-reached value _ = None
 
 -- the answer, unless it is one to wait at
 abbrev pub unless : Bool → Answer → Option Answer
@@ -63,8 +52,8 @@ abbrev pub ended_by : {Kept : Type 0}
 ended_by (Once call) began after answer = answer
 ended_by (Again waits call) began after None = None
 ended_by (Again waits call) began after (Some answer) = unless (waits answer) answer
-ended_by (Until cell value) began after None = None
-ended_by (Until cell value) began after (Some answer) = reached value answer
+ended_by (Until call ends) began after None = None
+ended_by (Until call ends) began after (Some answer) = ends answer
 ended_by (Twice begin next waits says) None after None = None
 ended_by (Twice begin next waits says) None after (Some answer) = unless (is_some (next answer)) (says answer)
 ended_by (Twice begin next waits says) (Some first) after None = None
@@ -78,7 +67,7 @@ ended_by (Several calls says) began after answer = Some says
 abbrev pub begins : {Kept : Type 0} → Form Kept → Bool
 begins (Once call) = false
 begins (Again waits call) = false
-begins (Until cell value) = false
+begins (Until call ends) = false
 begins (Twice begin next waits says) = true
 begins (Looks begin ready) = true
 begins (Several calls says) = false
@@ -149,7 +138,7 @@ scripts_of form = record {
 abbrev pub FormMay : {Kept : Type 0} → (ThreadCall → Type 0) → Form Kept → Type 0
 FormMay May (Once call) = May call
 FormMay May (Again waits call) = May call
-FormMay May (Until cell value) = May (Performs (OnCore (Cell cell)))
+FormMay May (Until call ends) = May call
 FormMay May (Twice begin next waits says) =
     May begin × ((answer : Answer) (call : ThreadCall) → next answer ≡ Some call → May call)
 FormMay May (Looks begin ready) = May begin

@@ -3,3 +3,4 @@ pub mod ScheduleNodes
 mod LineTexts
 pub mod SentNumbers
 mod RepliesAsked
+pub mod Batches

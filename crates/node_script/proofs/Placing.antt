@@ -21,8 +21,8 @@ use Rattle.handler_rules.specs.declared.table.EntryFault.TheVariants.{Reserved}
 use Rattle.handler_rules.specs.Registered.{no_entries, entry_at, index_for, lowest_free, registering, unless_taken}
 use Rattle.job_text.specs.declared.job.Action.{Action}
 use Rattle.job_text.specs.declared.job.HandlerText.{HandlerText}
-use Rattle.node_script.specs.Registration.{Registry, body_among, entry_of, no_handlers, register, registered}
-use Rattle.node_script.specs.Registration.{with_index}
+use Rattle.node_script.specs.Registration.{JobHandlers, Registry, body_among, entries_first, entry_of, register}
+use Rattle.node_script.specs.Registration.{registered, registered_first, with_index}
 use Rattle.node_script.specs.Places.{AreBodies, ArePlaced, AtRegistering, Placing, body_at, found_body, is_in_turn}
 use Rattle.node_script.specs.Places.{place_at, register_turn}
 use Rattle.lists.proofs.Cases.{option_or_none}
@@ -52,7 +52,7 @@ at_index-set_same xs index x long high low =
     ∙ get_or-set_same xs (index - 128) x None (omega (arith, long, high, low))
 
 -- another index keeps what stood for it
-at_index-set_other : {A : Type 0} (xs : List (Option A)) (index other : ℕ) (x : Option A) → 128 ≤ index → other ≢ index
+pub at_index-set_other : {A : Type 0} (xs : List (Option A)) (index other : ℕ) (x : Option A) → 128 ≤ index → other ≢ index
     → at_index (slice_set xs (index - 128) x) other ≡ at_index xs other
 at_index-set_other xs index other x high ne = elim (cases_Bool (nat_lt other 128)) [
   | inl low ↦ rw low refl
@@ -66,9 +66,9 @@ at_index-set_other xs index other x high ne = elim (cases_Bool (nat_lt other 128
 -- ---- the index that a handler gets is a client's, and was free
 
 -- what is told of an index that is given
-record IsFree (table : List (Option Entry)) (index : ℕ) : Type 0 where
-  high : 128 ≤ index
-  free : is_none (entry_at table index) ≡ true
+pub record IsFree (table : List (Option Entry)) (index : ℕ) : Type 0 where
+  pub high : 128 ≤ index
+  pub free : is_none (entry_at table index) ≡ true
 
 -- the index of a place without an entry is free
 free_at : (table : List (Option Entry)) (index place : ℕ) → 128 + place ≡ index → position is_none table ≡ Some place
@@ -110,7 +110,7 @@ free_from table index asked false false high got =
     free_asked table index asked (entry_at table asked) (high refl) refl got
 
 -- an index that a handler gets is free
-given_free : (table : List (Option Entry)) (asked index : ℕ) → index_for table asked ≡ Ok index → IsFree table index
+pub given_free : (table : List (Option Entry)) (asked index : ℕ) → index_for table asked ≡ Ok index → IsFree table index
 given_free table asked index e = free_from table index asked (asked == 0) (nat_lt asked 128) (ltb-false asked 128) e
 
 -- ---- bodies with one more behind them
@@ -301,21 +301,27 @@ placed_body texts None = refl
 placed_body texts (Some place) = refl
 
 -- what is placed by the registry of all are the bodies
-pub bodies_placed : (texts : List HandlerText) (table : List (Option Entry)) (places : List (Option ℕ))
-    → ArePlaced texts (registered texts) table places → AreBodies texts places
-bodies_placed texts table places P = record {
+pub bodies_placed : (handlers : JobHandlers) (table : List (Option Entry)) (places : List (Option ℕ))
+    → ArePlaced handlers.texts (registered handlers) table places → AreBodies handlers places
+bodies_placed handlers table places P = record {
   long = P.long;
   each = λ index low.
-      sym (among_found (registered texts).bodies index
-      ∙ (ap body_or (P.found index low) ∙ placed_body texts (place_at places index)));
+      sym (among_found (registered handlers).bodies index
+      ∙ (ap body_or (P.found index low) ∙ placed_body handlers.texts (place_at places index)));
 }
 
--- nothing is placed at first
-pub none_placed : (texts : List HandlerText) → ArePlaced texts no_handlers no_entries (replicate 128 None)
-none_placed texts = record {
+-- the table has 128 rows at first
+rows_first : (atomics : Bool) → length (entries_first atomics) ≡ 128
+rows_first false = refl
+rows_first true = refl
+
+-- none of the job's own is placed at first
+pub none_placed : (atomics : Bool) (texts : List HandlerText)
+    → ArePlaced texts (registered_first atomics) (entries_first atomics) (replicate 128 None)
+none_placed atomics texts = record {
   table_is = refl;
   long = refl;
-  rows = refl;
+  rows = rows_first atomics;
   found = λ index low. sym (ap (option_map (λ p. body_at texts (Some p))) (nothing index low));
   known = λ index low e. nothing index low;
 }
@@ -328,15 +334,17 @@ none_placed texts = record {
     ]
 
 -- both turns, one after the other, are all
-pub both_turns : (texts : List HandlerText) (first second third : Placing) →
+pub both_turns : (atomics : Bool) (texts : List HandlerText) (first second third : Placing) →
     AtRegistering texts (register_turn false texts) first second
     → AtRegistering texts (register_turn true texts) second third →
-    first.table ≡ no_entries → first.places ≡ replicate 128 None
-    → ArePlaced texts (registered texts) third.table third.places
-both_turns texts first second third one two table_is places_are =
-    let start : ArePlaced texts no_handlers first.table first.places =
-    subst (λ (t : List (Option Entry)). ArePlaced texts no_handlers t first.places) (sym table_is)
-    (subst (λ (p : List (Option ℕ)). ArePlaced texts no_handlers no_entries p) (sym places_are) (none_placed texts)) in
+    first.table ≡ entries_first atomics → first.places ≡ replicate 128 None
+    → ArePlaced texts (registered (record { atomics = atomics; texts = texts })) third.table third.places
+both_turns atomics texts first second third one two table_is places_are =
+    let none = registered_first atomics in
+    let start : ArePlaced texts none first.table first.places =
+    subst (λ (t : List (Option Entry)). ArePlaced texts none t first.places) (sym table_is)
+    (subst (λ (p : List (Option ℕ)). ArePlaced texts none (entries_first atomics) p) (sym places_are)
+    (none_placed atomics texts)) in
     subst (λ (s : Registry). ArePlaced texts s third.table third.places)
-    (sym (fold-append register no_handlers (filter (is_in_turn false) texts) (filter (is_in_turn true) texts)))
-    (two (register_turn false texts no_handlers) (one no_handlers start))
+    (sym (fold-append register none (filter (is_in_turn false) texts) (filter (is_in_turn true) texts)))
+    (two (register_turn false texts none) (one none start))

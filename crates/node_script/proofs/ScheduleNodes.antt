@@ -1,7 +1,6 @@
 -- The nodes and threads that the lines of a job's schedule name are there.
 use Rattle.std.proofs.Common.{◌≡◌, ℕ, zero, suc, ◌-◌, ◌<◌, ◌≤◌, List, [], ◌∷◌, Option, Some, None, subst, arith}
 use Rattle.std.specs.List.{AllByRecursion}
-use Rattle.datagram_grammar.specs.Parameters.{Parameters}
 use Rattle.job_text.specs.declared.job.Job.{Job as JobState}
 use Rattle.job_text.specs.declared.job.ScheduledEvent.{ScheduledEvent}
 use Rattle.job_text.specs.declared.job.ScheduledEvent.TheVariants as event
@@ -12,6 +11,8 @@ use Rattle.job_text.specs.Calls.{IsCall}
 use Rattle.job_text.specs.Events.{IsEvent, IsTimed}
 use Rattle.job_text.specs.JobReading.{lines_of}
 use Rattle.job_text.specs.JobText.{IsJob, IsScheduleOrNone}
+use Rattle.job_text.specs.Scopes.{scope_of}
+use Rattle.job_text.specs.declared.scope.Scope.{Scope}
 use Rattle.node_script.specs.ScheduledCalls.{IsGiven}
 use Rattle.node_script.specs.ScriptInvariant.{IsWithin, AreWithin}
 
@@ -20,46 +21,46 @@ below : (n count : ℕ) → 1 ≤ count → n ≤ count - 1 → n < count
 below n count some low = omega (arith, some, low)
 
 -- the payload of a call of a schedule is one of a schedule
-pub call_given : (call : ScheduledCall) → IsCall call → IsGiven call
-call_given (calls.Medium text) h = h.0.1.1.0
-call_given (calls.Long text) h = h.0.1.1.0
-call_given (calls.LongAsync text) h = h.0.1.1.0
-call_given _ h = tt
+pub call_given : (scope : Scope) (call : ScheduledCall) → IsCall scope call → IsGiven call
+call_given scope (calls.Medium text) h = h.0.1.1.0
+call_given scope (calls.Long text) h = h.0.1.1.0
+call_given scope (calls.LongAsync text) h = h.0.1.1.0
+call_given scope _ h = tt
 
 -- an event in range is within
-event_within : (settings : Parameters) (e : ScheduledEvent) → 1 ≤ settings.nodes → 1 ≤ settings.threads
-    → IsEvent settings.nodes settings.threads e → IsWithin settings e
-event_within settings (event.Call node thread call) some thread_there h = (
-  below node settings.nodes some h.0.0.1,
-  below thread settings.threads thread_there h.0.1.0.1,
-  call_given call h.0.1.1,
+event_within : (scope : Scope) (e : ScheduledEvent) → 1 ≤ scope.settings.nodes → 1 ≤ scope.settings.threads
+    → IsEvent scope e → IsWithin scope.settings e
+event_within scope (event.Call node thread call) some thread_there h = (
+  below node scope.settings.nodes some h.0.0.1,
+  below thread scope.settings.threads thread_there h.0.1.0.1,
+  call_given scope call h.0.1.1,
 )
-event_within settings (event.Request from to number) some thread_there h =
-    (below from settings.nodes some h.0.0.1, below to settings.nodes some h.0.1.0.1)
-event_within settings (event.Reply from to number) some thread_there h =
-    (below from settings.nodes some h.0.0.1, below to settings.nodes some h.0.1.0.1)
-event_within settings (event.Tick node) some thread_there h = below node settings.nodes some h.0.0.1
-event_within settings (event.Settle rounds) some thread_there h = tt
+event_within scope (event.Request from to number) some thread_there h =
+    (below from scope.settings.nodes some h.0.0.1, below to scope.settings.nodes some h.0.1.0.1)
+event_within scope (event.Reply from to number) some thread_there h =
+    (below from scope.settings.nodes some h.0.0.1, below to scope.settings.nodes some h.0.1.0.1)
+event_within scope (event.Tick node) some thread_there h = below node scope.settings.nodes some h.0.0.1
+event_within scope (event.Settle rounds) some thread_there h = tt
 
 -- so are those of lines in range
-lines_within : (settings : Parameters) (es : List TimedEvent) → 1 ≤ settings.nodes → 1 ≤ settings.threads
-    → AllByRecursion (IsTimed settings.nodes settings.threads) es → AreWithin settings es
-lines_within settings [] some thread_there h i e at = absurd (cc)
-lines_within settings (x ∷ xs) some thread_there h zero e at =
+lines_within : (scope : Scope) (es : List TimedEvent) → 1 ≤ scope.settings.nodes → 1 ≤ scope.settings.threads
+    → AllByRecursion (IsTimed scope) es → AreWithin scope.settings es
+lines_within scope [] some thread_there h i e at = absurd (cc)
+lines_within scope (x ∷ xs) some thread_there h zero e at =
     let same : x ≡ e = cc in
-    subst (λ (y : TimedEvent). IsWithin settings y.event) same
-    (event_within settings x.event some thread_there h.0.event)
-lines_within settings (x ∷ xs) some thread_there h (suc i) e at =
-    lines_within settings xs some thread_there h.1 i e at
+    subst (λ (y : TimedEvent). IsWithin scope.settings y.event) same
+    (event_within scope x.event some thread_there h.0.event)
+lines_within scope (x ∷ xs) some thread_there h (suc i) e at =
+    lines_within scope xs some thread_there h.1 i e at
 
 -- and those of a schedule in range, where there is one
-pub schedule_within : (settings : Parameters) (schedule : Option (List TimedEvent)) → 1 ≤ settings.nodes
-    → 1 ≤ settings.threads → IsScheduleOrNone settings schedule → AreWithin settings (lines_of schedule)
-schedule_within settings None some thread_there h i e at = absurd (cc)
-schedule_within settings (Some es) some thread_there h i e at =
-    lines_within settings es some thread_there h.events_are i e at
+pub schedule_within : (scope : Scope) (schedule : Option (List TimedEvent)) → 1 ≤ scope.settings.nodes
+    → 1 ≤ scope.settings.threads → IsScheduleOrNone scope schedule → AreWithin scope.settings (lines_of schedule)
+schedule_within scope None some thread_there h i e at = absurd (cc)
+schedule_within scope (Some es) some thread_there h i e at =
+    lines_within scope es some thread_there h.events_are i e at
 
 -- and those of a job
 pub job_within : (job : JobState) → IsJob job → AreWithin job.settings (lines_of job.schedule)
 job_within job h =
-    schedule_within job.settings job.schedule h.settings.some_node h.settings.some_thread h.schedule
+    schedule_within (scope_of job) job.schedule h.settings.some_node h.settings.some_thread h.schedule

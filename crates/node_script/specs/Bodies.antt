@@ -1,5 +1,5 @@
 -- What the body of a handler does.
-use Rattle.std.specs.Prelude.{ℕ, ℤ, pos, ◌+◌, ◌+ℤ◌, ◌==◌, ◌||◌, List, map, length, slice_index_or, slice_set}
+use Rattle.std.specs.Prelude.{ℕ, ℤ, pos, ◌+◌, ◌+ℤ◌, ◌==◌, ◌||◌, ◌&&◌, Bool, List, map, length, slice_index_or, slice_set}
 use Rattle.std.specs.Prelude.{Option, Some, None, nat_lt, if◌then◌else◌}
 use Rattle.std.specs.List.{fold, sum}
 use Rattle.std.specs.Int.{w32, int_wrap}
@@ -9,6 +9,8 @@ use Rattle.raw_segment.specs.Image.{Write, overwritten, written_by}
 use Rattle.datagram_grammar.specs.Content.{Content, short_reply, medium_reply, long_reply}
 use Rattle.handler_rules.specs.Runs.{Arrival, Frame, Start, Outcome, untouched, attempted, took_lock, gave_lock}
 use Rattle.handler_rules.specs.Runs.{writing, replying}
+use Rattle.gas_atomic.specs.BatchRequests.{batch_handler, block_handler}
+use Rattle.gas_atomic.specs.Served.{served}
 use Rattle.job_text.specs.declared.job.Operand.{Operand}
 use Rattle.job_text.specs.declared.job.Operand.TheVariants as operand
 use Rattle.job_text.specs.declared.job.Payload.{Payload}
@@ -17,8 +19,7 @@ use Rattle.job_text.specs.declared.job.Action.{Action}
 use Rattle.job_text.specs.declared.job.Action.TheVariants as action
 use Rattle.job_text.specs.declared.job.ReplyAction.{ReplyAction}
 use Rattle.job_text.specs.declared.job.ReplyAction.TheVariants as reply
-use Rattle.job_text.specs.declared.job.HandlerText.{HandlerText}
-use Rattle.node_script.specs.Registration.{body_for}
+use Rattle.node_script.specs.Registration.{JobHandlers, body_for}
 
 -- ---- numbers
 
@@ -123,6 +124,14 @@ act frame start outcome (action.Reply asked) = replied frame start outcome asked
 abbrev pub acts : Frame → Start → Outcome → List Action → Outcome
 acts frame start outcome actions = fold (act frame start) outcome actions
 
--- what the run of a handler of a job gives
-abbrev pub script_meaning : List HandlerText → (index : ℕ) → Frame → Start → Outcome
-script_meaning handlers index frame start = acts frame start (untouched start) (body_for handlers index)
+-- ---- handlers
+
+-- the handler of this index is one of batches of atomic operations
+abbrev pub is_for_batches : JobHandlers → (index : ℕ) → Bool
+is_for_batches handlers index = handlers.atomics && ((index == batch_handler) || (index == block_handler))
+
+-- what the run of a handler of a job gives: one of batches serves them, and another one does what its text says
+abbrev pub script_meaning : JobHandlers → (index : ℕ) → Frame → Start → Outcome
+script_meaning handlers index frame start =
+    if is_for_batches handlers index then served index frame start (untouched start)
+    else acts frame start (untouched start) (body_for handlers index)

@@ -6,7 +6,7 @@ use Rattle.handler_rules.specs.declared.table.Entry.{Entry}
 use Rattle.handler_rules.specs.Registered.{entry_at}
 use Rattle.job_text.specs.declared.job.Action.{Action}
 use Rattle.job_text.specs.declared.job.HandlerText.{HandlerText}
-use Rattle.node_script.specs.Registration.{Registry, body_for, register}
+use Rattle.node_script.specs.Registration.{JobHandlers, Registry, body_for, register}
 
 -- the place among the texts of the one that is registered for the index; none for an index below 128
 abbrev pub place_at : List (Option ℕ) → (index : ℕ) → Option ℕ
@@ -24,9 +24,10 @@ body_at texts None = []
 body_at texts (Some place) = body_of (slice_get texts place)
 
 -- each index has its place, and the place is that of its body
-pub record AreBodies (texts : List HandlerText) (places : List (Option ℕ)) : Type 0 where
+pub record AreBodies (handlers : JobHandlers) (places : List (Option ℕ)) : Type 0 where
   pub long : length places ≡ 128
-  pub each : (index : ℕ) → index < 2 ^ 8 → body_at texts (place_at places index) ≡ body_for texts index
+  pub each : (index : ℕ) → index < 2 ^ 8
+      → body_at handlers.texts (place_at places index) ≡ body_for handlers index
 
 -- the body that is registered for the index, if there is one
 abbrev pub found_body : List (ℕ × List Action) → (index : ℕ) → Option (List Action)

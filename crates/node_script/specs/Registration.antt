@@ -1,23 +1,47 @@
 -- Which handler of a job has which index.
 -- Origin: GASNet 1.8.1, core API, the table of handlers; in which order the indexes are given is this project's
 -- profile.
-use Rattle.std.specs.Prelude.{ℕ, ◌==◌, not, List, [], ◌∷◌, ◌++◌, Option, Result, Ok, Err, if◌then◌else◌}
+use Rattle.std.specs.Prelude.{ℕ, ◌==◌, Bool, true, false, not, List, [], ◌∷◌, ◌++◌, Option, Result, Ok, Err}
+use Rattle.std.specs.Prelude.{if◌then◌else◌}
 use Rattle.std.specs.List.{filter, fold}
 use Rattle.handler_rules.specs.declared.table.Entry.{Entry}
 use Rattle.handler_rules.specs.declared.table.EntryFault.{EntryFault}
 use Rattle.handler_rules.specs.Registered.{no_entries, index_for, only, registering}
+use Rattle.gas_atomic.specs.Served.{batch_entry, block_entry}
 use Rattle.job_text.specs.Locks.{listed_by}
 use Rattle.job_text.specs.declared.job.Action.{Action}
 use Rattle.job_text.specs.declared.job.HandlerText.{HandlerText}
+use Rattle.job_text.specs.declared.job.Job.{Job}
+
+-- the handlers of a job: whether those of batches of atomic operations are among them, and the texts of its own
+pub record JobHandlers : Type 0 where
+  pub atomics : Bool
+  pub texts : List HandlerText
+
+abbrev pub handlers_of : Job → JobHandlers
+handlers_of job = record { atomics = job.atomics; texts = job.handlers }
 
 -- a table of handlers, and the bodies of those that are registered, with their indexes
 pub record Registry : Type 0 where
   pub table : List (Option Entry)
   pub bodies : List (ℕ × List Action)
 
--- nothing is registered
-abbrev pub no_handlers : Registry
-no_handlers = record { table = no_entries; bodies = [] }
+-- ---- before a job's own handlers
+
+-- the table after an entry asked for its index
+abbrev pub with_entry : List (Option Entry) → Entry → List (Option Entry)
+with_entry table entry = registering table entry (index_for table entry.index)
+
+-- the table at first: both handlers of batches are registered, where the job has atomics
+abbrev pub entries_first : (atomics : Bool) → List (Option Entry)
+entries_first false = no_entries
+entries_first true = with_entry (with_entry no_entries batch_entry) block_entry
+
+-- no handler of the job's own is registered
+abbrev pub registered_first : (atomics : Bool) → Registry
+registered_first atomics = record { table = entries_first atomics; bodies = [] }
+
+-- ---- a job's own handlers
 
 -- the entry that a handler asks for
 abbrev pub entry_of : HandlerText → Entry
@@ -40,14 +64,14 @@ abbrev pub in_turn : List HandlerText → List HandlerText
 in_turn texts = filter (λ text. not (text.index == 0)) texts ++ filter (λ text. text.index == 0) texts
 
 -- all handlers of a job
-abbrev pub registered : List HandlerText → Registry
-registered texts = fold register no_handlers (in_turn texts)
+abbrev pub registered : JobHandlers → Registry
+registered handlers = fold register (registered_first handlers.atomics) (in_turn handlers.texts)
 
 -- the body of this index; none, which does nothing, for another one
 abbrev pub body_among : List (ℕ × List Action) → (index : ℕ) → List Action
 body_among [] index = []
 body_among (body ∷ bodies) index = if body.0 == index then body.1 else body_among bodies index
 
--- the body of the handler that is registered for this index
-abbrev pub body_for : List HandlerText → (index : ℕ) → List Action
-body_for texts index = body_among (registered texts).bodies index
+-- the body of the handler of the job's own that is registered for this index
+abbrev pub body_for : JobHandlers → (index : ℕ) → List Action
+body_for handlers index = body_among (registered handlers).bodies index

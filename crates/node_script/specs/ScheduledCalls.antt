@@ -9,6 +9,7 @@ use Rattle.endpoint_rules.specs.TransferCalls.{Begin, BeginImplicit, IsIssued, S
 use Rattle.endpoint_rules.specs.TransferCalls.{RegionBegin, RegionEnd}
 use Rattle.endpoint_rules.specs.BarrierCalls.{Notify, TryBarrier}
 use Rattle.endpoint_rules.specs.Called.{Meant, Requests, Performs}
+use Rattle.gas_atomic.specs.Asking.{batch_asking}
 use Rattle.put_get.specs.declared.operation.Some3.{Some3}
 use Rattle.put_get.specs.declared.operation.Some3.TheVariants as some
 use Rattle.put_get.specs.declared.operation.Transfer.{Transfer}
@@ -87,6 +88,7 @@ meant_by cells call.RegionBegin = Performs (OnTransfers RegionBegin)
 meant_by cells (call.RegionEnd register) = Performs (OnTransfers (RegionEnd register))
 meant_by cells (call.Notify id flags) = Performs (OnBarrier (Notify id flags))
 meant_by cells (call.TryBarrier id flags) = Performs (OnBarrier (TryBarrier id flags))
+meant_by cells (call.Atomic batch) = Requests batch.to (batch_asking batch.request)
 
 -- the payload of a request is one of a schedule
 abbrev pub IsGiven : ScheduledCall → Type 0
@@ -101,6 +103,7 @@ IsOwn (call.Short to handler operands) = ⊥
 IsOwn (call.Medium text) = ⊥
 IsOwn (call.Long text) = ⊥
 IsOwn (call.LongAsync text) = ⊥
+IsOwn (call.Atomic batch) = ⊥
 IsOwn _ = Unit {0}
 
 -- the call is one on the own segment

@@ -2,10 +2,9 @@
 use Rattle.std.specs.Prelude.{◌≡◌, ℕ, ◌<◌, List, Option, Some, slice_get}
 use Rattle.datagram_grammar.specs.Parameters.{Parameters}
 use Rattle.handler_rules.specs.declared.table.Entry.{Entry}
-use Rattle.node_script.specs.Registration.{registered}
+use Rattle.node_script.specs.Registration.{JobHandlers, registered}
 use Rattle.node_script.specs.ScheduledCalls.{IsGiven}
 use Rattle.job_text.specs.JobReading.{lines_of}
-use Rattle.job_text.specs.declared.job.HandlerText.{HandlerText}
 use Rattle.job_text.specs.declared.job.ScheduledEvent.{ScheduledEvent}
 use Rattle.job_text.specs.declared.job.ScheduledEvent.TheVariants as scheduled
 use Rattle.job_text.specs.declared.job.TimedEvent.{TimedEvent}
@@ -27,7 +26,7 @@ AreWithin settings events =
 
 -- the table is the one in which the handlers are registered, and the nodes and threads that the lines of the schedule
 -- name are there
-pub record IsMade (settings : Parameters) (handlers : List HandlerText) (table : List (Option Entry))
+pub record IsMade (settings : Parameters) (handlers : JobHandlers) (table : List (Option Entry))
     (schedule : Option (List TimedEvent)) : Type 0 where
   pub table_is : table ≡ (registered handlers).table
   pub within : AreWithin settings (lines_of schedule)

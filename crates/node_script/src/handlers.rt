@@ -3,10 +3,13 @@
 ghost use Rattle.std.specs.Prelude.{◌≡◌, IfOk, List, None, Some, length, replicate, slice_get};
 ghost use Rattle.job_text.specs.declared.job.HandlerText.{HandlerText};
 ghost use Rattle.handler_rules.specs.Registered.{no_entries};
-ghost use Rattle.node_script.specs.Registration.{body_for, entry_of, register, registered};
+ghost use Rattle.node_script.specs.Bodies.{is_for_batches};
+ghost use Rattle.node_script.specs.Registration.{JobHandlers, body_for, entries_first, entry_of, register};
+ghost use Rattle.node_script.specs.Registration.{registered};
 ghost use Rattle.node_script.specs.Places.{ArePlaced, AtRegistering, body_at, place_at, placing, register_turn};
 
 use crate::body::do_all;
+use gas_atomic::{BATCH_HANDLER, BLOCK_HANDLER, entries, serve};
 use handler_rules::{Cells, Desk, Entry, Handlers, Serves, Table};
 use job_text::{Action, HandlerText, HandlerTexts};
 use raw_segment::Segment;
@@ -19,46 +22,67 @@ const LOWEST: u8 = 128;
 /// How many indexes a client's handlers have.
 const PLACES: usize = 128;
 
-/// The handlers of a job, each with the actions of its body.
+/// The handlers of a job, each with the actions of its body; and those of batches of atomic operations, where the job
+/// has them.
 #[derive(Drop)]
 pub struct ScriptHandlers {
+    atomics: bool,
     texts: HandlerTexts,
     /// For each index from 128 to 255 the place among the texts of the one that is registered for it.
     places: Vec<Option<usize>>,
 }
 
 impl Model for ScriptHandlers {
-    ghost use Rattle.std.specs.Prelude.{List};
-    ghost use Rattle.job_text.specs.declared.job.HandlerText.{HandlerText};
     ghost use Rattle.node_script.specs.Places.{AreBodies};
+    ghost use Rattle.node_script.specs.Registration.{JobHandlers};
 
-    ghost Value = { List HandlerText };
+    ghost Value = { JobHandlers };
 
-    ghost view = { λ h. h.texts };
+    ghost view = { λ h. record { atomics = h.atomics; texts = h.texts } };
 
-    ghost invariant = { λ h. AreBodies h.texts h.places.items };
+    ghost invariant = { λ h.
+        AreBodies (record { atomics = h.atomics; texts = h.texts }) h.places.items };
 }
 
 impl ScriptHandlers {
-    /// These handlers, and the table in which they are registered: first those with an index of their own, in order,
-    /// and then those that ask for any. One whose index is refused isn't registered, and never runs.
+    /// These handlers, and the table in which they are registered: first those of batches, where the job has atomics,
+    /// then those with an index of their own, in order, and then those that ask for any. One whose index is refused
+    /// isn't registered, and never runs.
     ///
     /// It is refused for want of memory alone.
     pub(crate) fn new(
         alloc: Global,
+        atomics: bool,
         texts: HandlerTexts,
     ) -> Result<(ScriptHandlers, Table), AllocError>
-        ensures handlers { IfOk result (λ made. made.0 ≡ texts) }
-        ensures table { IfOk result (λ made. made.1 ≡ (registered texts).table) }
+        ensures handlers { IfOk result (λ made.
+            made.0 ≡ record { atomics = atomics; texts = texts }) }
+        ensures table { let handlers : JobHandlers = record { atomics = atomics; texts = texts } in
+            IfOk result (λ made. made.1 ≡ (registered handlers).table) }
     {
         let mut table = Table::new(alloc)?;
         let mut places = [None; PLACES];
-        register_all(texts.texts(), &mut table, &mut places);
+        register_first(atomics, &mut table);
+        register_all(atomics, texts.texts(), &mut table, &mut places);
         let places = Vec::from_array(alloc, places)?;
-        Ok((ScriptHandlers { texts, places }, table))
+        Ok((
+            ScriptHandlers {
+                atomics,
+                texts,
+                places,
+            },
+            table,
+        ))
     }
 
-    /// The actions of the handler of this index; none where there is no such handler.
+    /// Whether the handler of this index is one of batches.
+    fn is_for_batches(&self, index: u8) -> bool
+        ensures { result ≡ is_for_batches self.now index }
+    {
+        self.atomics && (index == BATCH_HANDLER || index == BLOCK_HANDLER)
+    }
+
+    /// The actions of the handler of the job's own of this index; none where there is no such handler.
     fn actions(&self, index: u8) -> &[Action]
         ensures { result.now ≡ body_for self.now index }
     {
@@ -90,11 +114,30 @@ fn actions_at(texts: &[HandlerText], place: Option<usize>) -> &[Action]
     }
 }
 
-/// Registers all in their turns: first those with an index of their own, and then those that ask for any.
-fn register_all(texts: &[HandlerText], table: &mut Table, places: &mut [Option<usize>])
-    requires table { table.old ≡ no_entries }
+/// Registers both handlers of batches, where the job has atomics.
+fn register_first(atomics: bool, table: &mut Table)
+    requires { table.old ≡ no_entries }
+    ensures { table.new ≡ entries_first atomics }
+{
+    if atomics {
+        let entries = entries();
+        let _ = table.register(entries[0]);
+        let _ = table.register(entries[1]);
+    }
+}
+
+/// Registers all of the job's own in their turns: first those with an index of their own, and then those that ask for
+/// any.
+fn register_all(
+    atomics: bool,
+    texts: &[HandlerText],
+    table: &mut Table,
+    places: &mut [Option<usize>],
+)
+    requires table { table.old ≡ entries_first atomics }
     requires places { places.old ≡ replicate 128 None }
-    ensures { ArePlaced texts.now (registered texts.now) table.new places.new }
+    ensures { ArePlaced texts.now (registered (record { atomics = atomics; texts = texts.now }))
+        table.new places.new }
 {
     register_those(texts, false, table, places);
     register_those(texts, true, table, places);
@@ -147,6 +190,10 @@ impl Handlers for ScriptHandlers {
     ghost is_lawful = { lawful-script };
 
     fn run(&self, handler: u8, segment: &mut Segment, cells: &mut Cells, desk: &mut Desk<'_>) {
-        do_all(self.actions(handler), segment, cells, desk);
+        if self.is_for_batches(handler) {
+            serve(handler, segment, desk);
+        } else {
+            do_all(self.actions(handler), segment, cells, desk);
+        }
     }
 }

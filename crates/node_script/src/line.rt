@@ -2,7 +2,8 @@
 
 ghost use Rattle.std.specs.Prelude.{◌≡◌, ℤ, List, [], map};
 ghost use Rattle.am_core.specs.AskedFor.{payload_from};
-ghost use Rattle.endpoint_rules.specs.Called.{meant};
+ghost use Rattle.endpoint_rules.specs.Called.{Requests, meant};
+ghost use Rattle.gas_atomic.specs.Asking.{batch_asking};
 ghost use Rattle.node_script.specs.Callable.{IsCallable};
 ghost use Rattle.node_script.specs.Bodies.{operand_value};
 ghost use Rattle.node_script.specs.ScheduledCalls.{IsGiven, IsOnSegment, IsOnTransfers, IsOwn, given_from, meant_by};
@@ -12,9 +13,11 @@ ghost use Rattle.job_text.specs.Payloads.{IsPayload};
 use crate::body_numbers::{value_of, values_of};
 use am_core::Payload;
 use endpoint_rules::Call;
+use gas_atomic::BATCH_HANDLER;
 use handler_rules::Cells;
 use job_text::{
-    ImplicitKind, LongText, MediumText, Operands, Payload as Given, ScheduledCall, TransferText,
+    BatchText, ImplicitKind, LongText, MediumText, Operands, Payload as Given, ScheduledCall,
+    TransferText,
 };
 use put_get::{Some3, Transfer};
 
@@ -37,6 +40,7 @@ pub fn call_of<'a>(call: &'a ScheduledCall, cells: &Cells, args: &'a mut [i32; 1
         ScheduledCall::Medium { text } => medium_of(text.text(), cells, args),
         ScheduledCall::Long { text } => long_of(text.text(), cells, args),
         ScheduledCall::LongAsync { text } => async_of(text.text(), cells, args),
+        ScheduledCall::Atomic { batch } => batch_of(batch.text()),
         _ => own_call_of(call, cells),
     }
 }
@@ -107,6 +111,19 @@ fn async_of<'a>(text: &'a LongText, cells: &Cells, args: &'a mut [i32; 17]) -> C
         args: args_of(&text.operands, cells, args),
         payload: payload_of(&text.payload),
         offset: text.offset,
+    }
+}
+
+/// The request of a batch of atomic operations.
+fn batch_of(batch: &BatchText) -> Call<'_>
+    ensures meant { meant result ≡ Requests batch.now.to (batch_asking batch.now.request) }
+    ensures callable { IsCallable result }
+{
+    Call::Medium {
+        to: batch.to(),
+        handler: BATCH_HANDLER,
+        args: batch.arguments(),
+        payload: Payload::Lent(batch.payload()),
     }
 }
 

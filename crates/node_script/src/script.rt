@@ -4,7 +4,7 @@ ghost use Rattle.std.specs.Prelude.{◌≡◌, IfOk, IfSome, length, slice_get};
 ghost use Rattle.std.specs.Option.{option_map};
 ghost use Rattle.job_text.specs.JobReading.{lines_of};
 ghost use Rattle.job_text.specs.JobText.{IsJob};
-ghost use Rattle.node_script.specs.Registration.{registered};
+ghost use Rattle.node_script.specs.Registration.{handlers_of, registered};
 ghost use Rattle.node_script.specs.ScriptInvariant.{IsWithin};
 
 use crate::handlers::ScriptHandlers;
@@ -37,7 +37,8 @@ impl Model for Script {
       settings = script.settings;
       patience = script.patience;
       sieve = script.sieve;
-      handlers = script.handlers;
+      atomics = script.handlers.atomics;
+      handlers = script.handlers.texts;
       scripts = script.scripts;
       schedule = script.schedule;
     } };
@@ -58,11 +59,12 @@ impl Script {
             settings,
             patience,
             sieve,
+            atomics,
             handlers,
             scripts,
             schedule,
         } = job;
-        let (handlers, table) = ScriptHandlers::new(alloc, handlers)?;
+        let (handlers, table) = ScriptHandlers::new(alloc, atomics, handlers)?;
         Ok(Script {
             settings,
             patience,
@@ -97,14 +99,14 @@ impl Script {
 
     /// The handlers.
     pub fn handlers(&self) -> &ScriptHandlers
-        ensures { result.now ≡ self.now.handlers }
+        ensures { result.now ≡ handlers_of self.now }
     {
         &self.handlers
     }
 
     /// The table in which the handlers are registered.
     pub fn table(&self) -> &Table
-        ensures { result.now ≡ (registered self.now.handlers).table }
+        ensures { result.now ≡ (registered (handlers_of self.now)).table }
     {
         &self.table
     }

@@ -1,10 +1,10 @@
 -- What a body of a handler leaves and says fits, where what it finds does.
-use Rattle.std.proofs.Common.{◌≡◌, inl, inr, ℕ, zero, suc, ◌+◌, ◌<◌, ◌^◌, ◌||◌, Bool, List, []}
+use Rattle.std.proofs.Common.{◌≡◌, inl, inr, ℕ, zero, suc, ◌+◌, ◌++◌, ◌<◌, ◌^◌, ◌||◌, Bool, true, false, List, []}
 use Rattle.std.proofs.Common.{◌∷◌, map, length, Option, None, Some, Result, Ok, Err, refl, ◌∙◌, arith}
 use Rattle.std.proofs.Common.{rules, ℤ, nat_lt}
-use Rattle.std.specs.Prelude.{◌==◌, pos, slice_index_or}
-use Rattle.std.specs.List.{AllByRecursion, fold, filter}
-use Rattle.std.specs.Int.{w32, int_wrap}
+use Rattle.std.specs.Prelude.{◌==◌, if◌then◌else◌, pos, slice_index_or}
+use Rattle.std.specs.List.{AllByRecursion, flat_map, fold, filter}
+use Rattle.std.specs.Int.{w32, w64, int_wrap, to_le_bytes}
 use Rattle.std.specs.Int.RustNames.{FitsSigned}
 use Rattle.std.specs.Option.{option_map}
 use Rattle.std.proofs.lemmas.Bool.{cases_Bool}
@@ -12,12 +12,17 @@ use Rattle.std.proofs.lemmas.List.{length-set}
 use Rattle.lists.proofs.Members.{all_append}
 use Rattle.datagram_grammar.specs.Content.{Content}
 use Rattle.datagram_grammar.specs.Parameters.{Parameters, AreInRange}
-use Rattle.raw_segment.specs.Image.{Write}
+use Rattle.raw_segment.specs.Image.{Write, overwritten, written_by}
 use Rattle.handler_rules.specs.declared.message.Replied.{Replied}
 use Rattle.handler_rules.specs.declared.message.Replied.TheVariants as replies_as
 use Rattle.handler_rules.specs.declared.table.EntryFault.{EntryFault}
 use Rattle.handler_rules.specs.Registered.{index_for}
 use Rattle.handler_rules.specs.Runs.{Arrival, Frame, Start, Outcome, answer, after_answer, untouched}
+use Rattle.gas_atomic.specs.declared.word.WordOp.{WordOp}
+use Rattle.gas_atomic.specs.BatchRequests.{BatchRequest, batch_handler}
+use Rattle.gas_atomic.specs.Served.{after_batch, after_request, block_reply, change_of, changes_of, olds_of}
+use Rattle.gas_atomic.specs.Served.{request_for, served, word_in}
+use Rattle.gas_atomic.specs.Words.{applied_by}
 use Rattle.job_text.specs.Bodies.{IsAction, IsReply}
 use Rattle.job_text.specs.JobText.{IsHandler}
 use Rattle.job_text.specs.Payloads.{IsBodyPayload}
@@ -35,13 +40,14 @@ use Rattle.job_text.specs.declared.job.ReplyAction.TheVariants as reply
 use Rattle.node_script.specs.Bodies.{operand_value, operand_at, with_cell, segment_at, placed_bytes}
 use Rattle.node_script.specs.Bodies.{range_bytes, payload_bytes, kept_write, writing_if, reply_content, replying_if}
 use Rattle.node_script.specs.Bodies.{act}
-use Rattle.node_script.specs.Bodies.{acts, script_meaning}
+use Rattle.node_script.specs.Bodies.{acts, is_for_batches, script_meaning}
 use Rattle.node_script.specs.LawfulBodies.{lawful-script}
-use Rattle.node_script.specs.Registration.{Registry, no_handlers, with_index, register, in_turn, registered}
-use Rattle.node_script.specs.Registration.{body_among, body_for}
+use Rattle.node_script.specs.Registration.{JobHandlers, Registry, with_index, register, in_turn, registered}
+use Rattle.node_script.specs.Registration.{body_among, body_for, registered_first}
 use Rattle.node_runs.specs.Fitting.{AreNumbers, AreBytes, ContentFits, ReplyFits, FindsFitting, LeavesFitting}
+use Rattle.node_runs.specs.Fitting.{WriteBytes}
 use Rattle.node_runs.specs.Fitting.{IsFittingMeaning, IsFittingJob}
-use Rattle.node_runs.proofs.Bytes.{bytes_none, bytes_part, bytes_written}
+use Rattle.node_runs.proofs.Bytes.{bytes_append, bytes_none, bytes_part, bytes_word, bytes_written}
 use Rattle.node_runs.proofs.Speaking.{numbers_set}
 
 -- ---- numbers
@@ -237,12 +243,17 @@ all_filtered P test (x ∷ xs) all = elim (cases_Bool (test x)) [
   | inr fails ↦ rw fails (all_filtered P test xs all.1)
 ]
 
-registered_is : (texts : List HandlerText) → AllByRecursion IsHandler texts → IsRegistry (registered texts)
-registered_is texts is =
-    all_are no_handlers (in_turn texts)
-    (all_append IsHandler (filter _ texts) (filter _ texts) (all_filtered IsHandler _ texts is)
-    (all_filtered IsHandler _ texts is))
-    (record { bodies = tt; places = refl })
+-- no body is there at first
+first_is : (atomics : Bool) → IsRegistry (registered_first atomics)
+first_is true = record { bodies = tt; places = refl }
+first_is false = record { bodies = tt; places = refl }
+
+registered_is : (handlers : JobHandlers) → AllByRecursion IsHandler handlers.texts → IsRegistry (registered handlers)
+registered_is handlers is =
+    all_are (registered_first handlers.atomics) (in_turn handlers.texts)
+    (all_append IsHandler (filter _ handlers.texts) (filter _ handlers.texts)
+    (all_filtered IsHandler _ handlers.texts is) (all_filtered IsHandler _ handlers.texts is))
+    (first_is handlers.atomics)
 
 body_is : (bodies : List (ℕ × List Action)) (index : ℕ)
     → AllByRecursion (λ (body : ℕ × List Action). AllByRecursion IsAction body.1) bodies
@@ -253,15 +264,66 @@ body_is (body ∷ bodies) index all = elim (cases_Bool (body.0 == index)) [
   | inr later ↦ rw later (body_is bodies index all.1)
 ]
 
-pub handlers_fit : (handlers : List HandlerText) → AllByRecursion IsHandler handlers
-    → IsFittingMeaning (script_meaning handlers)
-handlers_fit handlers is index frame start finds =
-    acts_fit frame start (untouched start) (body_for handlers index)
-    (body_is (registered handlers).bodies index (registered_is handlers is).bodies) finds
-    (record { cells = finds.cells; writes = tt; reply = tt })
+-- ---- batches
 
-pub job_fits : (settings : Parameters) (handlers : List HandlerText)
-    → AreInRange settings → settings.job < 2 ^ 64 → settings.last < 2 ^ 64 → AllByRecursion IsHandler handlers
+changes_fit : (segment : List ℕ) (ops : List WordOp) → WriteBytes (changes_of segment ops)
+changes_fit segment [] = tt
+changes_fit segment (word ∷ ops) = (
+  bytes_word (applied_by (word_in segment word.offset) word),
+  changes_fit (overwritten segment (change_of segment word)) ops,
+)
+
+words_fit : (numbers : List ℕ) → AreBytes (flat_map (to_le_bytes w64) numbers)
+words_fit [] = bytes_none
+words_fit (number ∷ numbers) =
+    bytes_append (to_le_bytes w64 number) (flat_map (to_le_bytes w64) numbers) (bytes_word number) (words_fit numbers)
+
+batch_fits : (frame : Frame) (segment : List ℕ) (said : Option BatchRequest) (outcome : Outcome)
+    → LeavesFitting outcome → LeavesFitting (after_batch frame segment said outcome)
+batch_fits frame segment None outcome leaves = leaves
+batch_fits frame segment (Some request) outcome leaves =
+    let acted : Outcome = record outcome { writes = outcome.writes ++ changes_of segment request.ops } in
+    replied_fits frame (block_reply segment request) acted (answer frame (block_reply segment request) acted)
+    (record { args = tt; payload = words_fit (olds_of segment request.ops ++ request.tag ∷ []) })
+    (record {
+      cells = leaves.cells;
+      writes = all_append (λ (write : Write). AreBytes write.bytes) outcome.writes (changes_of segment request.ops)
+          leaves.writes (changes_fit segment request.ops);
+      reply = leaves.reply;
+    })
+
+served_fits : (handler : ℕ) (frame : Frame) (start : Start) (outcome : Outcome) → LeavesFitting outcome
+    → LeavesFitting (served handler frame start outcome)
+served_fits handler frame start outcome leaves = by_handler (handler == batch_handler)
+  where
+    by_handler : (requests : Bool)
+        → LeavesFitting (if requests then after_request frame start outcome else outcome)
+    by_handler true =
+        batch_fits frame (written_by start.segment outcome.writes) (request_for (length start.segment) frame.arrival)
+        outcome leaves
+    by_handler false = leaves
+
+-- ---- handlers
+
+pub handlers_fit : (handlers : JobHandlers) → AllByRecursion IsHandler handlers.texts
+    → IsFittingMeaning (script_meaning handlers)
+handlers_fit handlers is index frame start finds = by_handler (is_for_batches handlers index)
+  where
+    nothing : LeavesFitting (untouched start)
+    nothing = record { cells = finds.cells; writes = tt; reply = tt }
+
+    by_handler : (batches : Bool)
+        → LeavesFitting
+        (if batches then served index frame start (untouched start)
+        else acts frame start (untouched start) (body_for handlers index))
+    by_handler true = served_fits index frame start (untouched start) nothing
+    by_handler false =
+        acts_fit frame start (untouched start) (body_for handlers index)
+        (body_is (registered handlers).bodies index (registered_is handlers is).bodies) finds nothing
+
+pub job_fits : (settings : Parameters) (handlers : JobHandlers)
+    → AreInRange settings → settings.job < 2 ^ 64 → settings.last < 2 ^ 64
+    → AllByRecursion IsHandler handlers.texts
     → IsFittingJob settings (registered handlers).table (script_meaning handlers)
 job_fits settings handlers range job last is = record {
   range = range;

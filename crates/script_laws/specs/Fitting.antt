@@ -1,30 +1,46 @@
 -- The handlers and settings that a text can say make a fitting job, and its calls say what fits.
 -- Origin: this project's profile.
-use Rattle.std.specs.Prelude.{ℤ, ◌<◌, ◌^◌, List}
+use Rattle.std.specs.Prelude.{ℤ, ◌≡◌, ◌<◌, ◌^◌, List, true}
 use Rattle.std.specs.List.{AllByRecursion}
 use Rattle.datagram_grammar.specs.Parameters.{Parameters, AreInRange}
+use Rattle.gas_atomic.specs.Served.{HasBatches, ServesBatches}
+use Rattle.atomic_laws.specs.AtomicLaws.{AtomicsHold}
 use Rattle.job_text.specs.Calls.{IsCall}
 use Rattle.job_text.specs.JobText.{IsHandler}
-use Rattle.job_text.specs.declared.job.HandlerText.{HandlerText}
 use Rattle.job_text.specs.declared.job.ScheduledCall.{ScheduledCall}
+use Rattle.job_text.specs.declared.scope.Scope.{Scope}
 use Rattle.node_script.specs.Bodies.{script_meaning}
-use Rattle.node_script.specs.Registration.{registered}
+use Rattle.node_script.specs.Registration.{JobHandlers, registered}
 use Rattle.node_script.specs.ScheduledCalls.{meant_by}
 use Rattle.node_runs.specs.Fitting.{AreNumbers, CallFits, IsFittingMeaning, IsFittingJob}
 
 -- where a body finds what fits, it leaves and says what fits
 abbrev pub HandlersFit : Type 0
 HandlersFit =
-    (handlers : List HandlerText) → AllByRecursion IsHandler handlers → IsFittingMeaning (script_meaning handlers)
+    (handlers : JobHandlers) → AllByRecursion IsHandler handlers.texts → IsFittingMeaning (script_meaning handlers)
 
 -- settings within their limits, of the types of their places, and such handlers
 abbrev pub JobsFit : Type 0
 JobsFit =
-    (settings : Parameters) (handlers : List HandlerText)
-    → AreInRange settings → settings.job < 2 ^ 64 → settings.last < 2 ^ 64 → AllByRecursion IsHandler handlers
+    (settings : Parameters) (handlers : JobHandlers)
+    → AreInRange settings → settings.job < 2 ^ 64 → settings.last < 2 ^ 64
+    → AllByRecursion IsHandler handlers.texts
     → IsFittingJob settings (registered handlers).table (script_meaning handlers)
 
 -- what a call that can be said says and writes fits, where the cells of its node are numbers of 32 bits
 abbrev pub CallsFit : Type 0
 CallsFit =
-    (cells : List ℤ) (call : ScheduledCall) → AreNumbers cells → IsCall call → CallFits (meant_by cells call)
+    (scope : Scope) (cells : List ℤ) (call : ScheduledCall) → AreNumbers cells → IsCall scope call
+    → CallFits (meant_by cells call)
+
+-- where a job has atomics, both handlers of batches are registered, and run as batches are served
+abbrev pub BatchesAreServed : Type 0
+BatchesAreServed =
+    (handlers : JobHandlers) → handlers.atomics ≡ true
+    → HasBatches (registered handlers).table × ServesBatches (script_meaning handlers)
+
+-- so the laws of batches hold of every run with its handlers, where its settings are in range
+abbrev pub BatchesHold : Type 0
+BatchesHold =
+    (settings : Parameters) (handlers : JobHandlers) → AreInRange settings → handlers.atomics ≡ true
+    → AtomicsHold settings (registered handlers).table (script_meaning handlers)

@@ -1,13 +1,15 @@
 //! What holds of the handlers and calls of a job's text.
 
-ghost use Rattle.script_laws.specs.Fitting.{HandlersFit, JobsFit, CallsFit};
+ghost use Rattle.script_laws.specs.Fitting.{BatchesAreServed, BatchesHold, CallsFit, HandlersFit, JobsFit};
 
 /// Carries what this crate proves of the handlers and calls of a job's text, for the check alone: it has no
 /// code.
 ///
 /// `handlers`: handlers whose words can be said in a text leave and say what fits. `jobs`: with
 /// settings that can be said they make a fitting job. `calls`: what a call that can be said says
-/// and writes fits, where the cells of its node are numbers of 32 bits.
+/// and writes fits, where the cells of its node are numbers of 32 bits. `batches`: where a job has atomics, its table
+/// has both handlers of batches, and they run as `serve` of `gas_atomic` does. `atomics`: so the laws of batches hold of
+/// its runs.
 pub fn fitting_law()
     // What a body leaves and says fits, where what it finds does.
     ensures handlers { HandlersFit }
@@ -15,4 +17,8 @@ pub fn fitting_law()
     ensures jobs { JobsFit }
     // What a call says and writes fits, where the cells of its node do.
     ensures calls { CallsFit }
+    // A job with atomics has the handlers of batches, and they serve batches.
+    ensures batches { BatchesAreServed }
+    // So the laws of batches hold of every run with its handlers.
+    ensures atomics { BatchesHold }
 {}

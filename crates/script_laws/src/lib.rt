@@ -4,7 +4,8 @@
 //! that can be said, make a fitting job (`IsFittingJob` of `node_runs`). Each run is lawful; where a handler finds
 //! numbers and bytes that fit their places in a message, it leaves and says such ones; and the table of handlers has
 //! 128 places. So the traces of such a job are a run of the world in each order in which they can go, where their
-//! scripts' calls fit too, as each call that can be said does [`calls`]. It has no code.
+//! scripts' calls fit too, as each call that can be said does [`calls`]. A job with atomics serves batches [`batches`],
+//! so that the laws of batches hold of every run with its handlers [`atomics`]. It has no code.
 #![tactic(auto)]
 
 mod laws;

@@ -2,16 +2,19 @@
 use Rattle.std.proofs.Common.{◌≡◌, ℕ, ℤ, Bool, true, false, true≢false, cond, ◌&&◌, map, List, [], ◌∷◌, ◌++◌, Option}
 use Rattle.std.proofs.Common.{None, Some, refl, sym, ap, ◌∙◌, subst}
 use Rattle.std.specs.Prelude.{◌==◌, is_some, is_none, Result, Ok, Err}
+use Rattle.std.specs.Int.{w64, from_le_bytes}
 use Rattle.std.specs.Option.{option_map, option_to_list}
 use Rattle.std.proofs.lemmas.List.{append-nil}
 use Rattle.std.proofs.lemmas.Option.{same_Some}
 use Rattle.datagram_grammar.specs.Parameters.{Parameters}
 use Rattle.handler_rules.specs.Runs.{Meaning, lock_refusal}
+use Rattle.raw_segment.specs.Bytes.{part}
+use Rattle.raw_segment.specs.Image.{Write}
 use Rattle.handler_rules.specs.declared.rules.Forbidden.{Forbidden}
 use Rattle.handler_rules.specs.declared.rules.CallKind.TheVariants as kinds
 use Rattle.handler_rules.specs.declared.rules.Violation.{Violation}
 use Rattle.handler_rules.specs.declared.table.Entry.{Entry}
-use Rattle.am_core.specs.Kept.{Local, with_locks}
+use Rattle.am_core.specs.Kept.{Local, with_locks, segment_of}
 use Rattle.am_core.specs.ClientRules.{with_violations, short_asking, medium_asking, long_asking}
 use Rattle.hsl_locks.specs.Locks.{lock_answer, after_lock}
 use Rattle.hsl_locks.specs.declared.answer.LockAnswer.{LockAnswer}
@@ -34,7 +37,8 @@ use Rattle.node_record.specs.Step.{Site, request_answer, after_request, with_loc
 use Rattle.node_record.specs.NodeStep.{Job, site_of, node_answer, node_after}
 use Rattle.node_record.specs.declared.answer.Asked.{Asked}
 use Rattle.node_record.specs.declared.answer.Asked.TheVariants as asked
-use Rattle.endpoint_rules.specs.CoreCalls.{Cell, Lock}
+use Rattle.endpoint_rules.specs.CoreCalls.{Lock, OnSegment}
+use Rattle.endpoint_rules.specs.Memory.{LoadWord, unless_fault, word_fault}
 use Rattle.endpoint_rules.specs.BarrierCalls.{TryBarrier, barrier_does}
 use Rattle.endpoint_rules.specs.TransferCalls.{Caller, TransferCall, transfer_does, Sync, SyncHandle, SyncAll, SyncSome}
 use Rattle.endpoint_rules.specs.TransferCalls.{SyncImplicit, transfer_kind, handle_in, emptied_by, whole_registers}
@@ -45,7 +49,10 @@ use Rattle.endpoint_rules.specs.EndpointRules.{unless_forbidden}
 use Rattle.endpoint_rules.specs.EndpointRules.{with_barrier}
 use Rattle.endpoint_rules.specs.declared.answer.Answer.{Answer}
 use Rattle.endpoint_rules.specs.declared.answer.Answer.TheVariants as answers
+use Rattle.endpoint_rules.specs.declared.answer.Local.{Local as LocalAnswer}
+use Rattle.endpoint_rules.specs.declared.answer.Local.TheVariants as local
 use Rattle.endpoint_rules.specs.declared.answer.Region.TheVariants as region
+use Rattle.gas_atomic.specs.Asking.{batch_asking}
 use Rattle.job_text.specs.declared.job.ScheduledCall.{ScheduledCall}
 use Rattle.job_text.specs.declared.job.ScheduledCall.TheVariants as call
 use Rattle.job_text.specs.declared.job.ScriptStep.{ScriptStep}
@@ -233,6 +240,20 @@ sync_implicit_waits some = record {
       e;
 }
 
+-- a look at a word
+nothing_written : (fault : Option LocalAnswer) (answer : LocalAnswer) (writes : List Write)
+    → writes ++ (unless_fault fault (answer, [])).1 ≡ writes
+nothing_written None answer writes = append-nil writes
+nothing_written (Some fault) answer writes = append-nil writes
+
+word_leaves : (place : Place) (node : Node EndpointLocal) (offset : ℕ)
+    → after_of place node (Performs (OnCore (OnSegment (LoadWord offset)))) ≡ node
+word_leaves place node offset =
+    let segment = segment_of place.settings node.local.core in
+    ap (λ (writes : List Write). with_local node (with_core node.local (record node.local.core { writes = writes })))
+    (nothing_written (word_fault segment offset) (local.Number (from_le_bytes w64 (part segment offset 8)))
+    node.local.core.writes)
+
 -- the barrier
 tried_leaves : (kept : BarrierRecord) (says : BarrierAnswer) → is_not_ready (answers.Barrier says) ≡ true
     → try_after kept says ≡ kept
@@ -265,7 +286,7 @@ barrier_leaves place node id flags e =
 abbrev WaitsCalm : TryContext → Node EndpointLocal → Form EndpointLocal → Type 0
 WaitsCalm place node (Once made) = Unit {0}
 WaitsCalm place node (Again waits made) = Leaves waits place node made
-WaitsCalm place node (Until cell value) = Unit {0}
+WaitsCalm place node (Until call ends) = after_of place node call ≡ node
 WaitsCalm place node (Twice begin next waits says) =
     (first : Answer) (made : ThreadCall) → next first ≡ Some made → Leaves waits place node made
 WaitsCalm place node (Looks begin ready) = Unit {0}
@@ -286,6 +307,7 @@ call_calm place node (call.LongAsync text) =
     request_leaves place node text.to
     (long_asking text.handler (map (operand_value node.local.core.cells []) text.operands) (given_from text.payload)
     text.offset)
+call_calm place node (call.Atomic batch) = request_leaves place node batch.to (batch_asking batch.request)
 call_calm place node (call.Lock lock) = lock_leaves place node lock
 call_calm place node _ = tt
 
@@ -299,7 +321,9 @@ second_calm place node (Some handle) made e =
 
 waiting_calm : (place : TryContext) (node : Node EndpointLocal) (one : WaitingStep)
     → WaitsCalm place node (waiting_form node.local.core.cells one)
-waiting_calm place node (waiting.Until cell operand) = tt
+waiting_calm place node (waiting.Until cell operand) = refl
+waiting_calm place node (waiting.UntilWord offset number) =
+    word_leaves place node offset
 waiting_calm place node (waiting.Transfer transfer) =
     λ first made e. second_calm place node (begun_handle first) made e
 waiting_calm place node (waiting.PutBegin register put) = tt
@@ -352,7 +376,7 @@ form_calm : (place : TryContext) (node : Node EndpointLocal) (form : Form Endpoi
     ended ≡ None → (begins form && is_none began && is_none ended) ≡ false → after_calls place node calls ≡ node
 form_calm place node (Once call) began calm e b = absurd (cc)
 form_calm place node (Again waits call) began calm e b = calm (waits_there _ _ e)
-form_calm place node (Until cell value) began calm e b = refl
+form_calm place node (Until call ends) began calm e b = calm
 form_calm place node (Twice begin next waits says) None calm e b = absurd (begun_now _ e b)
 form_calm place node (Twice begin next waits says) (Some first) calm e b =
     second_waits place node (after_calls place node (option_to_list (next first))) begin next waits says first

@@ -196,7 +196,7 @@ first_call : (form : Form EndpointLocal) → begins form ≡ true
     → (call : ThreadCall) × (slice_get (calls_of form None) 0 ≡ Some call)
 first_call (Once call) starts = (call, refl)
 first_call (Again waits call) starts = (call, refl)
-first_call (Until cell value) starts = absurd (true≢false (sym starts))
+first_call (Until call ends) starts = absurd (true≢false (sym starts))
 first_call (Twice begin next waits says) starts = (begin, refl)
 first_call (Looks begin ready) starts = (begin, refl)
 first_call (Several calls says) starts = absurd (true≢false (sym starts))

@@ -1,6 +1,6 @@
 -- How each step of a script is tried, and where it ends.
 -- Origin: this project's profile; waiting is that of the blocking calls of GASNet 1.8.1.
-use Rattle.std.specs.Prelude.{ℤ, Bool, true, false, not, List, [], Option, None, Some}
+use Rattle.std.specs.Prelude.{ℕ, ℤ, int_le, ◌==◌, if◌then◌else◌, Bool, true, false, not, List, [], Option, None, Some}
 use Rattle.std.specs.Option.{option_map}
 use Rattle.hsl_locks.specs.declared.answer.LockAnswer.TheVariants as locking
 use Rattle.named_barrier.specs.declared.answer.BarrierAnswer.TheVariants as barrier
@@ -12,7 +12,9 @@ use Rattle.put_get.specs.declared.operation.Synced.TheVariants as synced
 use Rattle.put_get.specs.declared.operation.Transfer.{Transfer}
 use Rattle.put_get.specs.declared.operation.Transfer.TheVariants as transfers
 use Rattle.endpoint_rules.specs.EndpointLocal.{EndpointLocal}
-use Rattle.endpoint_rules.specs.EndpointRules.{OnTransfers, OnBarrier}
+use Rattle.endpoint_rules.specs.CoreCalls.{Cell, OnSegment}
+use Rattle.endpoint_rules.specs.Memory.{LoadWord}
+use Rattle.endpoint_rules.specs.EndpointRules.{OnCore, OnTransfers, OnBarrier}
 use Rattle.endpoint_rules.specs.TransferCalls.{TransferCall, Begin, BeginImplicit, Sync, SyncHandle}
 use Rattle.endpoint_rules.specs.TransferCalls.{SyncAll, SyncSome, SyncImplicit}
 use Rattle.endpoint_rules.specs.BarrierCalls.{TryBarrier}
@@ -20,6 +22,10 @@ use Rattle.endpoint_rules.specs.Called.{Performs}
 use Rattle.endpoint_rules.specs.declared.answer.Answer.{Answer}
 use Rattle.endpoint_rules.specs.declared.answer.Answer.TheVariants as answers
 use Rattle.endpoint_rules.specs.declared.answer.Begun.TheVariants as begun
+use Rattle.endpoint_rules.specs.declared.answer.Local.TheVariants as local
+use Rattle.job_text.specs.Calls.{IsCall}
+use Rattle.job_text.specs.Scripts.{IsStep}
+use Rattle.job_text.specs.declared.scope.Scope.{Scope}
 use Rattle.job_text.specs.declared.job.PutText.{PutText}
 use Rattle.job_text.specs.declared.job.ScheduledCall.{ScheduledCall}
 use Rattle.job_text.specs.declared.job.ScheduledCall.TheVariants as call
@@ -51,6 +57,20 @@ is_not_ready (answers.Synced synced.NotReady) = true
 is_not_ready (answers.Barrier barrier.NotReady) = true
 is_not_ready _ = false
 
+-- ---- answers that end a step which looks at the own node
+
+-- ok, where the cell that was read is at least the value
+abbrev pub reached : (value : ℤ) → Answer → Option Answer
+reached value (answers.Local (local.Cell number)) =
+    if int_le value number then Some (answers.Local local.Done) else None
+reached value _ = None
+
+-- ok, where the word that was read is this number; and a refusal of the place
+abbrev pub word_reached : (number : ℕ) → Answer → Option Answer
+word_reached number (answers.Local (local.Number found)) =
+    if found == number then Some (answers.Local local.Done) else None
+word_reached number answer = Some answer
+
 -- ---- calls that a schedule has, too
 
 -- at which answers the step of such a call waits: that of a request and of a lock; the others never wait
@@ -59,6 +79,7 @@ waits_of (call.Short to handler operands) = Some is_put_off
 waits_of (call.Medium text) = Some is_put_off
 waits_of (call.Long text) = Some is_put_off
 waits_of (call.LongAsync text) = Some is_put_off
+waits_of (call.Atomic batch) = Some is_put_off
 waits_of (call.Lock lock) = Some is_held
 waits_of _ = None
 
@@ -114,7 +135,10 @@ put_of put = transfers.Put put.to put.remote put.local put.len
 
 -- how a step that scripts alone have is tried, by the cells of its node
 abbrev pub waiting_form : (cells : List ℤ) → WaitingStep → Form EndpointLocal
-waiting_form cells (waiting.Until cell operand) = Until cell (operand_value cells [] operand)
+waiting_form cells (waiting.Until cell operand) =
+    Until (Performs (OnCore (Cell cell))) (reached (operand_value cells [] operand))
+waiting_form cells (waiting.UntilWord offset number) =
+    Until (Performs (OnCore (OnSegment (LoadWord offset)))) (word_reached number)
 -- gasnet_put, gasnet_get and gasnet_memset: the operation is begun without a register
 waiting_form cells (waiting.Transfer transfer) =
     Twice (on_transfers (Begin None (transfer_of transfer))) sync_of is_not_ready as_synced
@@ -137,6 +161,14 @@ step_form (step.Call call) at node = call_form call (meant_by node.local.core.ce
 step_form (step.Waiting waiting) at node = waiting_form node.local.core.cells waiting
 
 -- ---- kinds of steps
+
+-- the call may stand in some job
+abbrev pub IsJobCall : ScheduledCall → Type 0
+IsJobCall call = (scope : Scope) × IsCall scope call
+
+-- so may the step
+abbrev pub IsJobStep : ScriptStep → Type 0
+IsJobStep step = (scope : Scope) × IsStep scope step
 
 -- the step begins a put, and waits until its chunks are issued
 abbrev pub IsPut : WaitingStep → Type 0

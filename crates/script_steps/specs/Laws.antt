@@ -5,18 +5,17 @@ use Rattle.std.specs.List.{AllByRecursion}
 use Rattle.datagram_grammar.specs.Parameters.{Parameters}
 use Rattle.handler_rules.specs.declared.table.Entry.{Entry}
 use Rattle.handler_rules.specs.Runs.{Meaning}
-use Rattle.job_text.specs.Scripts.{IsStep}
 use Rattle.job_text.specs.declared.job.ScriptStep.{ScriptStep}
 use Rattle.node_runs.specs.Actions.{OwnScripts, ActionsMay, scripts_of}
 use Rattle.node_runs.specs.Empty.{IsCalm}
 use Rattle.node_runs.specs.Fitting.{KeptFits, CallFits}
 use Rattle.node_runs.specs.WorldRun.{endpoint_job}
-use Rattle.script_steps.specs.Forms.{step_form}
+use Rattle.script_steps.specs.Forms.{IsJobStep, step_form}
 
 -- each call of scripts whose steps a text can say may be made, where the node keeps what fits
 abbrev pub StepsFit : Type 0
 StepsFit =
-    (own : OwnScripts ScriptStep) → ((thread : ℕ) → AllByRecursion IsStep (own thread).left)
+    (own : OwnScripts ScriptStep) → ((thread : ℕ) → AllByRecursion IsJobStep (own thread).left)
     → ActionsMay KeptFits CallFits step_form own
 
 -- a try that waits leaves the record of its node, and the scripts

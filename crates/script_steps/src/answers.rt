@@ -1,9 +1,8 @@
 //! At which answers a step waits.
 
 ghost use Rattle.std.specs.Prelude.{◌≡◌};
-ghost use Rattle.node_runs.specs.Actions.{reached};
 ghost use Rattle.script_steps.specs.Forms.{begun_handle, is_held, is_not_ready, is_put_off, as_synced};
-ghost use Rattle.script_steps.specs.Forms.{waits_at};
+ghost use Rattle.script_steps.specs.Forms.{reached, waits_at, word_reached};
 
 use am_core::Asked;
 use endpoint_rules::{Answer, Begun, Local};
@@ -44,7 +43,8 @@ pub(crate) fn waits_at(call: &ScheduledCall, answer: &Answer) -> bool
         ScheduledCall::Short { .. }
         | ScheduledCall::Medium { .. }
         | ScheduledCall::Long { .. }
-        | ScheduledCall::LongAsync { .. } => is_put_off(answer),
+        | ScheduledCall::LongAsync { .. }
+        | ScheduledCall::Atomic { .. } => is_put_off(answer),
         ScheduledCall::Lock { .. } => is_held(answer),
         _ => false,
     }
@@ -57,6 +57,17 @@ pub(crate) fn reached(value: i32, answer: &Answer) -> Option<Answer>
     match answer {
         Answer::Local(Local::Cell(number)) if value <= *number => Some(Answer::Local(Local::Done)),
         _ => None,
+    }
+}
+
+/// The answer of the step of an `until-word`, where the word that was read, or a refusal of its place, ends it.
+pub(crate) fn word_reached(number: u64, answer: &Answer) -> Option<Answer>
+    ensures { result ≡ word_reached number answer.now }
+{
+    match answer {
+        Answer::Local(Local::Number(found)) if *found == number => Some(Answer::Local(Local::Done)),
+        Answer::Local(Local::Number(_)) => None,
+        _ => Some(*answer),
     }
 }
 

@@ -1,9 +1,8 @@
 //! The tries of the calls that a schedule has, too.
 
 ghost use Rattle.std.specs.Prelude.{◌<◌};
-ghost use Rattle.job_text.specs.Calls.{IsCall};
 ghost use Rattle.node_script.specs.ScheduledCalls.{meant_by};
-ghost use Rattle.script_steps.specs.Forms.{call_form};
+ghost use Rattle.script_steps.specs.Forms.{IsJobCall, call_form};
 ghost use Rattle.script_steps.specs.Tries.{TriesForm, read_as};
 
 use crate::answers::waits_at;
@@ -22,7 +21,7 @@ pub(crate) fn try_call<H: Handlers>(
     call: &ScheduledCall,
 ) -> Tried
     requires thread { trial.now.thread < endpoint.old.core.settings.threads }
-    requires call { IsCall call.now }
+    requires call { IsJobCall call.now }
     ensures { TriesForm (H.meaning handlers.now) endpoint.old
         (read_as trial.now (λ node. call_form call.now (meant_by node.local.core.cells call.now)))
         result endpoint.new }

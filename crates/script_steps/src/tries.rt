@@ -1,7 +1,7 @@
 //! The try of a step.
 
 ghost use Rattle.std.specs.Prelude.{◌<◌};
-ghost use Rattle.job_text.specs.Scripts.{IsStep};
+ghost use Rattle.script_steps.specs.Forms.{IsJobStep};
 ghost use Rattle.script_steps.specs.Tries.{Tries};
 
 use crate::calls::try_call;
@@ -14,7 +14,7 @@ use job_text::ScriptStep;
 /// Tries a step of a thread's script, with the calls of the endpoint that its form makes.
 pub fn attempt<H: Handlers>(endpoint: &mut Endpoint, handlers: &H, trial: &Trial<'_>) -> Tried
     requires thread { trial.now.thread < endpoint.old.core.settings.threads }
-    requires step { IsStep trial.now.step.now }
+    requires step { IsJobStep trial.now.step.now }
     ensures tries { Tries (H.meaning handlers.now) endpoint.old trial.now result endpoint.new }
 {
     match trial.step {

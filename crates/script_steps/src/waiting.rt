@@ -10,7 +10,7 @@ ghost use Rattle.node_script.specs.Callable.{IsCallable};
 ghost use Rattle.script_steps.specs.Forms.{IsPut, IsSync, is_not_ready, is_sent, put_of, waiting_form};
 ghost use Rattle.script_steps.specs.Tries.{TriesForm, read_as, looked};
 
-use crate::answers::{as_synced, begun_handle, is_not_ready, reached};
+use crate::answers::{as_synced, begun_handle, is_not_ready, reached, word_reached};
 use crate::making::{is_sent, make};
 use crate::trial::{Trial, Tried};
 use endpoint_rules::{Answer, Call};
@@ -39,6 +39,28 @@ pub(crate) fn try_until<H: Handlers>(
     Tried {
         sent: answer.sends(),
         ended: reached(value, &answer),
+        began: None,
+    }
+}
+
+/// The try of an `until-word`: it reads the word.
+fn try_until_word<H: Handlers>(
+    endpoint: &mut Endpoint,
+    handlers: &H,
+    trial: &Trial<'_>,
+    offset: u64,
+    number: u64,
+) -> Tried
+    requires { trial.now.thread < endpoint.old.core.settings.threads }
+    ensures { TriesForm (H.meaning handlers.now) endpoint.old
+        (read_as trial.now (λ node.
+        waiting_form node.local.core.cells (WaitingStep.UntilWord offset number)))
+        result endpoint.new }
+{
+    let answer = make(endpoint, handlers, trial, &Call::LoadWord { offset });
+    Tried {
+        sent: answer.sends(),
+        ended: word_reached(number, &answer),
         began: None,
     }
 }
@@ -247,6 +269,9 @@ pub(crate) fn try_waiting<H: Handlers>(
     match step {
         WaitingStep::Until { cell, operand } => {
             try_until(endpoint, handlers, trial, *cell, *operand)
+        }
+        WaitingStep::UntilWord { offset, number } => {
+            try_until_word(endpoint, handlers, trial, *offset, *number)
         }
         WaitingStep::Transfer { transfer } => {
             try_transfer(endpoint, handlers, trial, transfer.text())

@@ -1,12 +1,16 @@
 -- What the bodies of handlers do doesn't depend on the version.
-use Rattle.std.proofs.Common.{◌≡◌, ℕ, List, [], ◌∷◌, map, Option, None, Some, refl, ap, ◌∙◌}
+use Rattle.std.proofs.Common.{◌≡◌, ℕ, Bool, true, false, List, [], ◌∷◌, map, length, Option, None, Some, refl, ap, ◌∙◌}
+use Rattle.std.specs.Prelude.{◌==◌, if◌then◌else◌}
 use Rattle.datagram_grammar.specs.Content.{Content}
+use Rattle.raw_segment.specs.Image.{written_by}
 use Rattle.handler_rules.specs.Runs.{Frame, Start, Outcome, untouched}
+use Rattle.gas_atomic.specs.BatchRequests.{BatchRequest, batch_handler}
+use Rattle.gas_atomic.specs.Served.{after_batch, after_request, request_for, served}
 use Rattle.job_text.specs.declared.job.Action.{Action}
 use Rattle.job_text.specs.declared.job.Action.TheVariants as action
-use Rattle.job_text.specs.declared.job.HandlerText.{HandlerText}
-use Rattle.node_script.specs.Bodies.{act, acts, operand_at, reply_content, replying_if, script_meaning, segment_at}
-use Rattle.node_script.specs.Registration.{body_for}
+use Rattle.node_script.specs.Bodies.{act, acts, is_for_batches, operand_at, reply_content, replying_if, script_meaning}
+use Rattle.node_script.specs.Bodies.{segment_at}
+use Rattle.node_script.specs.Registration.{JobHandlers, body_for}
 use Rattle.upgrade_law.specs.Respelled.{IgnoresVersion}
 
 -- the frame of another version
@@ -39,6 +43,31 @@ acts_alike version frame start (a ∷ actions) outcome =
     ap (λ (o : Outcome). acts (framed version frame) start o actions) (act_alike version frame start outcome a)
     ∙ acts_alike version frame start actions (act frame start outcome a)
 
-pub script_ignores : (version : ℕ) (handlers : List HandlerText) → IgnoresVersion version (script_meaning handlers)
-script_ignores version handlers index frame start =
-    acts_alike version frame start (body_for handlers index) (untouched start)
+-- serving batches
+batch_alike : (version : ℕ) (frame : Frame) (segment : List ℕ) (said : Option BatchRequest) (outcome : Outcome)
+    → after_batch (framed version frame) segment said outcome ≡ after_batch frame segment said outcome
+batch_alike version frame segment None outcome = refl
+batch_alike version frame segment (Some request) outcome = refl
+
+served_alike : (version : ℕ) (handler : ℕ) (frame : Frame) (start : Start) (outcome : Outcome)
+    → served handler (framed version frame) start outcome ≡ served handler frame start outcome
+served_alike version handler frame start outcome = by_handler (handler == batch_handler)
+  where
+    by_handler : (requests : Bool)
+        → (if requests then after_request (framed version frame) start outcome else outcome)
+        ≡ (if requests then after_request frame start outcome else outcome)
+    by_handler true =
+        batch_alike version frame (written_by start.segment outcome.writes)
+        (request_for (length start.segment) frame.arrival) outcome
+    by_handler false = refl
+
+pub script_ignores : (version : ℕ) (handlers : JobHandlers) → IgnoresVersion version (script_meaning handlers)
+script_ignores version handlers index frame start = by_handler (is_for_batches handlers index)
+  where
+    by_handler : (batches : Bool)
+        → (if batches then served index (framed version frame) start (untouched start)
+        else acts (framed version frame) start (untouched start) (body_for handlers index))
+        ≡ (if batches then served index frame start (untouched start)
+        else acts frame start (untouched start) (body_for handlers index))
+    by_handler true = served_alike version index frame start (untouched start)
+    by_handler false = acts_alike version frame start (body_for handlers index) (untouched start)

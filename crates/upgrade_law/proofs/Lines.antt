@@ -23,7 +23,7 @@ use Rattle.node_script.specs.AnswerWords.{Sight, sight_of}
 use Rattle.node_script.specs.Bodies.{script_meaning}
 use Rattle.node_script.specs.LawfulBodies.{lawful-script}
 use Rattle.node_script.specs.Lines.{Line}
-use Rattle.node_script.specs.Registration.{registered}
+use Rattle.node_script.specs.Registration.{handlers_of, registered}
 use Rattle.node_script.specs.ScheduledCalls.{meant_by}
 use Rattle.world_run.specs.Schedules.{call_event, scheduled_event, line_events, schedule_events}
 use Rattle.node_script.specs.ScriptInvariant.{IsWithin, AreWithin}
@@ -167,11 +167,11 @@ versions_of job version is known few = record {
   spell = respelled job.settings.version version;
   settings = job.settings;
   version = version;
-  one = all_rules job.settings (registered job.handlers).table (script_meaning job.handlers);
-  other = all_rules (record job.settings { version = version }) (registered job.handlers).table
-      (script_meaning job.handlers);
-  agree = rules_agree version job.settings (registered job.handlers).table (script_meaning job.handlers)
-      (script_ignores version job.handlers) is.settings known few;
+  one = all_rules job.settings (registered (handlers_of job)).table (script_meaning (handlers_of job));
+  other = all_rules (record job.settings { version = version }) (registered (handlers_of job)).table
+      (script_meaning (handlers_of job));
+  agree = rules_agree version job.settings (registered (handlers_of job)).table (script_meaning (handlers_of job))
+      (script_ignores version (handlers_of job)) is.settings known few;
 }
 
 -- whether one of them noted a violation
@@ -189,11 +189,11 @@ unfolding versions_of
 same_run job version is known few =
     let v = versions_of job version is known few in
     let settings = job.settings in
-    let table = (registered job.handlers).table in
-    let meaning = script_meaning job.handlers in
+    let table = (registered (handlers_of job)).table in
+    let meaning = script_meaning (handlers_of job) in
     let entries = lines_of job.schedule in
     let start = at_the_opening settings in
-    let sound : AreSound v = rules_sound settings table meaning is.settings (lawful-script job.handlers) in
+    let sound : AreSound v = rules_sound settings table meaning is.settings (lawful-script (handlers_of job)) in
     let stood : Stood v start = record {
       holds = opening_holds (one_job v) (IsEndpointKept settings) (λ node. nothing_begun settings)
           (opening_kept settings);

@@ -5,15 +5,17 @@ use Rattle.plain_world.specs.Headline.{Headline}
 use Rattle.endpoint_rules.specs.EndpointRules.{at_the_opening}
 use Rattle.transfer_laws.proofs.Laws.{transfers_hold}
 use Rattle.barrier_laws.proofs.Laws.{barrier_holds}
+use Rattle.atomic_laws.proofs.Laws.{atomics_hold}
 use Rattle.gas_world.proofs.Headline.{headline, run_greatest}
 use Rattle.job_text.specs.JobReading.{lines_of}
+use Rattle.node_script.proofs.Batches.{has_batches, serves_batches}
 use Rattle.node_script.proofs.ScheduleNodes.{job_within}
 use Rattle.node_script.specs.Bodies.{script_meaning}
 use Rattle.job_text.specs.JobText.{IsJob}
 use Rattle.job_text.specs.declared.job.Job.{Job as JobState}
 use Rattle.node_script.specs.LawfulBodies.{lawful-script}
 use Rattle.node_script.specs.ScriptInvariant.{AreWithin}
-use Rattle.node_script.specs.Registration.{registered}
+use Rattle.node_script.specs.Registration.{handlers_of, registered}
 use Rattle.world_run.specs.Schedules.{world_job}
 use Rattle.world_run.specs.RunText.{run_events}
 use Rattle.world_run.specs.RunLaws.{RunLaws}
@@ -24,8 +26,8 @@ use Rattle.world_run.proofs.LinesTell.{places_rise, lines_tell, ran_told_once, r
 run_headline : (j : JobState) → AreInRange j.settings → AreWithin j.settings (lines_of j.schedule)
     → Headline (world_job j) (λ i. nothing_begun j.settings) (run_events j)
 run_headline j range within =
-    headline j.settings (registered j.handlers).table (script_meaning j.handlers) (run_events j) range
-    (lawful-script j.handlers)
+    headline j.settings (registered (handlers_of j)).table (script_meaning (handlers_of j)) (run_events j) range
+    (lawful-script (handlers_of j))
     (lines_among (world_job j) (lines_of j.schedule) (at_the_opening j.settings) within)
 
 -- and all laws do
@@ -37,11 +39,13 @@ laws_within j range within = record {
   rise = places_rise j;
   ran = ran_told_once j (run_headline j range within);
   returned = returned_told_once j (run_headline j range within);
-  most = run_greatest j.settings (registered j.handlers).table (script_meaning j.handlers) (run_events j);
-  transfers = transfers_hold j.settings (registered j.handlers).table (script_meaning j.handlers) range
-      (lawful-script j.handlers);
-  barrier = barrier_holds j.settings (registered j.handlers).table (script_meaning j.handlers) range
-      (lawful-script j.handlers);
+  most = run_greatest j.settings (registered (handlers_of j)).table (script_meaning (handlers_of j)) (run_events j);
+  transfers = transfers_hold j.settings (registered (handlers_of j)).table (script_meaning (handlers_of j)) range
+      (lawful-script (handlers_of j));
+  barrier = barrier_holds j.settings (registered (handlers_of j)).table (script_meaning (handlers_of j)) range
+      (lawful-script (handlers_of j));
+  atomics = λ has. atomics_hold j.settings (registered (handlers_of j)).table (script_meaning (handlers_of j)) range
+      (lawful-script (handlers_of j)) (has_batches (handlers_of j) has) (serves_batches (handlers_of j) has);
 }
 
 -- of each job

@@ -1,5 +1,6 @@
 -- What holds of the run of a job.
 use Rattle.std.specs.Prelude.{ℕ, zero, suc, ◌≡◌, ◌+◌, ◌<◌, List, [], ◌∷◌, length, Some, slice_get, codes, decimal}
+use Rattle.std.specs.Prelude.{true}
 use Rattle.endpoint_rules.specs.EndpointLocal.{nothing_begun}
 use Rattle.endpoint_rules.specs.EndpointRules.{OtherCall, Records, RecordsEvent, at_the_opening, timed}
 use Rattle.std.specs.List.{AllByRecursion}
@@ -8,10 +9,11 @@ use Rattle.gas_world.specs.Settling.{WorldJob}
 use Rattle.plain_world.specs.Headline.{Headline, IsGreatest, after_first}
 use Rattle.transfer_laws.specs.TransferLaws.{TransfersHold}
 use Rattle.barrier_laws.specs.BarrierLaws.{BarrierHolds}
+use Rattle.atomic_laws.specs.AtomicLaws.{AtomicsHold}
 use Rattle.job_text.specs.declared.job.Job.{Job as JobState}
 use Rattle.node_script.specs.Bodies.{script_meaning}
 use Rattle.node_script.specs.Lines.{Line}
-use Rattle.node_script.specs.Registration.{registered}
+use Rattle.node_script.specs.Registration.{handlers_of, registered}
 use Rattle.world_run.specs.Schedules.{line_events, scheduled_event, world_job}
 use Rattle.job_text.specs.JobReading.{lines_of}
 use Rattle.job_text.specs.declared.job.ScheduledEvent.{ScheduledEvent}
@@ -92,8 +94,9 @@ PlacesRise job =
 -- its events are among the nodes of the job; the headline holds of it; its lines tell the answers of its events, in
 -- their order, so that no line tells again that a request ran or came back; the most that the end lines tell of a node
 -- is the greatest number of message buffers that it held; and in it, as in each run of a job with its settings and
--- handlers, what a synchronisation of transfers that answers Ok tells was done, and a try of the barrier that ends a
--- phase tells the outcome of the nodes' notifies
+-- handlers, what a synchronisation of transfers that answers Ok tells was done, a try of the barrier that ends a phase
+-- tells the outcome of the nodes' notifies, and, where the job has atomics, batches of operations act at one moment, in
+-- one history
 pub record RunLaws (job : JobState) : Type 0 where
   pub among : AllByRecursion (λ (timed : Timed OtherCall). IsAmong job.settings timed.event) (run_events job)
   pub headline : Headline (world_job job) (λ node. nothing_begun job.settings) (run_events job)
@@ -103,5 +106,7 @@ pub record RunLaws (job : JobState) : Type 0 where
   pub returned : ReturnedToldOnce job
   pub most : (node : ℕ)
       → IsGreatest (world_job job) (run_events job) (at_the_opening job.settings) node (run_most job node)
-  pub transfers : TransfersHold job.settings (registered job.handlers).table (script_meaning job.handlers)
-  pub barrier : BarrierHolds job.settings (registered job.handlers).table (script_meaning job.handlers)
+  pub transfers : TransfersHold job.settings (registered (handlers_of job)).table (script_meaning (handlers_of job))
+  pub barrier : BarrierHolds job.settings (registered (handlers_of job)).table (script_meaning (handlers_of job))
+  pub atomics : job.atomics ≡ true
+      → AtomicsHold job.settings (registered (handlers_of job)).table (script_meaning (handlers_of job))

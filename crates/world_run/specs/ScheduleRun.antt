@@ -18,7 +18,7 @@ use Rattle.node_script.specs.AnswersTold.{NamesWhatIs}
 use Rattle.node_script.specs.Bodies.{script_meaning}
 use Rattle.node_script.specs.Lines.{Line, line_text, spell}
 use Rattle.job_text.specs.declared.job.Job.{Job as JobState}
-use Rattle.node_script.specs.Registration.{registered}
+use Rattle.node_script.specs.Registration.{handlers_of, registered}
 use Rattle.gas_world.specs.Settling.{WorldJob, settle_events}
 use Rattle.world_run.specs.Schedules.{line_events, schedule_events}
 use Rattle.job_text.specs.declared.job.TimedEvent.{TimedEvent}
@@ -97,7 +97,7 @@ RunsPlan job plan old new said =
 
 -- by what the nodes of the world do with the handlers of this job
 abbrev pub RunsByScript : JobState → Plan → (old new : Stage) → Said → Type 0
-RunsByScript text plan old new said = RunsPlan (job_in (script_meaning text.handlers) old.world) plan old new said
+RunsByScript text plan old new said = RunsPlan (job_in (script_meaning (handlers_of text)) old.world) plan old new said
 
 -- of all records for which the world stood: the answers to these lines were said, numbered from 1, and where they all
 -- were, the world stands for the records after them
@@ -146,5 +146,5 @@ TellsViolation world violated =
 -- the world stands for the end of the job's run
 pub record StandsForRun (job : JobState) (world : WorldState) : Type 0 where
   pub settings : world.settings ≡ job.settings
-  pub table : world.table ≡ (registered job.handlers).table
+  pub table : world.table ≡ (registered (handlers_of job)).table
   pub stands : Stands world (run_records job) (run_most job)

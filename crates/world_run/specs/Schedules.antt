@@ -5,7 +5,7 @@ use Rattle.endpoint_rules.specs.EndpointRules.{OtherCall, Records, RecordsEvent,
 use Rattle.endpoint_rules.specs.Called.{event_at}
 use Rattle.gas_world.specs.Settling.{WorldJob, settle_events}
 use Rattle.job_text.specs.declared.job.Job.{Job as JobState}
-use Rattle.node_script.specs.Registration.{registered}
+use Rattle.node_script.specs.Registration.{handlers_of, registered}
 use Rattle.node_script.specs.Bodies.{script_meaning}
 use Rattle.node_script.specs.ScheduledCalls.{meant_by}
 use Rattle.job_text.specs.declared.job.ScheduledCall.{ScheduledCall}
@@ -15,7 +15,7 @@ use Rattle.job_text.specs.declared.job.TimedEvent.{TimedEvent}
 
 -- a job's text, as a world of nodes runs it: its settings, and what its nodes do
 abbrev pub world_job : JobState → WorldJob
-world_job text = job_of text.settings (registered text.handlers).table (script_meaning text.handlers)
+world_job text = job_of text.settings (registered (handlers_of text)).table (script_meaning (handlers_of text))
 
 -- ---- one event
 

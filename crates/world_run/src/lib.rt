@@ -19,7 +19,9 @@
 //!     (`IsGreatest`);
 //!   - what a synchronisation of transfers that answers `ok` tells was done between the beginning and the answer
 //!     (`TransfersHold`), and a try of the barrier that ends a phase tells the outcome of the nodes' notifies
-//!     (`BarrierHolds`).
+//!     (`BarrierHolds`);
+//!   - where the job has atomics, each batch of operations acts at most once, at one moment, in the one history of its
+//!     words (`AtomicsHold`).
 //!
 //! The crate uses the public clauses of the world alone, and knows nothing of buffers and slots. What a sink took is
 //! said of its outbox in one clause: the bytes in order, up to where, and that a fault comes only where its count of

@@ -9,7 +9,7 @@ ghost use Rattle.gas_world.specs.Stands.{Stands};
 ghost use Rattle.plain_world.specs.World.{IsAmong};
 ghost use Rattle.node_script.specs.Bodies.{script_meaning};
 ghost use Rattle.job_text.specs.JobText.{IsJob};
-ghost use Rattle.node_script.specs.Registration.{registered};
+ghost use Rattle.node_script.specs.Registration.{handlers_of, registered};
 ghost use Rattle.job_text.specs.JobReading.{lines_of};
 ghost use Rattle.job_text.specs.declared.job.TimedEvent.{TimedEvent};
 ghost use Rattle.world_run.specs.RunText.{node_of, run_lines};
@@ -133,7 +133,7 @@ fn run_schedule<K: Sink>(world: &mut World, script: &Script, sink: &mut Buffered
     requires stood { Stood world.old }
     ensures settings { world.new.settings ≡ world.old.settings }
     ensures table { world.new.table ≡ world.old.table }
-    ensures runs { RunsLines (job_in (script_meaning script.now.handlers) world.old)
+    ensures runs { RunsLines (job_in (script_meaning (handlers_of script.now)) world.old)
         (lines_of script.now.schedule)
         (stage K.taken K.faults world.old sink.old) (stage K.taken K.faults world.new sink.new) result }
 {
@@ -150,7 +150,7 @@ fn run_schedule<K: Sink>(world: &mut World, script: &Script, sink: &mut Buffered
 fn run_in<K: Sink>(world: &mut World, script: &Script, sink: &mut BufferedSink<K>) -> Said
     requires job { IsJob script.now }
     requires settings { world.old.settings ≡ script.now.settings }
-    requires table { world.old.table ≡ (registered script.now.handlers).table }
+    requires table { world.old.table ≡ (registered (handlers_of script.now)).table }
     requires stands { Stands world.old (at_the_opening script.now.settings) (λ i. 0) }
     ensures lines { Says (outbox K.taken K.faults sink.old) (outbox K.taken K.faults sink.new)
         (run_lines script.now) result }

@@ -6,7 +6,7 @@ use Rattle.script_steps.proofs.Forming.{tries_scheduled}
 use Rattle.script_steps.proofs.calls.try_call.Goals as goal
 
 pub call_of-made-requires : goal.call_of-made-requires
-call_of-made-requires g c = call_given c.args.call.now c.requires.call
+call_of-made-requires g c = call_given c.requires.call.0 c.args.call.now c.requires.call.1
 
 pub returns : goal.returns
 returns g c =

@@ -1,9 +1,9 @@
 use Rattle.gas_outside.specs.Buffered.{outbox}
-use Rattle.std.proofs.Common.{List, subst}
+use Rattle.std.proofs.Common.{subst}
 use Rattle.endpoint_rules.specs.EndpointRules.{timed, transition}
 use Rattle.gas_world.specs.Events.{Steps, event_of, job_in}
 use Rattle.node_script.specs.Bodies.{script_meaning}
-use Rattle.job_text.specs.declared.job.HandlerText.{HandlerText}
+use Rattle.node_script.specs.Registration.{JobHandlers, handlers_of}
 use Rattle.datagram_grammar.specs.Parameters.{Parameters}
 use Rattle.world_run.specs.RunText.{node_of}
 use Rattle.world_run.specs.ScheduleRun.{stage, event_plan, Writes, answer_text}
@@ -22,7 +22,7 @@ pub returns-in-NoMemory-clause-runs : goal.returns-in-NoMemory-clause-runs
 returns-in-NoMemory-clause-runs g c =
     let old = c.args.world.now in
     let plan = event_plan c.args.at.number (timed c.args.at.now (event_of c.args.event.now)) in
-    nothing_told (job_in (script_meaning c.args.script.now.handlers) old) plan old c.step.new.self
+    nothing_told (job_in (script_meaning (handlers_of c.args.script.now)) old) plan old c.step.new.self
     (outbox g.K.Sink.taken g.K.Sink.faults c.args.sink.now)
 
 pub returns-in_default : goal.returns-in_default
@@ -30,7 +30,7 @@ returns-in_default g c =
     let event = event_of c.args.event.now in
     let steps =
     subst
-    (λ (texts : List HandlerText). Steps (script_meaning texts) c.args.world.now
+    (λ (handlers : JobHandlers). Steps (script_meaning handlers) c.args.world.now
     (transition c.args.at.now event c.step.result) c.step.new.self) c.handlers.ensures c.step.ensures.steps
     in
     let written_there = rw c.node_of.ensures at c.write_event_answer.ensures in
@@ -47,6 +47,6 @@ returns-in_default g c =
       table = c.step.ensures.table;
       runs =
           rw c.from_wrote.ensures
-          (event_told (script_meaning c.args.script.now.handlers) old new c.args.at.number c.args.at.now
+          (event_told (script_meaning (handlers_of c.args.script.now)) old new c.args.at.number c.args.at.now
           (event_of c.args.event.now) c.step.result wrote c.in_default.not-NoMemory steps written);
     }

@@ -6,6 +6,7 @@ use Rattle.endpoint_rules.specs.EndpointRules.{timed}
 use Rattle.gas_world.specs.Aims.{MayFall}
 use Rattle.gas_world.specs.Events.{event_of, job_in}
 use Rattle.node_script.specs.Bodies.{script_meaning}
+use Rattle.node_script.specs.Registration.{handlers_of}
 use Rattle.job_text.specs.JobReading.{lines_of}
 use Rattle.world_run.specs.ScheduleRun.{stage, event_plan, settle_plan, line_plan}
 use Rattle.world_run.proofs.ScheduleAmong.{event_among}
@@ -38,7 +39,7 @@ run_event-requires-clause-called g c =
 
 pub returns-in-Some-Event-clause-runs : goal.returns-in-Some-Event-clause-runs
 returns-in-Some-Event-clause-runs g c = λ line at.
-    let job = job_in (script_meaning c.args.script.now.handlers) c.args.world.now in
+    let job = job_in (script_meaning (handlers_of c.args.script.now)) c.args.world.now in
     let lines = lines_of c.args.script.now.schedule in
     let number = c.args.place + 1 in
     let now = c.in-Some-Event.now in
@@ -53,7 +54,7 @@ returns-in-Some-Event-clause-runs g c = λ line at.
 
 pub returns-in-Some-Settle-clause-runs : goal.returns-in-Some-Settle-clause-runs
 returns-in-Some-Settle-clause-runs g c = λ line at.
-    let job = job_in (script_meaning c.args.script.now.handlers) c.args.world.now in
+    let job = job_in (script_meaning (handlers_of c.args.script.now)) c.args.world.now in
     let lines = lines_of c.args.script.now.schedule in
     let number = c.args.place + 1 in
     let now = c.in-Some-Settle.now in

@@ -2,6 +2,7 @@ use Rattle.std.proofs.Common.{◌+◌, ◌<◌, ◌≤◌, length, refl, subst, 
 use Rattle.std.proofs.Math.ListN.{drop_of_length-le}
 use Rattle.gas_world.specs.Events.{job_in}
 use Rattle.node_script.specs.Bodies.{script_meaning}
+use Rattle.node_script.specs.Registration.{handlers_of}
 use Rattle.job_text.specs.JobReading.{lines_of}
 use Rattle.world_run.specs.ScheduleRun.{Stood, stage, line_plan, RunsPlan}
 use Rattle.world_run.specs.declared.said.Said.TheVariants as said
@@ -24,7 +25,7 @@ returns-in_default g c =
     let lines = lines_of c.args.script.now.schedule in
     let place = c.loop-place.place in
     let old = c.args.world.now in
-    let meaning = script_meaning c.args.script.now.handlers in
+    let meaning = script_meaning (handlers_of c.args.script.now) in
     let before = stage g.K.Sink.taken g.K.Sink.faults old c.args.sink.now in
     let mid = stage g.K.Sink.taken g.K.Sink.faults c.loop-place.world c.loop-place.sink in
     let after = stage g.K.Sink.taken g.K.Sink.faults c.run_line.new.world c.run_line.new.sink in
@@ -51,7 +52,7 @@ loop-place-preserved g c =
     let lines = lines_of c.args.script.now.schedule in
     let place = c.loop-place.place in
     let old = c.args.world.now in
-    let meaning = script_meaning c.args.script.now.handlers in
+    let meaning = script_meaning (handlers_of c.args.script.now) in
     let before = stage g.K.Sink.taken g.K.Sink.faults old c.args.sink.now in
     let mid = stage g.K.Sink.taken g.K.Sink.faults c.loop-place.world c.loop-place.sink in
     let after = stage g.K.Sink.taken g.K.Sink.faults c.run_line.new.world c.run_line.new.sink in

@@ -1,6 +1,7 @@
 use Rattle.std.proofs.Common.{◌≡◌}
 use Rattle.gas_world.specs.Events.{job_in}
 use Rattle.node_script.specs.Bodies.{script_meaning}
+use Rattle.node_script.specs.Registration.{handlers_of}
 use Rattle.job_text.specs.JobReading.{lines_of}
 use Rattle.world_run.specs.ScheduleRun.{Stood, stage}
 use Rattle.world_run.proofs.ScheduleRuns.{HasRun, progress}
@@ -12,7 +13,7 @@ invariant-loop-place g l = record {
   table : l.world.table ≡ l.initial.world.table;
   stood : Stood l.world;
   runs : (from : Stood l.initial.world)
-      → HasRun (job_in (script_meaning l.script.handlers) l.initial.world)
+      → HasRun (job_in (script_meaning (handlers_of l.script)) l.initial.world)
       (progress (lines_of l.script.schedule) l.place)
       (stage g.K.Sink.taken g.K.Sink.faults l.initial.world l.initial.sink)
       (stage g.K.Sink.taken g.K.Sink.faults l.world l.sink) from;

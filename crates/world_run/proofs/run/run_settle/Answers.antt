@@ -1,6 +1,7 @@
 use Rattle.gas_outside.specs.Buffered.{outbox}
 use Rattle.gas_world.specs.Events.{job_in}
 use Rattle.node_script.specs.Bodies.{script_meaning}
+use Rattle.node_script.specs.Registration.{handlers_of}
 use Rattle.world_run.specs.ScheduleRun.{stage, settle_plan}
 use Rattle.world_run.proofs.ScheduleRuns.{settle_told, nothing_told}
 use Rattle.world_run.proofs.run.run_settle.Goals as goal
@@ -9,7 +10,7 @@ pub returns-in-Err-clause-runs : goal.returns-in-Err-clause-runs
 returns-in-Err-clause-runs g c =
     let old = c.args.world.now in
     let plan = settle_plan c.args.at.number c.args.at.now c.args.rounds in
-    nothing_told (job_in (script_meaning c.args.script.now.handlers) old) plan old c.settle.new.self
+    nothing_told (job_in (script_meaning (handlers_of c.args.script.now)) old) plan old c.settle.new.self
     (outbox g.K.Sink.taken g.K.Sink.faults c.args.sink.now)
 
 pub returns-in-Ok-clause-runs : goal.returns-in-Ok-clause-runs
@@ -18,6 +19,6 @@ returns-in-Ok-clause-runs g c =
     let new = stage g.K.Sink.taken g.K.Sink.faults c.settle.new.self c.write_numbered.new.sink in
     let moved = rw c.handlers.ensures at c.in-Ok.ensures.moves in
     rw c.from_wrote.ensures
-    (settle_told (job_in (script_meaning c.args.script.now.handlers) c.args.world.now) old new c.args.at.number
+    (settle_told (job_in (script_meaning (handlers_of c.args.script.now)) c.args.world.now) old new c.args.at.number
     c.args.at.now
     c.args.rounds c.write_numbered.result moved c.write_numbered.ensures)

@@ -1,7 +1,7 @@
 -- The endpoint of the node's machine.
 use Rattle.std.proofs.Common.{ap, subst, ◌∙◌}
 use Rattle.gas_endpoint.specs.EndpointState.{IsNodeOf}
-use Rattle.node_script.specs.Registration.{registered}
+use Rattle.node_script.specs.Registration.{handlers_of, registered}
 use Rattle.check_run.specs.Recording.{RecorderKept}
 use Rattle.check_run.proofs.Struck.{endpoint_at}
 use Rattle.check_run.proofs.recorder.Recorder.endpoint.Goals as goal
@@ -10,6 +10,6 @@ pub returns : goal.returns
 returns c = λ job rank stands.
     endpoint_at job rank c.args.self.now c.endpoint.result.now
     (c.endpoint.ensures.is ∙ ap (λ (kept : RecorderKept). kept.node.endpoint) c.self.view_is)
-    (subst (λ (kept : RecorderKept). IsNodeOf kept.node.job.settings (registered kept.node.job.handlers).table
+    (subst (λ (kept : RecorderKept). IsNodeOf kept.node.job.settings (registered (handlers_of kept.node.job)).table
     c.endpoint.result.now.core.me c.endpoint.result.now) c.self.view_is c.endpoint.ensures.node)
     stands

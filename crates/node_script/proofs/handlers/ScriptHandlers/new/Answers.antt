@@ -1,14 +1,16 @@
 use Rattle.std.proofs.Common.{subst, List}
 use Rattle.job_text.specs.declared.job.HandlerText.{HandlerText}
-use Rattle.node_script.specs.Registration.{registered}
+use Rattle.node_script.specs.Registration.{JobHandlers, registered}
 use Rattle.node_script.specs.Places.{ArePlaced}
 use Rattle.node_script.proofs.Placing.{bodies_placed}
 use Rattle.node_script.proofs.handlers.ScriptHandlers.new.Goals as goal
 
 pub invariant_of-result : goal.invariant_of-result
 invariant_of-result c =
+    let handlers : JobHandlers = record { atomics = c.args.atomics; texts = c.args.texts } in
     rw c.in_ok-places.ensures.items
-    (bodies_placed c.args.texts c.register_all.new.table c.register_all.new.places
+    (bodies_placed handlers c.register_all.new.table c.register_all.new.places
     (subst (λ (texts : List HandlerText).
-    ArePlaced texts (registered texts) c.register_all.new.table c.register_all.new.places) c.texts-2.ensures
+    ArePlaced texts (registered (record { atomics = c.args.atomics; texts = texts })) c.register_all.new.table
+    c.register_all.new.places) c.texts-2.ensures
     c.register_all.ensures))

@@ -1,0 +1,27 @@
+use Rattle.std.proofs.Common.{Bool, refl, sym, subst, ◌∙◌}
+use Rattle.std.specs.Prelude.{if◌then◌else◌}
+use Rattle.handler_rules.specs.Desks.{At, frame_of, stage, start_of}
+use Rattle.handler_rules.specs.Runs.{untouched}
+use Rattle.handler_rules.proofs.Laws.{leaving-untouched}
+use Rattle.gas_atomic.specs.Served.{served}
+use Rattle.node_script.specs.Bodies.{acts}
+use Rattle.node_script.specs.Registration.{body_for}
+use Rattle.node_script.proofs.handlers.ScriptHandlersHandlers.run.Goals as goal
+
+pub returns-then-is_for_batches : goal.returns-then-is_for_batches
+returns-then-is_for_batches c =
+    let opening = stage c.args.segment.now c.args.cells.now c.args.desk.now in
+    let frame = frame_of c.args.desk.now in
+    let nothing = untouched (start_of opening) in
+    subst (λ (batches : Bool). At opening
+    (if batches then served c.args.handler frame (start_of opening) nothing
+    else acts frame (start_of opening) nothing (body_for c.args.self.now c.args.handler))
+    (stage c.serve.new.segment c.args.cells.now c.serve.new.desk))
+    (sym (sym c.is_for_batches.ensures ∙ c.if-is_for_batches.true))
+    (c.serve.ensures.served c.args.cells.now opening nothing (record {
+      segment_is = refl;
+      same_length = refl;
+      cells_are = refl;
+      desk_is = leaving-untouched opening c.requires.fresh.unreplied;
+      spelled = tt;
+    }))
