@@ -104,10 +104,85 @@ named_passes test (row ∷ rows) pass name bytes =
 
 later_pass : (scope : Scope) → AllPass (call_fits scope) later_calls
 unfolding later_calls own_calls segment_calls transfer_calls implicit_calls sync_calls barrier_calls
-later_pass scope = (λ v. refl, (λ v. refl, (λ v. refl, (λ v. refl, (λ v. refl, (λ v. refl, (λ v. refl, (λ v. refl,
-    (λ v. refl, (λ v. refl, (λ v. refl, (λ v. refl, (λ v. refl, (λ v. refl, (λ v. refl, (λ v. refl, (λ v. refl,
-    (λ v. refl, (λ v. refl, (λ v. refl, (λ v. refl, (λ v. refl, (λ v. refl, (λ v. refl, (λ v. refl, (λ v. refl,
-    (λ v. refl, (λ v. refl, (λ v. refl, tt)))))))))))))))))))))))))))))
+later_pass scope = (
+  λ v. refl,
+  (
+    λ v. refl,
+    (
+      λ v. refl,
+      (
+        λ v. refl,
+        (
+          λ v. refl,
+          (
+            λ v. refl,
+            (
+              λ v. refl,
+              (
+                λ v. refl,
+                (
+                  λ v. refl,
+                  (
+                    λ v. refl,
+                    (
+                      λ v. refl,
+                      (
+                        λ v. refl,
+                        (
+                          λ v. refl,
+                          (
+                            λ v. refl,
+                            (
+                              λ v. refl,
+                              (
+                                λ v. refl,
+                                (
+                                  λ v. refl,
+                                  (
+                                    λ v. refl,
+                                    (
+                                      λ v. refl,
+                                      (
+                                        λ v. refl,
+                                        (
+                                          λ v. refl,
+                                          (
+                                            λ v. refl,
+                                            (
+                                              λ v. refl,
+                                              (
+                                                λ v. refl,
+                                                (
+                                                  λ v. refl,
+                                                  (
+                                                    λ v. refl,
+                                                    (λ v. refl, (λ v. refl, (λ v. refl, tt))),
+                                                  ),
+                                                ),
+                                              ),
+                                            ),
+                                          ),
+                                        ),
+                                      ),
+                                    ),
+                                  ),
+                                ),
+                              ),
+                            ),
+                          ),
+                        ),
+                      ),
+                    ),
+                  ),
+                ),
+              ),
+            ),
+          ),
+        ),
+      ),
+    ),
+  ),
+)
 
 pub later_calls_pass : (scope : Scope) (name bytes : List ℕ)
     → fitting scope (named_at none_at later_calls name bytes) ≡ named_at none_at later_calls name bytes

@@ -55,11 +55,7 @@ fn atomics_why(scope: &Scope, bytes: &[u8]) -> JobWhy
 }
 
 /// The head with the line of atomics, if it comes next, with the next line's number and the bytes from it on.
-pub fn atomics_from(
-    head: Head,
-    line: u32,
-    bytes: &[u8],
-) -> Result<(Head, u32, &[u8]), JobFault>
+pub fn atomics_from(head: Head, line: u32, bytes: &[u8]) -> Result<(Head, u32, &[u8]), JobFault>
     requires { line ≤ 75 }
     ensures value { Continues
         (λ x. read (record { place = AtHandlers; job = job_of_head x.0 }) x.1 x.2.now)

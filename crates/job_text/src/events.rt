@@ -23,10 +23,7 @@ fn index_at(bytes: &[u8], count: u16) -> Result<(u16, &[u8]), Other>
 }
 
 /// The event that a line says, from `tick` on, and the bytes after it.
-fn later_event_at<'a>(
-    scope: &Scope,
-    bytes: &'a [u8],
-) -> Result<(ScheduledEvent, &'a [u8]), Other>
+fn later_event_at<'a>(scope: &Scope, bytes: &'a [u8]) -> Result<(ScheduledEvent, &'a [u8]), Other>
     ensures { Finds (λ x. (x.0, x.1.now)) result (later_event_at scope.now bytes.now) }
 {
     let nodes = scope.settings.nodes();

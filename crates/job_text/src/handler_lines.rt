@@ -27,6 +27,7 @@ use std::alloc::Global;
 
 /// The most handlers of a job, and of one whose nodes serve batches.
 const HANDLERS: usize = 128;
+
 const BESIDE_BATCHES: usize = 126;
 /// The most actions of a handler.
 const ACTIONS: usize = 64;

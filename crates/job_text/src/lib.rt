@@ -44,10 +44,9 @@ mod words;
 
 pub use fault::{JobFault, JobWhy};
 pub use job::{
-    Action, BatchText, Body, BoxedBatch, BoxedLong, BoxedMedium, BoxedTransfer, Bytes,
-    HandlerText, HandlerTexts, ImplicitKind, Job, ListedLocks, LongText, MediumText,
-    NodeScript, NodeScripts, Operand, Operands, Payload, PutText, Registers, ReplyAction,
-    Schedule, ScheduledCall, ScheduledEvent, ScriptStep, ScriptSteps, SieveRule, TimedEvent,
-    TransferText, WaitingStep,
+    Action, BatchText, Body, BoxedBatch, BoxedLong, BoxedMedium, BoxedTransfer, Bytes, HandlerText,
+    HandlerTexts, ImplicitKind, Job, ListedLocks, LongText, MediumText, NodeScript, NodeScripts,
+    Operand, Operands, Payload, PutText, Registers, ReplyAction, Schedule, ScheduledCall,
+    ScheduledEvent, ScriptStep, ScriptSteps, SieveRule, TimedEvent, TransferText, WaitingStep,
 };
 pub use reading::{read_job, read_job_front};

@@ -82,8 +82,7 @@ calls_fit scope cells (call.LongAsync text) all is =
     (operands_fit cells text.operands all is.0.1.1.1.1.2, payload_fits text.payload is.0.1.1.0)
 calls_fit scope cells (call.Atomic batch) all is =
     let low = is.0.1.0.1 in
-    let small = is.0.1.1.0.1 in
-    (
+    let small = is.0.1.1.0.1 in (
       arguments_fit batch.request.local batch.request.tag (omega (arith, low)) (omega (arith, small)),
       spelled_fit batch.request.ops,
     )

@@ -94,8 +94,8 @@ mod words;
 mod world;
 
 pub use check_run::{NoNotes, Notes};
+pub use node::AskedNode;
 pub use outside::Outside;
 pub use standard::{ReaderSource, WriterSink};
 pub use streams::{program, run_streams};
-pub use node::AskedNode;
 pub use top::{Status, gasnet, returning_call};

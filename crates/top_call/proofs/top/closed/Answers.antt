@@ -8,7 +8,13 @@ returns g c = record {
   gives_on = c.flushed-end.ensures;
   code = c.code.ensures;
   given = refl;
-  is = ap (λ (sink : g.K). record { source = c.args.gathering.source; sink = sink; link = c.args.gathering.link;
-  spawner = c.args.gathering.spawner; clock = c.args.gathering.clock; gate = c.args.gathering.gate })
-  c.into_inner.ensures;
+  is = ap (λ (sink : g.K). record {
+    source = c.args.gathering.source;
+    sink = sink;
+    link = c.args.gathering.link;
+    spawner = c.args.gathering.spawner;
+    clock = c.args.gathering.clock;
+    gate = c.args.gathering.gate;
+  })
+      c.into_inner.ensures;
 }
