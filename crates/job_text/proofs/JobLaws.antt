@@ -129,8 +129,8 @@ none_is scope (Some lines) e = absurd (cc)
 
 -- no batches
 no_batches : (atomics : Bool) (version : ℕ) → atomics ≡ false → atomics ≡ true → version ≡ 2
-no_batches true version no yes = absurd (cc)
-no_batches false version no yes = absurd (cc)
+no_batches true version h k = absurd (cc)
+no_batches false version h k = absurd (cc)
 
 -- a job so far, whose handlers have each a fresh index
 pub record IsSound (job : Job) : Type 0 where
@@ -281,7 +281,7 @@ atomics_sound job is second unhandled unscripted none =
       some_patience = is.some_patience;
       patience = is.patience;
       sieve = is.sieve;
-      atomics = λ yes. second;
+      atomics = λ h. second;
       few_handlers = handlers.0;
       handlers = is.handlers;
       fresh = is.fresh;
