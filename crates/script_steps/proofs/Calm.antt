@@ -246,7 +246,7 @@ nothing_written : (fault : Option LocalAnswer) (answer : LocalAnswer) (writes : 
 nothing_written None answer writes = append-nil writes
 nothing_written (Some fault) answer writes = append-nil writes
 
-word_leaves : (place : Place) (node : Node EndpointLocal) (offset : ℕ)
+word_leaves : (place : TryContext) (node : Node EndpointLocal) (offset : ℕ)
     → after_of place node (Performs (OnCore (OnSegment (LoadWord offset)))) ≡ node
 word_leaves place node offset =
     let segment = segment_of place.settings node.local.core in
