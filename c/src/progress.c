@@ -23,36 +23,18 @@ uint64_t gasnetl_clock(void) {
     return (uint64_t)time.tv_sec * 1000000 + (uint64_t)time.tv_nsec / 1000;
 }
 
-/* ---- The endpoint's time. It sends a request again when GASNET_RESEND of its time went by without an answer. So its time
- * goes slower than the clock where answers take long, since peers are busy or get no processor: what is only late isn't sent
- * again, which would make them later still. And it stands while this node doesn't look for answers. */
+/* ---- The endpoint's time. It sends a request again when GASNET_RESEND of its time went by without an answer. What went by
+ * while this node didn't look for answers doesn't count, or all that is out would go again as it comes back. */
 
-enum { UNIT = 256, UP = 32, PARTS = 4 }; /* parts of a microsecond; how much one answer tells */
-
-static uint64_t longest_step(const struct gasnetl_job *job) { return job->config.resend / PARTS > LOOK ? job->config.resend / PARTS : LOOK; }
+enum { PARTS = 4 }; /* a look counts as so great a part of GASNET_RESEND at most */
 
 void gasnetl_read_clock(struct gasnetl_job *job) {
     struct gasnetl_progress *progress = &job->progress;
-    uint64_t now = gasnetl_clock(), passed = now - progress->now, most = longest_step(job), wait = 2 * progress->usual / UNIT;
+    uint64_t now = gasnetl_clock(), passed = now - progress->now, most = job->config.resend / PARTS;
+    if (most < LOOK)
+        most = LOOK;
     progress->now = now;
-    if (passed > most)
-        passed = most;
-    if (wait <= job->config.resend) {
-        progress->time += passed;
-        return;
-    }
-    progress->rest += passed * job->config.resend;
-    progress->time += progress->rest / wait;
-    progress->rest %= wait;
-}
-
-/* An answer came after so many microseconds. `usual` becomes the time in which a quarter of them come, whatever those take
- * that were lost. */
-static void learn(struct gasnetl_progress *progress, uint64_t took) {
-    if (took * UNIT > progress->usual)
-        progress->usual += progress->usual / UP + 1;
-    else
-        progress->usual -= (PARTS - 1) * (progress->usual / UP);
+    progress->time += passed < most ? passed : most;
 }
 
 void gasnetl_progress_start(struct gasnetl_job *job) {
@@ -81,7 +63,6 @@ static void transmit(struct gasnetl_job *job, const gasnet_c_told *told) {
 /* A new request is out. */
 static void went_out(struct gasnetl_job *job, const gasnet_c_told *told) {
     gasnetl_peer_asked(job, told->to);
-    job->progress.asked[told->to][told->slot] = job->progress.now;
     job->progress.out++;
     transmit(job, told);
 }
@@ -104,7 +85,6 @@ static void came_back(struct gasnetl_job *job, const gasnet_c_told *told) {
     struct gasnetl_progress *progress = &job->progress;
     job->peers.of[told->to].out--;
     progress->out--;
-    learn(progress, progress->now - progress->asked[told->to][told->slot]);
     gasnetl_chunk_back(job, told->to, told->slot);
     gasnetl_atomic_back(job, told->to, told->slot);
     if (progress->has_notes)

@@ -13,11 +13,8 @@ struct gasnetl_job;
 
 struct gasnetl_progress {
     uint64_t now;            /* the time of this round, in microseconds */
-    uint64_t time;           /* the endpoint's, in microseconds of its own */
-    uint64_t rest;           /* what is left of its next one */
-    uint64_t usual;          /* in what time a quarter of the answers come, in 1/256 of a microsecond */
+    uint64_t time;           /* the endpoint's */
     uint64_t last_empty;     /* when nothing more had come */
-    uint64_t asked[GASNET_MAXNODES][GASNET_C_MAX_CREDITS]; /* when the request in a slot went out */
     uint64_t next_look;      /* when a tick looks next for what is to be sent again */
     unsigned out;            /* the requests to all peers that aren't back */
     uint64_t resent;         /* how often a request was sent again */

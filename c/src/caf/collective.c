@@ -42,12 +42,15 @@ static struct range half_of(struct range range, bool is_upper) {
 }
 
 /* The steps of a reduction, by number: a pair's first one, those of halves as they are combined and as they are handed back,
- * a pair's last one, and answers to the last two. */
+ * a pair's last one, and answers to the last two. Then those where each member hands something to each: by sender, what it
+ * doesn't combine, what it combined, and answers to that. */
 enum { JOIN = 0, COMBINE = 1, GIVE = COMBINE + CAF_ROUNDS, RESULT = GIVE + CAF_ROUNDS, ANSWER = CAF_ROUNDS + 1 };
-_Static_assert(ANSWER + GIVE > RESULT && ANSWER + RESULT < CAF_STEPS, "each step has a number");
+enum { SHARES = 32, SUMS = SHARES + GASNET_MAXNODES, ANSWERS = SUMS + GASNET_MAXNODES };
+_Static_assert(ANSWER + GIVE > RESULT && ANSWER + RESULT < SHARES && ANSWERS + GASNET_MAXNODES <= CAF_STEPS, "each step has a number");
 
-/* From so many bytes on a part goes by halves; and from so many on the members get them from one another's segments. */
-enum { LONG = 1 << 15, SHARED = 1 << 16 };
+/* From so many bytes on a part goes by halves; from so many on the members get them from one another's segments; and where each
+ * member's share has so many, from all of them at once. */
+enum { LONG = 1 << 15, SHARED = 1 << 16, SHARE = 1 << 13 };
 
 /* A part of an array that the members combine. */
 struct exchange {
@@ -56,9 +59,10 @@ struct exchange {
     struct pairs pairs;
     size_t count;
     char *mine;   /* this image's numbers */
-    char *shared; /* what becomes of them: in the own segment, if they are long, or where they are */
-    char *room;   /* as long, for what is got; null where they aren't long, or there was no memory */
-    char *part;   /* where the result is to be */
+    char *part;   /* where they were, and where the result is to be */
+    char *shared; /* where what becomes of them is: apart, if they are long */
+    char *room;   /* as long, for what comes, if they are long; else null */
+    bool is_shown; /* both are in the own segment, so others get what they need from there */
     struct range due; /* what of the result isn't there yet */
     uint32_t answers; /* the steps whose answers are due, as bits */
 };
@@ -68,11 +72,15 @@ static bool is_long(const struct exchange *exchange) {
     return members > 1 && exchange->count >= members && exchange->count * exchange->combiner->type.size >= LONG;
 }
 
-/* Takes memory of the own segment, where the part is long and there is some. */
+/* Takes memory for a long part, of the own segment where that has some. */
 static void share(struct exchange *exchange) {
     size_t length = exchange->count * exchange->combiner->type.size;
-    if (!is_long(exchange) || length < SHARED || !(exchange->room = caf_heap_take(&caf_state.heap, 2 * length)))
+    if (!is_long(exchange) || length < SHARED)
         return;
+    exchange->room = caf_heap_take(&caf_state.heap, 2 * length);
+    exchange->is_shown = exchange->room != NULL;
+    if (!exchange->is_shown)
+        exchange->room = caf_memory(2 * length);
     exchange->shared = exchange->room + length;
 }
 
@@ -81,12 +89,16 @@ static void hand_over(struct exchange *exchange, uint32_t step, int member, stru
     size_t size = exchange->combiner->type.size, first = range.first * size, length = range.count * size;
     if (exchange->shared != exchange->mine)
         memcpy(exchange->shared + first, exchange->mine + first, length);
-    if (!exchange->room)
+    if (!exchange->is_shown)
         caf_mail_send(exchange->operation, step, member, exchange->shared + first, length);
-    else {
+    else
         caf_mail_show(exchange->operation, step, member, exchange->shared + first);
-        exchange->answers |= step >= GIVE ? (uint32_t)1 << step : 0;
-    }
+}
+
+/* The same, where the member answers when it has got them. */
+static void hand_back(struct exchange *exchange, uint32_t step, int member, struct range range) {
+    hand_over(exchange, step, member, range);
+    exchange->answers |= exchange->is_shown ? (uint32_t)1 << step : 0;
 }
 
 /* Combines elements with those that a member hands over. */
@@ -95,11 +107,9 @@ static void combine_with(struct exchange *exchange, uint32_t step, int member, s
     struct caf_mail *mail = caf_mail_take(exchange->operation, step);
     if (!mail)
         return;
-    char *made = NULL, *room = exchange->room ? exchange->room : mail->place ? (made = caf_memory(length)) : NULL;
-    const void *mine = exchange->mine + first, *other = caf_mail_bytes(exchange->operation, mail, member, room, length);
+    const void *mine = exchange->mine + first, *other = caf_mail_bytes(exchange->operation, mail, member, exchange->room, length);
     bool is_first = member < exchange->operation->team->index;
     caf_combine(exchange->combiner, exchange->shared + first, is_first ? other : mine, is_first ? mine : other, range.count);
-    free(made);
     caf_mail_free(mail);
 }
 
@@ -158,9 +168,129 @@ static void exchange_halves(struct exchange *exchange) {
     exchange->due = ranges[steps];
     for (int bit = 1; bit < pairs->power; bit *= 2, steps--) {
         int partner = member_of(pairs, place ^ bit);
-        hand_over(exchange, GIVE + steps - 1, partner, ranges[steps]);
+        hand_back(exchange, GIVE + steps - 1, partner, ranges[steps]);
         take_over(exchange, GIVE + steps - 1, partner, half_of(ranges[steps - 1], !(place & bit)));
     }
+}
+
+/* ---- The same by shares: each member combines one, of all members, and hands it to all. */
+
+static struct range share_of(const struct exchange *exchange, int member) {
+    size_t members = (size_t)exchange->operation->team->size, first = exchange->count * (size_t)member / members;
+    return (struct range){ first, exchange->count * ((size_t)member + 1) / members - first };
+}
+
+/* What a member handed over, and its bytes, which may be on the way. */
+struct arrival {
+    struct caf_mail *mail;
+    gasnet_handle_t coming;
+    const char *bytes;
+};
+
+/* Waits until each other member handed something over, and begins to get what isn't here. False where a member is absent. */
+static bool gather(struct exchange *exchange, uint32_t steps, struct arrival *arrivals, char *const *rooms) {
+    struct caf_operation *operation = exchange->operation;
+    int size = operation->team->size, index = operation->team->index;
+    for (int k = 1; k < size; k++) {
+        int member = (index + size - k) % size;
+        struct arrival *arrival = &arrivals[member];
+        struct caf_mail *mail = caf_mail_take(operation, steps + (uint32_t)member);
+        const struct range range = share_of(exchange, steps == SHARES ? index : member);
+        if (!mail)
+            return false;
+        arrival->mail = mail;
+        arrival->bytes = mail->place ? rooms[member] : (const char *)mail->bytes;
+        if (mail->place)
+            arrival->coming = caf_mail_begin(operation, mail, member, rooms[member], range.count * exchange->combiner->type.size);
+    }
+    return true;
+}
+
+static void let_go(struct arrival *arrivals, int size) {
+    for (int member = 0; member < size; member++) {
+        gasnet_wait_syncnb(arrivals[member].coming);
+        if (arrivals[member].mail)
+            caf_mail_free(arrivals[member].mail);
+    }
+}
+
+/* Combines this member's share of all members, in their order. */
+static void combine_share(struct exchange *exchange, struct arrival *arrivals) {
+    int size = exchange->operation->team->size, index = exchange->operation->team->index;
+    const struct range share = share_of(exchange, index);
+    size_t first = share.first * exchange->combiner->type.size;
+    char *sum = exchange->shared + first;
+    arrivals[index].bytes = exchange->mine + first;
+    for (int member = 0; member < size; member++) {
+        gasnet_wait_syncnb(arrivals[member].coming);
+        arrivals[member].coming = GASNET_INVALID_HANDLE;
+        if (member)
+            caf_combine(exchange->combiner, sum, member == 1 ? arrivals[0].bytes : sum, arrivals[member].bytes, share.count);
+    }
+}
+
+/* Each member hands its parts of the others' shares to them; they lie in its room one after the other. */
+static bool reduce_shares(struct exchange *exchange) {
+    struct caf_operation *operation = exchange->operation;
+    int size = operation->team->size, index = operation->team->index;
+    size_t length = share_of(exchange, index).count * exchange->combiner->type.size;
+    struct arrival arrivals[GASNET_MAXNODES] = { { NULL, GASNET_INVALID_HANDLE, NULL } };
+    char *rooms[GASNET_MAXNODES] = { NULL };
+    for (int k = 1; k < size; k++) {
+        int member = (index + k) % size;
+        rooms[member] = exchange->room + (size_t)(k - 1) * length;
+        hand_over(exchange, SHARES + (uint32_t)index, member, share_of(exchange, member));
+    }
+    bool is_whole = gather(exchange, SHARES, arrivals, rooms);
+    if (is_whole)
+        combine_share(exchange, arrivals);
+    let_go(arrivals, size);
+    return is_whole;
+}
+
+/* Each member hands its share of the result to all. */
+static void spread_shares(struct exchange *exchange) {
+    struct caf_operation *operation = exchange->operation;
+    int size = operation->team->size, index = operation->team->index;
+    struct arrival arrivals[GASNET_MAXNODES] = { { NULL, GASNET_INVALID_HANDLE, NULL } };
+    char *rooms[GASNET_MAXNODES] = { NULL };
+    exchange->mine = exchange->shared;
+    exchange->due = share_of(exchange, index);
+    for (int k = 1; k < size; k++) {
+        int member = (index + k) % size;
+        rooms[member] = exchange->shared + share_of(exchange, member).first * exchange->combiner->type.size;
+        hand_over(exchange, SUMS + (uint32_t)index, member, exchange->due);
+    }
+    bool is_whole = gather(exchange, SUMS, arrivals, rooms);
+    for (int k = 1; is_whole && k < size; k++) {
+        int member = (index + size - k) % size;
+        const struct range share = share_of(exchange, member);
+        bring(exchange, share);
+        gasnet_wait_syncnb(arrivals[member].coming);
+        arrivals[member].coming = GASNET_INVALID_HANDLE;
+        if (arrivals[member].bytes == rooms[member])
+            caf_mail_send(operation, ANSWERS + (uint32_t)index, member, "", 1);
+        else
+            memcpy(rooms[member], arrivals[member].bytes, share.count * exchange->combiner->type.size);
+    }
+    let_go(arrivals, size);
+}
+
+/* Waits until the others have got this member's share. */
+static void wait_for_answers(struct exchange *exchange) {
+    const struct caf_team *team = exchange->operation->team;
+    for (int member = 0; exchange->is_shown && member < team->size; member++) {
+        struct caf_mail *answer = member == team->index ? NULL : caf_mail_take(exchange->operation, ANSWERS + (uint32_t)member);
+        if (answer)
+            caf_mail_free(answer);
+    }
+}
+
+static void exchange_shares(struct exchange *exchange) {
+    if (!reduce_shares(exchange))
+        return;
+    spread_shares(exchange);
+    wait_for_answers(exchange);
 }
 
 /* Brings the rest of the result to its place. Others may get what is shared until they answered; where one is absent the memory
@@ -175,28 +305,42 @@ static void end_exchange(struct exchange *exchange) {
         if (answer)
             caf_mail_free(answer);
     }
-    if (!operation->code)
+    if (!exchange->is_shown)
+        free(exchange->room);
+    else if (!operation->code)
         caf_heap_give(&caf_state.heap, exchange->room);
 }
 
-static void reduce_block(struct caf_operation *operation, const struct caf_combiner *combiner, void *part, size_t count) {
-    struct exchange exchange = { operation, combiner, pairs_of(operation->team->size), count, part, part, NULL, part, { 0, 0 }, 0 };
-    const struct range all = { 0, count };
-    int index = operation->team->index;
-    bool is_paired = index < 2 * exchange.pairs.rest, is_first = is_paired && index % 2 == 0;
-    share(&exchange);
-    if (is_first) {
-        hand_over(&exchange, JOIN, index + 1, all);
-        take_over(&exchange, RESULT, index + 1, all);
-    } else {
-        if (is_paired) {
-            combine_with(&exchange, JOIN, index - 1, all);
-            exchange.mine = exchange.shared;
-        }
-        (is_long(&exchange) ? exchange_halves : exchange_whole)(&exchange);
-        if (is_paired)
-            hand_over(&exchange, RESULT, index - 1, all);
+/* Pairs would send all once more; where there are none, halves take fewer messages. */
+static bool goes_by_shares(const struct exchange *exchange) {
+    size_t members = (size_t)exchange->operation->team->size;
+    return exchange->pairs.rest && exchange->room && exchange->count >= members && exchange->count * exchange->combiner->type.size / members >= SHARE;
+}
+
+/* Of more members than a power of two, those of a pair come first. */
+static void exchange_by_pairs(struct exchange *exchange) {
+    const struct range all = { 0, exchange->count };
+    int index = exchange->operation->team->index;
+    bool is_paired = index < 2 * exchange->pairs.rest;
+    if (is_paired && index % 2 == 0) {
+        hand_over(exchange, JOIN, index + 1, all);
+        take_over(exchange, RESULT, index + 1, all);
+        return;
     }
+    if (is_paired) {
+        combine_with(exchange, JOIN, index - 1, all);
+        exchange->mine = exchange->shared;
+    }
+    (is_long(exchange) ? exchange_halves : exchange_whole)(exchange);
+    if (is_paired)
+        hand_back(exchange, RESULT, index - 1, all);
+}
+
+static void reduce_block(struct caf_operation *operation, const struct caf_combiner *combiner, void *part, size_t count) {
+    struct exchange exchange = { .operation = operation, .combiner = combiner, .pairs = pairs_of(operation->team->size), .count = count,
+                                 .mine = part, .part = part, .shared = part };
+    share(&exchange);
+    (goes_by_shares(&exchange) ? exchange_shares : exchange_by_pairs)(&exchange);
     end_exchange(&exchange);
 }
 
