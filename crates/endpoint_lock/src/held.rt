@@ -1,12 +1,13 @@
 //! What lies under a node's lock: its station, with the book of the ledger in which each entry is counted.
 
-ghost use Rattle.std.specs.Prelude.{◌≡◌, ◌+◌, ◌<◌, ◌↔◌, ℕ, length, IsSomeAnd, IsTrue};
+ghost use Rattle.std.specs.Prelude.{◌≡◌, ◌+◌, ◌<◌, ◌↔◌, ℕ, IsSomeAnd, IsTrue};
 ghost use Rattle.std.specs.Option.{ForSome};
 ghost use Rattle.endpoint_lock.specs.StationState.{opened};
-ghost use Rattle.endpoint_lock.specs.Facts.{Facts};
-ghost use Rattle.endpoint_lock.specs.Turns.{AppendsAtMostOne, TakesTurn};
+ghost use Rattle.endpoint_lock.specs.Facts.{HasFacts};
+ghost use Rattle.endpoint_lock.specs.Turns.{CountsAtMostOne, TakesTurn};
 
 use crate::ends::TurnEnd;
+use crate::recorder::Recorder;
 use crate::station::Station;
 use gas_outside::{Clock, Link};
 use machine::Machine;
@@ -24,15 +25,15 @@ impl Crew for Brand {
 }
 
 /// The name that a station under its lock, its book and its shares carry.
-pub trait StationName<M, L, C>: Crew {
+pub trait StationName<M, L, C, K>: Crew {
     ghost use Rattle.std.specs.Prelude.{Option};
     ghost use Rattle.endpoint_lock.specs.StationState.{Opening};
 
     /// What the station was opened with.
-    ghost opening: { Option (Opening M L C) };
+    ghost opening: { Option (Opening M L C K) };
 }
 
-impl<M, L, C> StationName<M, L, C> for Brand {
+impl<M, L, C, K> StationName<M, L, C, K> for Brand {
     ghost use Rattle.std.specs.Prelude.{None};
 
     ghost opening = { None };
@@ -40,31 +41,32 @@ impl<M, L, C> StationName<M, L, C> for Brand {
 
 /// A station with the book of its node's ledger. Contracts see it as the station.
 ///
-/// Whenever the lock is free the facts hold of it, for what its name says that it was opened with, and its journal is
-/// as long as the book's total says.
-pub struct Held<N: StationName<M, L, C>, M: Machine, L: Link, C: Clock> {
-    station: Station<M, L, C>,
+/// Whenever the lock is free the facts hold of it, for what its name says that it was opened with, and its count is
+/// the total of the book.
+pub struct Held<N: StationName<M, L, C, K>, M: Machine, L: Link, C: Clock, K: Recorder> {
+    station: Station<M, L, C, K>,
     book: Book<N>,
 }
 
-impl<N: StationName<M, L, C>, M: Machine, L: Link, C: Clock> Model for Held<N, M, L, C> {
-    ghost use Rattle.std.specs.Prelude.{◌≡◌, length};
+impl<N: StationName<M, L, C, K>, M: Machine, L: Link, C: Clock, K: Recorder> Model
+    for Held<N, M, L, C, K> {
+    ghost use Rattle.std.specs.Prelude.{◌≡◌};
     ghost use Rattle.std.specs.Option.{ForSome};
     ghost use Rattle.endpoint_lock.specs.StationState.{StationState};
-    ghost use Rattle.endpoint_lock.specs.Facts.{Facts};
+    ghost use Rattle.endpoint_lock.specs.Facts.{HasFacts};
 
-    ghost Value = { StationState M L C };
+    ghost Value = { StationState M L C K };
 
     ghost view = { λ h. h.station };
 
-    ghost invariant = { λ h. (length h.station.journal ≡ h.book.total)
+    ghost invariant = { λ h. (h.station.count ≡ h.book.total)
         × (M.thread_count h.station.machine ≡ N.threads)
-        × ForSome N.opening (λ opening. Facts M.Machine L.Link C.Clock opening h.station) };
+        × ForSome N.opening (λ opening. HasFacts M.Machine L.Link C.Clock K.Recorder opening h.station) };
 }
 
-impl<N: StationName<M, L, C>, M: Machine, L: Link, C: Clock> Held<N, M, L, C> {
+impl<N: StationName<M, L, C, K>, M: Machine, L: Link, C: Clock, K: Recorder> Held<N, M, L, C, K> {
     /// Puts a new station under its name, with a new ledger. The share has all parts of it, and nothing is booked.
-    pub fn open(station: Station<M, L, C>, blank: Blank) -> (Held<N, M, L, C>, Share<N>)
+    pub fn open(station: Station<M, L, C, K>, blank: Blank) -> (Held<N, M, L, C, K>, Share<N>)
         requires opened { IsSomeAnd N.opening (λ opening. station ≡ opened opening) }
         requires threads { M.thread_count station.machine ≡ N.threads }
         requires name { blank.name ≡ N.name }
@@ -82,20 +84,20 @@ impl<N: StationName<M, L, C>, M: Machine, L: Link, C: Clock> Held<N, M, L, C> {
     pub fn turn(&mut self, thread: u16, mine: &mut Share<N>) -> TurnEnd
         requires thread { thread < N.threads }
         requires part { 0 < mine.old.parts }
-        ensures turn { TakesTurn M.Machine L.Link C.Clock (record {
+        ensures turn { TakesTurn M.Machine L.Link C.Clock K.Recorder (record {
           thread = thread;
           before = self.old;
           end = result;
           after = self.new;
         }) }
-        ensures journal { AppendsAtMostOne thread self.old.journal self.new.journal }
-        ensures booked { mine.new.amount + length self.old.journal
-            ≡ mine.old.amount + length self.new.journal }
+        ensures count { CountsAtMostOne self.old.count self.new.count }
+        ensures booked { mine.new.amount + self.old.count
+            ≡ mine.old.amount + self.new.count }
         ensures parts { mine.new.parts ≡ mine.old.parts }
     {
-        let before = self.station.len();
+        let before = self.station.count();
         let end = self.station.turn(thread);
-        if self.station.len() > before {
+        if self.station.count() > before {
             self.book.add(mine, 1);
         }
         end
@@ -108,14 +110,14 @@ impl<N: StationName<M, L, C>, M: Machine, L: Link, C: Clock> Held<N, M, L, C> {
         self.station.quiet() > 0
     }
 
-    /// Takes the station out, once the share has all parts again. The facts hold of it, and its journal is as long as
+    /// Takes the station out, once the share has all parts again. The facts hold of it, and its count is as great as
     /// the share says.
-    pub fn close(self, all: &mut Share<N>) -> Station<M, L, C>
+    pub fn close(self, all: &mut Share<N>) -> Station<M, L, C, K>
         requires { all.old.parts ≡ N.parts }
         ensures held { result ≡ self }
         ensures facts { ForSome N.opening (λ opening.
-            Facts M.Machine L.Link C.Clock opening result) }
-        ensures booked { length result.journal ≡ all.old.amount }
+            HasFacts M.Machine L.Link C.Clock K.Recorder opening result) }
+        ensures booked { result.count ≡ all.old.amount }
     {
         let Held { station, book } = self;
         let mut book = book;

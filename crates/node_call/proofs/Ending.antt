@@ -1,137 +1,192 @@
 -- How the run of a node of a job ended, from what its threads left.
-use Rattle.std.proofs.Common.{◌≡◌, Bool, List, [], ◌∷◌, ◌++◌, refl, sym, ap, subst, inl, inr, ℕ}
-use Rattle.gas_outside.specs.Buffered.{Outbox, Gathers, GathersAll}
+use Rattle.std.proofs.Common.{◌≡◌, ◌≢◌, Bool, List, [], refl, sym, ap, subst, inl, inr, ◌∙◌, Some, None}
+use Rattle.gas_outside.specs.Buffered.{Gathering, Outbox, Gathers, GathersFront}
 use Rattle.gas_outside.specs.Sieve.{Sieving}
 use Rattle.gas_outside.specs.declared.link.Link.{Ghosts as LinkGhosts}
 use Rattle.gas_outside.specs.declared.clock.Clock.{Ghosts as ClockGhosts}
+use Rattle.gas_outside.specs.declared.sink.Sink.{Ghosts as SinkGhosts}
 use Rattle.gas_outside.specs.declared.writing.Wrote.{Wrote}
 use Rattle.gas_outside.specs.declared.writing.Wrote.TheVariants as wrote
 use Rattle.gas_outside.proofs.Outboxes.{gathers_none}
 use Rattle.gas_endpoint.specs.EndpointState.{ForItsRecord}
+use Rattle.machine.specs.declared.entry.Entry.{Entry}
 use Rattle.endpoint_lock.specs.declared.ends.End.{End}
 use Rattle.endpoint_lock.specs.declared.ends.End.TheVariants as stations
 use Rattle.endpoint_lock.specs.declared.ends.Ended.{Ended}
 use Rattle.station_run.specs.declared.node.Node.{Node}
-use Rattle.station_run.specs.NodeRuns.{RunsNode, node_text, text_for}
+use Rattle.station_run.specs.declared.node.NodeRun.{NodeRun}
+use Rattle.station_run.specs.declared.node.Place.{Place}
+use Rattle.station_run.specs.NodeRuns.{IsUnopened, Runs, RunsOpen, RunsOver, WritesAt, tracing, whole_text}
 use Rattle.node_machine.specs.Kept.{MachineKept}
 use Rattle.node_machine.specs.NodeState.{NodeStands, opening_state}
 use Rattle.gasnet_trace.specs.Lines.{spell}
+use Rattle.gasnet_trace.specs.TraceText.{head_text}
 use Rattle.node_call.specs.Seen.{ClockSeen, DevicesSeen, LinkSeen, devices_seen}
-use Rattle.node_call.specs.Seen.{seen_clocks, seen_links}
-use Rattle.node_call.specs.NodeLeaves.{NodeLeaves, Post, has_noted, node_at, node_lines, node_machines}
+use Rattle.node_call.specs.Seen.{seen_clocks, seen_links, seen_recorders}
+use Rattle.node_call.specs.NodeLeaves.{NodeLeaves, Post, has_noted, node_at, node_lines, node_machines, place_of}
 use Rattle.node_call.specs.NodeLeaves.{record_after}
-use Rattle.node_call.specs.NodeEnds.{EndsNode, EndsSo, IsReady, end_for, node_for, unmade}
+use Rattle.node_call.specs.NodeEnds.{EndsAt, EndsNode, EndsSo, EndsUnwritten, IsReady, end_for, node_for, unmade}
 use Rattle.node_call.specs.declared.calling.NodeRan.{NodeRan}
-use Rattle.node_call.proofs.Seeing.{is_behind, left_seen, node_seen, see_runs, sieve_links}
-
--- a front of nothing is nothing
-no_front : (front rest : List ℕ) → [] ≡ front ++ rest → front ≡ []
-no_front [] rest e = refl
-no_front (x ∷ front) rest e = absurd (cc e)
-
-nothing_went : (old new : Outbox) (result : Wrote) → GathersAll old new [] result → Gathers old new []
-nothing_went old new wrote.Done h = h
-nothing_went old new wrote.Fault h =
-    subst (Gathers old new) (no_front h.went.front h.rest h.went.whole) h.went.gathered
+use Rattle.node_call.proofs.Seeing.{is_behind, left_seen, node_seen, see_runs, sieve_links, sink_seen}
 
 -- of a run that ended so, whether it noted a violation
-noted : (post : Post) (machine : MachineKept) (before : DevicesSeen) (left : Ended MachineKept LinkSeen ClockSeen)
-    (violated : Bool)
+noted : (post : Post) (machine : MachineKept) (before : DevicesSeen) (opened : Outbox) (journal : List Entry)
+    (left : Ended MachineKept LinkSeen ClockSeen Outbox) (violated : Bool)
     → NodeStands machine (opening_state post.job post.rank)
-    → RunsNode node_machines seen_links seen_clocks (node_at post machine before) left
+    → RunsOver node_machines seen_links seen_clocks seen_recorders (node_at post machine before) opened journal left
     → left.end ≡ stations.Over → ForItsRecord left.machine.endpoint (λ node. violated ≡ has_noted node)
-    → has_noted (record_after post left.journal) ≡ violated
-noted post machine before left violated opens (inl bound) over h =
-    sym (h (record_after post left.journal)
-    (bound.leaves.replay (opening_state post.job post.rank) opens).machine.node)
-noted post machine before left violated opens (inr unbound) over h =
+    → has_noted (record_after post journal) ≡ violated
+noted post machine before opened journal left violated opens (inl bound) over h =
+    let leaves = bound.0.leaves in
+    subst (λ (turns : List Entry). has_noted (record_after post turns) ≡ violated) bound.1
+    (sym (h (record_after post leaves.journal)
+    (leaves.replay (opening_state post.job post.rank) opens).machine.node))
+noted post machine before opened journal left violated opens (inr unbound) over h =
     let fault : left.end ≡ stations.LinkFault =
-    ap (λ (e : Ended MachineKept LinkSeen ClockSeen). e.end) unbound.left_is in
+    ap (λ (e : Ended MachineKept LinkSeen ClockSeen Outbox). e.end) unbound.0.left_is in
     absurd (cc)
 
--- how it ended
-ends_by : (post : Post) (before after : DevicesSeen) (left : Ended MachineKept LinkSeen ClockSeen)
-    (old new : Outbox) (violated : Bool) (end : End) (written : Wrote)
-    → NodeLeaves post before after left → left.end ≡ end
-    → ForItsRecord left.machine.endpoint (λ node. violated ≡ has_noted node)
-    → GathersAll old new (text_for end (spell (node_lines post left.journal))) written
-    → EndsNode post before after old new (end_for end written violated)
-    (node_for (end_for end written violated) left.machine.endpoint)
-ends_by post before after left old new violated stations.NoMemory written h is said went =
-    record { written = nothing_went old new written went; no_node = refl }
-ends_by post before after left old new violated stations.Over wrote.Fault h is said went = record {
-  end = stations.Over;
-  some_text = λ e. absurd (cc e);
-  run = record { left = left; leaves = h; end_is = is };
-  written = went;
-  no_node = refl;
-}
-ends_by post before after left old new violated stations.Stuck wrote.Fault h is said went = record {
-  end = stations.Stuck;
-  some_text = λ e. absurd (cc e);
-  run = record { left = left; leaves = h; end_is = is };
-  written = went;
-  no_node = refl;
-}
-ends_by post before after left old new violated stations.LinkFault wrote.Fault h is said went = record {
-  end = stations.LinkFault;
-  some_text = λ e. absurd (cc e);
-  run = record { left = left; leaves = h; end_is = is };
-  written = went;
-  no_node = refl;
-}
-ends_by post before after left old new violated stations.JournalFull wrote.Fault h is said went = record {
-  end = stations.JournalFull;
-  some_text = λ e. absurd (cc e);
-  run = record { left = left; leaves = h; end_is = is };
-  written = went;
-  no_node = refl;
-}
-ends_by post before after left old new violated stations.Over wrote.Done h is said went = record {
-  ends = record { run = record { left = left; leaves = h; end_is = is }; written = went; node_is = refl };
-  violated_is = noted post h.machine before left violated h.opens h.runs is said;
-}
-ends_by post before after left old new violated stations.Stuck wrote.Done h is said went =
-    record { run = record { left = left; leaves = h; end_is = is }; written = went; node_is = refl }
-ends_by post before after left old new violated stations.LinkFault wrote.Done h is said went =
-    record { run = record { left = left; leaves = h; end_is = is }; written = went; node_is = refl }
-ends_by post before after left old new violated stations.JournalFull wrote.Done h is said went =
-    record { run = record { left = left; leaves = h; end_is = is }; written = went; node_is = refl }
+module _ (post : Post) (before after : DevicesSeen) (journal : List Entry)
+    (left : Ended MachineKept LinkSeen ClockSeen Outbox) (old new : Outbox) (violated : Bool)
+    (h : NodeLeaves post before after journal left)
+    (begun : Gathers old h.opened (head_text post.job.settings.version post.job.settings.job post.rank))
+    (said : ForItsRecord left.machine.endpoint (λ node. violated ≡ has_noted node)) where
+  abbrev ends_at : (end : End) → left.end ≡ end → Gathers old new (spell (node_lines post journal))
+      → EndsAt post before after end old new (Some left.machine.endpoint)
+  ends_at end is went = record {
+    run = record { left = left; journal = journal; leaves = h; end_is = is };
+    begun = begun;
+    written = went;
+    node_is = refl;
+  }
 
-module _ {L C : Type 0} (l : LinkGhosts L) (c : ClockGhosts C) (post : Post) (link : L) (clock : C) where
+  unwritten : (end : End) → left.end ≡ end → end ≢ stations.NoMemory
+      → GathersFront old new (spell (node_lines post journal)) → EndsUnwritten post before after old new None
+  unwritten end is some went = record {
+    how = inl
+        (record {
+          end = end;
+          some_text = some;
+          run = record { left = left; journal = journal; leaves = h; end_is = is };
+          begun = begun;
+          written = went;
+        });
+    no_node = refl;
+  }
+
+  -- how it ended
+  ends_by : (end : End) (written : Wrote) → left.end ≡ end → WritesAt (place_of post) journal old new end written
+      → EndsNode post before after old new (end_for end written violated)
+      (node_for (end_for end written violated) left.machine.endpoint)
+  ends_by stations.NoMemory written is went = record {
+    how = inl
+        (record {
+          run = record { left = left; journal = journal; leaves = h; end_is = is };
+          begun = begun;
+          written = went;
+        });
+    no_node = refl;
+  }
+  ends_by stations.WriteFault written is went = unwritten stations.WriteFault is (λ e. absurd (cc e)) went
+  ends_by stations.Over wrote.Fault is went = unwritten stations.Over is (λ e. absurd (cc e)) went
+  ends_by stations.Stuck wrote.Fault is went = unwritten stations.Stuck is (λ e. absurd (cc e)) went
+  ends_by stations.LinkFault wrote.Fault is went = unwritten stations.LinkFault is (λ e. absurd (cc e)) went
+  ends_by stations.JournalFull wrote.Fault is went = unwritten stations.JournalFull is (λ e. absurd (cc e)) went
+  ends_by stations.Over wrote.Done is went = record {
+    ends = ends_at stations.Over is went;
+    violated_is = noted post h.machine before h.opened journal left violated h.opens h.runs is said;
+  }
+  ends_by stations.Stuck wrote.Done is went = ends_at stations.Stuck is went
+  ends_by stations.LinkFault wrote.Done is went = ends_at stations.LinkFault is went
+  ends_by stations.JournalFull wrote.Done is went = ends_at stations.JournalFull is went
+
+module _ {L C K : Type 0} (l : LinkGhosts L) (c : ClockGhosts C) (k : SinkGhosts K) (post : Post) (link : L)
+    (clock : C) (sink : Gathering K) where
   -- what is left, by what is seen of the devices
-  node_leaves : (node : Node MachineKept (Sieving L) C) (left : Ended MachineKept (Sieving L) C)
-      → IsReady post link clock node → RunsNode node_machines (sieve_links l) c node left
-      → NodeLeaves post (devices_seen l c link clock) (devices_seen l c left.link.inner left.clock)
-      (left_seen (sieve_links l) c left)
-  node_leaves node left ready runs =
+  abbrev node_leaves : (node : Node MachineKept (Sieving L) C) (opened : Gathering K) (journal : List Entry)
+      (left : Ended MachineKept (Sieving L) C (Gathering K))
+      → IsReady post link clock node
+      → RunsOver node_machines (sieve_links l) c (tracing k) node opened journal left
+      → NodeLeaves post (devices_seen l c link clock) (devices_seen l c left.link.inner left.clock) journal
+      (left_seen (sieve_links l) c k left)
+  node_leaves node opened journal left ready runs =
       let same : node_seen (sieve_links l) c node ≡ node_at post node.machine (devices_seen l c link clock) =
       ap (node_seen (sieve_links l) c) ready.node_is in
       record {
         machine = node.machine;
         opens = ready.opens;
+        opened = sink_seen k opened;
         runs = subst (λ (n : Node MachineKept LinkSeen ClockSeen).
-            RunsNode node_machines seen_links seen_clocks n (left_seen (sieve_links l) c left)) same
-            (see_runs node_machines (sieve_links l) c node left runs);
+            RunsOver node_machines seen_links seen_clocks seen_recorders n (sink_seen k opened) journal
+            (left_seen (sieve_links l) c k left)) same
+            (see_runs node_machines (sieve_links l) c k node opened journal left runs);
         link = is_behind l left.link;
         clock = refl;
       }
 
+  place_is : (node : Node MachineKept (Sieving L) C) → IsReady post link clock node → node.place ≡ place_of post
+  place_is node ready = ap (λ (n : Node MachineKept (Sieving L) C). n.place) ready.node_is
+
+  -- how the run of a node ended into whose sink the first lines of its trace went
+  ends_open : (node : Node MachineKept (Sieving L) C) (run : NodeRun MachineKept (Sieving L) C K) (ran : NodeRan L C K)
+      → IsReady post link clock node → RunsOpen node_machines (sieve_links l) c k node sink run
+      → EndsSo run.left run.wrote ran
+      → EndsNode post (devices_seen l c link clock) (devices_seen l c ran.link ran.clock) (sink_seen k sink)
+      (sink_seen k ran.sink) ran.end ran.node
+  ends_open node run ran ready opens ends =
+      let so : EndsSo (record opens.left { recorder = run.left.recorder }) run.wrote ran =
+      subst (λ (w : Ended MachineKept (Sieving L) C (Gathering K)). EndsSo w run.wrote ran) opens.left_is ends in
+      let left = opens.left in
+      let begun = subst (λ (p : Place).
+      Gathers (sink_seen k sink) (sink_seen k opens.opened) (head_text p.version p.job p.rank))
+      (place_is node ready) opens.head in
+      let went = subst (λ (p : Place).
+      WritesAt p opens.journal (sink_seen k sink) (sink_seen k run.left.recorder) left.end run.wrote)
+      (place_is node ready) opens.written in
+      let by = ends_by post (devices_seen l c link clock) (devices_seen l c left.link.inner left.clock) opens.journal
+      (left_seen (sieve_links l) c k left) (sink_seen k sink) (sink_seen k run.left.recorder) so.violated
+      (node_leaves node opens.opened opens.journal left ready opens.ran) begun so.violated_is left.end run.wrote refl
+      went in
+      rw (so.node_is, so.end_is, so.link, so.clock, so.sink) by
+
+  -- the sink failed before
+  ends_unopened : (node : Node MachineKept (Sieving L) C) (run : NodeRun MachineKept (Sieving L) C K)
+      (ran : NodeRan L C K)
+      → IsReady post link clock node → IsUnopened k node sink run → EndsSo run.left run.wrote ran
+      → EndsNode post (devices_seen l c link clock) (devices_seen l c ran.link ran.clock) (sink_seen k sink)
+      (sink_seen k ran.sink) ran.end ran.node
+  ends_unopened node run ran ready un ends =
+      let so : EndsSo (record {
+        machine = node.machine;
+        link = node.link;
+        clock = node.clock;
+        recorder = run.left.recorder;
+        end = stations.WriteFault;
+      }) run.wrote ran =
+      subst (λ (w : Ended MachineKept (Sieving L) C (Gathering K)). EndsSo w run.wrote ran) un.left_is ends in
+      let link_is : ran.link ≡ link =
+      so.link ∙ ap (λ (n : Node MachineKept (Sieving L) C). n.link.inner) ready.node_is in
+      let clock_is : ran.clock ≡ clock =
+      so.clock ∙ ap (λ (n : Node MachineKept (Sieving L) C). n.clock) ready.node_is in
+      let went = subst (λ (p : Place).
+      GathersFront (sink_seen k sink) (sink_seen k run.left.recorder) (whole_text p []))
+      (place_is node ready) un.written in
+      rw (so.node_is, so.end_is, link_is, clock_is, so.sink)
+      (record { how = inr (record { kept = refl; written = went }); no_node = refl })
+
   -- how the run of a node ended that was ready
-  pub ends_node : (node : Node MachineKept (Sieving L) C) (left : Ended MachineKept (Sieving L) C) (written : Wrote)
-      (ran : NodeRan L C) (old new : Outbox)
-      → IsReady post link clock node → RunsNode node_machines (sieve_links l) c node left
-      → GathersAll old new (node_text node.place left) written → EndsSo left written ran
-      → EndsNode post (devices_seen l c link clock) (devices_seen l c ran.link ran.clock) old new ran.end ran.node
-  ends_node node left written ran old new ready runs went so =
-      let place = ap (λ (n : Node MachineKept (Sieving L) C). n.place) ready.node_is in
-      let text = subst (λ p. GathersAll old new (node_text p left) written) place went in
-      let by = ends_by post (devices_seen l c link clock) (devices_seen l c left.link.inner left.clock)
-      (left_seen (sieve_links l) c left) old new so.violated left.end written (node_leaves node left ready runs)
-      refl so.violated_is text in
-      rw (so.node_is, so.end_is, so.link, so.clock) by
+  pub ends_node : (node : Node MachineKept (Sieving L) C) (run : NodeRun MachineKept (Sieving L) C K)
+      (ran : NodeRan L C K)
+      → IsReady post link clock node → Runs node_machines (sieve_links l) c k node sink run
+      → EndsSo run.left run.wrote ran
+      → EndsNode post (devices_seen l c link clock) (devices_seen l c ran.link ran.clock) (sink_seen k sink)
+      (sink_seen k ran.sink) ran.end ran.node
+  ends_node node run ran ready (inl opens) so = ends_open node run ran ready opens so
+  ends_node node run ran ready (inr un) so = ends_unopened node run ran ready un so
 
   -- nothing was done
-  pub ends_unmade : (old : Outbox) (ran : NodeRan L C) → ran ≡ unmade link clock
-      → EndsNode post (devices_seen l c link clock) (devices_seen l c ran.link ran.clock) old old ran.end ran.node
-  ends_unmade old ran is = rw is (record { written = gathers_none old; no_node = refl })
+  pub ends_unmade : (ran : NodeRan L C K) → ran ≡ unmade link clock sink
+      → EndsNode post (devices_seen l c link clock) (devices_seen l c ran.link ran.clock) (sink_seen k sink)
+      (sink_seen k ran.sink) ran.end ran.node
+  ends_unmade ran is =
+      rw is (record { how = inr (record { kept = refl; written = gathers_none (sink_seen k sink) }); no_node = refl })

@@ -1,17 +1,21 @@
 -- What the threads of a node leave, by what is seen of its link and its clock.
-use Rattle.std.proofs.Common.{◌≡◌, Bool, true, false, Option, Some, None, refl, ap, inl, inr}
+use Rattle.std.proofs.Common.{◌≡◌, Bool, List, true, false, Option, Some, None, refl, ap, inl, inr}
 use Rattle.std.specs.Prelude.{if◌then◌else◌}
 use Rattle.std.specs.Option.{ForSome}
 use Rattle.gas_outside.specs.Sieve.{Sieving, is_plain}
+use Rattle.gas_outside.specs.Buffered.{Gathering, Outbox, outbox}
 use Rattle.gas_outside.specs.declared.link.Link.{Ghosts as LinkGhosts}
+use Rattle.gas_outside.specs.declared.sink.Sink.{Ghosts as SinkGhosts}
 use Rattle.gas_outside.specs.declared.clock.Clock.{Ghosts as ClockGhosts}
+use Rattle.machine.specs.declared.entry.Entry.{Entry}
 use Rattle.machine.specs.declared.turns.Machine.{Ghosts as MachineGhosts}
 use Rattle.endpoint_lock.specs.declared.ends.Ended.{Ended}
 use Rattle.endpoint_lock.specs.Leaving.{Leaves, LeavesReplay}
 use Rattle.endpoint_lock.specs.StationState.{Opening}
 use Rattle.station_run.specs.declared.node.Node.{Node}
-use Rattle.station_run.specs.NodeRuns.{IsUnbound, RunsBound, RunsNode, opening_over}
+use Rattle.station_run.specs.NodeRuns.{IsUnbound, RunsBound, RunsOver, opening_over, tracing}
 use Rattle.node_call.specs.Seen.{ClockSeen, IsBehind, LinkSeen, clock_seen, link_seen, seen_clocks, seen_links}
+use Rattle.node_call.specs.Seen.{seen_recorders}
 
 -- a node, its opening and what it leaves, of which this is seen
 abbrev pub node_seen : {M L C : Type 0} → LinkGhosts L → ClockGhosts C → Node M L C → Node M LinkSeen ClockSeen
@@ -23,43 +27,62 @@ node_seen l c node = record {
   patience = node.patience;
 }
 
-abbrev pub opening_seen : {M L C : Type 0} → LinkGhosts L → ClockGhosts C → Opening M L C
-    → Opening M LinkSeen ClockSeen
-opening_seen l c opening = record {
+abbrev pub sink_seen : {K : Type 0} → SinkGhosts K → Gathering K → Outbox
+sink_seen k sink = outbox k.taken k.faults sink
+
+abbrev pub opening_seen : {M L C K : Type 0} → LinkGhosts L → ClockGhosts C → SinkGhosts K
+    → Opening M L C (Gathering K) → Opening M LinkSeen ClockSeen Outbox
+opening_seen l c k opening = record {
   machine = opening.machine;
   link = link_seen l opening.link;
   clock = clock_seen c opening.clock;
+  recorder = sink_seen k opening.recorder;
   patience = opening.patience;
 }
 
-abbrev pub left_seen : {M L C : Type 0} → LinkGhosts L → ClockGhosts C → Ended M L C → Ended M LinkSeen ClockSeen
-left_seen l c left = record {
+abbrev pub left_seen : {M L C K : Type 0} → LinkGhosts L → ClockGhosts C → SinkGhosts K
+    → Ended M L C (Gathering K) → Ended M LinkSeen ClockSeen Outbox
+left_seen l c k left = record {
   machine = left.machine;
   link = link_seen l left.link;
   clock = clock_seen c left.clock;
-  journal = left.journal;
+  recorder = sink_seen k left.recorder;
   end = left.end;
 }
 
-module _ {M L C : Type 0} (m : MachineGhosts M) (l : LinkGhosts L) (c : ClockGhosts C) where
-  see_replay : (opening : Opening M L C) (state : m.State) (left : Ended M L C)
-      → LeavesReplay m l c opening state left
-      → LeavesReplay m seen_links seen_clocks (opening_seen l c opening) state (left_seen l c left)
-  see_replay opening state left h = record {
+module _ {M L C K : Type 0} (m : MachineGhosts M) (l : LinkGhosts L) (c : ClockGhosts C) (k : SinkGhosts K) where
+  see_replay : (opening : Opening M L C (Gathering K)) (state : m.State) (journal : List Entry)
+      (left : Ended M L C (Gathering K))
+      → LeavesReplay m l c (tracing k) opening state journal left
+      → LeavesReplay m seen_links seen_clocks seen_recorders (opening_seen l c k opening) state journal
+      (left_seen l c k left)
+  see_replay opening state journal left h = record {
     machine = h.machine;
     sent = h.sent;
     sent_short = h.sent_short;
+    ahead = record {
+      written = h.ahead.written;
+      waits = h.ahead.waits;
+      whole = h.ahead.whole;
+      gone = h.ahead.gone;
+      silent = h.ahead.silent;
+      sent = h.ahead.sent;
+    };
     spent = h.spent;
     last = h.last;
   }
 
-  see_leaves : (opening : Opening M L C) (left : Ended M L C) → Leaves m l c opening left
-      → Leaves m seen_links seen_clocks (opening_seen l c opening) (left_seen l c left)
+  abbrev see_leaves : (opening : Opening M L C (Gathering K)) (left : Ended M L C (Gathering K))
+      → Leaves m l c (tracing k) opening left
+      → Leaves m seen_links seen_clocks seen_recorders (opening_seen l c k opening) (left_seen l c k left)
   see_leaves opening left h = record {
+    journal = h.journal;
     threads = h.threads;
     within = h.within;
     entries = h.entries;
-    replay = λ state stood. see_replay opening state left (h.replay state stood);
+    written = h.written;
+    front = h.front;
+    replay = λ state stood. see_replay opening state h.journal left (h.replay state stood);
     received = h.received;
     bound = h.bound;
     times = h.times;
@@ -70,30 +93,35 @@ module _ {M L C : Type 0} (m : MachineGhosts M) (l : LinkGhosts L) (c : ClockGho
     full = h.full;
   }
 
-  see_bound : (node : Node M L C) (left : Ended M L C) → RunsBound m l c node left
-      → RunsBound m seen_links seen_clocks (node_seen l c node) (left_seen l c left)
-  see_bound node left h = record {
+  abbrev see_bound : (node : Node M L C) (opened : Gathering K) (left : Ended M L C (Gathering K))
+      → RunsBound m l c (tracing k) node opened left
+      → RunsBound m seen_links seen_clocks seen_recorders (node_seen l c node) (sink_seen k opened)
+      (left_seen l c k left)
+  see_bound node opened left h = record {
     link = link_seen l h.link;
     bound = h.bound;
     same = record { sent = h.same.sent; received = h.same.received; waiting = h.same.waiting };
     later = h.later;
-    leaves = see_leaves (opening_over h.link node) left h.leaves;
+    leaves = see_leaves (opening_over h.link opened node) left h.leaves;
   }
 
-  see_unbound : (node : Node M L C) (left : Ended M L C) → IsUnbound l node left
-      → IsUnbound seen_links (node_seen l c node) (left_seen l c left)
-  see_unbound node left h = record {
+  see_unbound : (node : Node M L C) (opened : Gathering K) (left : Ended M L C (Gathering K))
+      → IsUnbound l node opened left
+      → IsUnbound seen_links (node_seen l c node) (sink_seen k opened) (left_seen l c k left)
+  see_unbound node opened left h = record {
     bound = h.bound;
     same = record { sent = h.same.sent; received = h.same.received; waiting = h.same.waiting };
     rose = h.rose;
-    left_is = ap (left_seen l c) h.left_is;
+    left_is = ap (left_seen l c k) h.left_is;
   }
 
   -- the run of a node, by what is seen
-  pub see_runs : (node : Node M L C) (left : Ended M L C) → RunsNode m l c node left
-      → RunsNode m seen_links seen_clocks (node_seen l c node) (left_seen l c left)
-  see_runs node left (inl bound) = inl (see_bound node left bound)
-  see_runs node left (inr unbound) = inr (see_unbound node left unbound)
+  pub see_runs : (node : Node M L C) (opened : Gathering K) (journal : List Entry) (left : Ended M L C (Gathering K))
+      → RunsOver m l c (tracing k) node opened journal left
+      → RunsOver m seen_links seen_clocks seen_recorders (node_seen l c node) (sink_seen k opened) journal
+      (left_seen l c k left)
+  see_runs node opened journal left (inl bound) = inl (see_bound node opened left bound.0, bound.1)
+  see_runs node opened journal left (inr unbound) = inr (see_unbound node opened left unbound.0, unbound.1)
 
 -- ---- a link behind a sieve
 

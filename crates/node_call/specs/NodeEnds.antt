@@ -1,12 +1,14 @@
 -- How the run of a node of a job ends, and what is written.
 -- Origin: this project's profile.
-use Rattle.std.specs.Prelude.{◌≡◌, ◌≢◌, ℕ, Bool, List, [], Option, Some, None}
-use Rattle.gas_outside.specs.Buffered.{Outbox, Gathers, GathersFront}
+use Rattle.std.specs.Prelude.{◌≡◌, ◌≢◌, ◌⊎◌, ℕ, Bool, List, [], Option, Some, None}
+use Rattle.gas_outside.specs.Buffered.{Gathering, Outbox, Gathers, GathersFront}
 use Rattle.gas_outside.specs.Sieve.{Sieving}
 use Rattle.gas_outside.specs.declared.writing.Wrote.{Wrote}
 use Rattle.gas_outside.specs.declared.writing.Wrote.TheVariants as wrote
 use Rattle.gas_endpoint.specs.EndpointState.{EndpointState, ForItsRecord}
+use Rattle.machine.specs.declared.entry.Entry.{Entry}
 use Rattle.gasnet_trace.specs.Lines.{spell}
+use Rattle.gasnet_trace.specs.TraceText.{head_text}
 use Rattle.endpoint_lock.specs.declared.ends.End.{End}
 use Rattle.endpoint_lock.specs.declared.ends.End.TheVariants as stations
 use Rattle.endpoint_lock.specs.declared.ends.Ended.{Ended}
@@ -15,27 +17,38 @@ use Rattle.station_run.specs.declared.node.Node.{Node}
 use Rattle.node_machine.specs.Kept.{MachineKept}
 use Rattle.node_machine.specs.NodeState.{NodeStands, opening_state}
 use Rattle.node_call.specs.Seen.{ClockSeen, DevicesSeen, LinkSeen}
-use Rattle.node_call.specs.NodeLeaves.{NodeLeaves, Post, has_noted, node_lines, place_of, record_after}
+use Rattle.node_call.specs.NodeLeaves.{NodeLeaves, Post, has_noted, node_lines, node_open, place_of, record_after}
 use Rattle.node_call.specs.declared.calling.NodeEnd.{NodeEnd}
 use Rattle.node_call.specs.declared.calling.NodeEnd.TheVariants as ends
 use Rattle.node_call.specs.declared.calling.NodeRan.{NodeRan}
 
 -- ---- for a caller
 
--- the node ran until this end of its station
+-- the node took the turns of a journal, until this end of its station
 pub record RunsTo (post : Post) (before after : DevicesSeen) (end : End) : Type 0 where
-  pub left : Ended MachineKept LinkSeen ClockSeen
-  pub leaves : NodeLeaves post before after left
+  pub left : Ended MachineKept LinkSeen ClockSeen Outbox
+  pub journal : List Entry
+  pub leaves : NodeLeaves post before after journal left
   pub end_is : left.end ≡ end
 
--- the bytes of the trace of a run
+-- the bytes of the trace of a run, and those without its last line
 abbrev pub text_of : {post : Post} {before after : DevicesSeen} {end : End} → RunsTo post before after end → List ℕ
-text_of {post} run = spell (node_lines post run.left.journal)
+text_of {post} run = spell (node_lines post run.journal)
+
+abbrev pub open_of : {post : Post} {before after : DevicesSeen} {end : End} → RunsTo post before after end → List ℕ
+open_of {post} run = spell (node_open post run.journal)
+
+-- the first lines of the trace went in before the run
+abbrev pub HasBegun : {post : Post} {before after : DevicesSeen} {end : End} → Outbox → RunsTo post before after end
+    → Type 0
+HasBegun {post} old run =
+    Gathers old run.leaves.opened (head_text post.job.settings.version post.job.settings.job post.rank)
 
 -- it ran until this end, its whole trace went in, and this node is left
 pub record EndsAt (post : Post) (before after : DevicesSeen) (end : End) (old new : Outbox)
     (node : Option EndpointState) : Type 0 where
   pub run : RunsTo post before after end
+  pub begun : HasBegun old run
   pub written : Gathers old new (text_of run)
   pub node_is : node ≡ Some run.left.machine.endpoint
 
@@ -43,20 +56,42 @@ pub record EndsAt (post : Post) (before after : DevicesSeen) (end : End) (old ne
 pub record EndsOver (post : Post) (before after : DevicesSeen) (violated : Bool) (old new : Outbox)
     (node : Option EndpointState) : Type 0 where
   pub ends : EndsAt post before after stations.Over old new node
-  pub violated_is : has_noted (record_after post ends.run.left.journal) ≡ violated
+  pub violated_is : has_noted (record_after post ends.run.journal) ≡ violated
 
--- memory ran out, and nothing went in
-pub record EndsEarly (old new : Outbox) (node : Option EndpointState) : Type 0 where
+-- memory ran out in its run, and its trace went in without the last line
+pub record EndsOpen (post : Post) (before after : DevicesSeen) (old new : Outbox) : Type 0 where
+  pub run : RunsTo post before after stations.NoMemory
+  pub begun : HasBegun old run
+  pub written : Gathers old new (open_of run)
+
+-- nothing was done, for want of memory, and nothing went in
+pub record EndsUnmade (before after : DevicesSeen) (old new : Outbox) : Type 0 where
+  pub kept : after ≡ before
   pub written : Gathers old new []
+
+-- memory ran out, in the run or before it
+pub record EndsEarly (post : Post) (before after : DevicesSeen) (old new : Outbox) (node : Option EndpointState)
+    : Type 0 where
+  pub how : EndsOpen post before after old new ⊎ EndsUnmade before after old new
   pub no_node : node ≡ None
 
--- it ran until some end, and the sink failed: a front of its trace went in
-pub record EndsUnwritten (post : Post) (before after : DevicesSeen) (old new : Outbox) (node : Option EndpointState)
-    : Type 0 where
+-- it ran until some end, and the sink failed at an entry or behind the last one: a front of its trace went in
+pub record EndsCut (post : Post) (before after : DevicesSeen) (old new : Outbox) : Type 0 where
   pub end : End
   pub some_text : end ≢ stations.NoMemory
   pub run : RunsTo post before after end
+  pub begun : HasBegun old run
   pub written : GathersFront old new (text_of run)
+
+-- the sink failed within the first lines, and nothing was done
+pub record EndsUnopened (post : Post) (before after : DevicesSeen) (old new : Outbox) : Type 0 where
+  pub kept : after ≡ before
+  pub written : GathersFront old new (spell (node_lines post []))
+
+-- the sink failed, in the run or before it
+pub record EndsUnwritten (post : Post) (before after : DevicesSeen) (old new : Outbox) (node : Option EndpointState)
+    : Type 0 where
+  pub how : EndsCut post before after old new ⊎ EndsUnopened post before after old new
   pub no_node : node ≡ None
 
 -- how the run of a node ended, what went into its sink, and what is left of the node
@@ -66,7 +101,7 @@ EndsNode post before after old new (ends.Over violated) left = EndsOver post bef
 EndsNode post before after old new ends.Stuck left = EndsAt post before after stations.Stuck old new left
 EndsNode post before after old new ends.LinkFault left = EndsAt post before after stations.LinkFault old new left
 EndsNode post before after old new ends.JournalFull left = EndsAt post before after stations.JournalFull old new left
-EndsNode post before after old new ends.NoMemory left = EndsEarly old new left
+EndsNode post before after old new ends.NoMemory left = EndsEarly post before after old new left
 EndsNode post before after old new ends.WriteFault left = EndsUnwritten post before after old new left
 
 -- ---- the parts
@@ -75,6 +110,7 @@ EndsNode post before after old new ends.WriteFault left = EndsUnwritten post bef
 -- violation
 abbrev pub end_for : End → Wrote → (violated : Bool) → NodeEnd
 end_for stations.NoMemory written violated = ends.NoMemory
+end_for stations.WriteFault written violated = ends.WriteFault
 end_for _ wrote.Fault violated = ends.WriteFault
 end_for stations.Over wrote.Done violated = ends.Over violated
 end_for stations.Stuck wrote.Done violated = ends.Stuck
@@ -88,18 +124,19 @@ node_for ends.WriteFault endpoint = None
 node_for _ endpoint = Some endpoint
 
 -- so the run of a node ended whose threads left this
-pub record EndsSo {L C : Type 0} (left : Ended MachineKept (Sieving L) C) (written : Wrote) (ran : NodeRan L C)
-    : Type 0 where
+pub record EndsSo {L C K : Type 0} (left : Ended MachineKept (Sieving L) C (Gathering K)) (written : Wrote)
+    (ran : NodeRan L C K) : Type 0 where
   pub violated : Bool
   pub violated_is : ForItsRecord left.machine.endpoint (λ node. violated ≡ has_noted node)
   pub end_is : ran.end ≡ end_for left.end written violated
   pub node_is : ran.node ≡ node_for ran.end left.machine.endpoint
   pub link : ran.link ≡ left.link.inner
   pub clock : ran.clock ≡ left.clock
+  pub sink : ran.sink ≡ left.recorder
 
 -- nothing was done, for want of memory
-abbrev pub unmade : {L C : Type 0} → L → C → NodeRan L C
-unmade link clock = record { end = ends.NoMemory; node = None; link = link; clock = clock }
+abbrev pub unmade : {L C K : Type 0} → L → C → Gathering K → NodeRan L C K
+unmade link clock sink = record { end = ends.NoMemory; node = None; link = link; clock = clock; sink = sink }
 
 -- this link behind the job's sieve, which was handed nothing yet
 abbrev pub sieve_before : {L : Type 0} → SieveRule → L → Sieving L

@@ -1,6 +1,7 @@
 -- What the threads of a node of a job leave, and the lines of its trace.
 -- Origin: this project's profile.
 use Rattle.std.specs.Prelude.{◌≡◌, ℕ, ◌==◌, Bool, not, List}
+use Rattle.gas_outside.specs.Buffered.{Outbox}
 use Rattle.machine.specs.declared.entry.Entry.{Entry}
 use Rattle.machine.specs.declared.turns.Machine.{Ghosts as MachineGhosts}
 use Rattle.machine.specs.Replay.{replayed}
@@ -13,11 +14,12 @@ use Rattle.gasnet_trace.specs.Lines.{Line}
 use Rattle.gasnet_trace.specs.TraceText.{trace_lines}
 use Rattle.station_run.specs.declared.node.Node.{Node}
 use Rattle.station_run.specs.declared.node.Place.{Place}
-use Rattle.station_run.specs.NodeRuns.{RunsNode, trace_of}
+use Rattle.station_run.specs.NodeRuns.{RunsOver, open_lines, trace_of}
 use Rattle.node_machine.specs.Kept.{MachineKept, are_done, polls_at}
 use Rattle.node_machine.specs.NodeState.{NodeState, NodeStands, after_turn, opening_state, polls_in, sent, state_steps}
 use Rattle.node_machine.specs.NodeState.{turned}
-use Rattle.node_call.specs.Seen.{ClockSeen, DevicesSeen, IsBehind, LinkSeen, seen_clocks, seen_links, sieved}
+use Rattle.node_call.specs.Seen.{ClockSeen, DevicesSeen, IsBehind, LinkSeen, seen_clocks, seen_links, seen_recorders}
+use Rattle.node_call.specs.Seen.{sieved}
 
 -- a node of a job: its number, and the port of rank 0
 pub record Post : Type 0 where
@@ -62,14 +64,16 @@ node_at post machine devices = record {
   patience = post.job.patience;
 }
 
--- what the node's threads left, with its devices before and after
-pub record NodeLeaves (post : Post) (before after : DevicesSeen) (left : Ended MachineKept LinkSeen ClockSeen)
-    : Type 0 where
+-- what the node's threads left after the turns of a journal, with its devices before and after
+pub record NodeLeaves (post : Post) (before after : DevicesSeen) (journal : List Entry)
+    (left : Ended MachineKept LinkSeen ClockSeen Outbox) : Type 0 where
   -- it began with a machine that stands for the node before all turns
   pub machine : MachineKept
   pub opens : NodeStands machine (opening_state post.job post.rank)
+  -- its sink after the first lines of its trace
+  pub opened : Outbox
   -- its threads ran over the link behind the job's sieve, or that couldn't be bound
-  pub runs : RunsNode node_machines seen_links seen_clocks (node_at post machine before) left
+  pub runs : RunsOver node_machines seen_links seen_clocks seen_recorders (node_at post machine before) opened journal left
   pub link : IsBehind left.link after.link
   pub clock : left.clock ≡ after.clock
 
@@ -87,3 +91,7 @@ has_noted node = not ((log_of node.local.core.violations).count == 0)
 -- the lines of the node's trace
 abbrev pub node_lines : Post → List Entry → List Line
 node_lines post journal = trace_lines post.job.settings.version (trace_of (place_of post) journal)
+
+-- the same without the last one
+abbrev pub node_open : Post → List Entry → List Line
+node_open post journal = open_lines (place_of post) journal

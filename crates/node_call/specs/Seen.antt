@@ -1,9 +1,13 @@
--- What is seen of a node's link and clock.
+-- What is seen of a node's link, clock and sink.
 -- Origin: this project's profile.
 use Rattle.std.specs.Prelude.{◌≡◌, ℕ, ◌==◌, ◌&&◌, Bool, if◌then◌else◌, List, Option, None, Some}
 use Rattle.std.specs.Option.{ForSome}
+use Rattle.gas_outside.specs.Buffered.{Outbox}
 use Rattle.gas_outside.specs.declared.link.Link.{Ghosts as LinkGhosts}
 use Rattle.gas_outside.specs.declared.clock.Clock.{Ghosts as ClockGhosts}
+use Rattle.endpoint_lock.specs.declared.recorder.Recorder.{Ghosts as RecorderGhosts}
+use Rattle.gasnet_trace.specs.Lines.{line_text}
+use Rattle.gasnet_trace.specs.TraceText.{entry_line}
 use Rattle.job_text.specs.declared.job.SieveRule.{SieveRule}
 
 -- a link: what it was bound to last; the datagrams sent, received and waiting, where it tells them; its count of faults
@@ -42,7 +46,7 @@ pub record DevicesSeen : Type 0 where
 abbrev pub devices_seen : {L C : Type 0} → LinkGhosts L → ClockGhosts C → L → C → DevicesSeen
 devices_seen links clocks link clock = record { link = link_seen links link; clock = clock_seen clocks clock }
 
--- ---- what is seen, read as a link and as a clock
+-- ---- what is seen, read as a link, as a clock, and as what takes the entries of a journal
 
 abbrev pub seen_links : LinkGhosts LinkSeen
 seen_links = record {
@@ -59,6 +63,9 @@ seen_clocks = record {
   said = λ clock. clock.said;
   fixed = λ clock. clock.fixed;
 }
+
+abbrev pub seen_recorders : RecorderGhosts Outbox
+seen_recorders = record { outbox = λ outbox. outbox; text = λ entry. line_text (entry_line entry) }
 
 -- ---- a link behind a sieve
 

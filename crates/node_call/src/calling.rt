@@ -51,7 +51,7 @@ pub enum NodeEnd {
     Stuck,
     /// The link failed.
     LinkFault,
-    /// The journal is full: it has 65,536 entries, or datagrams of more than 16,768,919 bytes.
+    /// The journal is full: it has 4,294,967,295 entries.
     JournalFull,
     /// Memory ran out.
     NoMemory,
@@ -61,7 +61,7 @@ pub enum NodeEnd {
 
 /// A node of a job that ran.
 #[derive(Drop)]
-pub struct NodeRan<L, C> {
+pub struct NodeRan<L, C, K: Sink> {
     /// How its run ended.
     pub end: NodeEnd,
     /// The node after its turns; there is one but after `NoMemory` and `WriteFault`.
@@ -70,6 +70,8 @@ pub struct NodeRan<L, C> {
     pub link: L,
     /// Its clock.
     pub clock: C,
+    /// Its sink.
+    pub sink: BufferedSink<K>,
 }
 
 impl NodeEnd {
@@ -80,7 +82,7 @@ impl NodeEnd {
     {
         match (end, written) {
             (End::NoMemory, _) => NodeEnd::NoMemory,
-            (_, Wrote::Fault) => NodeEnd::WriteFault,
+            (End::WriteFault, _) | (_, Wrote::Fault) => NodeEnd::WriteFault,
             (End::Over, Wrote::Done) => NodeEnd::Over { violated },
             (End::Stuck, Wrote::Done) => NodeEnd::Stuck,
             (End::LinkFault, Wrote::Done) => NodeEnd::LinkFault,
@@ -102,32 +104,33 @@ impl NodeEnd {
     }
 }
 
-impl<L, C> NodeRan<L, C> {
+impl<L, C, K: Sink> NodeRan<L, C, K> {
     /// Nothing was done, for want of memory.
-    fn unmade(link: L, clock: C) -> NodeRan<L, C>
-        ensures { result ≡ unmade link clock }
+    fn unmade(link: L, clock: C, sink: BufferedSink<K>) -> NodeRan<L, C, K>
+        ensures { result ≡ unmade link clock sink }
     {
         NodeRan {
             end: NodeEnd::NoMemory,
             node: None,
             link,
             clock,
+            sink,
         }
     }
 }
 
-/// A node with its machine, over a link behind its job's sieve; or what is left for want of memory.
+/// A node with its machine, over a link behind its job's sieve; or link and clock, for want of memory.
 fn ready<'a, L: Link, C>(
     alloc: Global,
     node: NodeOf<'a>,
     link: L,
     clock: C,
-) -> Result<Node<NodeMachine<'a>, Sieve<L>, C>, NodeRan<L, C>>
+) -> Result<Node<NodeMachine<'a>, Sieve<L>, C>, (L, C)>
     requires job { IsJob node.job.now }
     requires rank { node.rank < node.job.now.settings.nodes }
     ensures { MatchResult result
         (IsReady (post_of node.entry.job.now node.entry.rank node.entry.port) link clock)
-        (λ ran. ran ≡ unmade link clock) }
+        (λ devices. devices ≡ (link, clock)) }
 {
     let NodeOf { job, rank, port } = node;
     let settings = job.settings();
@@ -140,7 +143,7 @@ fn ready<'a, L: Link, C>(
     };
     let rule = job.sieve();
     let Ok(machine) = NodeMachine::new(alloc, job, rank) else {
-        return Err(NodeRan::unmade(link, clock));
+        return Err((link, clock));
     };
     match Sieve::new(alloc, link, rule.lose, rule.repeat, rule.swap) {
         Ok(link) => Ok(Node {
@@ -152,13 +155,13 @@ fn ready<'a, L: Link, C>(
         }),
         Err(link) => {
             drop(machine);
-            Err(NodeRan::unmade(link, clock))
+            Err((link, clock))
         }
     }
 }
 
 /// What is left of the run of a node.
-fn ran<L: Link, C>(run: NodeRun<NodeMachine<'_>, Sieve<L>, C>) -> NodeRan<L, C>
+fn ran<L: Link, C, K: Sink>(run: NodeRun<NodeMachine<'_>, Sieve<L>, C, K>) -> NodeRan<L, C, K>
     ensures { EndsSo run.entry.left run.entry.wrote result }
 {
     let NodeRun { left, wrote } = run;
@@ -166,7 +169,7 @@ fn ran<L: Link, C>(run: NodeRun<NodeMachine<'_>, Sieve<L>, C>) -> NodeRan<L, C>
         machine,
         link,
         clock,
-        journal: _,
+        recorder,
         end,
     } = left;
     let endpoint = machine.into_endpoint();
@@ -177,41 +180,45 @@ fn ran<L: Link, C>(run: NodeRun<NodeMachine<'_>, Sieve<L>, C>) -> NodeRan<L, C>
         node: end.node(endpoint),
         link: link.into_inner(),
         clock,
+        sink: recorder.into_sink(),
     }
 }
 
-/// Runs a node of a job to its end, and writes the trace of what it did.
+/// Runs a node of a job to its end, and writes the trace of what it did as it grows.
 ///
-/// The job's sieve is put before its link, and the link is bound. Then the node's threads take turns under one lock, as
-/// `run_threads` says: a turn of a thread that polls takes a datagram, if one waits, and ticks; each turn tries the
-/// next step of the thread's script. The trace of the turns is written into the sink, whatever the end was, but after
-/// want of memory: then nothing is written. The end is `LinkFault` only where the link's count of faults rose, or
-/// stands at its last value; where that came as it was to be bound, the trace has no turns. It is `WriteFault` only
-/// where the sink failed; a prefix of the trace went in then.
+/// The first lines of the trace go into the sink, the job's sieve is put before the link, and the link is bound. Then the
+/// node's threads take turns under one lock, as `run_threads` says: a turn of a thread that polls takes a datagram, if
+/// one waits, and ticks; each turn tries the next step of the thread's script. The line of a turn goes into the sink
+/// behind it, and where the turn sends datagrams it goes on to the sink behind before they are sent. The line `end` is
+/// last, whatever the end was, but after want of memory, and where the sink failed.
+///
+/// The end is `LinkFault` only where the link's count of faults rose, or stands at its last value; where that came as it
+/// was to be bound, the trace has no turns. It is `WriteFault` only where the sink failed; a prefix of the trace went in
+/// then, and no more turns were taken. Where there was no memory to make the node, nothing was written.
 pub fn run_job_node<
     R: Threads + Wait + Sync,
     L: Link + Send,
     C: Clock + Send,
     G: Gate + Sync,
-    K: Sink,
+    K: Sink + Send,
 >(
     rt: &R,
     alloc: Global,
     node: NodeOf<'_>,
     devices: Devices<'_, L, C, G>,
-    sink: &mut BufferedSink<K>,
-) -> NodeRan<L, C>
+    sink: BufferedSink<K>,
+) -> NodeRan<L, C, K>
     requires job { IsJob node.job.now }
     requires rank { node.rank < node.job.now.settings.nodes }
     ensures { EndsNode (post_of node.entry.job.now node.entry.rank node.entry.port)
         (devices_seen L.Link C.Clock devices.entry.link devices.entry.clock)
         (devices_seen L.Link C.Clock result.link result.clock)
-        (outbox K.taken K.faults sink.old) (outbox K.taken K.faults sink.new)
+        (outbox K.taken K.faults sink) (outbox K.taken K.faults result.sink)
         result.end result.node }
 {
     let Devices { link, clock, gate } = devices;
     match ready(alloc, node, link, clock) {
         Ok(node) => ran(run_node(rt, alloc, node, gate, sink)),
-        Err(unmade) => unmade,
+        Err((link, clock)) => NodeRan::unmade(link, clock, sink),
     }
 }

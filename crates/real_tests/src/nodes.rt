@@ -2,9 +2,9 @@ ghost use Rattle.std.specs.Prelude.{◌≡◌, ◌≤◌, IfOk};
 ghost use Rattle.endpoint_lock.specs.StationState.{opened, opening_of};
 
 use endpoint_lock::{End, Station, run_threads};
-use gas_outside::{Clock, Gate, Link, LinkAnswer};
-use machine::Entry;
+use gas_outside::{BufferedSink, Clock, Gate, Link, LinkAnswer, MemorySink, Wrote};
 use real_outside::{Hosts, LinkSocket, SocketGate, SystemClock, UdpLink};
+use station_run::TraceSink;
 use station_tests::TwoThreads;
 use std::alloc::Global;
 use std::test::Fail;
@@ -15,24 +15,22 @@ fn station_over<L: Link + Drop, C: Clock + Drop>(
     alloc: Global,
     link: L,
     clock: C,
-) -> Result<Station<TwoThreads, L, C>, Fail>
+) -> Result<Station<TwoThreads, L, C, TraceSink<MemorySink>>, Fail>
     ensures { IfOk result (λ station. (station ≡ opened (opening_of station))
         × (1 ≤ station.patience)) }
 {
-    match Station::new(alloc, TwoThreads::Waiting, link, clock, 2_000) {
+    let recorder = TraceSink::over(BufferedSink::new(MemorySink::new(alloc, Vec::new(alloc))?));
+    match Station::new(alloc, TwoThreads::Waiting, link, clock, recorder, 2_000) {
         Ok(station) => Ok(station),
         Err(_) => Err(Fail::from("memory")),
     }
 }
 
-// Whether the turns of a journal are those of these threads, and got nothing.
-fn are_turns_of(entries: &[Entry], threads: &[u16]) -> bool {
-    for (entry, thread) in entries.iter().zip(threads) {
-        if entry.thread != *thread || entry.got.is_some() {
-            return false;
-        }
-    }
-    entries.len() == threads.len()
+// Whether lines are those of turns of these threads that got nothing.
+fn are_turns_of(text: &str, threads: &[&str]) -> bool {
+    text.lines().count() == threads.len()
+        && text.lines().zip(threads).all(|(line, thread)| line.starts_with(*thread)
+            && line.ends_with(" -"))
 }
 
 // Thread 0 waits for thread 1, and then sends to the ranks 1 and 2, whose ports aren't open.
@@ -51,7 +49,11 @@ fn runs_threads_over_a_socket(rt: HostRuntime) -> Result<(), Fail> {
     let station = station_over(alloc, link, SystemClock::new(rt))?;
     let ended = run_threads(&rt, alloc, station, 2, &gate);
     assert!(rt; ended.end == End::Over && matches!(ended.machine, TwoThreads::Sent));
-    assert!(rt; are_turns_of(ended.journal.as_slice(), &[1, 0, 0]));
+    let mut sink = ended.recorder.into_sink();
+    assert!(rt; sink.flush() == Wrote::Done);
+    let sink = sink.into_inner();
+    let text = str::from_utf8(sink.taken());
+    assert!(rt; text.is_ok_and(|text| are_turns_of(text, &["turn 1 ", "turn 0 ", "turn 0 "])));
     Ok(())
 }
 

@@ -1,14 +1,15 @@
 //! A node that runs to its end.
 
-ghost use Rattle.std.specs.Prelude.{◌≡◌, ◌≤◌, ◌∷◌, [], ℕ};
-ghost use Rattle.gas_outside.specs.Buffered.{GathersAll, outbox};
+ghost use Rattle.std.specs.Prelude.{◌≡◌, ◌≤◌, [], Some};
+ghost use Rattle.gas_outside.specs.Buffered.{outbox};
 ghost use Rattle.endpoint_lock.specs.Leaving.{Leaves};
-ghost use Rattle.station_run.specs.NodeRuns.{RunsNode, node_text, opening_over};
+ghost use Rattle.station_run.specs.NodeRuns.{RunsSome, Runs, Finishes, opening_over};
 
-use endpoint_lock::{End, Ended, Station, Unmade, run_threads};
+use crate::recorder::TraceSink;
+use endpoint_lock::{End, Ended, Recorder, Station, Unmade, run_threads};
 use gas_outside::{BufferedSink, Clock, Gate, Link, LinkAnswer, Sink, Wrote};
-use gasnet_trace::{Trace, print_trace};
-use machine::{Journal, Machine};
+use gasnet_trace::print_head;
+use machine::Machine;
 use std::alloc::Global;
 use std::sync::Wait;
 use std::thread::Threads;
@@ -45,9 +46,9 @@ pub struct Node<M, L, C> {
 
 /// A node that ran.
 #[derive(Drop)]
-pub struct NodeRun<M, L, C> {
-    /// What its threads left.
-    pub left: Ended<M, L, C>,
+pub struct NodeRun<M, L, C, K: Sink> {
+    /// What its threads left, with the sink that has its trace.
+    pub left: Ended<M, L, C, TraceSink<K>>,
     /// Whether its trace was written.
     pub wrote: Wrote,
 }
@@ -58,10 +59,11 @@ fn run_bound<
     M: Machine + Send,
     L: Link + Send,
     C: Clock + Send,
+    D: Recorder + Send,
     G: Gate + Sync,
->(rt: &R, alloc: Global, node: Node<M, L, C>, gate: &G) -> Ended<M, L, C>
+>(rt: &R, alloc: Global, node: Node<M, L, C>, recorder: D, gate: &G) -> Ended<M, L, C, D>
     requires { 1 ≤ node.patience }
-    ensures { Leaves M.Machine L.Link C.Clock (opening_over node.link node) result }
+    ensures { Leaves M.Machine L.Link C.Clock D.Recorder (opening_over node.link recorder node) result }
 {
     let Node {
         place: _,
@@ -71,19 +73,20 @@ fn run_bound<
         patience,
     } = node;
     let threads = machine.threads();
-    match Station::new(alloc, machine, link, clock, patience) {
+    match Station::new(alloc, machine, link, clock, recorder, patience) {
         Ok(station) => run_threads(rt, alloc, station, threads, gate),
         Err(
             Unmade {
                 machine,
                 link,
                 clock,
+                recorder,
             },
         ) => Ended {
             machine,
             link,
             clock,
-            journal: Journal::of(Vec::new(alloc)),
+            recorder,
             end: End::NoMemory,
         },
     }
@@ -95,10 +98,11 @@ fn run_to_end<
     M: Machine + Send,
     L: Link + Send,
     C: Clock + Send,
+    D: Recorder + Send,
     G: Gate + Sync,
->(rt: &R, alloc: Global, node: Node<M, L, C>, gate: &G) -> Ended<M, L, C>
+>(rt: &R, alloc: Global, node: Node<M, L, C>, recorder: D, gate: &G) -> Ended<M, L, C, D>
     requires { 1 ≤ node.patience }
-    ensures { RunsNode M.Machine L.Link C.Clock node result }
+    ensures { RunsSome M.Machine L.Link C.Clock D.Recorder node recorder result }
 {
     let Node {
         place,
@@ -117,82 +121,104 @@ fn run_to_end<
                 clock,
                 patience,
             };
-            run_bound(rt, alloc, bound, gate)
+            run_bound(rt, alloc, bound, recorder, gate)
         }
         LinkAnswer::Failed => Ended {
             machine,
             link,
             clock,
-            journal: Journal::of(Vec::new(alloc)),
+            recorder,
             end: End::LinkFault,
         },
     }
 }
 
-/// Writes the trace of what a node's threads left; nothing where memory ran out.
-fn write_left<K: Sink, M, L, C>(
-    place: Place,
-    left: Ended<M, L, C>,
-    sink: &mut BufferedSink<K>,
-) -> NodeRun<M, L, C>
-    ensures left { result.left ≡ left }
-    ensures written { GathersAll (outbox K.taken K.faults sink.old)
-        (outbox K.taken K.faults sink.new) (node_text place left) result.wrote }
+/// Writes the last line of the trace of what a node's threads left; nothing where memory ran out or the sink failed.
+fn write_end<M, L, C, K: Sink>(left: Ended<M, L, C, TraceSink<K>>) -> NodeRun<M, L, C, K>
+    ensures { Finishes K.Sink left result }
 {
-    if let End::NoMemory = left.end {
-        return NodeRun {
+    match left.end {
+        End::NoMemory => return NodeRun {
             left,
             wrote: Wrote::Done,
-        };
+        },
+        End::WriteFault => return NodeRun {
+            left,
+            wrote: Wrote::Fault,
+        },
+        _ => {}
     }
     let Ended {
         machine,
         link,
         clock,
-        journal,
+        recorder,
         end,
     } = left;
-    let trace = Trace {
-        job: place.job,
-        rank: place.rank,
-        entries: journal,
-    };
-    let wrote = print_trace(&trace, place.version, sink);
+    let mut sink = recorder.into_sink();
+    let wrote = sink.write_all(b"end\n");
     let left = Ended {
         machine,
         link,
         clock,
-        journal: trace.entries,
+        recorder: TraceSink::over(sink),
         end,
     };
     NodeRun { left, wrote }
 }
 
-/// Runs a node to its end, and writes the trace of what it did.
+/// Runs a node to its end, and writes the trace of what it did as it grows.
 ///
-/// Its link is bound first; where that fails the end is `LinkFault`, and the trace has no turns. Then its threads take
-/// turns under one lock, as `run_threads` says. `wrote` is `Fault` only where the sink failed; a prefix of the text
-/// went in then. Where memory ran out the end is `NoMemory`, and nothing is written.
+/// The lines of the trace before its entries go into the sink first; where that fails the end is `WriteFault`, and
+/// nothing was done. Then its link is bound; where that fails the end is `LinkFault`, and the trace has no turns. Then
+/// its threads take turns under one lock, as `run_threads` says, and each entry goes into the sink before the datagrams
+/// of its turn are sent. Last comes the line `end`; where memory ran out, and where the sink failed, it isn't written.
+/// `wrote` is `Fault` only where the sink failed; a prefix of the text went in then.
 pub fn run_node<
     R: Threads + Wait + Sync,
     M: Machine + Send,
     L: Link + Send,
     C: Clock + Send,
     G: Gate + Sync,
-    K: Sink,
+    K: Sink + Send,
 >(
     rt: &R,
     alloc: Global,
     node: Node<M, L, C>,
     gate: &G,
-    sink: &mut BufferedSink<K>,
-) -> NodeRun<M, L, C>
+    sink: BufferedSink<K>,
+) -> NodeRun<M, L, C, K>
     requires { 1 ≤ node.patience }
-    ensures runs { RunsNode M.Machine L.Link C.Clock node result.left }
-    ensures written { GathersAll (outbox K.taken K.faults sink.old)
-        (outbox K.taken K.faults sink.new) (node_text node.place result.left) result.wrote }
+    ensures { Runs M.Machine L.Link C.Clock K.Sink node sink result }
 {
-    let place = node.place;
-    let left = run_to_end(rt, alloc, node, gate);
-    write_left(place, left, sink)
+    let mut sink = sink;
+    match print_head(
+        node.place.version,
+        node.place.job,
+        node.place.rank,
+        &mut sink,
+    ) {
+        Wrote::Done => {}
+        Wrote::Fault => {
+            let Node {
+                place: _,
+                machine,
+                link,
+                clock,
+                patience: _,
+            } = node;
+            let left = Ended {
+                machine,
+                link,
+                clock,
+                recorder: TraceSink::over(sink),
+                end: End::WriteFault,
+            };
+            return NodeRun {
+                left,
+                wrote: Wrote::Fault,
+            };
+        }
+    }
+    write_end(run_to_end(rt, alloc, node, TraceSink::over(sink), gate))
 }

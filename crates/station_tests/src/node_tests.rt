@@ -96,9 +96,10 @@ fn ran<R: Threads + Wait + Sync, L: Link + Drop + Send>(
     alloc: Global,
     link: L,
 ) -> Result<(End, Wrote, Vec<u8>), Fail> {
-    let mut sink = sink_failing_at(alloc, 0)?;
-    let run = run_node(rt, alloc, node_over(link), &InStep::new(), &mut sink);
+    let sink = sink_failing_at(alloc, 0)?;
+    let run = run_node(rt, alloc, node_over(link), &InStep::new(), sink);
     let told = (run.left.end, run.wrote);
+    let mut sink = run.left.recorder.into_sink();
     if sink.flush() == Wrote::Fault {
         return Err(Fail::from("a fault"));
     }
@@ -136,15 +137,35 @@ fn writes_the_trace_before_a_failed_send(rt: HostRuntime) -> Result<(), Fail> {
     Ok(())
 }
 
-// The text waits until the sink has no room for more; then the sink behind fails.
+// The first lines of the trace find no room, and then the sink behind fails: nothing is done.
 #[test]
 fn tells_a_fault_of_its_sink(rt: HostRuntime) -> Result<(), Fail> {
     let alloc = rt.alloc();
     let mut sink = sink_failing_at(alloc, 1)?;
     let filled = sink.write_all(&[b' '; 8_192]);
     let node = node_over(link_failing_at(alloc, 0)?);
-    let run = run_node(&rt, alloc, node, &InStep::new(), &mut sink);
+    let run = run_node(&rt, alloc, node, &InStep::new(), sink);
     assert!(rt; filled == Wrote::Done && run.wrote == Wrote::Fault);
-    assert!(rt; run.left.end == End::Over && sink.into_inner().taken().is_empty());
+    let taken = run.left.recorder.into_sink().into_inner();
+    assert!(rt; run.left.end == End::WriteFault && taken.taken().is_empty());
+    Ok(())
+}
+
+// The first call of the sink is before the machine's first datagrams, the second is behind the last line.
+#[test]
+fn writes_before_it_sends(rt: HostRuntime) -> Result<(), Fail> {
+    let alloc = rt.alloc();
+    let node = node_over(link_failing_at(alloc, 0)?);
+    let sink = sink_failing_at(alloc, 1)?;
+    let run = run_node(&rt, alloc, node, &InStep::new(), sink);
+    assert!(rt; run.left.end == End::WriteFault && run.wrote == Wrote::Fault);
+    assert!(rt; run.left.link.sent().is_empty());
+    let node = node_over(link_failing_at(alloc, 0)?);
+    let sink = sink_failing_at(alloc, 2)?;
+    let run = run_node(&rt, alloc, node, &InStep::new(), sink);
+    assert!(rt; run.left.end == End::Over && run.left.link.sent().len() == 2);
+    let taken = run.left.recorder.into_sink().into_inner();
+    let open = WHOLE.len() - 4;
+    assert!(rt; taken.taken() == &WHOLE.as_bytes()[..open]);
     Ok(())
 }

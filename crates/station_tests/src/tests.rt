@@ -4,26 +4,54 @@ ghost use Rattle.endpoint_lock.specs.StationState.{opened, opening_of};
 use crate::TwoThreads;
 use crate::in_step::InStep;
 use endpoint_lock::{End, Station, TurnEnd, run_threads};
-use gas_outside::{FixedClock, Link, LinkAnswer, MemoryLink, Received};
-use machine::Entry;
+use gas_outside::{BufferedSink, FixedClock, Link, MemoryLink, MemorySink, Wrote};
+use station_run::TraceSink;
 use std::alloc::Global;
 use std::test::Fail;
+
+// The lines of the three entries of the two threads at time 0.
+const LINES: &str = "turn 1 0 -
+turn 0 0 -
+turn 0 0 -
+";
+
+// A station of the two threads over a link, at time 0, whose recorder's sink fails at these calls.
+fn station_failing<L: Link + Drop>(
+    alloc: Global,
+    link: L,
+    patience: u32,
+    fail: Vec<u64>,
+) -> Result<Station<TwoThreads, L, FixedClock, TraceSink<MemorySink>>, Fail>
+    requires { 1 ≤ patience }
+    ensures { IfOk result (λ station. (station ≡ opened (opening_of station))
+        × (1 ≤ station.patience)) }
+{
+    let clock = FixedClock::new(0);
+    let recorder = TraceSink::over(BufferedSink::new(MemorySink::new(alloc, fail)?));
+    match Station::new(alloc, TwoThreads::Waiting, link, clock, recorder, patience) {
+        Ok(station) => Ok(station),
+        Err(_) => Err(Fail::from("memory")),
+    }
+}
 
 // A station of the two threads over a link, at time 0.
 fn station_over<L: Link + Drop>(
     alloc: Global,
     link: L,
     patience: u32,
-) -> Result<Station<TwoThreads, L, FixedClock>, Fail>
+) -> Result<Station<TwoThreads, L, FixedClock, TraceSink<MemorySink>>, Fail>
     requires { 1 ≤ patience }
     ensures { IfOk result (λ station. (station ≡ opened (opening_of station))
         × (1 ≤ station.patience)) }
 {
-    let clock = FixedClock::new(0);
-    match Station::new(alloc, TwoThreads::Waiting, link, clock, patience) {
-        Ok(station) => Ok(station),
-        Err(_) => Err(Fail::from("memory")),
-    }
+    station_failing(alloc, link, patience, Vec::new(alloc))
+}
+
+// What went on to the sink behind a recorder, and behind it what waits.
+fn text_of(alloc: Global, recorder: TraceSink<MemorySink>) -> Result<Vec<u8>, Fail> {
+    let mut sink = recorder.into_sink();
+    let _ = sink.flush();
+    Ok(Vec::from_slice(alloc, sink.into_inner().taken())?)
 }
 
 // A link in memory on which nothing waits, and whose calls with these numbers fail.
@@ -53,9 +81,30 @@ fn goes_and_is_over(rt: HostRuntime) -> Result<(), Fail> {
     assert!(rt; station.kept() == Some(End::Over));
     let ended = station.into_ended();
     let sent = ended.link.sent();
-    assert!(rt; ended.journal.as_slice().len() == 3 && sent.len() == 2);
+    assert!(rt; sent.len() == 2);
     assert!(rt; (sent[0].0, sent[0].1.as_slice()) == (1, [7].as_slice()));
     assert!(rt; (sent[1].0, sent[1].1.as_slice()) == (2, [8, 9].as_slice()));
+    assert!(rt; text_of(alloc, ended.recorder)?.as_slice() == LINES.as_bytes());
+    Ok(())
+}
+
+// The sink's first call is the write before the third turn's datagrams.
+#[test]
+fn sends_nothing_where_its_entry_was_not_written(rt: HostRuntime) -> Result<(), Fail> {
+    let alloc = rt.alloc();
+    let link = empty_link(alloc, Vec::new(alloc))?;
+    let mut station = station_failing(alloc, link, 2, vec![in alloc; 1]?)?;
+    let ends = [
+        station.turn(1),
+        station.turn(0),
+        station.turn(0),
+        station.turn(0),
+    ];
+    let fault = TurnEnd::Ended(End::WriteFault);
+    assert!(rt; ends == [TurnEnd::Went, TurnEnd::Went, fault, fault]);
+    let ended = station.into_ended();
+    let taken = ended.recorder.into_sink().into_inner();
+    assert!(rt; ended.link.sent().is_empty() && taken.taken().is_empty());
     Ok(())
 }
 
@@ -82,68 +131,17 @@ fn meets_a_fault_of_the_link(rt: HostRuntime) -> Result<(), Fail> {
             last = station.turn(thread);
         }
         let ended = station.into_ended();
-        let left = (ended.journal.as_slice().len(), ended.link.sent().len());
+        let text = text_of(alloc, ended.recorder)?;
         assert!(rt;
-            last == TurnEnd::Ended(End::LinkFault) && left == (entries, sent),
+            last == TurnEnd::Ended(End::LinkFault) && ended.link.sent().len() == sent,
+            "{fails_at}"
+        );
+        assert!(rt;
+            text.as_slice() == &LINES.as_bytes()[..11 * entries],
             "{fails_at}"
         );
     }
     Ok(())
-}
-
-// A link that always has a datagram of one size, and tells nothing.
-#[derive(Drop)]
-struct Plenty {
-    size: usize,
-}
-
-impl Link for Plenty {
-    ghost use Rattle.std.specs.Prelude.{None};
-
-    ghost bound = { λ _. None };
-
-    ghost sent = { λ _. None };
-
-    ghost received = { λ _. None };
-
-    ghost waiting = { λ _. None };
-
-    ghost faults = { λ _. 18446744073709551615 };
-
-    fn bind(&mut self, _rank: u16, _nodes: u16, _port: u16) -> LinkAnswer {
-        LinkAnswer::Failed
-    }
-
-    fn send(&mut self, _to: u16, _bytes: &[u8]) -> LinkAnswer {
-        LinkAnswer::Done
-    }
-
-    fn receive(&mut self, buf: &mut [u8]) -> Received {
-        Received::Got(self.size.min(buf.len()))
-    }
-}
-
-#[test]
-fn fills_its_journal(rt: HostRuntime) -> Result<(), Fail> {
-    for (size, entries) in [(0, 65_536), (8_297, 2_022)] {
-        let mut station = station_over(rt.alloc(), Plenty { size }, 2)?;
-        for _ in 0..entries {
-            let _ = station.turn(0);
-        }
-        let ends = [station.turn(0), station.turn(0)];
-        assert!(rt; station.len() == entries && ends == [TurnEnd::Ended(End::JournalFull); 2]);
-    }
-    Ok(())
-}
-
-// Whether the turns of a journal are those of these threads at time 0, and got nothing.
-fn are_turns_of(entries: &[Entry], threads: &[u16]) -> bool {
-    for (entry, thread) in entries.iter().zip(threads) {
-        if entry.thread != *thread || entry.now != 0 || entry.got.is_some() {
-            return false;
-        }
-    }
-    entries.len() == threads.len()
 }
 
 #[test]
@@ -153,6 +151,6 @@ fn runs_two_threads_in_step(rt: HostRuntime) -> Result<(), Fail> {
     let gate = InStep::new();
     let ended = run_threads(&rt, alloc, station, 2, &gate);
     assert!(rt; ended.end == End::Over && gate.held());
-    assert!(rt; are_turns_of(ended.journal.as_slice(), &[1, 0, 0]));
+    assert!(rt; text_of(alloc, ended.recorder)?.as_slice() == LINES.as_bytes());
     Ok(())
 }

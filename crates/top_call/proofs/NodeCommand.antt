@@ -1,17 +1,18 @@
 -- The command `node`.
-use Rattle.std.proofs.Common.{◌≡◌, ℕ, List, [], ◌∷◌, Bool, true, false, Option, Some, refl, sym}
+use Rattle.std.proofs.Common.{◌≡◌, ◌⊎◌, ℕ, List, [], ◌∷◌, Bool, true, false, Option, Some, refl, sym}
 use Rattle.std.proofs.Common.{ap, subst, inl, inr, lit<, ◌∙◌, true≢false}
 use Rattle.std.specs.List.{Contains}
 use Rattle.gas_outside.specs.Buffered.{Outbox, GathersFront}
 use Rattle.gas_outside.specs.Faults.{Rose}
 use Rattle.gas_outside.proofs.Outboxes.{gathers_first, rose_later}
-use Rattle.node_script.specs.Lines.{spell, line_text}
+use Rattle.machine.specs.declared.entry.Entry.{Entry}
+use Rattle.node_script.specs.Lines.{Line, spell, line_text}
 use Rattle.gas_endpoint.specs.EndpointState.{EndpointState}
 use Rattle.job_text.specs.declared.job.Job.{Job as JobState}
 use Rattle.endpoint_lock.specs.declared.ends.End.{End as StationEnd}
 use Rattle.endpoint_lock.specs.declared.ends.End.TheVariants as stations
-use Rattle.node_call.specs.NodeLeaves.{has_noted, node_lines, post_of, record_after}
-use Rattle.node_call.specs.NodeEnds.{EndsAt, RunsTo}
+use Rattle.node_call.specs.NodeLeaves.{has_noted, node_lines, node_open, post_of, record_after}
+use Rattle.node_call.specs.NodeEnds.{EndsAt, EndsCut, EndsOpen, EndsUnmade, EndsUnopened, RunsTo}
 use Rattle.node_call.specs.NodeEnds.{EndsNode as NodeEndsSo}
 use Rattle.node_call.specs.declared.calling.NodeEnd.{NodeEnd}
 use Rattle.node_call.specs.declared.calling.NodeEnd.TheVariants as nodes
@@ -21,7 +22,7 @@ use Rattle.top_call.specs.Commands.{code_of, end_of, status_line}
 use Rattle.top_call.specs.HowEnds.{After, Means, gives, node_given, nothing, said_last, unasked}
 use Rattle.top_call.specs.JobReads.{GivesJob, ReadsJob}
 use Rattle.top_call.specs.NodeCommand.{HoldsNode, LosesLink, NodeCompletes, NodeEnds, NodeMeans, has_place}
-use Rattle.top_call.specs.NodeCommand.{RunsNode}
+use Rattle.top_call.specs.NodeCommand.{RunsNode, StopsAt}
 use Rattle.top_call.specs.TopParts.{EndsBy, Says, SaysNode, cut}
 use Rattle.top_call.specs.declared.ending.End.{End}
 use Rattle.top_call.specs.declared.ending.End.TheVariants as ends
@@ -68,7 +69,16 @@ weak_node rank port course ends.LinkFault given said h = record {
   rose = h.rose;
 }
 weak_node rank port course ends.SpawnFault given said h = h
-weak_node rank port course ends.NoMemory given said h = weak_alone ends.NoMemory given said h
+weak_node rank port course ends.NoMemory given said (inl h) = inl (weak_alone ends.NoMemory given said h)
+weak_node rank port course ends.NoMemory given said (inr h) = inr
+    (record {
+      job = h.job;
+      read = h.read;
+      place = h.place;
+      run = h.run;
+      said_is = h.said_is;
+      nothing_given = tt;
+    })
 weak_node rank port course ends.Stuck given said h =
     weak_runs rank port course stations.Stuck ends.Stuck given said h
 weak_node rank port course ends.JournalFull given said h =
@@ -81,11 +91,11 @@ weak_node rank port course (ends.Child child code) given said h = h
 pub node_none : (rank port : ℕ) (course : Course) → MayReadNone (NodeEnds rank port course) course.reading
 node_none rank port course (ends.BadJob line reason) after said h = h
 node_none rank port course ends.ReadFault after said h = h
-node_none rank port course ends.NoMemory after said h = h
+node_none rank port course ends.NoMemory after said h = inl h
 node_none rank port course ends.Done after said h = absurd h
 node_none rank port course ends.Violations after said h = absurd h
 node_none rank port course ends.Usage after said h = absurd h
-node_none rank port course ends.WriteFault after said h = h
+node_none rank port course ends.WriteFault after said h = absurd h
 node_none rank port course ends.LinkFault after said h = absurd h
 node_none rank port course ends.SpawnFault after said h = h
 node_none rank port course ends.Stuck after said h = absurd h
@@ -102,7 +112,7 @@ module _ (rank port : ℕ) (course : Course) (job : JobState) (read : GivesJob c
       (run : RunsTo (post_of job rank port) course.before course.after station)
       → after.left run.left.machine.endpoint
       → RunsNode rank port course station end after
-      (said_last (node_lines (post_of job rank port) run.left.journal) end)
+      (said_last (node_lines (post_of job rank port) run.journal) end)
   ran station end after run left = record {
     job = job;
     read = read;
@@ -114,10 +124,10 @@ module _ (rank port : ℕ) (course : Course) (job : JobState) (read : GivesJob c
 
   over : (violated : Bool) (after : After)
       (run : RunsTo (post_of job rank port) course.before course.after stations.Over)
-      → has_noted (record_after (post_of job rank port) run.left.journal) ≡ violated
+      → has_noted (record_after (post_of job rank port) run.journal) ≡ violated
       → after.left run.left.machine.endpoint
       → NodeEnds rank port course (end_of violated) after
-      (said_last (node_lines (post_of job rank port) run.left.journal) (end_of violated))
+      (said_last (node_lines (post_of job rank port) run.journal) (end_of violated))
   over true after run noted left = record { runs = ran stations.Over (end_of true) after run left; violated_is = noted }
   over false after run noted left =
       record { runs = ran stations.Over (end_of false) after run left; violated_is = noted }
@@ -129,15 +139,15 @@ module _ (rank port : ℕ) (course : Course) (job : JobState) (read : GivesJob c
       let faults = run.leaves.link.faults in
       elim run.leaves.runs [
         | inl bound ↦ subst (λ (n : ℕ). Rose course.before.link.faults n) faults
-            (rose_later course.before.link.faults bound.link.faults run.left.link.faults bound.later
-            (bound.leaves.fault run.end_is))
-        | inr unbound ↦ subst (λ (n : ℕ). Rose course.before.link.faults n) faults unbound.rose
+            (rose_later course.before.link.faults bound.0.link.faults run.left.link.faults bound.0.later
+            (bound.0.leaves.fault run.end_is))
+        | inr unbound ↦ subst (λ (n : ℕ). Rose course.before.link.faults n) faults unbound.0.rose
       ]
 
   lost : (after : After) (run : RunsTo (post_of job rank port) course.before course.after stations.LinkFault)
       → after.left run.left.machine.endpoint
       → LosesLink rank port course after
-      (said_last (node_lines (post_of job rank port) run.left.journal) ends.LinkFault)
+      (said_last (node_lines (post_of job rank port) run.journal) ends.LinkFault)
   lost after run left =
       record { runs = ran stations.LinkFault ends.LinkFault after run left; rose = link_rose run }
 
@@ -150,42 +160,94 @@ module _ (rank port : ℕ) (course : Course) (job : JobState) (read : GivesJob c
   told : (station : StationEnd) (end : End) (left : Option EndpointState) (old middle new : Outbox) (ended : Ended)
       (h : EndsAt (post_of job rank port) course.before course.after station old middle left) → IsSaid end
       → NodeEnds rank port course end (gives (node_given left))
-      (said_last (node_lines (post_of job rank port) h.run.left.journal) end)
+      (said_last (node_lines (post_of job rank port) h.run.journal) end)
       → Says end (node_given left) middle new ended → EndsBy (NodeEnds rank port course) old new ended
   told station end left old middle new ended h is_said so says =
-      says_last (NodeEnds rank port course) old middle new (node_lines (post_of job rank port) h.run.left.journal) end
+      says_last (NodeEnds rank port course) old middle new (node_lines (post_of job rank port) h.run.journal) end
       (node_given left) ended (weak_node rank port course) is_said so h.written says
 
-  -- how a run ends of which nothing is claimed
-  some_end : (station : StationEnd) → (station ≡ stations.NoMemory → ⊥)
-      → (run : RunsTo (post_of job rank port) course.before course.after station)
-      → (end : End) × NodeEnds rank port course end unasked
-      (said_last (node_lines (post_of job rank port) run.left.journal) end)
-  some_end stations.Over other run =
-      let noted = has_noted (record_after (post_of job rank port) run.left.journal) in
-      (end_of noted, over noted unasked run refl tt)
-  some_end stations.Stuck other run = (ends.Stuck, ran stations.Stuck ends.Stuck unasked run tt)
-  some_end stations.LinkFault other run = (ends.LinkFault, lost unasked run tt)
-  some_end stations.JournalFull other run =
-      (ends.JournalFull, ran stations.JournalFull ends.JournalFull unasked run tt)
-  some_end stations.NoMemory other run = absurd (other refl)
+  -- a front of the lines of a run that ended so, and nothing behind it
+  untold_by : (lines : List Line) (old new : Outbox) (end : End)
+      → NodeEnds rank port course end unasked (said_last lines end) → GathersFront old new (spell lines)
+      → EndsBy (NodeEnds rank port course) old new cut
+  untold_by lines old new end so front = record {
+    end = end;
+    said = said_last lines end;
+    ends = so;
+    cut = rw (one_more lines (status_line end))
+        (gathers_first old new (spell lines) (line_text (status_line end)) front);
+    nothing_given = refl;
+  }
+
+  -- the sink failed at an entry, or before all
+  stopped : (journal : List Entry) (old new : Outbox) → StopsAt (post_of job rank port) course journal
+      → GathersFront old new (spell (node_lines (post_of job rank port) journal))
+      → EndsBy (NodeEnds rank port course) old new cut
+  stopped journal old new stops front = record {
+    end = ends.WriteFault;
+    said = spell (node_lines (post_of job rank port) journal);
+    ends = record { job = job; read = read; place = place; journal = journal; stops = stops; said_is = refl };
+    cut = front;
+    nothing_given = refl;
+  }
 
   -- a front of a trace, and nothing behind it
   untold : (station : StationEnd) (old new : Outbox) → (station ≡ stations.NoMemory → ⊥)
       → (run : RunsTo (post_of job rank port) course.before course.after station)
-      → GathersFront old new (spell (node_lines (post_of job rank port) run.left.journal))
+      → GathersFront old new (spell (node_lines (post_of job rank port) run.journal))
       → EndsBy (NodeEnds rank port course) old new cut
-  untold station old new other run front =
-      let end = some_end station other run in
-      let lines = node_lines (post_of job rank port) run.left.journal in
-      record {
-        end = end.0;
-        said = said_last lines end.0;
-        ends = end.1;
-        cut = rw (one_more lines (status_line end.0))
-            (gathers_first old new (spell lines) (line_text (status_line end.0)) front);
+  untold stations.Over old new other run front =
+      let noted = has_noted (record_after (post_of job rank port) run.journal) in
+      untold_by (node_lines (post_of job rank port) run.journal) old new (end_of noted)
+      (over noted unasked run refl tt) front
+  untold stations.Stuck old new other run front =
+      untold_by (node_lines (post_of job rank port) run.journal) old new ends.Stuck
+      (ran stations.Stuck ends.Stuck unasked run tt) front
+  untold stations.LinkFault old new other run front =
+      untold_by (node_lines (post_of job rank port) run.journal) old new ends.LinkFault (lost unasked run tt) front
+  untold stations.JournalFull old new other run front =
+      untold_by (node_lines (post_of job rank port) run.journal) old new ends.JournalFull
+      (ran stations.JournalFull ends.JournalFull unasked run tt) front
+  untold stations.WriteFault old new other run front = stopped run.journal old new (inl (run, refl)) front
+  untold stations.NoMemory old new other run front = absurd (other refl)
+
+  -- memory ran out as the node ran
+  open_told : (old middle new : Outbox) (ended : Ended)
+      → EndsOpen (post_of job rank port) course.before course.after old middle
+      → Says ends.NoMemory nothing middle new ended → EndsBy (NodeEnds rank port course) old new ended
+  open_told old middle new ended h says =
+      says_last (NodeEnds rank port course) old middle new (node_open (post_of job rank port) h.run.journal)
+      ends.NoMemory nothing ended (weak_node rank port course) tt
+      (inr (record {
+        job = job;
+        read = read;
+        place = place;
+        run = h.run;
+        said_is = refl;
         nothing_given = refl;
-      }
+      })) h.written says
+
+  -- or before it
+  unmade_told : (old middle new : Outbox) (ended : Ended)
+      → EndsUnmade course.before course.after old middle → Says ends.NoMemory nothing middle new ended
+      → EndsBy (NodeEnds rank port course) old new ended
+  unmade_told old middle new ended h says =
+      says_last (NodeEnds rank port course) old middle new [] ends.NoMemory nothing ended (weak_node rank port course)
+      tt (inl (alone ends.NoMemory)) h.written says
+
+  early_told : (old middle new : Outbox) (ended : Ended)
+      → (EndsOpen (post_of job rank port) course.before course.after old middle
+      ⊎ EndsUnmade course.before course.after old middle)
+      → Says ends.NoMemory nothing middle new ended → EndsBy (NodeEnds rank port course) old new ended
+  early_told old middle new ended (inl h) says = open_told old middle new ended h says
+  early_told old middle new ended (inr h) says = unmade_told old middle new ended h says
+
+  unwritten_told : (old new : Outbox)
+      → (EndsCut (post_of job rank port) course.before course.after old new
+      ⊎ EndsUnopened (post_of job rank port) course.before course.after old new)
+      → EndsBy (NodeEnds rank port course) old new cut
+  unwritten_told old new (inl h) = untold h.end old new h.some_text h.run h.written
+  unwritten_told old new (inr h) = stopped [] old new (inr (h.kept, refl)) h.written
 
   -- the run ended so, and then its status line was said
   pub node_told : (old middle new : Outbox) (end : NodeEnd) (left : Option EndpointState) (ended : Ended)
@@ -208,13 +270,12 @@ module _ (rank port : ℕ) (course : Course) (job : JobState) (read : GivesJob c
       (given_node left h.run.left.machine.endpoint h.node_is)) says
   node_told old middle new nodes.NoMemory left ended h says =
       let given = ap (λ (n : Option EndpointState). node_given n) h.no_node in
-      says_last (NodeEnds rank port course) old middle new [] ends.NoMemory nothing ended (weak_node rank port course)
-      tt (alone ends.NoMemory) h.written
+      early_told old middle new ended h.how
       (subst (λ (g : Given). Says ends.NoMemory g middle new ended) given says)
   node_told old middle new nodes.WriteFault left ended h says =
       subst (λ (e : Ended). EndsBy (NodeEnds rank port course) old new e) (sym says.0)
       (subst (λ (out : Outbox). EndsBy (NodeEnds rank port course) old out cut) (sym says.1)
-      (untold h.end old middle h.some_text h.run h.written))
+      (unwritten_told old middle h.how))
 
 -- no node of the job is asked for
 pub no_node_told : (rank port : ℕ) (course : Course) (job : JobState) (old new : Outbox) (ended : Ended)

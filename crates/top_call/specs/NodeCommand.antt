@@ -1,11 +1,13 @@
 -- The command `node`: a job is read, one of its nodes is run, and its trace is written.
-use Rattle.std.specs.Prelude.{◌≡◌, ℕ, nat_lt, List, [], ◌∷◌, Bool, ◌&&◌, true, false}
+use Rattle.std.specs.Prelude.{◌≡◌, ◌⊎◌, ℕ, nat_lt, List, [], ◌∷◌, Bool, ◌&&◌, true, false}
 use Rattle.std.specs.List.{Contains}
 use Rattle.gas_outside.specs.Faults.{Rose}
+use Rattle.machine.specs.declared.entry.Entry.{Entry}
+use Rattle.node_script.specs.Lines.{spell}
 use Rattle.job_text.specs.declared.job.Job.{Job as JobState}
 use Rattle.endpoint_lock.specs.declared.ends.End.{End as StationEnd}
 use Rattle.endpoint_lock.specs.declared.ends.End.TheVariants as stations
-use Rattle.node_call.specs.NodeLeaves.{has_noted, node_lines, post_of, record_after}
+use Rattle.node_call.specs.NodeLeaves.{Post, has_noted, node_lines, node_open, post_of, record_after}
 use Rattle.node_call.specs.NodeEnds.{RunsTo}
 use Rattle.top_call.specs.Outsides.{Call, Course, Input, IsFaultless, course_in}
 use Rattle.top_call.specs.Commands.{end_of}
@@ -35,18 +37,42 @@ pub record RunsNode (rank port : ℕ) (course : Course) (station : StationEnd) (
   pub read : GivesJob course.reading job
   pub place : has_place rank port job.settings.nodes ≡ true
   pub run : RunsTo (post_of job rank port) course.before course.after station
-  pub said_is : said ≡ said_last (node_lines (post_of job rank port) run.left.journal) end
+  pub said_is : said ≡ said_last (node_lines (post_of job rank port) run.journal) end
   pub node_after : after.left run.left.machine.endpoint
 
 -- all its scripts came to their ends, and it noted a violation or none
 pub record EndsNode (rank port : ℕ) (course : Course) (violated : Bool) (after : After) (said : List ℕ) : Type 0 where
   pub runs : RunsNode rank port course stations.Over (end_of violated) after said
-  pub violated_is : has_noted (record_after (post_of runs.job rank port) runs.run.left.journal) ≡ violated
+  pub violated_is : has_noted (record_after (post_of runs.job rank port) runs.run.journal) ≡ violated
 
 -- its link failed
 pub record LosesLink (rank port : ℕ) (course : Course) (after : After) (said : List ℕ) : Type 0 where
   pub runs : RunsNode rank port course stations.LinkFault ends.LinkFault after said
   pub rose : Rose course.before.link.faults course.after.link.faults
+
+-- memory ran out as its node ran: the trace of its journal without the last line, and the status line
+pub record LosesMemory (rank port : ℕ) (course : Course) (after : After) (said : List ℕ) : Type 0 where
+  pub job : JobState
+  pub read : GivesJob course.reading job
+  pub place : has_place rank port job.settings.nodes ≡ true
+  pub run : RunsTo (post_of job rank port) course.before course.after stations.NoMemory
+  pub said_is : said ≡ said_last (node_open (post_of job rank port) run.journal) ends.NoMemory
+  pub nothing_given : after.none
+
+-- the node took the turns of this journal until the sink failed; or that failed before, and nothing was done
+abbrev pub StopsAt : Post → Course → (journal : List Entry) → Type 0
+StopsAt post course journal =
+    ((run : RunsTo post course.before course.after stations.WriteFault) × (run.journal ≡ journal))
+    ⊎ ((course.after ≡ course.before) × (journal ≡ []))
+
+-- its sink failed as its node ran, or before: the trace of its journal, of which the sink took a front
+pub record LosesSink (rank port : ℕ) (course : Course) (said : List ℕ) : Type 0 where
+  pub job : JobState
+  pub read : GivesJob course.reading job
+  pub place : has_place rank port job.settings.nodes ≡ true
+  pub journal : List Entry
+  pub stops : StopsAt (post_of job rank port) course journal
+  pub said_is : said ≡ spell (node_lines (post_of job rank port) journal)
 
 -- how it may end, by how its source was read, and by what is seen of its link and clock before and after
 abbrev pub NodeEnds : (rank port : ℕ) → Course → EndsHow
@@ -55,10 +81,11 @@ NodeEnds rank port course ends.Violations after said = EndsNode rank port course
 NodeEnds rank port course ends.Usage after said = HasNoPlace rank port course after said
 NodeEnds rank port course (ends.BadJob line reason) after said = RefusesJob course.reading line reason after said
 NodeEnds rank port course ends.ReadFault after said = FailsToRead course.reading after said
-NodeEnds rank port course ends.WriteFault after said = ⊥
+NodeEnds rank port course ends.WriteFault after said = LosesSink rank port course said
 NodeEnds rank port course ends.LinkFault after said = LosesLink rank port course after said
 NodeEnds rank port course ends.SpawnFault after said = ⊥
-NodeEnds rank port course ends.NoMemory after said = SaysAlone ends.NoMemory after said
+NodeEnds rank port course ends.NoMemory after said =
+    SaysAlone ends.NoMemory after said ⊎ LosesMemory rank port course after said
 NodeEnds rank port course ends.Stuck after said = RunsNode rank port course stations.Stuck ends.Stuck after said
 NodeEnds rank port course ends.JournalFull after said =
     RunsNode rank port course stations.JournalFull ends.JournalFull after said

@@ -26,7 +26,7 @@ use std::thread::Threads;
 pub fn command<
     R: Threads + Wait + Sync,
     S: Source,
-    K: Sink,
+    K: Sink + Send,
     L: Link + Send,
     P: Spawner,
     C: Clock + Send,

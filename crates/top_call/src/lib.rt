@@ -20,7 +20,8 @@
 //!     drill.
 //!   - `node RANK PORT` (`NodeMeans`): with 0, 1, 6, 9 and 10 the bytes written are the text of the trace of the node's
 //!     journal and the status line, the endpoint that the call returns stands for the journal's replay, and the node's
-//!     threads and devices left what `RunsTo` of `node_call` says. It is 1 exactly where the node noted a violation, 6
+//!     threads and devices left what `RunsTo` of `node_call` says: no datagram was sent before the lines of its turn and
+//!     of those before it had gone to the sink. It is 1 exactly where the node noted a violation, 6
 //!     only where the link's count of faults rose, or stands at its last value, 9 and 10 by the cause of that end. 2
 //!     comes also where a job was read that has no node of this rank, or no port for each node; 3 and 4 as above.
 //!   - `check` (`CheckMeans`): with 0 and 1 the bytes read are the text of a job with an output of each of its nodes
@@ -45,8 +46,10 @@
 //!     and end with the status in it, 0 or 1 (`GivesOutput`), and the status that the child ended with. 2 comes only
 //!     where not each node has a port; 3 and 4 as of `world`.
 //!   - Of each: 5 comes only where the sink's count of faults rose, or stands at its last value, and then a prefix of
-//!     the text of one of the command's ends was written; with 8 whole lines of the run were written, or none (of
-//!     `upgrade` and `node` none), and then `status 8 no-memory`; with 2, 3, 4, 7, 11 and 12 the status line alone.
+//!     the text of one of the command's ends was written (of `node` also of the trace of a journal that ends where
+//!     the sink failed, `LosesSink`); with 8 whole lines of the run were written, or none (of `upgrade` none; of `node`
+//!     none, or its trace without the last line, `LosesMemory`), and then `status 8 no-memory`; with 2, 3, 4, 7, 11 and 12
+//!     the status line alone.
 //! - **The laws of the run** (`RunLaws` of `world_run`) of the job or the drill, with status 0 or 1, and with 8 where
 //!   lines of the run were written.
 //! - **Completeness** [`complete`: `IsComplete`], where neither the source's count of faults nor the sink's rose, or

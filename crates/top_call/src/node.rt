@@ -42,12 +42,13 @@ impl AskedNode {
     }
 }
 
-/// How a node's command ended, and the devices that it ran over.
+/// How a node's command ended, and the devices and the sink that it ran over.
 #[derive(Drop)]
-struct NodeEnded<L, C> {
+struct NodeEnded<L, C, K: Sink> {
     ended: Ended,
     link: L,
     clock: C,
+    sink: BufferedSink<K>,
 }
 
 /// Says the status line behind the trace of a node that ran, and answers how the command ended.
@@ -78,12 +79,12 @@ struct ReadNode {
 
 /// Says the status line of an end alone, and leaves the devices as they are.
 fn say_unrun<K: Sink, L, C, G>(
-    sink: &mut BufferedSink<K>,
+    sink: BufferedSink<K>,
     end: End,
     devices: Devices<'_, L, C, G>,
-) -> NodeEnded<L, C>
-    ensures says { Says end nothing (outbox K.taken K.faults sink.old)
-        (outbox K.taken K.faults sink.new) result.ended }
+) -> NodeEnded<L, C, K>
+    ensures says { Says end nothing (outbox K.taken K.faults sink)
+        (outbox K.taken K.faults result.sink) result.ended }
     ensures link { result.link ≡ devices.entry.link }
     ensures clock { result.clock ≡ devices.entry.clock }
 {
@@ -92,27 +93,36 @@ fn say_unrun<K: Sink, L, C, G>(
         clock,
         gate: _,
     } = devices;
+    let mut sink = sink;
+    let ended = say(&mut sink, end, Given::nothing());
     NodeEnded {
-        ended: say(sink, end, Given::nothing()),
+        ended,
         link,
         clock,
+        sink,
     }
 }
 
 /// Runs a node of a job that was read, if there is a place for it.
-fn run_read<R: Threads + Wait + Sync, L: Link + Send, C: Clock + Send, G: Gate + Sync, K: Sink>(
+fn run_read<
+    R: Threads + Wait + Sync,
+    L: Link + Send,
+    C: Clock + Send,
+    G: Gate + Sync,
+    K: Sink + Send,
+>(
     rt: &R,
     alloc: Global,
     read: ReadNode,
     devices: Devices<'_, L, C, G>,
-    sink: &mut BufferedSink<K>,
-) -> NodeEnded<L, C>
+    sink: BufferedSink<K>,
+) -> NodeEnded<L, C, K>
     requires { IsJob read.job }
     ensures { (reading : Reading) → GivesJob reading read.job
         → EndsBy (NodeEnds read.asked.rank read.asked.port (course_with reading
         (devices_seen L.Link C.Clock devices.entry.link devices.entry.clock)
         (devices_seen L.Link C.Clock result.link result.clock)))
-        (outbox K.taken K.faults sink.old) (outbox K.taken K.faults sink.new) result.ended }
+        (outbox K.taken K.faults sink) (outbox K.taken K.faults result.sink) result.ended }
 {
     let ReadNode { job, asked } = read;
     if !asked.has_place(job.settings.nodes()) {
@@ -130,18 +140,22 @@ fn run_read<R: Threads + Wait + Sync, L: Link + Send, C: Clock + Send, G: Gate +
                 node,
                 link,
                 clock,
+                sink,
             } = run_job_node(rt, alloc, node, devices, sink);
+            let mut sink = sink;
+            let ended = say_node(&mut sink, end, node);
             NodeEnded {
-                ended: say_node(sink, end, node),
+                ended,
                 link,
                 clock,
+                sink,
             }
         }
         Err(AllocError) => say_unrun(sink, End::NoMemory, devices),
     }
 }
 
-/// The command `node`: reads a job, runs one of its nodes over the outside's link, and says its trace.
+/// The command `node`: reads a job, runs one of its nodes over the outside's link, and says its trace as it grows.
 ///
 /// The status line is told by the first of these steps that gives one: reading the job; the rank, which has to be a
 /// node of it, and the port, behind which there has to be one for each node; the run, which begins by binding the
@@ -149,7 +163,7 @@ fn run_read<R: Threads + Wait + Sync, L: Link + Send, C: Clock + Send, G: Gate +
 pub fn node_command<
     R: Threads + Wait + Sync,
     S: Source,
-    K: Sink,
+    K: Sink + Send,
     L: Link + Send,
     P,
     C: Clock + Send,
@@ -176,7 +190,6 @@ pub fn node_command<
         gate,
     } = outside;
     let mut source = source;
-    let mut sink = sink;
     match job_from(alloc, &mut source) {
         Ok(job) => {
             let devices = Devices {
@@ -184,13 +197,12 @@ pub fn node_command<
                 clock,
                 gate: &gate,
             };
-            let NodeEnded { ended, link, clock } = run_read(
-                rt,
-                alloc,
-                ReadNode { job, asked },
-                devices,
-                &mut sink,
-            );
+            let NodeEnded {
+                ended,
+                link,
+                clock,
+                sink,
+            } = run_read(rt, alloc, ReadNode { job, asked }, devices, sink);
             (
                 ended,
                 Outside {
@@ -203,16 +215,20 @@ pub fn node_command<
                 },
             )
         }
-        Err(end) => (
-            say(&mut sink, end, Given::nothing()),
-            Outside {
-                source,
-                sink,
-                link,
-                spawner,
-                clock,
-                gate,
-            },
-        ),
+        Err(end) => {
+            let mut sink = sink;
+            let ended = say(&mut sink, end, Given::nothing());
+            (
+                ended,
+                Outside {
+                    source,
+                    sink,
+                    link,
+                    spawner,
+                    clock,
+                    gate,
+                },
+            )
+        }
     }
 }

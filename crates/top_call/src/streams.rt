@@ -28,7 +28,7 @@ use std::thread::Threads;
 pub fn run_streams<
     H: Threads + Wait + Sync,
     R: Read,
-    W: Write,
+    W: Write + Send,
     L: Link + Send,
     P: Spawner,
     C: Clock + Send,

@@ -63,8 +63,8 @@ pub(crate) fn flushed<K: Sink>(sink: &mut BufferedSink<K>, ended: Ended) -> Ende
 /// The word `world` alone reads a job and runs it; `upgrade` alone reads a job and writes the same job with datagrams
 /// of version 2; `drill SEED` runs the drill of that number, and reads nothing; `node RANK PORT` reads a job, runs the
 /// scripts of its node RANK in threads over the outside's link, bound to that place, and writes the trace of what they
-/// did; `check` alone reads a job and behind it what each of its nodes wrote, and writes the lines of the run that
-/// their traces are; `launch PORT` reads a job, starts a child for each of its nodes by the outside's spawner, with
+/// did as it grows; `check` alone reads a job and behind it what each of its nodes wrote, and writes the lines of the run
+/// that their traces are; `launch PORT` reads a job, starts a child for each of its nodes by the outside's spawner, with
 /// the bytes that it read, finishes them, and goes on with what they gave as `check` does. The last line written is
 /// `status CODE NAME`, but with code 5, and with 0 of `upgrade`:
 ///
@@ -77,12 +77,14 @@ pub(crate) fn flushed<K: Sink>(sink: &mut BufferedSink<K>, ended: Ended) -> Ende
 ///   first bad line, and the first reason that applies to it. Of more than 4,194,304 bytes (of `check` 67,108,864)
 ///   they are `0 size`;
 /// - 4 `read-fault`, only where the source's count of faults rose, or stands at its last value;
-/// - 5, only where the sink's count of faults rose, or stands at its last value: a prefix of the text was written;
+/// - 5, only where the sink's count of faults rose, or stands at its last value: a prefix of the text was written; a
+///   node took no more turns then;
 /// - 6 `link-fault`, of `node`, only where the link's count of faults rose, or stands at its last value; the trace was
 ///   written before, without turns where the link couldn't be bound;
 /// - 7 `spawn-fault`, of `launch`, only where the spawner's count of faults rose, or stands at its last value; each
 ///   child that was started was finished;
-/// - 8 `no-memory`: memory ran out; whole lines of the run were written before, or none; of `upgrade` and `node` none;
+/// - 8 `no-memory`: memory ran out; whole lines of the run were written before, or none; of `upgrade` none; of `node`
+///   none, or the trace without its last line;
 /// - 9 `stuck`, of `node`: it was quiet for so many turns, and some script isn't over; the trace was written before;
 /// - 10 `journal-full`, of `node`: its journal is full; the trace was written before;
 /// - 11 `not-a-run NODE ENTRY`, of `check` and `launch`: the traces are no run; the smallest node with an entry that
@@ -94,7 +96,7 @@ pub(crate) fn flushed<K: Sink>(sink: &mut BufferedSink<K>, ended: Ended) -> Ende
 pub fn gasnet<
     R: Threads + Wait + Sync,
     S: Source,
-    K: Sink,
+    K: Sink + Send,
     L: Link + Send,
     P: Spawner,
     C: Clock + Send,

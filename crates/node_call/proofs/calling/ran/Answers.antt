@@ -17,4 +17,5 @@ returns g c = record {
   node_is = c.node.ensures ∙ ap (node_for c.of-end.result) c.into_endpoint-endpoint.ensures.is;
   link = c.into_inner.ensures;
   clock = refl;
+  sink = c.into_sink.ensures;
 }

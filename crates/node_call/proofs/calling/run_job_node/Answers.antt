@@ -1,17 +1,18 @@
-use Rattle.gas_outside.specs.Buffered.{outbox}
+use Rattle.std.proofs.Common.{ap, ◌∙◌}
+use Rattle.node_call.specs.NodeEnds.{unmade}
 use Rattle.node_call.specs.NodeLeaves.{post_of}
 use Rattle.node_call.proofs.Ending.{ends_node, ends_unmade}
 use Rattle.node_call.proofs.calling.run_job_node.Goals as goal
 
 pub returns-in-Ok : goal.returns-in-Ok
 returns-in-Ok g c =
-    ends_node g.L.Link g.C.Clock (post_of c.args.node.job.now c.args.node.rank c.args.node.port) c.args.devices.link
-    c.args.devices.clock c.in-Ok.node c.run_node.result.left c.run_node.result.wrote c.ran.result
-    (outbox g.K.Sink.taken g.K.Sink.faults c.args.sink.now)
-    (outbox g.K.Sink.taken g.K.Sink.faults c.run_node.new.sink) c.in-Ok.ensures c.run_node.ensures.runs
-    c.run_node.ensures.written c.ran.ensures
+    ends_node g.L.Link g.C.Clock g.K.Sink (post_of c.args.node.job.now c.args.node.rank c.args.node.port)
+    c.args.devices.link c.args.devices.clock c.args.sink c.in-Ok.node c.run_node.result c.ran.result c.in-Ok.ensures
+    c.run_node.ensures c.ran.ensures
 
 pub returns-in-Err : goal.returns-in-Err
 returns-in-Err g c =
-    ends_unmade g.L.Link g.C.Clock (post_of c.args.node.job.now c.args.node.rank c.args.node.port) c.args.devices.link
-    c.args.devices.clock (outbox g.K.Sink.taken g.K.Sink.faults c.args.sink.now) c.in-Err.unmade c.in-Err.ensures
+    ends_unmade g.L.Link g.C.Clock g.K.Sink (post_of c.args.node.job.now c.args.node.rank c.args.node.port)
+    c.args.devices.link c.args.devices.clock c.args.sink c.unmade.result
+    (c.unmade.ensures
+    ∙ ap (λ (p : g.row.L.Denot × g.row.C.Denot). unmade p.0 p.1 c.args.sink) c.in-Err.ensures)

@@ -8,8 +8,8 @@ returns-in-Ok g c = record { ends = c.run_read-ended.ensures _ c.in-Ok.ensures; 
 
 pub returns-in-Err : goal.returns-in-Err
 returns-in-Err g c =
-    let says = rw c.nothing.ensures at c.say.ensures in
+    let says = rw c.nothing.ensures at c.say-ended.ensures in
     record {
-      ends = unread_told _ _ _ _ c.in-Err.end c.say.result (weak_node _ _ _) (node_none _ _ _) c.in-Err.ensures says;
+      ends = unread_told _ _ _ _ c.in-Err.end c.say-ended.result (weak_node _ _ _) (node_none _ _ _) c.in-Err.ensures says;
       spawner = refl;
     }

@@ -1,4 +1,4 @@
-use Rattle.std.proofs.Common.{◌≡◌, true, false, sym, ap, subst, ◌∙◌, ltb-true, nat_lt, nat_le, ◌+◌}
+use Rattle.std.proofs.Common.{◌≡◌, inl, true, false, sym, ap, subst, ◌∙◌, ltb-true, nat_lt, nat_le, ◌+◌}
 use Rattle.std.proofs.lemmas.Bool.{and_parts}
 use Rattle.job_text.specs.JobText.{IsJob}
 use Rattle.job_text.specs.declared.job.Job.{Job as JobState}
@@ -26,12 +26,12 @@ returns-in-Ok g c = λ reading read.
     let place : has_place asked.rank asked.port c.in-Ok.script.settings.nodes ≡ true =
     ap (has_place asked.rank asked.port) (sym nodes) ∙ (sym c.has_place.ensures ∙ c.if-not-has_place.false) in
     node_told asked.rank asked.port _ c.in-Ok.script given place _ _ _
-    c.run_job_node-end.result.end c.run_job_node-end.result.node c.say_node.result c.run_job_node-end.ensures
-    c.say_node.ensures
+    c.run_job_node-end.result.end c.run_job_node-end.result.node c.say_node-ended.result c.run_job_node-end.ensures
+    c.say_node-ended.ensures
 
 pub returns-in-Err : goal.returns-in-Err
 returns-in-Err g c = λ reading read.
-    says_alone _ _ _ ends.NoMemory c.say_unrun-in-Err.result.ended (weak_node _ _ _) tt (alone ends.NoMemory)
+    says_alone _ _ _ ends.NoMemory c.say_unrun-in-Err.result.ended (weak_node _ _ _) tt (inl (alone ends.NoMemory))
     c.say_unrun-in-Err.ensures.says
 
 pub run_job_node-end-requires-clause-job : goal.run_job_node-end-requires-clause-job
