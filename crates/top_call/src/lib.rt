@@ -94,8 +94,7 @@ mod words;
 mod world;
 
 pub use check_run::{NoNotes, Notes};
-pub use node::AskedNode;
 pub use outside::Outside;
 pub use standard::{ReaderSource, WriterSink};
 pub use streams::{program, run_streams};
-pub use top::{Status, gasnet, returning_call};
+pub use top::{Status, gasnet};

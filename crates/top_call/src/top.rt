@@ -1,16 +1,14 @@
 //! The top call.
 
-ghost use Rattle.std.specs.Prelude.{◌≡◌, IfErr, IfOk, map, string_bytes};
+ghost use Rattle.std.specs.Prelude.{◌≡◌, map, string_bytes};
 ghost use Rattle.gas_outside.specs.Buffered.{outbox};
 ghost use Rattle.top_call.specs.Outsides.{call_of, given_by, seen};
-ghost use Rattle.top_call.specs.TopCall.{AsksNode, IsComplete, IsSaid, LeavesAlone, StatusMeans};
-ghost use Rattle.top_call.specs.TopParts.{Closes, GivesOn, StandsOver};
+ghost use Rattle.top_call.specs.TopCall.{IsComplete, LeavesAlone, StatusMeans};
+ghost use Rattle.top_call.specs.TopParts.{GivesOn};
 
-use crate::command::returning_command;
+use crate::command::command;
 use crate::ending::{End, Ended};
-use crate::node::{AskedNode, node_command};
 use crate::outside::Outside;
-use crate::words::{Command, asked};
 use check_run::Notes;
 use gas_endpoint::Endpoint;
 use gas_outside::{BufferedSink, Clock, Gate, Link, Sink, Source, Spawner, Wrote};
@@ -59,95 +57,6 @@ pub(crate) fn flushed<K: Sink>(sink: &mut BufferedSink<K>, ended: Ended) -> Ende
             Ended::cut()
         }
     }
-}
-
-/// The outside, over a sink that gathers.
-fn gathering<S, K: Sink, L, P, C, G>(
-    outside: Outside<S, K, L, P, C, G>,
-) -> Outside<S, BufferedSink<K>, L, P, C, G>
-    ensures { StandsOver outside result }
-{
-    let Outside {
-        source,
-        sink,
-        link,
-        spawner,
-        clock,
-        gate,
-    } = outside;
-    Outside {
-        source,
-        sink: BufferedSink::new(sink),
-        link,
-        spawner,
-        clock,
-        gate,
-    }
-}
-
-/// Ends the call of a command that ended so: gives on what the sink still holds back, and gives the outside back.
-fn closed<S, K: Sink, L, P, C, G>(
-    ended: Ended,
-    gathering: Outside<S, BufferedSink<K>, L, P, C, G>,
-) -> (Status, Outside<S, K, L, P, C, G>)
-    ensures { Closes K.taken K.faults ended gathering result.0 result.1 }
-{
-    let Outside {
-        source,
-        sink,
-        link,
-        spawner,
-        clock,
-        gate,
-    } = gathering;
-    let mut sink = sink;
-    let Ended { end, given } = flushed(&mut sink, ended);
-    (
-        Status {
-            code: end.code(),
-            world: given.world,
-            node: given.node,
-            nodes: given.nodes,
-        },
-        Outside {
-            source,
-            sink: sink.into_inner(),
-            link,
-            spawner,
-            clock,
-            gate,
-        },
-    )
-}
-
-/// The top call where the words aren't those of `node`: it returns, whatever comes, if the calls of the source, the sink
-/// and the spawner do. All else is as [`gasnet`] says it.
-///
-/// # Errors
-///
-/// The rank and the port, and the outside as it was, exactly where the words are those of `node`.
-pub fn returning_call<S: Source, K: Sink, L: Link, P: Spawner, C: Clock, G, N: Notes>(
-    alloc: Global,
-    words: &[String],
-    outside: Outside<S, K, L, P, C, G>,
-    notes: &mut N,
-) -> Result<(Status, Outside<S, K, L, P, C, G>), (AskedNode, Outside<S, K, L, P, C, G>)>
-    ensures said { IfOk result (λ done. IsSaid (call_of (map string_bytes words.now)
-        (seen S.Source K.Sink L.Link P.Spawner C.Clock outside)
-        (seen S.Source K.Sink L.Link P.Spawner C.Clock done.1)
-        (given_by done.0)) done.0.code) }
-    ensures returns { IfOk result (λ done. (rank port : ℕ)
-        → AsksNode (map string_bytes words.now) rank port → ⊥) }
-    ensures node { IfErr result (λ asked.
-        AsksNode (map string_bytes words.now) asked.0.rank asked.0.port × (asked.1 ≡ outside)) }
-{
-    let command = asked(words);
-    if let Some(Command::Node { rank, port }) = command {
-        return Err((AskedNode { rank, port }, outside));
-    }
-    let mut gathering = gathering(outside);
-    let ended = returning_command(alloc, command, &mut gathering, notes);
-    Ok(closed(ended, gathering))
 }
 
 /// The top call: does what the words say (the program's own name is none of them), and gives the outside back.
@@ -217,11 +126,47 @@ pub fn gasnet<
         (seen S.Source K.Sink L.Link P.Spawner C.Clock result.1)
         (given_by result.0)) }
 {
-    match returning_call(alloc, words, outside, notes) {
-        Ok(done) => done,
-        Err((asked, outside)) => {
-            let (ended, after) = node_command(rt, alloc, asked, gathering(outside));
-            closed(ended, after)
-        }
-    }
+    let Outside {
+        source,
+        sink,
+        link,
+        spawner,
+        clock,
+        gate,
+    } = outside;
+    let gathering = Outside {
+        source,
+        sink: BufferedSink::new(sink),
+        link,
+        spawner,
+        clock,
+        gate,
+    };
+    let (ended, after) = command(rt, alloc, words, gathering, notes);
+    let Outside {
+        source,
+        sink,
+        link,
+        spawner,
+        clock,
+        gate,
+    } = after;
+    let mut sink = sink;
+    let Ended { end, given } = flushed(&mut sink, ended);
+    (
+        Status {
+            code: end.code(),
+            world: given.world,
+            node: given.node,
+            nodes: given.nodes,
+        },
+        Outside {
+            source,
+            sink: sink.into_inner(),
+            link,
+            spawner,
+            clock,
+            gate,
+        },
+    )
 }

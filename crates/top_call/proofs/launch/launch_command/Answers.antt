@@ -12,5 +12,5 @@ returns-in-Ok g c = c.launch_read.ensures _ c.in-Ok.ensures
 pub returns-in-Err : goal.returns-in-Err
 returns-in-Err g c =
     let says = rw c.nothing.ensures at c.say.ensures in
-    unread_told _ _ _ _ c.in-Err.end c.say.result (weak_launch c.args.port _ _)
-    (launch_none c.args.port _ _ refl) c.in-Err.ensures says
+    unread_told _ _ _ _ c.in-Err.end c.say.result (weak_launch c.args.at.port _ _)
+    (launch_none c.args.at.port _ _ refl) c.in-Err.ensures says
