@@ -58,12 +58,9 @@ next_part {A} lines items i item low is =
     ∙ ap (λ (x : A). spell (lines x) ++ spell (flat_map lines (drop (i + 1) items))) (sym is)
 
 -- the next item
-pub next_text : {A : Type 0} (text : A → List ℕ) (items : List A) (i : ℕ) (item : A) → i < length items
-    → item ≡ get_or items i item
-    → flat_map text (drop i items) ≡ text item ++ flat_map text (drop (i + 1) items)
-next_text {A} text items i item low is =
-    ap (λ (left : List A). flat_map text left) (drop_more items i item low)
-    ∙ ap (λ (x : A). text x ++ flat_map text (drop (i + 1) items)) (sym is)
+pub next_text : {A : Type 0} (text : A → List ℕ) (items : List A) (i : ℕ) (default : A) → i < length items
+    → flat_map text (drop i items) ≡ text (get_or items i default) ++ flat_map text (drop (i + 1) items)
+next_text {A} text items i default low = ap (λ (left : List A). flat_map text left) (drop_more items i default low)
 
 -- words, and what stands behind them
 pub words_parts : (words : List Word) (bytes : List ℕ) → words_then words bytes ≡ flat_map spaced_word words ++ bytes

@@ -61,9 +61,9 @@ fn write_numbers<K: Sink>(numbers: &[u8], sink: &mut BufferedSink<K>) -> Wrote
 }
 
 /// Writes a space and each word of an operation of remote atomics.
-fn write_op<K: Sink>(op: WordOp, sink: &mut BufferedSink<K>) -> Wrote
+fn write_op<K: Sink>(op: &WordOp, sink: &mut BufferedSink<K>) -> Wrote
     ensures { GathersAll (outbox K.taken K.faults sink.old) (outbox K.taken K.faults sink.new)
-        (bundle_text Operations op) result }
+        (bundle_text Operations op.now) result }
 {
     let words = [
         Word::Operation(op.op),
@@ -80,7 +80,7 @@ fn write_ops<K: Sink>(ops: &[WordOp], sink: &mut BufferedSink<K>) -> Wrote
         (flat_map (bundle_text Operations) ops.now) result }
 {
     for op in ops {
-        if let Wrote::Fault = write_op(*op, sink) {
+        if let Wrote::Fault = write_op(op, sink) {
             return Wrote::Fault;
         }
     }

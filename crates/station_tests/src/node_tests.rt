@@ -1,11 +1,11 @@
 ghost use Rattle.std.specs.Prelude.{◌≤◌};
 
 use crate::{InStep, TwoThreads};
-use endpoint_lock::End;
+use endpoint_lock::{End, Ended};
 use gas_outside::{
     BufferedSink, FixedClock, Link, LinkAnswer, MemoryLink, MemorySink, Received, Wrote,
 };
-use station_run::{Node, Place, run_node};
+use station_run::{Node, NodeRun, Place, run_node};
 use std::alloc::Global;
 use std::sync::Wait;
 use std::test::Fail;
@@ -98,13 +98,14 @@ fn ran<R: Threads + Wait + Sync, L: Link + Drop + Send>(
 ) -> Result<(End, Wrote, Vec<u8>), Fail> {
     let sink = sink_failing_at(alloc, 0)?;
     let run = run_node(rt, alloc, node_over(link), &InStep::new(), sink);
-    let told = (run.left.end, run.wrote);
-    let mut sink = run.left.recorder.into_sink();
+    let NodeRun { left, wrote } = run;
+    let Ended { end, recorder, .. } = left;
+    let mut sink = recorder.into_sink();
     if sink.flush() == Wrote::Fault {
         return Err(Fail::from("a fault"));
     }
     let taken = Vec::from_slice(alloc, sink.into_inner().taken())?;
-    Ok((told.0, told.1, taken))
+    Ok((end, wrote, taken))
 }
 
 #[test]
@@ -145,9 +146,11 @@ fn tells_a_fault_of_its_sink(rt: HostRuntime) -> Result<(), Fail> {
     let filled = sink.write_all(&[b' '; 8_192]);
     let node = node_over(link_failing_at(alloc, 0)?);
     let run = run_node(&rt, alloc, node, &InStep::new(), sink);
-    assert!(rt; filled == Wrote::Done && run.wrote == Wrote::Fault);
-    let taken = run.left.recorder.into_sink().into_inner();
-    assert!(rt; run.left.end == End::WriteFault && taken.taken().is_empty());
+    let NodeRun { left, wrote } = run;
+    let Ended { end, recorder, .. } = left;
+    assert!(rt; filled == Wrote::Done && wrote == Wrote::Fault);
+    let taken = recorder.into_sink().into_inner();
+    assert!(rt; end == End::WriteFault && taken.taken().is_empty());
     Ok(())
 }
 
@@ -163,8 +166,14 @@ fn writes_before_it_sends(rt: HostRuntime) -> Result<(), Fail> {
     let node = node_over(link_failing_at(alloc, 0)?);
     let sink = sink_failing_at(alloc, 2)?;
     let run = run_node(&rt, alloc, node, &InStep::new(), sink);
-    assert!(rt; run.left.end == End::Over && run.left.link.sent().len() == 2);
-    let taken = run.left.recorder.into_sink().into_inner();
+    let Ended {
+        end,
+        link,
+        recorder,
+        ..
+    } = run.left;
+    assert!(rt; end == End::Over && link.sent().len() == 2);
+    let taken = recorder.into_sink().into_inner();
     let open = WHOLE.len() - 4;
     assert!(rt; taken.taken() == &WHOLE.as_bytes()[..open]);
     Ok(())

@@ -5,12 +5,12 @@ use Rattle.job_print.proofs.forms.write_ops.Goals as goal
 
 pub returns-in-Fault : goal.returns-in-Fault
 returns-in-Fault g c =
-    past_fault _ _ _ _ _ _ _ (next_text (bundle_text Operations) c.args.ops.now c.loop-op.op-index
-    c.op-item.result c.loop-op-test.true c.op-item.is)
+    past_fault _ _ _ _ _ _ _
+    (next_text (bundle_text Operations) c.args.ops.now c.loop-op.op-index _ c.loop-op-test.true)
     c.loop-op.invariant c.in-Fault.ensures
 
 pub loop-op-preserved : goal.loop-op-preserved
 loop-op-preserved g c =
-    past_done _ _ _ _ _ _ _ (next_text (bundle_text Operations) c.args.ops.now c.loop-op.op-index
-    c.op-item.result c.loop-op-test.true c.op-item.is)
+    past_done _ _ _ _ _ _ _
+    (next_text (bundle_text Operations) c.args.ops.now c.loop-op.op-index _ c.loop-op-test.true)
     c.loop-op.invariant c.in_default.ensures
