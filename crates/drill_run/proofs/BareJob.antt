@@ -1,6 +1,7 @@
 -- The text of the drill's job, without its schedule.
 use Rattle.std.proofs.Common.{◌≡◌, ◌≢◌, ℕ, zero, suc, ◌≤◌, List, [], ◌∷◌, ◌⊎◌, refl, ap, subst, inl, inr, lit<, lit≤}
-use Rattle.std.proofs.Common.{arith, false≢true}
+use Rattle.std.proofs.Common.{arith}
+use Rattle.std.proofs.lemmas.Bool.{false≢true}
 use Rattle.std.specs.Fmt.{digits}
 use Rattle.std.proofs.lemmas.Option.{same_Some}
 use Rattle.datagram_grammar.specs.Parameters.{AreInRange, credits_of, credits_in_all}

@@ -43,7 +43,8 @@ use Rattle.lists.specs.Put.{put}
 use Rattle.plain_world.specs.World.{Asks, Does, Ticks, after_at, reply_event, request_event}
 use Rattle.plain_world.specs.World.{run, world_after}
 use Rattle.am_core.specs.ClientRules.{content_refusal, short_asking}
-use Rattle.am_core.specs.HandlerRuns.{NodeHandlers, client_outcome, frame_of_run, handlers_of, landing, left_by}
+use Rattle.am_core.specs.HandlerRuns.{NodeHandlers, client_outcome, frame_of_run, landing, left_by}
+use Rattle.am_core.specs.HandlerRuns.{handlers_of as node_handlers}
 use Rattle.am_core.specs.HandlerRuns.{outcome}
 use Rattle.am_core.specs.HandlerRuns.{run_reply, run_request}
 use Rattle.am_core.specs.Kept.{Local, start_of, with_writes}
@@ -163,7 +164,7 @@ IsClean local = (local.locks ≡ []) × (local.violations ≡ [])
 
 -- a node by these handlers
 abbrev handlers : List (Option Entry) → NodeHandlers
-handlers table = handlers_of drill_settings table (script_meaning (handlers_of bare_job))
+handlers table = node_handlers drill_settings table (script_meaning (handlers_of bare_job))
 
 outcome_by : (table : List (Option Entry)) (which : Role) (contact : Contact) (content : Content) (start : Start)
     (library : Bool) → (eqb 128 content.handler ≡ true → which ≡ role.Request) → start.locks ≡ []
