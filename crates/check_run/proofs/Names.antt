@@ -253,7 +253,7 @@ form_names endpoint (Again waits call) began after (Some answer) sound handle na
     unless_said endpoint (waits answer) answer (names tt)
 form_names endpoint (Until call ends) began after None sound handle names = tt
 form_names endpoint (Until call ends) began after (Some answer) sound handle names =
-    sound endpoint answer names
+    sound endpoint answer (names tt)
 form_names endpoint (Twice begin next waits says) None after None sound handle names = tt
 form_names endpoint (Twice begin next waits says) None after (Some answer) sound handle names =
     unless_said endpoint (is_some (next answer)) (says answer) (sound endpoint answer (names tt))
