@@ -25,7 +25,7 @@ done
 echo "load behind: $(cut -d' ' -f1-3 /proc/loadavg)"
 touch out/bench/theirs
 awk -F': ' '
-    { sub(/ us$/, "", $2); which = FILENAME ~ /ours/ ? 1 : 2
+    { sub(/ us$/, "", $2); $2 += 0; which = FILENAME ~ /ours/ ? 1 : 2
       if (!($1 in place)) { place[$1] = ++count; name[count] = $1 }
       if (!((which, $1) in least) || $2 < least[which, $1]) least[which, $1] = $2 }
     END { for (i = 1; i <= count; i++) {

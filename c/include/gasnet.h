@@ -228,6 +228,7 @@ int gasnet_barrier_try(int id, int flags);
 #include "gasnet_messages.h"
 #include "gasnet_vis.h"
 #include "gasnet_atomics.h"
+#include "gasnet_coll.h"
 
 #ifdef __cplusplus
 }

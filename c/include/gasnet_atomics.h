@@ -1,8 +1,9 @@
-/* Remote atomics: operations on words of 64 bits in a node's segment. gasnet.h includes it.
+/* Remote atomics: operations on integers of 32 and 64 bits in a node's segment. gasnet.h includes it.
  *
- * The names are GASNet-EX's, of which this is the part for words of 64 bits. Each operation acts at one moment of the
- * word's node, and is told what the word was then. A word that these operations change is touched by nothing else: no
- * plain load or store, not even of its own node, and no put, get or Long. It stands at a multiple of 8 in the segment.
+ * The names are GASNet-EX's, of which this is the part for integers. Each operation acts at one moment of the number's node,
+ * and is told what the number was then. It stands at a multiple of its size in the segment. The word of 8 bytes that holds
+ * it is touched by nothing else: no plain load or store, not even of its own node, and no put, get or Long. The two halves
+ * of a word may each be a number, and numbers of several domains.
  *
  * No node of the job registers the handlers 252 and 253 itself; else gex_AD_Create ends the job. */
 #ifndef GASNET_ATOMICS_H
@@ -16,13 +17,15 @@ typedef uint32_t gex_Flags_t;
 /* The team of an atomic domain: all nodes of the job, whatever it is. */
 typedef const void *gex_TM_t;
 
-/* ---- Types of words. */
+/* ---- Types of numbers. */
 
 typedef uint32_t gex_DT_t;
+#define GEX_DT_I32 ((gex_DT_t)1)
+#define GEX_DT_U32 ((gex_DT_t)2)
 #define GEX_DT_I64 ((gex_DT_t)4)
 #define GEX_DT_U64 ((gex_DT_t)8)
 
-/* ---- Operations: what the word becomes. Those with an F, and GET and SWAP, bring what it was. */
+/* ---- Operations: what the number becomes, modulo its size. Those with an F, and GET and SWAP, bring what it was. */
 
 typedef uint32_t gex_OP_t;
 #define GEX_OP_AND ((gex_OP_t)1 << 0)
@@ -30,7 +33,7 @@ typedef uint32_t gex_OP_t;
 #define GEX_OP_XOR ((gex_OP_t)1 << 2)
 #define GEX_OP_ADD ((gex_OP_t)1 << 3)
 #define GEX_OP_SUB ((gex_OP_t)1 << 4)
-#define GEX_OP_MIN ((gex_OP_t)1 << 5) /* of GEX_DT_U64 alone, as MAX, FMIN and FMAX */
+#define GEX_OP_MIN ((gex_OP_t)1 << 5)
 #define GEX_OP_MAX ((gex_OP_t)1 << 6)
 #define GEX_OP_INC ((gex_OP_t)1 << 7)
 #define GEX_OP_DEC ((gex_OP_t)1 << 8)
@@ -48,6 +51,8 @@ typedef uint32_t gex_OP_t;
 #define GEX_OP_SWAP ((gex_OP_t)1 << 20)
 #define GEX_OP_CAS ((gex_OP_t)1 << 21)  /* operand2 where it was operand1 */
 #define GEX_OP_FCAS ((gex_OP_t)1 << 22)
+#define GEX_OP_MULT ((gex_OP_t)1 << 23)
+#define GEX_OP_FMULT ((gex_OP_t)1 << 24)
 
 /* ---- Flags. All may be given, and none changes what a call does. */
 
@@ -57,25 +62,32 @@ typedef uint32_t gex_OP_t;
 #define GEX_FLAG_AD_ACQ ((gex_Flags_t)1 << 3)
 #define GEX_FLAG_AD_REL ((gex_Flags_t)1 << 4)
 
-/* ---- Atomic domains: a type, and the operations that are asked of its words. */
+/* ---- Atomic domains: a type, and the operations that are asked of its numbers. */
 
 typedef struct gasnetl_domain *gex_AD_t;
 
 void gex_AD_Create(gex_AD_t *ad_p, gex_TM_t tm, gex_DT_t dt, gex_OP_t ops, gex_Flags_t flags);
 void gex_AD_Destroy(gex_AD_t ad);
 
-/* ---- Operations with a handle. What the word was stands at result_p when the handle is synchronised; of operations that
+/* ---- Operations with a handle. What the number was stands at result_p when the handle is synchronised; of operations that
  * don't bring it result_p isn't read. */
 
-gex_Event_t gex_AD_OpNB_I64(gex_AD_t ad, int64_t *result_p, gex_Rank_t tgt_rank, void *tgt_addr, gex_OP_t op, int64_t operand1, int64_t operand2, gex_Flags_t flags);
-gex_Event_t gex_AD_OpNB_U64(gex_AD_t ad, uint64_t *result_p, gex_Rank_t tgt_rank, void *tgt_addr, gex_OP_t op, uint64_t operand1, uint64_t operand2, gex_Flags_t flags);
+/* The parameters of all of them. */
+#define GASNETL_OF(type) gex_AD_t ad, type *result_p, gex_Rank_t tgt_rank, void *tgt_addr, gex_OP_t op, type operand1, type operand2, gex_Flags_t flags
+
+gex_Event_t gex_AD_OpNB_I32(GASNETL_OF(int32_t));
+gex_Event_t gex_AD_OpNB_U32(GASNETL_OF(uint32_t));
+gex_Event_t gex_AD_OpNB_I64(GASNETL_OF(int64_t));
+gex_Event_t gex_AD_OpNB_U64(GASNETL_OF(uint64_t));
 
 static inline void gex_Event_Wait(gex_Event_t event) { gasnet_wait_syncnb(event); }
 static inline int gex_Event_Test(gex_Event_t event) { return gasnet_try_syncnb(event); }
 
 /* ---- Implicit ones, which are synchronised as the thread's puts, or by its access region. They answer 0. */
 
-int gex_AD_OpNBI_I64(gex_AD_t ad, int64_t *result_p, gex_Rank_t tgt_rank, void *tgt_addr, gex_OP_t op, int64_t operand1, int64_t operand2, gex_Flags_t flags);
-int gex_AD_OpNBI_U64(gex_AD_t ad, uint64_t *result_p, gex_Rank_t tgt_rank, void *tgt_addr, gex_OP_t op, uint64_t operand1, uint64_t operand2, gex_Flags_t flags);
+int gex_AD_OpNBI_I32(GASNETL_OF(int32_t));
+int gex_AD_OpNBI_U32(GASNETL_OF(uint32_t));
+int gex_AD_OpNBI_I64(GASNETL_OF(int64_t));
+int gex_AD_OpNBI_U64(GASNETL_OF(uint64_t));
 
 #endif

@@ -145,6 +145,33 @@ enum {
     GASNET_C_OP_MAX = 9           /* the greater */
 };
 
+/* What C holds of a node's collectives. It begins as zeros. */
+typedef struct {
+    bool live;
+    struct { void *at; } slot;
+} gasnet_c_collectives;
+
+/* A collective, as a node starts it. */
+typedef struct {
+    uint64_t from; /* where the bytes that the node gives begin in its segment */
+    uint64_t len;  /* how many bytes each node gives: at most the room; for a reduction a multiple of 8 */
+    uint32_t kind; /* GASNET_C_BROADCAST to GASNET_C_ALL_MAX */
+    uint16_t root; /* 0 for a kind without one */
+} gasnet_c_collective;
+
+/* The collectives, by number: what the nodes get. */
+enum {
+    GASNET_C_BROADCAST = 0,  /* each node the root's bytes */
+    GASNET_C_GATHER = 1,     /* the root all bytes, in the order of the nodes */
+    GASNET_C_ALL_GATHER = 2, /* each node all bytes */
+    GASNET_C_SUM = 3,        /* the root the sums of the words, place by place, modulo 2^64 */
+    GASNET_C_MIN = 4,        /* the root the smallest of them, unsigned */
+    GASNET_C_MAX = 5,        /* the root the greatest */
+    GASNET_C_ALL_SUM = 6,    /* each node the sums */
+    GASNET_C_ALL_MIN = 7,
+    GASNET_C_ALL_MAX = 8
+};
+
 enum {
     GASNET_C_ROOM = 8296,    /* the bytes that a datagram has at most: give this room */
     GASNET_C_PAYLOAD = 8192, /* the bytes of a payload, and of a chunk, at most */
@@ -158,7 +185,10 @@ enum {
     GASNET_C_FIRST_HANDLER = 128,
     /* The handlers of operations on words: datagrams for them are delivered by gasnet_c_serve. */
     GASNET_C_BATCH_HANDLER = 252,
-    GASNET_C_BLOCK_HANDLER = 253
+    GASNET_C_BLOCK_HANDLER = 253,
+    /* The handler of collectives: datagrams for it are delivered by gasnet_c_serve too. */
+    GASNET_C_COLLECTIVE_HANDLER = 254,
+    GASNET_C_COLLECTIVE_HEADER = 16 /* the bytes of a part of the area, beside its room */
 };
 
 /* The answers, by number. */
@@ -171,9 +201,9 @@ enum {
     GASNET_C_HANDLE = 6,    /* a transfer is under way, or a region ended, under the handle `value` */
     GASNET_C_DONE = 7,      /* it is done, and has no handle */
     GASNET_C_TOO_MANY = 8,  /* 256 operations stand, or the last number was given; nothing happened */
-    GASNET_C_OK = 9,        /* synchronised; notified; the barrier is complete */
+    GASNET_C_OK = 9,        /* synchronised; notified; the barrier is complete; a collective is started, or ended */
     GASNET_C_NOT_READY = 10,
-    GASNET_C_MISMATCH = 11, /* the barrier is complete, and its notifies don't match */
+    GASNET_C_MISMATCH = 11, /* the barrier is complete, and its notifies don't match; a collective is ended, and its shapes differ */
     GASNET_C_RAN = 12,      /* a request's handler ran (a client's, or a transfer's at its target); its reply is sent */
     GASNET_C_NOTED = 13,    /* a note of the barrier came; its reply is sent */
     GASNET_C_AGAIN = 14,    /* a request came again; its reply is sent again */
@@ -182,7 +212,7 @@ enum {
     GASNET_C_LATE = 17,
     GASNET_C_DEFERRED = 18,
     GASNET_C_REFUSED = 19,  /* bytes that are no message for this node */
-    GASNET_C_NOTHING = 20,  /* a tick had nothing to send */
+    GASNET_C_NOTHING = 20,  /* a tick, or a step of a collective, had nothing to send */
     GASNET_C_RESENT = 21,   /* a tick sends a request again */
     GASNET_C_FORBIDDEN = 22,
     GASNET_C_OTHER = 23,
@@ -233,8 +263,8 @@ gasnet_c_told gasnet_c_request_own(gasnet_c_node *node, uint64_t now, const gasn
 gasnet_c_told gasnet_c_atomic(gasnet_c_node *node, uint64_t now, const gasnet_c_operation *what, uint8_t *buffer,
                               size_t room);
 
-/* Delivers bytes for one of the two handlers of operations, which run in the call: C runs nothing before it. It is
- * answered as gasnet_c_deliver. */
+/* Delivers bytes for one of the two handlers of operations, or for that of collectives, which run in the call: C runs
+ * nothing before it. It is answered as gasnet_c_deliver. */
 gasnet_c_told gasnet_c_serve(gasnet_c_node *node, uint64_t now, const uint8_t *bytes, size_t len, uint8_t *buffer,
                              size_t room);
 
@@ -258,6 +288,35 @@ gasnet_c_told gasnet_c_notify(gasnet_c_node *node, uint64_t now, int32_t id, uin
 
 /* Tries the barrier. OK, NOT_READY, MISMATCH, WORN_OUT; BAD out of turn. */
 gasnet_c_told gasnet_c_try(gasnet_c_node *node, uint64_t now, int32_t id, uint8_t flags);
+
+/* ---- Collectives over all nodes. Each node starts the same ones in the same order, one at a time: gasnet_c_coll_start,
+ * then gasnet_c_coll_step until it was ACCEPTED once for each other node, then gasnet_c_coll_end until it is OK, with
+ * deliveries in between. */
+
+/* Makes the collectives of a node: 0; or 1 where the area isn't one, 2 for want of memory, 3 where their handle is live
+ * already, GASNET_C_DEAD where the node's is dead. Their area begins at `base` in each segment and has two parts for each
+ * node, of GASNET_C_COLLECTIVE_HEADER + `room` bytes: `base` and `room` are multiples of 8, `room` is 8 to 8,192, and it
+ * ends inside the segment. All nodes name one area, and nothing else writes there. */
+uint32_t gasnet_c_coll_new(gasnet_c_node *node, gasnet_c_collectives *collectives, uint64_t base, uint64_t room);
+
+/* Gives their memory back; before the node's. The handle is dead then, as one of zeros. */
+void gasnet_c_coll_free(gasnet_c_collectives *collectives);
+
+/* Starts the next collective; its bytes are copied. OK; BAD where the one before isn't ended or a part of it is bad;
+ * WORN_OUT. */
+gasnet_c_told gasnet_c_coll_start(gasnet_c_node *node, gasnet_c_collectives *collectives, uint64_t now,
+                                  const gasnet_c_collective *what);
+
+/* Sends it to the next node that can be asked. ACCEPTED, and the datagram is told; NOTHING where it was sent to all, no
+ * other one can be asked now, or none is started. */
+gasnet_c_told gasnet_c_coll_step(gasnet_c_node *node, gasnet_c_collectives *collectives, uint64_t now, uint8_t *buffer,
+                                 size_t room);
+
+/* Tries to end it, with the result at `dest` in the own segment. OK; MISMATCH, and it is ended without a result, since
+ * the node `to`, the first of these, started another one; NOT_READY; WORN_OUT, by the node `to`; BAD where none is
+ * started, or the result passes the end of the segment, shares a byte with the area, or for a reduction isn't at a
+ * multiple of 8. */
+gasnet_c_told gasnet_c_coll_end(gasnet_c_node *node, gasnet_c_collectives *collectives, uint64_t now, uint64_t dest);
 
 #ifdef __cplusplus
 }

@@ -9,6 +9,8 @@
 
 _Static_assert(__BYTE_ORDER__ == __ORDER_LITTLE_ENDIAN__, "words are little-endian");
 
+enum { WORD = 8 };
+
 /* ---- Blocks. */
 
 void gasnetl_atomics_start(struct gasnetl_atomics *atomics, const struct gasnetl_messages *messages) {
@@ -16,6 +18,7 @@ void gasnetl_atomics_start(struct gasnetl_atomics *atomics, const struct gasnetl
     atomics->served = !messages->handlers[GASNET_C_BATCH_HANDLER] && !messages->handlers[GASNET_C_BLOCK_HANDLER];
     for (uint16_t i = 0; i < GASNETL_BLOCKS; i++)
         atomics->blocks[i].next = i + 1 < GASNETL_BLOCKS ? (uint16_t)(i + 1) : GASNETL_NONE;
+    atomics->swapping = GASNETL_NONE;
     memset(atomics->owner, 0xff, sizeof atomics->owner);
 }
 
@@ -24,8 +27,108 @@ static uint64_t place_of(const struct gasnetl_job *job, uint16_t index) {
     return job->segment.stage + GASNETL_STAGE + (uint64_t)index * GASNETL_BLOCK;
 }
 
-/* The reply stands in the block: what the word was is brought, and the block is free again. */
-static void bring(struct gasnetl_job *job, uint16_t index, uint16_t from) {
+/* ---- Steps: what the node is asked for. */
+
+/* The word that an operation makes of a word, with those that go with it. */
+static uint64_t made_together(const struct gasnetl_atomics *atomics, const struct gasnetl_block *first, uint64_t word) {
+    const struct gasnetl_block *block = first;
+    word = gasnetl_word_made(&block->change, word);
+    for (unsigned i = 1; i < first->together; i++) {
+        block = &atomics->blocks[block->behind];
+        word = gasnetl_word_made(&block->change, word);
+    }
+    return word;
+}
+
+static bool is_direct(const struct gasnetl_block *block) {
+    gasnet_c_operation what;
+    return gasnetl_is_direct(&block->change, &what);
+}
+
+/* Asks for the next step of an operation; the reply comes to the block of this index. */
+static gasnet_c_told ask_once(struct gasnetl_job *job, struct gasnetl_block *block, uint16_t index) {
+    gasnet_c_operation what = { .offset = block->offset, .to = block->to, .local = place_of(job, index) };
+    if (!gasnetl_is_direct(&block->change, &what)) {
+        what.op = GASNET_C_OP_COMPARE_SWAP;
+        what.a = block->expected;
+        what.b = made_together(&job->atomics, block, block->expected);
+    }
+    what.tag = block->tag = ++job->atomics.tag;
+    return gasnet_c_atomic(&job->node, job->progress.time, &what, gasnetl_network_room(&job->network), GASNET_C_ROOM);
+}
+
+/* ---- Operations on one word, of which the first one's compare-and-swap is out. */
+
+static uint16_t first_on_word(const struct gasnetl_atomics *atomics, const struct gasnetl_block *block) {
+    uint16_t index = atomics->swapping;
+    while (index != GASNETL_NONE && (atomics->blocks[index].to != block->to || atomics->blocks[index].offset != block->offset))
+        index = atomics->blocks[index].next;
+    return index;
+}
+
+static void begin_swapping(struct gasnetl_atomics *atomics, uint16_t index) {
+    atomics->blocks[index].next = atomics->swapping;
+    atomics->swapping = index;
+}
+
+static void end_swapping(struct gasnetl_atomics *atomics, uint16_t index) {
+    uint16_t *at = &atomics->swapping;
+    while (*at != index)
+        at = &atomics->blocks[*at].next;
+    *at = atomics->blocks[index].next;
+}
+
+static void wait_behind(struct gasnetl_atomics *atomics, uint16_t first, uint16_t index) {
+    struct gasnetl_block *leading = &atomics->blocks[first];
+    atomics->blocks[leading->last].behind = index;
+    leading->last = index;
+}
+
+/* All that wait go with the next compare-and-swap. */
+static void gather(const struct gasnetl_atomics *atomics, struct gasnetl_block *first, uint64_t expected) {
+    first->expected = expected;
+    first->together = 1;
+    for (uint16_t i = first->behind; i != GASNETL_NONE; i = atomics->blocks[i].behind)
+        first->together++;
+}
+
+/* ---- Replies. */
+
+/* The operation acted when the word was this one: the client is told what the number was, and the block is free again. Answers
+ * what the operation made of the word. */
+static uint64_t complete(struct gasnetl_atomics *atomics, uint16_t index, uint64_t word) {
+    struct gasnetl_block *block = &atomics->blocks[index];
+    const uint64_t number = gasnetl_number_in(&block->change, word);
+    if (block->result)
+        memcpy(block->result, &number, block->change.bits / 8);
+    block->op->open--;
+    block->next = atomics->free;
+    atomics->free = index;
+    return gasnetl_word_made(&block->change, word);
+}
+
+/* All that went with a compare-and-swap acted when the word was this one. Answers the first one of the others, which expects
+ * what they made of it; or GASNETL_NONE. */
+static uint16_t complete_together(struct gasnetl_atomics *atomics, uint16_t index, uint64_t word) {
+    const uint16_t last = atomics->blocks[index].last;
+    const unsigned together = atomics->blocks[index].together;
+    atomics->known = (struct gasnetl_known){ .offset = atomics->blocks[index].offset, .to = atomics->blocks[index].to };
+    for (unsigned i = 0; i < together; i++) {
+        uint16_t behind = atomics->blocks[index].behind;
+        word = complete(atomics, index, word);
+        index = behind;
+    }
+    atomics->known.word = word;
+    if (index == GASNETL_NONE)
+        return GASNETL_NONE;
+    atomics->blocks[index].last = last;
+    gather(atomics, &atomics->blocks[index], word);
+    return index;
+}
+
+/* The reply stands in the block, with what the word was. Answers the block whose next step is to be asked for, or
+ * GASNETL_NONE. */
+static uint16_t bring(struct gasnetl_job *job, uint16_t index, uint16_t from) {
     struct gasnetl_atomics *atomics = &job->atomics;
     struct gasnetl_block *block = &atomics->blocks[index];
     uint64_t came[2];
@@ -33,10 +136,26 @@ static void bring(struct gasnetl_job *job, uint16_t index, uint16_t from) {
     if (came[1] != block->tag)
         gasnetl_stop(GASNETL_MISUSE, "node %u doesn't serve operations on words: its handler %d or %d is the client's", from,
                      GASNET_C_BATCH_HANDLER, GASNET_C_BLOCK_HANDLER);
-    if (block->result)
-        memcpy(block->result, came, sizeof *came);
-    block->next = atomics->free;
-    atomics->free = index;
+    if (is_direct(block)) {
+        complete(atomics, index, came[0]);
+        return GASNETL_NONE;
+    }
+    end_swapping(atomics, index);
+    if (came[0] == block->expected || made_together(atomics, block, came[0]) == came[0])
+        return complete_together(atomics, index, came[0]);
+    gather(atomics, block, came[0]);
+    return index;
+}
+
+/* The request of a block is out. */
+static void went_out(struct gasnetl_job *job, uint16_t index, const gasnet_c_told *told) {
+    struct gasnetl_atomics *atomics = &job->atomics;
+    if (told->code != GASNET_C_ACCEPTED)
+        gasnetl_stop(GASNETL_BROKEN, "an operation of node %u was answered %u", atomics->blocks[index].to, told->code);
+    atomics->owner[told->to][told->slot] = index;
+    if (!is_direct(&atomics->blocks[index]))
+        begin_swapping(atomics, index);
+    gasnetl_told(job, told);
 }
 
 void gasnetl_atomic_back(struct gasnetl_job *job, uint16_t to, uint16_t slot) {
@@ -44,8 +163,11 @@ void gasnetl_atomic_back(struct gasnetl_job *job, uint16_t to, uint16_t slot) {
     if (index == GASNETL_NONE)
         return;
     *owner = GASNETL_NONE;
-    bring(job, index, to);
-    job->atomics.blocks[index].op->open--;
+    index = bring(job, index, to);
+    if (index == GASNETL_NONE)
+        return;
+    gasnet_c_told told = ask_once(job, &job->atomics.blocks[index], index); /* by the credit that came back */
+    went_out(job, index, &told);
 }
 
 bool gasnetl_atomic_take(struct gasnetl_job *job, const uint8_t *bytes, size_t length) {
@@ -63,44 +185,16 @@ struct gasnetl_domain {
     gex_OP_t ops;
 };
 
-static const struct operation {
-    gex_OP_t op;
-    uint32_t number;
-    bool by_one, brings;
-} operations[] = {
-    { GEX_OP_AND, GASNET_C_OP_AND, false, false },   { GEX_OP_FAND, GASNET_C_OP_AND, false, true },
-    { GEX_OP_OR, GASNET_C_OP_OR, false, false },     { GEX_OP_FOR, GASNET_C_OP_OR, false, true },
-    { GEX_OP_XOR, GASNET_C_OP_XOR, false, false },   { GEX_OP_FXOR, GASNET_C_OP_XOR, false, true },
-    { GEX_OP_ADD, GASNET_C_OP_ADD, false, false },   { GEX_OP_FADD, GASNET_C_OP_ADD, false, true },
-    { GEX_OP_SUB, GASNET_C_OP_SUB, false, false },   { GEX_OP_FSUB, GASNET_C_OP_SUB, false, true },
-    { GEX_OP_MIN, GASNET_C_OP_MIN, false, false },   { GEX_OP_FMIN, GASNET_C_OP_MIN, false, true },
-    { GEX_OP_MAX, GASNET_C_OP_MAX, false, false },   { GEX_OP_FMAX, GASNET_C_OP_MAX, false, true },
-    { GEX_OP_INC, GASNET_C_OP_ADD, true, false },    { GEX_OP_FINC, GASNET_C_OP_ADD, true, true },
-    { GEX_OP_DEC, GASNET_C_OP_SUB, true, false },    { GEX_OP_FDEC, GASNET_C_OP_SUB, true, true },
-    { GEX_OP_SET, GASNET_C_OP_SWAP, false, false },  { GEX_OP_SWAP, GASNET_C_OP_SWAP, false, true },
-    { GEX_OP_CAS, GASNET_C_OP_COMPARE_SWAP, false, false }, { GEX_OP_FCAS, GASNET_C_OP_COMPARE_SWAP, false, true },
-    { GEX_OP_GET, GASNET_C_OP_GET, false, true },
-};
-enum {
-    OPERATIONS = sizeof operations / sizeof *operations,
-    BY_SIZE = GEX_OP_MIN | GEX_OP_MAX | GEX_OP_FMIN | GEX_OP_FMAX /* unsigned alone */
-};
-
 void gex_AD_Create(gex_AD_t *ad_p, gex_TM_t tm, gex_DT_t dt, gex_OP_t ops, gex_Flags_t flags) {
     struct gasnetl_job *job = gasnetl_enter("gex_AD_Create");
-    gex_OP_t known = 0;
     (void)tm;
     (void)flags;
-    for (int i = 0; i < OPERATIONS; i++)
-        known |= operations[i].op;
     if (!job->atomics.served)
         gasnetl_stop(GASNETL_MISUSE, "gex_AD_Create: the client registered handler %d or %d itself", GASNET_C_BATCH_HANDLER, GASNET_C_BLOCK_HANDLER);
-    if (dt != GEX_DT_I64 && dt != GEX_DT_U64)
-        gasnetl_stop(GASNETL_MISUSE, "gex_AD_Create: a word is of GEX_DT_I64 or of GEX_DT_U64");
-    if (ops & ~known)
-        gasnetl_stop(GASNETL_MISUSE, "gex_AD_Create: no operation has a bit of %#x", ops & ~known);
-    if (dt == GEX_DT_I64 && ops & BY_SIZE)
-        gasnetl_stop(GASNETL_MISUSE, "gex_AD_Create: MIN and MAX are had of GEX_DT_U64 alone");
+    if (!gasnetl_size_of(dt))
+        gasnetl_stop(GASNETL_MISUSE, "gex_AD_Create: a number is of GEX_DT_I32, GEX_DT_U32, GEX_DT_I64 or GEX_DT_U64");
+    if (ops & ~gasnetl_all_operations())
+        gasnetl_stop(GASNETL_MISUSE, "gex_AD_Create: no operation has a bit of %#x", ops & ~gasnetl_all_operations());
     if (!(*ad_p = malloc(sizeof **ad_p)))
         gasnetl_stop(GASNETL_BROKEN, "there is no memory for another atomic domain");
     **ad_p = (struct gasnetl_domain){ dt, ops };
@@ -122,68 +216,88 @@ struct asked {
     uint64_t a, b;
 };
 
-static const struct operation *judge(const struct gasnetl_job *job, const struct asked *asked, uint64_t *offset) {
-    const struct operation *operation = NULL;
+/* An operation as it begins, for one of the layer's; where it breaks a rule the job ends. */
+static struct gasnetl_block judge(const struct gasnetl_job *job, struct gasnetl_op *op, const struct asked *asked) {
+    struct gasnetl_block block = { .op = op, .to = (uint16_t)asked->node, .behind = GASNETL_NONE, .together = 1 };
+    const size_t size = gasnetl_size_of(asked->type);
     if (asked->node >= job->nodes)
         gasnetl_stop(GASNETL_MISUSE, "%s to node %u: there are %u nodes", asked->call, asked->node, job->nodes);
-    if (!gasnetl_far(job, (gasnet_node_t)asked->node, asked->at, sizeof(uint64_t), offset) || *offset % sizeof(uint64_t))
-        gasnetl_stop(GASNETL_MISUSE, "%s at %p: that is no word in the segment of node %u", asked->call, asked->at, asked->node);
-    for (int i = 0; i < OPERATIONS; i++)
-        if (operations[i].op == asked->op)
-            operation = &operations[i];
-    if (!asked->domain || asked->domain->type != asked->type || !operation || !(asked->domain->ops & asked->op))
+    if (!gasnetl_far(job, (gasnet_node_t)asked->node, asked->at, size, &block.offset) || block.offset % size)
+        gasnetl_stop(GASNETL_MISUSE, "%s at %p: that is no number in the segment of node %u", asked->call, asked->at, asked->node);
+    const unsigned byte = block.offset % WORD;
+    block.offset -= byte;
+    if (!asked->domain || asked->domain->type != asked->type || !(asked->domain->ops & asked->op) ||
+        !gasnetl_change_of(&block.change, asked->type, asked->op, asked->a, asked->b, byte))
         gasnetl_stop(GASNETL_MISUSE, "%s of operation %#x: its domain hasn't it, or is of another type", asked->call, asked->op);
-    if (operation->brings && !asked->result)
-        gasnetl_stop(GASNETL_MISUSE, "%s of operation %#x: there is no place for what the word was", asked->call, asked->op);
-    return operation;
+    if (block.change.brings && !asked->result)
+        gasnetl_stop(GASNETL_MISUSE, "%s of operation %#x: there is no place for what the number was", asked->call, asked->op);
+    block.result = block.change.brings ? asked->result : NULL;
+    return block;
 }
 
-/* Asks an operation with the first free block. There is one always, as there are more blocks than credits. */
-static gasnet_c_told ask_once(struct gasnetl_job *job, gasnet_c_operation *what) {
-    what->local = place_of(job, job->atomics.free);
-    return gasnet_c_atomic(&job->node, job->progress.time, what, gasnetl_network_room(&job->network), GASNET_C_ROOM);
+/* The first free block becomes this one. */
+static uint16_t take_block(struct gasnetl_atomics *atomics, const struct gasnetl_block *block) {
+    const uint16_t index = atomics->free;
+    atomics->free = atomics->blocks[index].next;
+    atomics->blocks[index] = *block;
+    atomics->blocks[index].last = index;
+    return index;
 }
 
-/* Asks it, and waits for a credit where it has to. */
-static gasnet_c_told ask(struct gasnetl_job *job, gasnet_c_operation *what) {
+/* Asks with the first free block, where there is one. */
+static gasnet_c_told ask_if_free(struct gasnetl_job *job, struct gasnetl_block *block) {
+    const uint16_t index = job->atomics.free;
+    return index == GASNETL_NONE ? (gasnet_c_told){ .code = GASNET_C_NOT_YET } : ask_once(job, block, index);
+}
+
+/* The same, and waits for a block and a credit where it has to. */
+static gasnet_c_told ask(struct gasnetl_job *job, struct gasnetl_block *block) {
     unsigned turn = 0;
-    gasnet_c_told told = ask_once(job, what);
+    gasnet_c_told told = ask_if_free(job, block);
     if (told.code != GASNET_C_NOT_YET)
         return told;
-    job->peers.of[what->to].asking++;
+    job->peers.of[block->to].asking++;
     do {
         gasnetl_wait(job, &turn);
-        told = ask_once(job, what);
+        told = ask_if_free(job, block);
     } while (told.code == GASNET_C_NOT_YET);
-    job->peers.of[what->to].asking--;
+    job->peers.of[block->to].asking--;
     return told;
+}
+
+/* Does an operation on a word of the own node, which has been asked for. */
+static void do_here(struct gasnetl_job *job, uint16_t index, gasnet_c_told told) {
+    do {
+        if (told.code != GASNET_C_RAN_HERE)
+            gasnetl_stop(GASNETL_BROKEN, "an operation of the own node was answered %u", told.code);
+        if (!is_direct(&job->atomics.blocks[index]))
+            begin_swapping(&job->atomics, index);
+        index = bring(job, index, job->me);
+        if (index != GASNETL_NONE)
+            told = ask_once(job, &job->atomics.blocks[index], index);
+    } while (index != GASNETL_NONE);
 }
 
 /* Begins an operation for one of the layer's, which is open until it is complete. */
 static void begin(struct gasnetl_job *job, struct gasnetl_op *op, const struct asked *asked) {
     struct gasnetl_atomics *atomics = &job->atomics;
-    gasnet_c_operation what = { .a = asked->a, .b = asked->b, .tag = ++atomics->tag, .to = (uint16_t)asked->node };
-    const struct operation *operation = judge(job, asked, &what.offset);
-    what.op = operation->number;
-    if (operation->by_one)
-        what.a = 1;
+    struct gasnetl_block block = judge(job, op, asked);
+    const bool swaps = !is_direct(&block);
+    op->open++;
     gasnetl_request_begins(job);
-    gasnet_c_told told = ask(job, &what);
-    uint16_t index = atomics->free;
-    struct gasnetl_block *block = &atomics->blocks[index];
-    atomics->free = block->next;
-    block->op = op;
-    block->result = operation->brings ? asked->result : NULL;
-    block->tag = what.tag;
-    if (told.code == GASNET_C_RAN_HERE) {
-        bring(job, index, job->me);
+    const uint16_t first = swaps ? first_on_word(atomics, &block) : GASNETL_NONE;
+    if (first != GASNETL_NONE && atomics->free != GASNETL_NONE) {
+        wait_behind(atomics, first, take_block(atomics, &block));
         return;
     }
-    if (told.code != GASNET_C_ACCEPTED)
-        gasnetl_stop(GASNETL_BROKEN, "an operation of node %u was answered %u", asked->node, told.code);
-    atomics->owner[told.to][told.slot] = index;
-    op->open++;
-    gasnetl_told(job, &told);
+    if (swaps && atomics->known.to == block.to && atomics->known.offset == block.offset)
+        block.expected = atomics->known.word;
+    gasnet_c_told told = ask(job, &block);
+    const uint16_t index = take_block(atomics, &block);
+    if (told.code == GASNET_C_RAN_HERE)
+        do_here(job, index, told);
+    else
+        went_out(job, index, &told);
 }
 
 static gex_Event_t explicit(const struct asked *asked) {
@@ -202,11 +316,13 @@ static int implicit(const struct asked *asked) {
     return 0;
 }
 
-#define OF(type) gex_AD_t ad, type *result_p, gex_Rank_t tgt_rank, void *tgt_addr, gex_OP_t op, type operand1, type operand2, gex_Flags_t flags
 #define ASKED(call, type) \
     ((void)flags, &(struct asked){ call, ad, type, tgt_rank, tgt_addr, result_p, op, (uint64_t)operand1, (uint64_t)operand2 })
+#define CALLS(name, type)                                                                                             \
+    gex_Event_t gex_AD_OpNB_##name(GASNETL_OF(type)) { return explicit(ASKED("gex_AD_OpNB_" #name, GEX_DT_##name)); } \
+    int gex_AD_OpNBI_##name(GASNETL_OF(type)) { return implicit(ASKED("gex_AD_OpNBI_" #name, GEX_DT_##name)); }
 
-gex_Event_t gex_AD_OpNB_I64(OF(int64_t)) { return explicit(ASKED("gex_AD_OpNB_I64", GEX_DT_I64)); }
-gex_Event_t gex_AD_OpNB_U64(OF(uint64_t)) { return explicit(ASKED("gex_AD_OpNB_U64", GEX_DT_U64)); }
-int gex_AD_OpNBI_I64(OF(int64_t)) { return implicit(ASKED("gex_AD_OpNBI_I64", GEX_DT_I64)); }
-int gex_AD_OpNBI_U64(OF(uint64_t)) { return implicit(ASKED("gex_AD_OpNBI_U64", GEX_DT_U64)); }
+CALLS(I32, int32_t)
+CALLS(U32, uint32_t)
+CALLS(I64, int64_t)
+CALLS(U64, uint64_t)

@@ -78,6 +78,7 @@ static void leave(struct gasnetl_job *job, int status, bool forced) {
     job->attached = false;
     if (!interrupts) { /* a call that a signal interrupted still uses these */
         gasnetl_transfers_end(&job->transfers);
+        gasnetl_collectives_end(&job->collectives);
         gasnet_c_free(&job->node);
     }
     gasnetl_network_close(&job->network);

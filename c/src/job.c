@@ -77,12 +77,15 @@ static int open_endpoint(struct gasnetl_job *job, uintptr_t minheapoffset) {
         return gasnetl_refuse(GASNET_ERR_RESOURCE, "gasnet_attach: the segment is nearer than %zu bytes above the heap", (size_t)minheapoffset);
     switch (gasnet_c_new(&job->node, &setup, (gasnet_c_memory){ job->segment.base })) {
     case 0:
-        return GASNET_OK;
+        break;
     case 2:
         return gasnetl_refuse(GASNET_ERR_RESOURCE, "gasnet_attach: there is no memory for the messages of %u nodes", job->nodes);
     default:
         return gasnetl_refuse(GASNET_ERR_BAD_ARG, "gasnet_attach: a limit of the endpoint is broken");
     }
+    if (!gasnetl_collectives_open(job))
+        return gasnetl_refuse(GASNET_ERR_RESOURCE, "gasnet_attach: there is no memory for collectives");
+    return GASNET_OK;
 }
 
 int gasnet_attach(gasnet_handlerentry_t *table, int numentries, uintptr_t segsize, uintptr_t minheapoffset) {
@@ -93,6 +96,7 @@ int gasnet_attach(gasnet_handlerentry_t *table, int numentries, uintptr_t segsiz
     if (code != GASNET_OK)
         return code;
     gasnetl_atomics_start(&job->atomics, &job->messages);
+    gasnetl_collectives_start(job);
     gasnetl_take_turn(&job->turns);
     job->segment.size = segsize;
     gasnetl_exchange_sizes(job);

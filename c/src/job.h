@@ -8,6 +8,7 @@
 
 #include "atomics.h"
 #include "bootstrap.h"
+#include "collectives.h"
 #include "config.h"
 #include "control.h"
 #include "gasnet.h"
@@ -19,6 +20,10 @@
 #include "segment.h"
 #include "threads.h"
 #include "transfers.h"
+
+/* The bytes of the layer's part of each segment, behind the client's: the stage of transfers, the blocks of operations on
+ * words, and the part of collectives; whole pages. */
+enum { GASNETL_OWN = (GASNETL_STAGE + GASNETL_BLOCKS_OWN + GASNETL_COLLECTIVES_OWN + GASNET_PAGESIZE - 1) / GASNET_PAGESIZE * GASNET_PAGESIZE };
 
 struct gasnetl_job {
     gasnet_node_t me, nodes;
@@ -34,6 +39,7 @@ struct gasnetl_job {
     struct gasnetl_messages messages;
     struct gasnetl_transfers transfers;
     struct gasnetl_atomics atomics;
+    struct gasnetl_collectives collectives;
     struct gasnetl_control control;
 };
 

@@ -156,7 +156,7 @@ static void take(struct gasnetl_job *job, uint16_t from, const uint8_t *bytes, s
     }
     if (!job->attached) /* it comes again */
         return;
-    if (gasnetl_atomic_take(job, bytes, length))
+    if (gasnetl_atomic_take(job, bytes, length) || gasnetl_collective_take(job, bytes, length))
         return;
     if (length > GASNET_C_HANDLER_AT && bytes[GASNET_C_HANDLER_AT] >= GASNET_C_FIRST_HANDLER) {
         gasnetl_message_take(job, bytes, length);
@@ -179,6 +179,8 @@ bool gasnetl_poll(struct gasnetl_job *job, int most) {
         take(job, from, bytes, length);
         came++;
     }
+    if (job->attached && !job->ended)
+        gasnetl_collectives_advance(job);
     /* What came is taken before anything goes again; but whoever sends without end doesn't hold that up. */
     if (!bytes)
         progress->last_empty = progress->now;

@@ -12,6 +12,8 @@ static bool is(const char *name) { return !strcmp(rule, name); }
 
 static void run(gasnet_token_t token) {
     char byte;
+    if (is("collective-in-handler"))
+        gex_Coll_BarrierNB(NULL, 0);
     if (is("atomic-in-handler"))
         gex_AD_OpNB_U64(domain, NULL, 0, at(0, 0), GEX_OP_INC, 0, 0, 0);
     if (is("request-in-handler"))
@@ -98,13 +100,32 @@ static void break_transfer(void) {
 }
 
 static void break_atomic(void) {
-    const bool is_signed = is("atomic-min-of-signed");
     if (strncmp(rule, "atomic-", 7))
         return;
-    gex_AD_Create(&domain, NULL, is("atomic-of-32-bits") ? 1 : is_signed ? GEX_DT_I64 : GEX_DT_U64, is_signed ? GEX_OP_MIN : GEX_OP_INC, 0);
+    if (is("atomic-half-unaligned")) {
+        gex_AD_Create(&domain, NULL, GEX_DT_U32, GEX_OP_INC, 0);
+        gex_AD_OpNB_U32(domain, NULL, 0, at(0, 2), GEX_OP_INC, 0, 0, 0);
+    }
+    gex_AD_Create(&domain, NULL, is("atomic-of-no-type") ? 3 : is("atomic-of-another-type") ? GEX_DT_I64 : GEX_DT_U64,
+                  is("atomic-of-no-operation") ? (gex_OP_t)1 << 30 : GEX_OP_INC, 0);
     gex_AD_OpNB_U64(domain, NULL, is("atomic-to-nobody") ? (gex_Rank_t)nodes : 0,
                     at(0, is("atomic-outside") ? GASNET_PAGESIZE : is("atomic-unaligned") ? 4 : 0),
                     is("atomic-not-in-domain") ? GEX_OP_DEC : GEX_OP_INC, 0, 0, 0);
+}
+
+static void break_collective(void) {
+    uint64_t word = 0, words[2];
+    const bool other = me == 0;
+    if (strncmp(rule, "collective-", 11) || is("collective-in-handler"))
+        return;
+    if (is("collective-of-32-bits"))
+        gex_Coll_ReduceToAllNB(NULL, words, &word, 1, 4, 1, GEX_OP_ADD, NULL, NULL, 0);
+    if (is("collective-by-xor"))
+        gex_Coll_ReduceToAllNB(NULL, words, &word, GEX_DT_U64, 8, 1, GEX_OP_XOR, NULL, NULL, 0);
+    if (is("collective-other-kind"))
+        gasnet_coll_reduce_all(NULL, words, &word, GEX_DT_U64, 1, other ? GEX_OP_MIN : GEX_OP_MAX, 0);
+    gasnet_coll_gather_all(NULL, is("collective-from-nowhere") ? NULL : words, &word, is("collective-other-length") && other ? 0 : 8, 0);
+    gasnet_coll_broadcast(NULL, is("collective-to-nobody") ? (gex_Rank_t)nodes : is("collective-other-root") && other, words, &word, 8, 0);
 }
 
 static void break_barrier(void) {
@@ -119,16 +140,17 @@ static void break_barrier(void) {
 }
 
 int main(int argc, char **argv) {
-    gasnet_handlerentry_t table[] = { { RUN, run }, { RUN_REPLY, run_reply }, { 252, run_reply } };
+    gasnet_handlerentry_t table[] = { { RUN, run }, { RUN_REPLY, run_reply }, { 252, run_reply }, { 254, run_reply } };
     if (argc != 2)
         return 2;
     rule = argv[1];
     if (is("put-before-attach"))
         gasnet_put_val(0, table, 1, 1);
-    start(&argc, &argv, table, is("atomic-own-252") ? 3 : 2, GASNET_PAGESIZE);
+    start(&argc, &argv, table, is("collective-own-254") ? 4 : is("atomic-own-252") ? 3 : 2, GASNET_PAGESIZE);
     break_lock();
     break_transfer();
     break_atomic();
+    break_collective();
     break_barrier();
     gasnet_AMRequestShort0((gasnet_node_t)(nodes - 1), is("handler-of-nobody") ? NOBODY : RUN);
     for (;;)

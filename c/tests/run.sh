@@ -61,7 +61,7 @@ sizes="1 2 4 8" losses="0 10 30"
 for build in out out/sanitized; do
     kind=${build#out}
     kind=${kind:+ sanitized}
-    for test in queries messages transfers pieces atomics barriers locks threads strangers; do
+    for test in queries messages transfers pieces atomics numbers collectives barriers locks threads strangers; do
         for n in $sizes; do
             for loss in $losses; do
                 [ "$n" = 1 ] && [ "$loss" != 0 ] && continue
@@ -71,6 +71,15 @@ for build in out out/sanitized; do
             done
         done
     done
+done
+
+# Three nodes, and a thousand mixed collectives among four over a lossy network.
+for build in out out/sanitized; do
+    kind=${build#out}
+    kind=${kind:+ sanitized}
+    check "collectives n=3 loss=0$kind" 0 "" bin/gasnetrun -n 3 $build/tests/collectives
+    limit=600 check "collectives n=4 loss=20 mixed$kind" 0 "^1000 collectives were right" env GASNET_DROP=20 GASNET_TWICE=20 \
+        GASNET_SWAP=20 GASNET_SEED=7 GASNET_RESEND=5 bin/gasnetrun -n 4 $build/tests/collectives 1000
 done
 
 check "large segments" 0 "" env GASNET_MAX_SEGSIZE=100G bin/gasnetrun -n 2 out/tests/large
@@ -95,7 +104,9 @@ for rule in request-in-handler put-in-handler get-in-handler poll-in-handler bar
     unlock-out-of-order poll-under-lock destroy-held hold-twice resume-alone poll-in-section put-outside get-before \
     put-to-nobody value-of-9 region-twice region-none sync-in-region notify-twice wait-alone flags-unknown \
     handler-of-nobody put-before-attach atomic-outside atomic-unaligned atomic-to-nobody atomic-not-in-domain \
-    atomic-min-of-signed atomic-of-32-bits atomic-in-handler atomic-own-252; do
+    atomic-half-unaligned atomic-of-no-type atomic-of-another-type atomic-of-no-operation atomic-in-handler atomic-own-252 \
+    collective-in-handler collective-own-254 collective-to-nobody collective-of-32-bits collective-by-xor \
+    collective-from-nowhere collective-other-length collective-other-root collective-other-kind; do
     check "rule $rule" 70 "^gasnet: " bin/gasnetrun -n 2 out/sanitized/tests/rules "$rule"
 done
 
@@ -204,6 +215,8 @@ check "gasnetrun of no program" 127 "can't be started" bin/gasnetrun -n 2 out/te
 check "gasnetcc" 0 "" bin/gasnetcc -Wall -Wextra -Werror examples/hello.c -o out/hello
 check "hello" 0 "node 3 of 4: the squares' sum is 86" bin/gasnetrun -n 4 out/hello
 check "hello alone" 0 "node 0 of 1" out/hello
+check "gasnetcc ring" 0 "" bin/gasnetcc -Wall -Wextra -Werror examples/ring.c -o out/ring
+check "ring" 0 "node 3 has 2 from the node before it" bin/gasnetrun -n 4 out/ring
 launcher="mpirun -n 4"
 if ! command -v mpirun >/dev/null; then
     skip "$launcher" "there is no mpirun (Debian: openmpi-bin)"

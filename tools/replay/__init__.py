@@ -5,6 +5,7 @@ slots and ticks, with its cells, segment and handlers in client.py, and transfer
 steps of its threads. world.py runs a schedule, and launch.py the turns of traces: both give the rows of a picture, and the lines
 that the program writes for the run; steps.py gives the rows of a launch without traces. arrows.py finds which delivery is of which
 sending, and picture.py draws, with svg.py.
+drills.py makes jobs from a number, for tools/drill-job: it runs each as it makes it.
 
 All follows docs/FORMATS.md. Nothing of it is proved, and where an output isn't the one that it gets, nothing is drawn.
 """

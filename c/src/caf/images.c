@@ -169,6 +169,7 @@ void _gfortran_caf_init(int *argc, char ***argv) {
     (void)argc;
     (void)argv;
     caf_start();
+    caf_barrier(caf_state.team); /* before it each image gave its static coarrays their initial values */
 }
 
 /* ---- The end. */

@@ -30,7 +30,8 @@ static void add_vector(struct caf_section *section, const void *vector, size_t c
     caf_section_add(section, count, 0, places);
 }
 
-/* Applies the subscripts of an array that has a descriptor. */
+/* Applies the subscripts of an array that has a descriptor. What a triplet leaves out is the lower bound, and the upper one, whatever
+ * its stride is. */
 static void subscript(struct caf_section *section, const struct caf_reference *array, const struct caf_bounds *dim, ptrdiff_t span) {
     for (int k = 0; k < rank_of(array); k++) {
         ptrdiff_t lower = dim[k].lower, upper = dim[k].upper, step = dim[k].stride * span;
@@ -40,7 +41,7 @@ static void subscript(struct caf_section *section, const struct caf_reference *a
             add_vector(section, array->u.array.dim[k].v.vector, array->u.array.dim[k].v.nvec, array->u.array.dim[k].v.kind, lower, step);
             break;
         case CAF_MODE_FULL:
-            add_range(section, by < 0 ? upper : lower, by < 0 ? lower : upper, by, lower, step);
+            add_range(section, lower, upper, by, lower, step);
             break;
         case CAF_MODE_RANGE:
             add_range(section, start, end, by, lower, step);
@@ -49,10 +50,10 @@ static void subscript(struct caf_section *section, const struct caf_reference *a
             section->base += (uintptr_t)((start - lower) * step);
             break;
         case CAF_MODE_OPEN_END:
-            add_range(section, start, by < 0 ? lower : upper, by, lower, step);
+            add_range(section, start, upper, by, lower, step);
             break;
         case CAF_MODE_OPEN_START:
-            add_range(section, by < 0 ? upper : lower, end, by, lower, step);
+            add_range(section, lower, end, by, lower, step);
             break;
         default:
             caf_die("a subscript of mode %d isn't known", array->u.array.mode[k]);
@@ -144,18 +145,27 @@ static const struct caf_reference *follow(struct caf_far *far, const struct caf_
     return next;
 }
 
+/* gfortran 12 leaves out the token of a scalar pointer to the type that it is a component of. What it leads to is longer than
+ * what the object has behind the pointer's place. */
+static bool leads_away(const struct caf_far *far, const struct caf_reference *component) {
+    const struct caf_reference *next = component->next;
+    size_t offset = (size_t)component->u.component.offset;
+    return next && next->type == CAF_REFERS_COMPONENT && offset + component->item_size > far->section.run;
+}
+
 static const struct caf_reference *go_to_component(struct caf_far *far, const struct caf_token *token, const struct caf_reference *component,
                                                    struct caf_missing *missing, struct region *region) {
     const uintptr_t object = far->section.base;
     const ptrdiff_t token_offset = component->u.component.token_offset;
+    const bool is_recursive = !token_offset && leads_away(far, component);
     far->section.base += (uintptr_t)component->u.component.offset;
-    if (!token_offset && !caf_token_has_part(token, far->node, far->section.base))
+    if (!token_offset && !is_recursive && !caf_token_has_part(token, far->node, far->section.base))
         return component;
     if (far->section.base < region->low || far->section.base >= region->high)
         outside();
     *missing = (struct caf_missing){ far->section.base, object + (uintptr_t)token_offset, component };
     const struct caf_reference *last = follow(far, component, region);
-    if (!token_offset) /* of a polymorphic one the bytes aren't known */
+    if (!token_offset && !is_recursive) /* of a polymorphic one the bytes aren't known */
         region->high = UINTPTR_MAX;
     return last;
 }

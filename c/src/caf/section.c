@@ -56,7 +56,7 @@ static ptrdiff_t *places_of(const struct caf_subscript *subscript, ptrdiff_t low
     return places;
 }
 
-struct caf_section caf_section_chosen(const struct caf_descriptor *array, uintptr_t base, const struct caf_subscript *subscripts) {
+struct caf_section caf_section_chosen(const struct caf_descriptor *array, uintptr_t base, const struct caf_subscript *subscripts, bool by_extents) {
     struct caf_section section = caf_section_bytes(base, array->dtype.elem_len);
     for (int k = 0; k < array->dtype.rank; k++) {
         const struct caf_subscript *subscript = &subscripts[k];
@@ -66,8 +66,9 @@ struct caf_section caf_section_chosen(const struct caf_descriptor *array, uintpt
             continue;
         }
         ptrdiff_t first = subscript->u.triplet.lower, stride = subscript->u.triplet.stride;
+        size_t count = by_extents ? extent(lower, array->dim[k].upper, 1) : extent(first, subscript->u.triplet.upper, stride);
         section.base += (uintptr_t)((first - lower) * step);
-        caf_section_add(&section, extent(first, subscript->u.triplet.upper, stride), stride * step, NULL);
+        caf_section_add(&section, count, stride * step, NULL);
     }
     return section;
 }

@@ -29,8 +29,9 @@ struct caf_section caf_section_bytes(uintptr_t base, size_t length);
 /* The elements of an array whose first one lies at base. */
 struct caf_section caf_section_of(const struct caf_descriptor *array, uintptr_t base);
 
-/* The elements that subscripts choose of the array whose first element, by its lower bounds, lies at base. */
-struct caf_section caf_section_chosen(const struct caf_descriptor *array, uintptr_t base, const struct caf_subscript *subscripts);
+/* The elements that subscripts choose of the array whose first element, by its lower bounds, lies at base. A triplet has as many
+ * as its bounds say, or, by extents, as many as the array has in its dimension. */
+struct caf_section caf_section_chosen(const struct caf_descriptor *array, uintptr_t base, const struct caf_subscript *subscripts, bool by_extents);
 
 /* Adds a dimension behind the others; the table of places, where there is one, is the section's from then on. */
 void caf_section_add(struct caf_section *section, size_t count, ptrdiff_t stride, ptrdiff_t *places);

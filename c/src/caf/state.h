@@ -41,6 +41,7 @@ struct caf_state {
     struct caf_team *teams;       /* all that are known */
     struct caf_token *tokens;     /* all that live */
     struct caf_token *unsettled;  /* coarrays whose bounds aren't known before the next sync all */
+    bool is_allocating;           /* an allocate with stat= isn't over: the next sync all is its last part */
     uint64_t seed;                /* the same on all images */
     uint64_t seeds;               /* the calls of random_init */
 };

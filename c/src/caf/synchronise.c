@@ -27,7 +27,10 @@ int caf_sync_team(struct caf_team *team) {
 void _gfortran_caf_sync_all(CAF_ERRORS) {
     const struct caf_report report = report_of(stat, errmsg, errmsg_len);
     caf_start();
-    caf_report_code(&report, caf_sync_team(caf_state.team), "sync all");
+    int code = caf_sync_team(caf_state.team);
+    bool is_last_part = caf_state.is_allocating && !stat;
+    caf_state.is_allocating = false;
+    caf_report_code(&report, is_last_part ? 0 : code, "sync all"); /* gfortran 12 leaves out the stat= of the allocate */
 }
 
 void _gfortran_caf_sync_memory(CAF_ERRORS) {

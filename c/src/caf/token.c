@@ -14,7 +14,8 @@ enum { CELL = 8, NOWHERE = 1 }; /* the bytes of a lock or an event; an address t
 
 uintptr_t caf_token_at(const struct caf_token *token, int node, size_t offset, int *stat) {
     const struct caf_report report = { stat, NULL, 0 };
-    if (caf_state.peers[node].condition == CAF_FAILED && node != caf_state.me) {
+    bool has_failed = caf_state.peers[node].condition == CAF_FAILED && node != caf_state.me;
+    if (has_failed && !(token && token->is_critical)) {
         caf_report_error(&report, CAF_STAT_FAILED_IMAGE, "a coarray of a failed image is referred to");
         return 0;
     }
@@ -109,11 +110,16 @@ static void allocate_component(size_t size, struct caf_token **token, struct caf
     caf_report_success(report);
 }
 
+/* Whether a token's place is the one behind this descriptor. */
+static bool has_slot(const struct caf_descriptor *array, struct caf_token *const *slot) {
+    uintptr_t at = (uintptr_t)slot, begin = (uintptr_t)array;
+    return at >= begin && at - begin < sizeof *array + sizeof(struct caf_bounds);
+}
+
 /* gfortran 12 registers a polymorphic component as if it were a coarray, under the token of the coarray that it belongs to,
  * and frees it by free. The array that it hands over isn't the one that the token is part of. */
 static bool is_part(struct caf_token *const *slot, const struct caf_descriptor *array) {
-    uintptr_t at = (uintptr_t)slot, begin = (uintptr_t)array;
-    return *slot && lives(*slot) && !(*slot)->is_component && !(at >= begin && at - begin < sizeof *array + sizeof(struct caf_bounds));
+    return *slot && lives(*slot) && !(*slot)->is_component && !has_slot(array, slot);
 }
 
 static void allocate_part(size_t size, struct caf_token *token, struct caf_descriptor *array, const struct caf_report *report) {
@@ -188,6 +194,7 @@ static void allocate_coarray(size_t bytes, int type, struct caf_token **slot, st
     struct caf_token *token = enter(caf_zeros(sizeof *token));
     void *memory = caf_heap_take(&caf_state.heap, bytes);
     int code;
+    caf_state.is_allocating = report->stat != NULL;
     if (memory && is_cells(type)) /* static coarrays come first, and a segment begins as zeros */
         memset(memory, 0, bytes);
     bool has_all = tell_base(token, memory, &code);
@@ -203,18 +210,22 @@ static void allocate_coarray(size_t bytes, int type, struct caf_token **slot, st
     token->bytes = bytes;
     token->array = array;
     token->rank = -1;
+    token->is_critical = type == CAF_CRITICAL;
     if (type == CAF_ALLOCATABLE)
         note_unsettled(token);
     *slot = token;
     array->base = memory;
-    caf_report_code(report, code, "allocate");
+    caf_report_code(report, report->stat ? 0 : code, "allocate"); /* gfortran 12 sets no bounds where stat= isn't 0 */
 }
 
+/* Where an array of objects is allocated that have pointers, gfortran 12 takes its descriptor for the first object: then the
+ * token's place lies in no object, and is left alone. */
 void _gfortran_caf_register(size_t size, int type, struct caf_token **token, struct caf_descriptor *array, CAF_ERRORS) {
     const struct caf_report report = { stat, errmsg, errmsg_len };
     caf_start();
     if (type == CAF_COMPONENT_NAMED) {
-        *token = NULL;
+        if (size != 1 || is_in_object(token))
+            *token = NULL;
         caf_report_success(&report);
     } else if (type == CAF_COMPONENT || (type == CAF_ALLOCATABLE && is_in_object(token)))
         allocate_component(size, token, array, &report);
@@ -226,6 +237,17 @@ void _gfortran_caf_register(size_t size, int type, struct caf_token **token, str
 
 /* ---- Deregistration. */
 
+/* Waits for the others, and frees a coarray. Where stat= isn't 0 behind that, gfortran 12 takes the array for one that is
+ * allocated still. */
+static int deallocate_coarray(struct caf_token **slot) {
+    struct caf_token *token = *slot;
+    int code = caf_sync_team(caf_state.team);
+    if (code && has_slot(token->array, slot) && token->array->base == token->memory)
+        token->array->base = NULL;
+    caf_heap_give(&caf_state.heap, token->memory);
+    return code;
+}
+
 void _gfortran_caf_deregister(struct caf_token **slot, int type, CAF_ERRORS) {
     const struct caf_report report = { stat, errmsg, errmsg_len };
     struct caf_token *token = *slot;
@@ -234,10 +256,8 @@ void _gfortran_caf_deregister(struct caf_token **slot, int type, CAF_ERRORS) {
     if (token && lives(token)) {
         if (token->is_component)
             free(token->memory);
-        else {
-            code = caf_sync_team(caf_state.team);
-            caf_heap_give(&caf_state.heap, token->memory);
-        }
+        else
+            code = deallocate_coarray(slot);
         release(token);
     }
     *slot = NULL;

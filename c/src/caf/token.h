@@ -13,10 +13,11 @@ struct caf_token {
     struct caf_token *next, **link; /* among all that live */
     struct caf_token *unsettled;    /* the next one whose bounds aren't known */
     bool is_component, is_unsettled;
+    bool is_critical;               /* a critical construct's, which goes on where its image failed */
     void *memory;                   /* this image's own */
     size_t bytes;
     uintptr_t bases[GASNET_MAXNODES]; /* of a coarray: its memory at each node, 0 where the node has none */
-    const struct caf_descriptor *array; /* the array that was registered */
+    struct caf_descriptor *array;     /* the array that was registered */
     int rank;                         /* of what follows; -1 where the bounds aren't known */
     ptrdiff_t span;
     struct caf_bounds dim[CAF_RANKS];

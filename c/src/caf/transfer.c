@@ -114,21 +114,49 @@ static void mend_place(struct caf_far *far, const struct caf_token *token) {
         caf_die("elements outside of a coarray are referred to: a subscript is wrong, or is a vector within an expression");
 }
 
+/* Beside a vector the bounds of an array that has no descriptor of its own are those of the section, from the array's lower
+ * bounds on. So there a triplet that goes to the array's end has a wrong end, but as many elements as its dimension. */
+static struct caf_section chosen(const struct caf_descriptor *array, uintptr_t base, const struct caf_subscript *subscripts, size_t wanted) {
+    struct caf_section section = caf_section_chosen(array, base, subscripts, false);
+    if (!wanted || caf_section_count(&section) == wanted)
+        return section;
+    struct caf_section other = caf_section_chosen(array, base, subscripts, true);
+    bool is_wanted = caf_section_count(&other) == wanted;
+    caf_section_free(is_wanted ? &section : &other);
+    return is_wanted ? other : section;
+}
+
+/* How many elements a section has to have: as many as the other side; 0 where any number is right. */
+static size_t wanted_by(const struct caf_descriptor *other) {
+    const struct caf_section section = caf_section_of(other, 0);
+    return other->dtype.rank ? caf_section_count(&section) : 0;
+}
+
+/* What a call hands on of an array of another image. */
+struct named {
+    struct caf_token *token;
+    size_t offset;
+    int image;
+    const struct caf_descriptor *array;
+    struct caf_subscript *subscripts;
+    int kind;
+};
+
 /* The section of a coarray that a call names; false where the call ends here, and its stat is set. */
-static bool find(struct caf_far *far, struct caf_token *token, size_t offset, int image, const struct caf_descriptor *array,
-                 const struct caf_subscript *subscripts, int kind, int *stat) {
-    far->node = caf_node(image);
-    far->type = caf_type_of(array, kind);
-    uintptr_t base = caf_token_at(token, far->node, offset, stat);
+static bool find(struct caf_far *far, const struct named *named, size_t wanted, int *stat) {
+    far->node = caf_node(named->image);
+    far->type = caf_type_of(named->array, named->kind);
+    uintptr_t base = caf_token_at(named->token, far->node, named->offset, stat);
     if (!base)
         return false;
-    far->section = subscripts ? caf_section_chosen(array, base, subscripts) : caf_section_of(array, base);
-    mend_place(far, token);
+    far->section = named->subscripts ? chosen(named->array, base, named->subscripts, wanted) : caf_section_of(named->array, base);
+    mend_place(far, named->token);
     if (stat)
         *stat = 0;
     return true;
 }
 
+/* A vector of no index can't be told from a triplet; but then there is nothing to be moved. */
 static bool is_empty(const struct caf_descriptor *array) {
     const struct caf_section section = caf_section_of(array, 0);
     return !caf_section_count(&section);
@@ -139,9 +167,8 @@ void _gfortran_caf_get(struct caf_token *token, size_t offset, int image, struct
                        bool may_overlap, int *stat) {
     struct caf_far far;
     (void)may_overlap;
-    if (is_empty(target))
-        subscripts = NULL; /* a vector of no index can't be told from a triplet */
-    if (!find(&far, token, offset, image, source, subscripts, source_kind, stat))
+    const struct named named = { token, offset, image, source, is_empty(target) ? NULL : subscripts, source_kind };
+    if (!find(&far, &named, wanted_by(target), stat))
         return;
     if (is_empty(target))
         caf_section_free(&far.section);
@@ -155,9 +182,8 @@ void _gfortran_caf_send(struct caf_token *token, size_t offset, int image, struc
     struct caf_far far;
     (void)may_overlap;
     (void)team;
-    if (is_empty(source))
-        subscripts = NULL;
-    if (!find(&far, token, offset, image, target, subscripts, target_kind, stat))
+    const struct named named = { token, offset, image, target, is_empty(source) ? NULL : subscripts, target_kind };
+    if (!find(&far, &named, wanted_by(source), stat))
         return;
     if (is_empty(source))
         caf_section_free(&far.section);
@@ -171,9 +197,11 @@ void _gfortran_caf_sendget(struct caf_token *target_token, size_t target_offset,
                            int target_kind, int source_kind, bool may_overlap, int *stat) {
     struct caf_far to, from;
     (void)may_overlap;
-    if (!find(&from, source_token, source_offset, source_image, source, source_subscripts, source_kind, stat))
+    const struct named there = { source_token, source_offset, source_image, source, source_subscripts, source_kind };
+    const struct named here = { target_token, target_offset, target_image, target, target_subscripts, target_kind };
+    if (!find(&from, &there, target_subscripts ? 0 : wanted_by(target), stat))
         return;
-    if (find(&to, target_token, target_offset, target_image, target, target_subscripts, target_kind, stat))
+    if (find(&to, &here, source->dtype.rank ? caf_section_count(&from.section) : 0, stat))
         caf_assign_between(&to, &from);
     else
         caf_section_free(&from.section);

@@ -15,6 +15,13 @@ module parts
     type(c), pointer :: cp => null()
     real, pointer :: rp => null()
   end type
+  type link
+    integer :: number
+    type(link), pointer :: next => null()
+  end type
+  type list
+    type(link), pointer :: head => null()
+  end type
   type plain
     integer :: number
     integer, allocatable :: list(:), one
@@ -65,6 +72,7 @@ program o
   call check(object%number == num_images() .and. all(object%list == num_images()*[1, 2, 3]) .and. object%one == num_images(), &
              'co_broadcast of an object')
   call complex_scalars(me, n)
+  call linked(me, n)
   if (me == 1) print *, 'components: done'
 contains
   ! gfortran takes a copy of a complex scalar coarray, and assigns to the copy too; so each value is sent.
@@ -84,6 +92,28 @@ contains
     longest[n] = (1.5, 2.5)
     sync all
     call check(short == cmplx(me, -me)/4 .and. longest == (1.5, 2.5), 'a send to a complex scalar')
+  end subroutine
+  ! A list whose links lead to one another, on another image.
+  subroutine linked(me, n)
+    integer, intent(in) :: me, n
+    type(list), save :: lists[*]
+    type(link), target :: links(3)
+    integer :: i, before
+    do i = 1, 3
+      links(i)%number = 10*me + i
+      if (i > 1) links(i - 1)%next => links(i)
+    end do
+    lists%head => links(1)
+    sync all
+    call check(lists[n]%head%number == 10*n + 1, 'the first link')
+    call check(lists[n]%head%next%number == 10*n + 2, 'the second link')
+    call check(lists[n]%head%next%next%number == 10*n + 3, 'the third link')
+    sync all
+    lists[n]%head%next%next%number = me
+    sync all
+    before = mod(me + num_images() - 2, num_images()) + 1
+    call check(links(3)%number == before .and. links(2)%number == 10*me + 2, 'a send to the third link')
+    sync all
   end subroutine
   include 'checks.inc'
 end program

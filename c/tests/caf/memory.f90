@@ -1,12 +1,16 @@
 ! Coarrays of a module, large ones, empty ones, and one for which there is no memory.
 module data
   implicit none
-  integer, save :: shared(4)[*] = 5
+  integer, save :: shared(4)[*] = 5, first(2)[*] = 7
   real(8), allocatable :: big(:)[:]
   type thing
     integer :: v = 3
   end type
   type(thing), save :: t0[*]
+  type holder
+    integer, allocatable :: list(:)
+  end type
+  type(holder), save :: held[*]
 contains
   subroutine bump(i)
     integer, intent(in) :: i
@@ -25,6 +29,13 @@ program memory
   real(8), allocatable :: too_large(:)[:]
   integer, allocatable :: z(:)[:]
   me = this_image(); n = mod(me, num_images()) + 1
+  ! Coarrays have their initial values before any image executes a statement.
+  first(2)[n] = me
+  held[n]%list = [me, 2, 3]
+  sync all
+  i = mod(me + num_images() - 2, num_images()) + 1
+  call check(first(1) == 7 .and. first(2) == i, 'a put before anything else')
+  call check(size(held%list) == 3 .and. held%list(1) == i, 'an allocation before anything else')
   call check(.not. (any(shared /= 5)), 'initial')
   call check(.not. (t0[n]%v /= 3), 'default init')
   sync all

@@ -126,6 +126,14 @@ program references
   call check(all(taken == [1, 2, 3, 4]), 'complex to real')
   wide(1:3) = object[n]%there(2:6:2)
   call check(all(wide(1:3) == [2.5d0, 5.5d0, 8.5d0] + n), 'a pointer to a section')
+  taken = object[n]%line(::-1)
+  call check(size(taken) == 0, 'nothing from the lower to the upper bound downwards')
+  taken = object[n]%line(3::-1)
+  call check(size(taken) == 0, 'nothing from 3 to the upper bound downwards')
+  taken = object[n]%line(:1:-1)
+  call check(size(taken) == 1 .and. taken(1) == 10*n + 1, 'one from the lower bound downwards')
+  taken = object[n]%line(3:1:-1)
+  call check(all(taken == 10*n + [3, 2, 1]), 'three downwards')
   sync all
 
   ! Sends.

@@ -59,12 +59,12 @@ sizes="1 2 3 4 8"
 for build in out out/sanitized; do
     kind=${build#out}
     kind=${kind:+ sanitized}
-    for test in sections conversions references collectives locks synchronise teams polymorphic components classes memory random failed stopped; do
+    for test in sections conversions references collectives locks synchronise teams polymorphic components classes memory random failed failed_first stopped; do
         for n in $sizes; do
             for loss in 0 20; do
                 [ "$n" = 1 ] && [ "$loss" != 0 ] && continue
                 pattern="$test: done"
-                [ "$n" = 1 ] && [[ "$test" = failed || "$test" = stopped ]] && pattern=
+                [ "$n" = 1 ] && [[ "$test" = failed* || "$test" = stopped ]] && pattern=
                 check "$test n=$n loss=$loss$kind" 0 "$pattern" env GASNET_DROP="$loss" GASNET_TWICE="$loss" GASNET_SWAP="$loss" \
                     GASNET_SEED="$n" bin/cafrun -n "$n" "$build/tests/caf/$test"
             done
@@ -143,6 +143,7 @@ ends "abort" 134 "was ended by signal" 8000 abort 2
 # The commands.
 check "cafrun usage" 64 "usage" bin/cafrun
 check "caf --show" 0 "gfortran -fcoarray=lib" bin/caf --show x.f90 -o x
+check "ring" 0 "image 4 was told 3" bash -c 'bin/caf ../examples/coarrays/ring.f90 -o out/ring_f && bin/cafrun -n 4 out/ring_f'
 check "caf -c" 0 "" bash -c 'bin/caf -c ../examples/coarrays/heat.f90 -o out/heat.o && bin/caf out/heat.o -o out/heat && bin/cafrun -n 2 out/heat'
 check "alone" 0 "heat of 1 images" out/tests/caf/heat
 if ! command -v mpirun >/dev/null; then

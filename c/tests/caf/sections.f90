@@ -77,6 +77,11 @@ program sections
   do j = 1, 2
     call check(all(part(:, j) == [(10000*other + i + 1 + 10*(tiny(j) + 1), i=0, 9, 3)]), 'a triplet and a vector of kind 1')
   end do
+  part = 0
+  part(1:2, 1:3) = grid([5, 2], :-1)[other]
+  call check(all(part(1:2, 1:3) == reshape([((10000*other + i + 1 + 10*j, i=5, 2, -3), j=0, 2)], [2, 3])), 'no beginning')
+  part(1:2, 1:3) = grid([5, 2], 2:)[other]
+  call check(all(part(1:2, 1:3) == reshape([((10000*other + i + 1 + 10*j, i=5, 2, -3), j=5, 7)], [2, 3])), 'no end')
   w8 = 5
   whole(1:w8 - 5) = line(3:2)[other]
   whole(4:3) = line(v(1:0))[other]

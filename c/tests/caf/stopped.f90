@@ -7,6 +7,7 @@ program stopped
   integer, allocatable :: images(:)
   type(lock_type), save :: guard[*]
   real(8), allocatable :: long(:)
+  integer, allocatable :: made(:)[:]
   integer :: me, n, st, total, i, before, others(64)
   logical :: got
   character(60) :: text
@@ -59,6 +60,9 @@ program stopped
   end do
   call check(resident() - before < 50000, 'memory of collectives that failed')
   deallocate (long)
+  ! An allocate, whose sync all has no stat=.
+  allocate (made(3)[*], stat=st, errmsg=text)
+  call check(st == stat_stopped_image .and. text(1:8) == 'allocate' .and. .not. allocated(made), 'an allocate')
   others = [(i, i=1, 64)]
   sync images (others(:n - 1)) ! the next one that stops would be told of too
   if (me == 1) print *, 'stopped: done'

@@ -40,6 +40,8 @@ use Rattle.node_machine.specs.NodeState.{script_job}
 use Rattle.node_runs.specs.Actions.{Form, Once, Again, Until, Twice, Looks, Several, Progress, begins, calls_of}
 use Rattle.node_runs.specs.Actions.{ended_by, next_calls, progress_after, tried_step, unless}
 use Rattle.node_runs.specs.Scripts.{ThreadCall, TryContext}
+use Rattle.node_runs.specs.declared.script_answer.ScriptAnswer.{ScriptAnswer}
+use Rattle.node_runs.specs.declared.script_answer.ScriptAnswer.TheVariants as said
 use Rattle.node_runs.specs.Turn.{as_tried, context, events_of, first_answer, first_events, node_run, tried_answer}
 use Rattle.node_script.specs.AnswersTold.{HasRange, NamesWhatIs}
 use Rattle.node_script.specs.Bodies.{operand_value, script_meaning}
@@ -50,6 +52,7 @@ use Rattle.world_run.proofs.ToldAnswers.{asked_names, plain_names, show_names}
 use Rattle.endpoint_rules.proofs.PlainAnswers.{answers_plain}
 use Rattle.check_run.specs.Recording.{HasHandles, ScriptedNode}
 use Rattle.check_run.specs.StepLines.{after_entry, answer_of_step}
+use Rattle.check_run.specs.StepsWritten.{NamesWhatIsThere}
 use Rattle.check_run.specs.TracesRun.{first_machine}
 
 -- ---- the answer of a call
@@ -138,11 +141,11 @@ SaysNoMore (Once call) = Unit {0}
 SaysNoMore (Again waits call) = Unit {0}
 SaysNoMore (Until call ends) =
     (endpoint : EndpointState) (answer : Answer) → NamesWhatIs endpoint answer
-    → IfSome (ends answer) (NamesWhatIs endpoint)
+    → IfSome (ends answer) (NamesWhatIsThere endpoint)
 SaysNoMore (Twice begin next waits says) =
     (endpoint : EndpointState) (answer : Answer) → NamesWhatIs endpoint answer → NamesWhatIs endpoint (says answer)
 SaysNoMore (Looks begin ready) = Unit {0}
-SaysNoMore (Several calls says) = (endpoint : EndpointState) → NamesWhatIs endpoint says
+SaysNoMore (Several calls says) = (endpoint : EndpointState) → NamesWhatIsThere endpoint says
 
 -- where its first call began something, the answer has a handle
 abbrev BeginsByHandle : Form EndpointLocal → Type 0
@@ -181,17 +184,17 @@ sent_handle (Some handle) node is = refl
 
 -- what ends a step that looks at its own node
 reached_said : (endpoint : EndpointState) (enough : Bool)
-    → IfSome (if enough then Some (answers.Local local.Done) else None) (NamesWhatIs endpoint)
+    → IfSome (if enough then Some (said.Call (answers.Local local.Done)) else None) (NamesWhatIsThere endpoint)
 reached_said endpoint true = tt
 reached_said endpoint false = tt
 
 reached_names : (endpoint : EndpointState) (value : ℤ) (answer : Answer)
-    → IfSome (reached value answer) (NamesWhatIs endpoint)
+    → IfSome (reached value answer) (NamesWhatIsThere endpoint)
 reached_names endpoint value (answers.Local (local.Cell number)) = reached_said endpoint (int_le value number)
 reached_names endpoint value answer = tt
 
 word_names : (endpoint : EndpointState) (number : ℕ) (answer : Answer) → NamesWhatIs endpoint answer
-    → IfSome (word_reached number answer) (NamesWhatIs endpoint)
+    → IfSome (word_reached number answer) (NamesWhatIsThere endpoint)
 word_names endpoint number (answers.Local (local.Number found)) names = reached_said endpoint (found == number)
 word_names endpoint number answer names = names
 
@@ -225,6 +228,7 @@ waiting_sound cells (waiting.BarrierWait id flags) = record { says = tt; begins 
 -- so is that of each step of a script
 step_sound : (step : ScriptStep) (at : TryContext) (node : Node EndpointLocal) → IsSound (step_form step at node)
 step_sound (step.Call call) at node = while_sound (waits_of call) _
+step_sound (step.Vis vis) at node = record { says = λ endpoint. tt; begins = tt }
 step_sound (step.Waiting waiting) at node = waiting_sound node.local.core.cells waiting
 
 -- ---- how a try ended
@@ -237,7 +241,7 @@ handle_names endpoint (answers.Ticked sent) is = absurd (false≢true is)
 handle_names endpoint answer is = tt
 
 unless_said : (endpoint : EndpointState) (waits : Bool) (answer : Answer) → NamesWhatIs endpoint answer
-    → IfSome (unless waits answer) (NamesWhatIs endpoint)
+    → IfSome (unless waits answer) (NamesWhatIsThere endpoint)
 unless_said endpoint true answer names = tt
 unless_said endpoint false answer names = names
 
@@ -246,8 +250,9 @@ form_names : (endpoint : EndpointState) (form : Form EndpointLocal) (began : Opt
     (after : Node EndpointLocal) (answer : Option Answer) → SaysNoMore form
     → IfSome began (λ first. is_some (begun_handle first) ≡ true)
     → (AtMostOne (calls_of form began) → IfSome answer (NamesWhatIs endpoint))
-    → IfSome (ended_by form began after answer) (NamesWhatIs endpoint)
-form_names endpoint (Once call) began after answer sound handle names = names tt
+    → IfSome (ended_by form began after answer) (NamesWhatIsThere endpoint)
+form_names endpoint (Once call) began after None sound handle names = tt
+form_names endpoint (Once call) began after (Some answer) sound handle names = names tt
 form_names endpoint (Again waits call) began after None sound handle names = tt
 form_names endpoint (Again waits call) began after (Some answer) sound handle names =
     unless_said endpoint (waits answer) answer (names tt)
@@ -273,12 +278,12 @@ step_names : (endpoint : EndpointState) (at : TryContext) (progress : Progress S
     → IfSome progress.began (λ first. is_some (begun_handle first) ≡ true)
     → (AtMostOne (next_calls step_form at progress.began progress.left before)
     → IfSome answer (NamesWhatIs endpoint))
-    → IfSome (tried_step step_form at progress.began progress.left before after answer).ended (NamesWhatIs endpoint)
+    → IfSome (tried_step step_form at progress.began progress.left before after answer).ended (NamesWhatIsThere endpoint)
 step_names endpoint at progress before after answer handle names = by_left progress.left names
   where
     by_left : (left : List ScriptStep)
         → (AtMostOne (next_calls step_form at progress.began left before) → IfSome answer (NamesWhatIs endpoint))
-        → IfSome (tried_step step_form at progress.began left before after answer).ended (NamesWhatIs endpoint)
+        → IfSome (tried_step step_form at progress.began left before after answer).ended (NamesWhatIsThere endpoint)
     by_left [] few = tt
     by_left (action ∷ rest) few =
         form_names endpoint (step_form action at before) progress.began after answer
@@ -299,7 +304,7 @@ run_append settings table meaning me now (event ∷ first) second node =
 pub ended_names : (job : JobState) (rank : ℕ) (machine : ScriptedNode) (entry : Entry) (endpoint : EndpointState)
     → HasHandles machine → EndpointStands endpoint (after_entry job rank machine entry).node
     → endpoint.core.settings ≡ job.settings
-    → IfSome (answer_of_step job rank machine entry) (NamesWhatIs endpoint)
+    → IfSome (answer_of_step job rank machine entry) (NamesWhatIsThere endpoint)
 ended_names job rank machine entry endpoint handles stands same =
     let all = script_job job in
     let before = as_tried all rank machine entry.thread entry.now entry.got in
@@ -367,7 +372,7 @@ progress_handles form action rest began after answer sound handle = by_end (ende
     by_begin false is first same ended =
         subst (λ (one : Option Answer). IfSome one (λ first. is_some (begun_handle first) ≡ true)) same handle
 
-    by_end : (ended : Option Answer) → ended_by form began after answer ≡ ended
+    by_end : (ended : Option ScriptAnswer) → ended_by form began after answer ≡ ended
         → IfSome (progress_after form action rest began ended answer).began
         (λ first. is_some (begun_handle first) ≡ true)
     by_end (Some said) is = tt

@@ -22,16 +22,16 @@ use Rattle.node_record.specs.Executed.{slots_run}
 use Rattle.node_record.specs.Held.{held, held_with}
 use Rattle.node_record.specs.Record.{Node as Record}
 use Rattle.node_runs.specs.Turn.{is_some_there, try_of, turn}
-use Rattle.node_script.specs.AnswersTold.{NamesWhatIs, sight_at}
-use Rattle.node_script.specs.AnswerWords.{answer_words, sight_of}
+use Rattle.node_script.specs.AnswersTold.{sight_at}
+use Rattle.node_script.specs.AnswerWords.{sight_of}
 use Rattle.node_script.specs.Lines.{Line, line_text, spell}
 use Rattle.node_script.specs.Registration.{handlers_of, registered}
-use Rattle.endpoint_rules.specs.declared.answer.Answer.{Answer}
+use Rattle.node_runs.specs.declared.script_answer.ScriptAnswer.{ScriptAnswer}
 use Rattle.check_run.specs.Merging.{IsOfItsJob}
 use Rattle.check_run.specs.Recording.{HasHandles, RecordedState, RecorderKept, RecorderStands, ScriptedNode}
 use Rattle.check_run.specs.Recording.{entry_lines, held_in, opening_record, record_after, text_of}
-use Rattle.check_run.specs.StepLines.{after_entry, answer_of_step, lines_of_answer}
-use Rattle.check_run.specs.StepsWritten.{CanTellStep, TellsStep, lines_told}
+use Rattle.check_run.specs.StepLines.{after_entry, answer_of_step, lines_of_answer, script_words}
+use Rattle.check_run.specs.StepsWritten.{CanTellStep, NamesWhatIsThere, TellsStep, lines_told}
 use Rattle.check_run.specs.declared.steps.StepAt.{StepAt}
 use Rattle.check_run.proofs.Names.{after_handles, ended_names, first_handles}
 
@@ -89,7 +89,7 @@ abbrev pub lines_in : NodeState → Entry → List Line
 lines_in state entry = entry_lines state.job state.ranked.me state.ranked.state entry
 
 -- the answer of that step
-abbrev pub answer_in : NodeState → Entry → Option Answer
+abbrev pub answer_in : NodeState → Entry → Option ScriptAnswer
 answer_in state entry = answer_of_step state.job state.ranked.me state.ranked.state entry
 
 -- the state after it
@@ -120,8 +120,8 @@ module _ (entry : Entry) (old new : MachineKept) (told : Turned) (turns : Turns 
   pub can_tell : HasHandles state.ranked.state → IsOfItsJob new → CanTellStep told.stepped new
   can_tell handles own some =
       let answer = kept_so some in
-      there_is new.answer (NamesWhatIs new.endpoint) (ap is_some (sym answer) ∙ (sym stepped_so ∙ some))
-      (subst (λ (found : Option Answer). IfSome found (NamesWhatIs new.endpoint)) answer
+      there_is new.answer (NamesWhatIsThere new.endpoint) (ap is_some (sym answer) ∙ (sym stepped_so ∙ some))
+      (subst (λ (found : Option ScriptAnswer). IfSome found (NamesWhatIsThere new.endpoint)) answer
       (ended_names state.job state.ranked.me state.ranked.state entry new.endpoint handles
       (turns.after state stands).node (settings_so own)))
 
@@ -134,7 +134,7 @@ module _ (entry : Entry) (old new : MachineKept) (told : Turned) (turns : Turns 
       node : Record EndpointLocal
       node = (state_then state entry).ranked.state.node
 
-      same_lines : (answer : Option Answer)
+      same_lines : (answer : Option ScriptAnswer)
           → lines_told (record { rank = state.ranked.me; thread = entry.thread })
           (sight_of state.job.settings state.ranked.me node) answer
           ≡ lines_of_answer state.job (record { rank = state.ranked.me; thread = entry.thread }) node answer
@@ -269,36 +269,36 @@ told_none at false kept text is = λ whole node stands. sym (append-nil text)
 
 -- one did, and its line went in
 pub told_one : (at : StepAt) (stepped : Bool) (kept : MachineKept) (old new : Gathering SinkState)
-    (endpoint : EndpointState) (answer : Answer) → stepped ≡ true → endpoint ≡ kept.endpoint
+    (endpoint : EndpointState) (answer : ScriptAnswer) → stepped ≡ true → endpoint ≡ kept.endpoint
     → kept.answer ≡ Some answer
     → ForItsRecord endpoint (λ node. MemoryGathers old new (line_text (decimal at.rank ∷ decimal at.thread
-    ∷ answer_words (sight_at endpoint node) answer)) wrote.Done)
+    ∷ script_words (sight_at endpoint node) answer)) wrote.Done)
     → TellsStep at stepped kept (text_of old) (text_of new) true
 told_one at false kept old new endpoint answer some same is written = absurd (false≢true some)
 told_one at true kept old new endpoint answer some same is written = λ whole node stands.
     let Line : EndpointState → Type 0 = λ one. EndpointStands one node → text_of new ≡ text_of old
     ++ spell (lines_told at (sight_at one node) (Some answer)) in
     let line : Line endpoint = λ own.
-    let words = decimal at.rank ∷ decimal at.thread ∷ answer_words (sight_at endpoint node) answer in
+    let words = decimal at.rank ∷ decimal at.thread ∷ script_words (sight_at endpoint node) answer in
     text_more old new (line_text words) (written node own)
     ∙ ap (λ (bytes : List ℕ). text_of old ++ bytes) (sym (append-nil (line_text words))) in
-    subst (λ (found : Option Answer). text_of new ≡ text_of old
+    subst (λ (found : Option ScriptAnswer). text_of new ≡ text_of old
     ++ spell (lines_told at (sight_at kept.endpoint node) found)) (sym is) (subst Line same line stands)
 
 -- the answer that is told names what is there
-pub answer_names : (stepped : Bool) (kept : MachineKept) (endpoint : EndpointState) (answer : Answer)
+pub answer_names : (stepped : Bool) (kept : MachineKept) (endpoint : EndpointState) (answer : ScriptAnswer)
     → CanTellStep stepped kept → stepped ≡ true → endpoint ≡ kept.endpoint → kept.answer ≡ Some answer
-    → NamesWhatIs endpoint answer
+    → NamesWhatIsThere endpoint answer
 answer_names false kept endpoint answer can some same is = absurd (false≢true some)
 answer_names true kept endpoint answer can some same is =
-    subst (λ (one : EndpointState). NamesWhatIs one answer) (sym same)
-    (subst (λ (found : Option Answer). IsSomeAnd found (NamesWhatIs kept.endpoint)) is (can refl))
+    subst (λ (one : EndpointState). NamesWhatIsThere one answer) (sym same)
+    (subst (λ (found : Option ScriptAnswer). IsSomeAnd found (NamesWhatIsThere kept.endpoint)) is (can refl))
 
 -- and there is one
 pub answer_there : (stepped : Bool) (kept : MachineKept) → CanTellStep stepped kept → stepped ≡ true
     → is_some kept.answer ≡ true
 answer_there false kept can some = absurd (false≢true some)
-answer_there true kept can some = is_there kept.answer (NamesWhatIs kept.endpoint) (can refl)
+answer_there true kept can some = is_there kept.answer (NamesWhatIsThere kept.endpoint) (can refl)
 
 -- ---- before all turns
 

@@ -2,7 +2,6 @@
 -- Origin: this project's profile.
 use Rattle.std.specs.Prelude.{ℕ, ◌+◌, ◌==◌, ◌||◌, Bool, false, not, List, [], ◌∷◌, ◌++◌, Option, None, Some, decimal}
 use Rattle.endpoint_rules.specs.EndpointLocal.{EndpointLocal}
-use Rattle.endpoint_rules.specs.declared.answer.Answer.{Answer}
 use Rattle.gasnet_trace.specs.declared.trace.Trace.{Trace}
 use Rattle.job_text.specs.declared.job.Job.{Job as JobState}
 use Rattle.job_text.specs.declared.job.ScriptStep.{ScriptStep}
@@ -12,7 +11,9 @@ use Rattle.node_record.specs.Record.{Node as Record}
 use Rattle.node_runs.specs.Actions.{OwnScripts}
 use Rattle.node_runs.specs.Most.{most_in}
 use Rattle.node_runs.specs.Turn.{MachineState, try_of, turn}
-use Rattle.node_script.specs.AnswerWords.{answer_words, sight_of}
+use Rattle.node_runs.specs.declared.script_answer.ScriptAnswer.{ScriptAnswer}
+use Rattle.node_runs.specs.declared.script_answer.ScriptAnswer.TheVariants as said
+use Rattle.node_script.specs.AnswerWords.{Sight, answer_words, sight_of, vis_words}
 use Rattle.node_script.specs.Lines.{Line}
 use Rattle.world_run.specs.RunText.{lines_of_node, violations}
 use Rattle.check_run.specs.TracesRun.{first_machine, last_record}
@@ -24,13 +25,18 @@ pub record StepAt : Type 0 where
   pub rank : ℕ
   pub thread : ℕ
 
+-- the words of what a step is answered, by what its node has after it
+abbrev pub script_words : Sight → ScriptAnswer → Line
+script_words sight (said.Call answer) = answer_words sight answer
+script_words sight (said.Vis vis) = vis_words vis
+
 -- the line of the answer of a step, by the record of its node after it
-abbrev pub step_line : JobState → StepAt → Record EndpointLocal → Answer → Line
+abbrev pub step_line : JobState → StepAt → Record EndpointLocal → ScriptAnswer → Line
 step_line job at node answer =
-    decimal at.rank ∷ decimal at.thread ∷ answer_words (sight_of job.settings at.rank node) answer
+    decimal at.rank ∷ decimal at.thread ∷ script_words (sight_of job.settings at.rank node) answer
 
 -- that line, where a step ended
-abbrev pub lines_of_answer : JobState → StepAt → Record EndpointLocal → Option Answer → List Line
+abbrev pub lines_of_answer : JobState → StepAt → Record EndpointLocal → Option ScriptAnswer → List Line
 lines_of_answer job at node None = []
 lines_of_answer job at node (Some answer) = step_line job at node answer ∷ []
 
@@ -42,7 +48,7 @@ after_entry job rank machine entry =
 
 -- the answer of the step that ended in it, if one did
 abbrev pub answer_of_step : JobState → (rank : ℕ) → MachineState EndpointLocal (OwnScripts ScriptStep) → Entry
-    → Option Answer
+    → Option ScriptAnswer
 answer_of_step job rank machine entry =
     (try_of (script_job job) rank machine entry.thread entry.now entry.got).ended
 

@@ -2,22 +2,29 @@
 -- Origin: this project's profile.
 use Rattle.std.specs.Prelude.{◌≡◌, ℕ, Bool, true, if◌then◌else◌, List, [], ◌∷◌, ◌++◌, Option, None, Some, IsSomeAnd}
 use Rattle.std.specs.Prelude.{decimal}
-use Rattle.endpoint_rules.specs.declared.answer.Answer.{Answer}
-use Rattle.gas_endpoint.specs.EndpointState.{ForItsRecord}
+use Rattle.gas_endpoint.specs.EndpointState.{EndpointState, ForItsRecord}
 use Rattle.node_machine.specs.Kept.{MachineKept}
+use Rattle.node_runs.specs.declared.script_answer.ScriptAnswer.{ScriptAnswer}
+use Rattle.node_runs.specs.declared.script_answer.ScriptAnswer.TheVariants as said
 use Rattle.node_script.specs.AnswersTold.{NamesWhatIs, sight_at}
-use Rattle.node_script.specs.AnswerWords.{Sight, answer_words}
+use Rattle.node_script.specs.AnswerWords.{Sight}
 use Rattle.node_script.specs.Lines.{Line, spell}
+use Rattle.check_run.specs.StepLines.{script_words}
 use Rattle.check_run.specs.declared.steps.StepAt.{StepAt}
+
+-- what the answer of a step names is there at the endpoint as it stands after it
+abbrev pub NamesWhatIsThere : EndpointState → ScriptAnswer → Type 0
+NamesWhatIsThere endpoint (said.Call answer) = NamesWhatIs endpoint answer
+NamesWhatIsThere endpoint (said.Vis vis) = Unit {0}
 
 -- where a step ended, the machine keeps its answer, and what that names is there
 abbrev pub CanTellStep : (stepped : Bool) → MachineKept → Type 0
-CanTellStep stepped kept = stepped ≡ true → IsSomeAnd kept.answer (NamesWhatIs kept.endpoint)
+CanTellStep stepped kept = stepped ≡ true → IsSomeAnd kept.answer (NamesWhatIsThere kept.endpoint)
 
 -- the line of an answer, if there is one, by what it names
-abbrev pub lines_told : StepAt → Sight → Option Answer → List Line
+abbrev pub lines_told : StepAt → Sight → Option ScriptAnswer → List Line
 lines_told at sight None = []
-lines_told at sight (Some answer) = (decimal at.rank ∷ decimal at.thread ∷ answer_words sight answer) ∷ []
+lines_told at sight (Some answer) = (decimal at.rank ∷ decimal at.thread ∷ script_words sight answer) ∷ []
 
 -- where it was told whole, the line of the step went in behind the text so far, if one ended
 abbrev pub TellsStep : StepAt → (stepped : Bool) → MachineKept → (old new : List ℕ) → (whole : Bool) → Type 0

@@ -3,18 +3,18 @@
 ghost use Rattle.std.specs.Prelude.{◌≡◌, ◌∷◌, decimal};
 ghost use Rattle.gas_endpoint.specs.EndpointState.{ForItsRecord};
 ghost use Rattle.gas_outside.specs.Buffered.{GathersAll, outbox};
-ghost use Rattle.node_script.specs.AnswersTold.{NamesWhatIs, sight_at};
-ghost use Rattle.node_script.specs.AnswerWords.{answer_words};
+ghost use Rattle.node_script.specs.AnswersTold.{sight_at};
 ghost use Rattle.node_script.specs.Lines.{line_text};
 ghost use Rattle.check_run.specs.Recording.{text_of};
-ghost use Rattle.check_run.specs.StepsWritten.{CanTellStep, TellsStep};
+ghost use Rattle.check_run.specs.StepLines.{script_words};
+ghost use Rattle.check_run.specs.StepsWritten.{CanTellStep, NamesWhatIsThere, TellsStep};
 
-use endpoint_rules::Answer;
 use gas_endpoint::Endpoint;
 use gas_outside::{BufferedSink, MemorySink, Sink, Wrote};
 use itoa::Buffer;
 use node_machine::NodeMachine;
-use node_script::write_answer;
+use node_runs::ScriptAnswer;
+use node_script::{write_answer, write_vis};
 
 /// Which step's answer it is.
 #[derive(Clone, Copy, Debug)]
@@ -25,18 +25,36 @@ pub struct StepAt {
     pub thread: u16,
 }
 
-/// Writes the line of the answer of a step, by its node's endpoint as it stands after it.
-fn write_step<K: Sink>(
-    at: StepAt,
-    answer: &Answer,
+/// Writes the line of the answer of a step of a thread, by its node's endpoint as it stands after it.
+fn write_said<K: Sink>(
+    thread: u64,
+    answer: &ScriptAnswer,
     endpoint: &Endpoint,
     sink: &mut BufferedSink<K>,
 ) -> Wrote
-    requires { NamesWhatIs endpoint.now answer.now }
+    requires { NamesWhatIsThere endpoint.now answer.now }
+    ensures { ForItsRecord endpoint.now (λ node.
+        GathersAll (outbox K.taken K.faults sink.old) (outbox K.taken K.faults sink.new)
+        (line_text (decimal thread ∷ script_words (sight_at endpoint.now node) answer.now)) result) }
+{
+    match answer {
+        ScriptAnswer::Call(answer) => write_answer(thread, answer, endpoint, sink),
+        ScriptAnswer::Vis(vis) => write_vis(thread, vis, sink),
+    }
+}
+
+/// Writes the line of the answer of a step, with the rank of its node before it.
+fn write_step<K: Sink>(
+    at: StepAt,
+    answer: &ScriptAnswer,
+    endpoint: &Endpoint,
+    sink: &mut BufferedSink<K>,
+) -> Wrote
+    requires { NamesWhatIsThere endpoint.now answer.now }
     ensures { ForItsRecord endpoint.now (λ node.
         GathersAll (outbox K.taken K.faults sink.old) (outbox K.taken K.faults sink.new)
         (line_text (decimal at.rank ∷ decimal at.thread
-        ∷ answer_words (sight_at endpoint.now node) answer.now)) result) }
+        ∷ script_words (sight_at endpoint.now node) answer.now)) result) }
 {
     let mut rank_text = Buffer::new();
     if let Wrote::Fault = sink.write_all(rank_text.format(at.rank).as_bytes()) {
@@ -45,7 +63,7 @@ fn write_step<K: Sink>(
     if let Wrote::Fault = sink.write_all(b" ") {
         return Wrote::Fault;
     }
-    write_answer(u64::from(at.thread), answer, endpoint, sink)
+    write_said(u64::from(at.thread), answer, endpoint, sink)
 }
 
 /// Writes the line of the step that ended in the last turn of the node, if one did, and answers whether all of it went

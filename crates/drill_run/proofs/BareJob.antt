@@ -99,6 +99,7 @@ bare_is = record {
   scripts = tt;
   threads = tt;
   schedule = tt;
+  pieces = lit≤ tt;
 }
 
 -- with this text

@@ -224,6 +224,14 @@ impl Endpoint {
         self.extended.regions.threads()
     }
 
+    /// The number of the node (`gasnet_mynode`), which is one of the job's.
+    pub fn me(&self) -> u16
+        ensures is { result ≡ self.now.core.me }
+        ensures there { result < self.now.core.settings.nodes }
+    {
+        self.extended.me
+    }
+
     /// The segment.
     pub fn segment(&self) -> &Segment
         ensures { ForItsRecord self.now (λ node.

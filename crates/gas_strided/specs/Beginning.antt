@@ -5,15 +5,16 @@ use Rattle.std.specs.Prelude.{Option, None, Some}
 use Rattle.put_get.specs.declared.operation.Transfer.{Transfer}
 use Rattle.put_get.specs.declared.operation.Transfer.TheVariants as transfers
 use Rattle.node_record.specs.Record.{Node}
+use Rattle.node_record.specs.NodeStep.{Job, node_answer, node_after}
 use Rattle.endpoint_rules.specs.EndpointLocal.{EndpointLocal}
-use Rattle.endpoint_rules.specs.EndpointRules.{OnTransfers}
+use Rattle.endpoint_rules.specs.EndpointRules.{OnTransfers, OtherCall, told}
 use Rattle.endpoint_rules.specs.TransferCalls.{TransferCall, BeginImplicit, RegionBegin, RegionEnd}
 use Rattle.endpoint_rules.specs.Called.{Performs}
 use Rattle.endpoint_rules.specs.declared.answer.Answer.{Answer}
 use Rattle.endpoint_rules.specs.declared.answer.Answer.TheVariants as answers
 use Rattle.endpoint_rules.specs.declared.answer.Begun.TheVariants as begun
 use Rattle.endpoint_rules.specs.declared.answer.Region.TheVariants as region
-use Rattle.node_caller.specs.Sites.{Site, ThreadCall, answer_at, node_then}
+use Rattle.node_caller.specs.Sites.{Site, ThreadCall, event_of, job_at}
 use Rattle.gas_strided.specs.declared.shapes.Way.TheVariants.{Put, Get}
 use Rattle.gas_strided.specs.declared.shapes.Piece.{Piece}
 use Rattle.gas_strided.specs.declared.shapes.Vis.{Vis}
@@ -73,13 +74,32 @@ abbrev pub is_refused : Answer → Bool
 is_refused (answers.Started begun.TooMany) = true
 is_refused _ = false
 
+-- a node of a job at a time, by what the nodes of the job do
+pub record NodeAt : Type 0 where
+  pub job : Job EndpointLocal OtherCall Answer
+  pub node : ℕ
+  pub now : ℕ
+
+abbrev pub node_at : Site → NodeAt
+node_at site = record { job = job_at site; node = site.node; now = site.now }
+
+-- how it answers a call, where it has this record, and the record that the call leaves
+abbrev pub answer_of_call : NodeAt → Node EndpointLocal → ThreadCall → Answer
+answer_of_call at node call = told (node_answer at.job at.node node at.now (event_of call))
+
+abbrev pub record_after_call : NodeAt → Node EndpointLocal → ThreadCall → Node EndpointLocal
+record_after_call at node call = node_after at.job at.node node at.now (event_of call)
+
 -- The first of these calls that is refused so, where the node has this record; the first call has this number, and the
 -- others the next ones
+abbrev pub first_refused_by : NodeAt → Node EndpointLocal → (number : ℕ) → List ThreadCall → Option ℕ
+first_refused_by at node number [] = None
+first_refused_by at node number (call ∷ later) =
+    if is_refused (answer_of_call at node call) then Some number
+    else first_refused_by at (record_after_call at node call) (suc number) later
+
 abbrev pub first_refused : Site → Node EndpointLocal → (number : ℕ) → List ThreadCall → Option ℕ
-first_refused site node number [] = None
-first_refused site node number (call ∷ later) =
-    if is_refused (answer_at site node call) then Some number
-    else first_refused site (node_then site node call) (suc number) later
+first_refused site = first_refused_by (node_at site)
 
 -- by the first piece that was refused
 abbrev pub vis_by : (from : ℕ) → Option ℕ → Vis
@@ -93,9 +113,12 @@ vis_of (answers.Region region.Nested) begun = vis.Nested
 vis_of _ begun = begun
 
 -- the answer where the node has this record
-abbrev pub vis_answer : Site → Node EndpointLocal → BeginCall → Vis
-vis_answer site node asked =
+abbrev pub vis_answer_by : NodeAt → Node EndpointLocal → BeginCall → Vis
+vis_answer_by at node asked =
     let opens = on_transfers asked.thread RegionBegin in
-    vis_of (answer_at site node opens)
-    (vis_by asked.from (first_refused site (node_then site node opens) asked.from
+    vis_of (answer_of_call at node opens)
+    (vis_by asked.from (first_refused_by at (record_after_call at node opens) asked.from
     (beginnings asked.plan asked.thread (pieces_asked asked))))
+
+abbrev pub vis_answer : Site → Node EndpointLocal → BeginCall → Vis
+vis_answer site = vis_answer_by (node_at site)

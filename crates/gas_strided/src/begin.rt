@@ -28,6 +28,24 @@ impl Plan {
         requires thread { thread < (K.site caller.old).settings.threads }
         requires from { from ≤ length self.now.pieces }
         requires settings { self.now.settings ≡ (K.site caller.old).settings }
+        ensures begins { Begins K.Caller caller.old (record {
+          plan = self.now;
+          thread = thread;
+          from = from;
+          register = reg;
+        }) result caller.new }
+        ensures same_reference { K.lent caller.new ≡ K.lent caller.old }
+        ensures same_site { K.site caller.new ≡ K.site caller.old }
+    {
+        self.begin_in_region(caller, thread, from, reg)
+    }
+
+    /// The beginning as the record of the calls that it makes tells it.
+    fn begin_in_region<K: Caller>(&self, caller: &mut K, thread: u16, from: usize, reg: u8) -> Vis
+        requires there { IsThere (K.site caller.old) }
+        requires thread { thread < (K.site caller.old).settings.threads }
+        requires from { from ≤ length self.now.pieces }
+        requires settings { self.now.settings ≡ (K.site caller.old).settings }
         ensures { Begins K.Caller caller.old (record {
           plan = self.now;
           thread = thread;

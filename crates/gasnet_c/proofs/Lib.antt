@@ -4,3 +4,6 @@ pub mod Peeked
 pub mod Opened
 mod Crosses
 mod Registering
+mod CollectivesCross
+pub mod CollectiveCalling
+mod OwnRuns

@@ -1,9 +1,8 @@
--- Operations on words that C asks, and the handlers that serve them.
+-- Operations on words that C asks.
 use Rattle.std.specs.Prelude.{ℕ, ◌≡◌, if◌then◌else◌, List, [], ◌∷◌, Option, Some, None, is_none, option_map}
 use Rattle.std.proofs.Common.{ap, arith}
 use Rattle.datagram_grammar.specs.Parameters.{Parameters}
 use Rattle.handler_rules.specs.Registered.{is_for_replies, is_for_requests}
-use Rattle.handler_rules.specs.Runs.{Meaning, untouched}
 use Rattle.handler_rules.specs.declared.table.Entry.{Entry}
 use Rattle.endpoint_rules.specs.Called.{Requests, meant}
 use Rattle.endpoint_rules.specs.declared.call.Call.{Call}
@@ -12,17 +11,15 @@ use Rattle.gas_endpoint.specs.EndpointState.{EndpointState}
 use Rattle.gas_atomic.specs.Asking.{batch_asking}
 use Rattle.gas_atomic.specs.Batches.{BatchState}
 use Rattle.gas_atomic.specs.BatchRequests.{batch_fault}
-use Rattle.gas_atomic.specs.Served.{HasBatches, served}
+use Rattle.gas_atomic.specs.Served.{HasBatches}
 use Rattle.gas_atomic.specs.Words.{op_of}
+use Rattle.collective_area.specs.Served.{HasCollectives}
 use Rattle.gas_atomic.specs.declared.word.Op.{Op}
 use Rattle.gasnet_c.specs.Opening.{ServesAll}
-use Rattle.gasnet_c.specs.Telling.{IsDead, TellsOf}
+use Rattle.gasnet_c.specs.OwnHandlers.{serving}
+use Rattle.gasnet_c.specs.Telling.{IsDead, IsNumber, TellsOf}
 use Rattle.gasnet_c.specs.declared.atomics.Operation.{Operation}
 use Rattle.gasnet_c.specs.declared.told.Told.{Told}
-
--- the handlers serve batches, and do nothing else
-abbrev pub serving : Meaning
-serving = λ handler frame start. served handler frame start (untouched start)
 
 -- a node that C opened has batches
 pub has_batches : (table : List (Option Entry)) → ServesAll table → HasBatches table
@@ -30,6 +27,10 @@ has_batches table serves = record {
   requests = ap is_for_requests (serves 252 (omega arith) (omega arith));
   replies = ap is_for_replies (serves 253 (omega arith) (omega arith));
 }
+
+-- it has collectives too
+pub has_collectives : (table : List (Option Entry)) → ServesAll table → HasCollectives table
+has_collectives table serves = ap is_for_requests (serves 254 (omega arith) (omega arith))
 
 -- ---- what C asks
 
@@ -57,14 +58,10 @@ batch_for settings what = if_faultless (option_map (batch_with settings what) (o
 
 -- ---- what C is told
 
--- the operation is bad
-pub record IsBad (told : Told) : Type 0 where
-  pub code : told.code ≡ 5
-  pub len : told.len ≡ 0
-
--- the node's thread asked the batch by one call, and C is told the answer; where there is none, nothing happened
+-- the node's thread asked the batch by one call, and C is told the answer; where there is none, C is told so by the
+-- number of what is bad, and nothing happened
 abbrev pub AsksBatch : Option BatchState → EndpointState → (now : ℕ) → Told → List ℕ → EndpointState → Type 0
-AsksBatch None old now told buffer new = IsBad told × (new ≡ old)
+AsksBatch None old now told buffer new = IsNumber 5 0 told × (new ≡ old)
 AsksBatch (Some batch) old now told buffer new =
     (call : Call) × (meant call ≡ Requests batch.to (batch_asking batch.request))
     × TellsOf serving old now (event.Call 0 call) told buffer new

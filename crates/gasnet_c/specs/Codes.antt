@@ -21,6 +21,12 @@ use Rattle.named_barrier.specs.declared.answer.Notified.{Notified}
 use Rattle.named_barrier.specs.declared.answer.Notified.TheVariants as notified
 use Rattle.named_barrier.specs.declared.answer.BarrierAnswer.{BarrierAnswer}
 use Rattle.named_barrier.specs.declared.answer.BarrierAnswer.TheVariants as barrier
+use Rattle.gas_collectives.specs.declared.answers.StartAnswer.{StartAnswer}
+use Rattle.gas_collectives.specs.declared.answers.StartAnswer.TheVariants as starts
+use Rattle.gas_collectives.specs.declared.answers.StepAnswer.{StepAnswer}
+use Rattle.gas_collectives.specs.declared.answers.StepAnswer.TheVariants as steps
+use Rattle.gas_collectives.specs.declared.answers.EndAnswer.{EndAnswer}
+use Rattle.gas_collectives.specs.declared.answers.EndAnswer.TheVariants as ends
 
 abbrev pub asked_code : Asked → ℕ
 asked_code (asked.Accepted to slot number) = 1
@@ -103,3 +109,36 @@ place_of answer = sends answer
 abbrev pub told_at : Option SlotRef → ℕ × ℕ
 told_at None = (0, 0)
 told_at (Some at) = (at.peer, at.slot)
+
+-- ---- collectives
+
+abbrev pub start_code : StartAnswer → ℕ
+start_code starts.Started = 9
+start_code starts.Busy = 5
+start_code (starts.BadArg part) = 5
+start_code starts.WornOut = 4
+start_code (starts.Forbidden why) = 22
+start_code (starts.LockBusy lock) = 18
+start_code starts.NoMemory = 23
+
+abbrev pub step_code : StepAnswer → ℕ
+step_code (steps.Sent to) = 1
+step_code steps.Nothing = 20
+step_code (steps.Forbidden why) = 22
+step_code steps.NoMemory = 23
+
+abbrev pub end_code : EndAnswer → ℕ
+end_code ends.Ended = 9
+end_code (ends.Mismatch node) = 11
+end_code ends.NotReady = 10
+end_code ends.NotStarted = 5
+end_code (ends.BadArg part) = 5
+end_code (ends.WornOut node) = 4
+end_code (ends.Forbidden why) = 22
+end_code ends.NoMemory = 23
+
+-- the node that an answer names; else 0
+abbrev pub end_node : EndAnswer → ℕ
+end_node (ends.Mismatch node) = node
+end_node (ends.WornOut node) = node
+end_node _ = 0

@@ -8,3 +8,8 @@ pub mod Calls
 pub mod Peeking
 pub mod Opening
 pub mod Batches
+pub mod OwnHandlers
+pub mod ServingLawful
+pub mod SenderWholes
+pub mod CollectivesHeld
+pub mod CollectiveCalls

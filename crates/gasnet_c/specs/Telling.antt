@@ -11,7 +11,8 @@ use Rattle.endpoint_rules.specs.declared.call.Call.{Call}
 use Rattle.endpoint_rules.specs.declared.call.Event.{Event}
 use Rattle.endpoint_rules.specs.declared.call.Event.TheVariants as event
 use Rattle.gas_endpoint.specs.EndpointState.{EndpointState, EndpointSteps, ForItsRecord}
-use Rattle.gasnet_c.specs.Codes.{code_of, place_of, told_at, value_of}
+use Rattle.gas_collectives.specs.declared.answers.StepAnswer.{StepAnswer}
+use Rattle.gasnet_c.specs.Codes.{code_of, place_of, step_code, told_at, value_of}
 use Rattle.gasnet_c.specs.Replayed.{both_replayed_by, mark_of}
 use Rattle.gasnet_c.specs.declared.replay.Run.{Run}
 use Rattle.gasnet_c.specs.declared.told.Told.{Told}
@@ -47,6 +48,19 @@ pub record IsTold (endpoint : EndpointState) (answer : Answer) (told : Told) (bu
 pub record IsDead (told : Told) : Type 0 where
   pub code : told.code ≡ 99
   pub len : told.len ≡ 0
+
+-- C is told this number, and this node; no datagram is sent
+pub record IsNumber (code to : ℕ) (told : Told) : Type 0 where
+  pub code_is : told.code ≡ code
+  pub to_is : told.to ≡ to
+  pub len : told.len ≡ 0
+
+-- C is told how a step of a collective was answered, and the datagram of the slot that it sends
+pub record IsToldStep (endpoint : EndpointState) (answer : StepAnswer) (sends : Option SlotRef) (told : Told)
+    (buffer : List ℕ) : Type 0 where
+  pub code : told.code ≡ step_code answer
+  pub place : (told.to, told.slot) ≡ told_at sends
+  pub sent : IsSent endpoint sends told.len buffer
 
 -- this event happened to the node, its handlers mean this, and C is told the answer
 abbrev pub TellsOf : Meaning → EndpointState → (now : ℕ) → Event → Told → List ℕ → EndpointState → Type 0

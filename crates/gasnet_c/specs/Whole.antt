@@ -5,11 +5,16 @@ use Rattle.endpoint_rules.specs.Called.{HasTarget}
 use Rattle.endpoint_rules.specs.declared.call.Call.{Call}
 use Rattle.endpoint_rules.specs.declared.call.Event.{Event}
 use Rattle.gas_endpoint.specs.EndpointState.{EndpointState, MayHappen, RunsNone}
+use Rattle.gasnet_c.specs.declared.collectives_handle.CollectivesHandle.{CollectivesHandle}
 use Rattle.gasnet_c.specs.declared.handle.Handle.{Handle}
 
 -- a node is in it where it says so
 abbrev pub IsWhole : Handle → Type 0
 IsWhole handle = handle.live ≡ is_some handle.slot.held
+
+-- collectives are in it where it says so
+abbrev pub HasCollectives : CollectivesHandle → Type 0
+HasCollectives handle = handle.live ≡ is_some handle.slot.held
 
 -- an endpoint of a job with one thread can take the event
 abbrev pub IsForOne : Event → Type 0

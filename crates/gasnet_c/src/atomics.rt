@@ -6,20 +6,15 @@ ghost use Rattle.am_core.specs.ClientRules.{medium_asking};
 ghost use Rattle.endpoint_rules.specs.Called.{Requests, meant};
 ghost use Rattle.endpoint_rules.specs.declared.call.Event.TheVariants as event;
 ghost use Rattle.gas_atomic.specs.BatchRequests.{batch_handler};
-ghost use Rattle.gasnet_c.specs.Batches.{TellsBatch, batch_for, serving};
-ghost use Rattle.gasnet_c.specs.Telling.{Tells};
+ghost use Rattle.gasnet_c.specs.Batches.{TellsBatch, batch_for};
 ghost use Rattle.gasnet_c.specs.Whole.{IsForOne, IsWhole};
 
 use crate::handle::{Handle, put, taken};
-use crate::node::Happening;
-use crate::stepping::stepped;
 use crate::told::{Told, dead};
 use am_core::Payload;
 use datagram_grammar::Settings;
-use endpoint_rules::{Call, Event};
-use gas_atomic::{BATCH_HANDLER, Batch, Op, WordOp, serve};
-use handler_rules::{Cells, Desk, Handlers};
-use raw_segment::Segment;
+use endpoint_rules::Call;
+use gas_atomic::{BATCH_HANDLER, Batch, Op, WordOp};
 use std::alloc::Global;
 
 /// An operation on a word of 64 bits in a node's segment: `gasnet_c_operation`.
@@ -40,26 +35,6 @@ pub struct Operation {
     pub op: u32,
     /// The node whose word it is; the own one too.
     pub to: u16,
-}
-
-/// The handlers of batches, and no others.
-#[derive(Clone, Copy)]
-pub struct Batches;
-
-impl Handlers for Batches {
-    ghost use Rattle.handler_rules.specs.Runs.{untouched};
-    ghost use Rattle.handler_rules.proofs.Lawful.{lawful-untouched};
-    ghost use Rattle.gas_atomic.proofs.Lawful.{lawful-served};
-
-    ghost meaning = { λ it handler frame start. serving handler frame start };
-
-    ghost is_lawful = { λ it handler frame start.
-        lawful-served handler frame start (untouched start) (lawful-untouched frame start) };
-
-    /// It does the operations of a batch, and replies.
-    fn run(&self, handler: u8, segment: &mut Segment, _cells: &mut Cells, desk: &mut Desk<'_>) {
-        serve(handler, segment, desk);
-    }
 }
 
 /// The batch of an operation, in a job with these settings; none where no operation has its number, or a part is bad.
@@ -117,31 +92,4 @@ pub extern "C" fn gasnet_c_atomic(
     let told = node.ask(now, what, buffer);
     put(handle, node);
     told
-}
-
-/// Delivers a datagram for one of the two handlers of operations, 252 and 253, which run in the call: C runs nothing
-/// before it. It is answered as `gasnet_c_deliver`.
-///
-/// A datagram for another handler runs one that does nothing.
-#[unsafe(no_mangle)]
-pub extern "C" fn gasnet_c_serve(
-    alloc: Global,
-    handle: &mut Handle,
-    now: u64,
-    bytes: &[u8],
-    buffer: &mut [u8],
-) -> Told
-    requires { IsWhole handle.old }
-    ensures whole { IsWhole handle.new }
-    ensures tells { Tells serving handle.old.slot.held now (event.Deliver bytes.entry) result
-        buffer.new handle.new.slot.held }
-{
-    if !handle.live {
-        return dead();
-    }
-    let happening = Happening {
-        time: now,
-        event: Event::Deliver { bytes },
-    };
-    stepped(alloc, handle, &Batches, &happening, buffer)
 }

@@ -12,9 +12,10 @@ ghost use Rattle.gasnet_c.specs.Whole.{IsForOne};
 ghost use Rattle.gasnet_c.specs.Peeking.{Peeks};
 ghost use Rattle.gasnet_c.specs.Telling.{IsMark, TellsOf};
 
-use crate::atomics::{Batches, Operation, batch_for, request};
+use crate::atomics::{Operation, batch_for, request};
 use crate::coming::{Coming, peeked};
 use crate::replay::MARK;
+use crate::serving::OwnHandlers;
 use crate::told::{Told, bad, tell};
 use datagram_grammar::Settings;
 use endpoint_rules::Event;
@@ -35,7 +36,7 @@ pub struct Happening<'a> {
 #[derive(Drop)]
 pub struct Node {
     pub(crate) endpoint: Endpoint,
-    settings: Settings,
+    pub(crate) settings: Settings,
 }
 
 impl Model for Node {
@@ -104,7 +105,7 @@ impl Node {
         let payload = batch.payload();
         let call = request(batch.to(), &args, &payload);
         let event = Event::Call { thread: 0, call };
-        self.happen(&Batches, &Happening { time: now, event }, buffer)
+        self.happen(&OwnHandlers, &Happening { time: now, event }, buffer)
     }
 
     /// The mark of the runs of requests to the own node.

@@ -1,14 +1,14 @@
 //! What an export tells C of an event.
 
 ghost use Rattle.std.specs.Prelude.{◌≡◌, option_copied};
-ghost use Rattle.gasnet_c.specs.Batches.{IsBad};
 ghost use Rattle.gasnet_c.specs.Codes.{asked_code, barrier_code, begun_code, code_of, delivered_code};
 ghost use Rattle.gasnet_c.specs.Codes.{notified_code, place_of, region_code, synced_code, ticked_code};
-ghost use Rattle.gasnet_c.specs.Codes.{told_at, value_of};
-ghost use Rattle.gasnet_c.specs.Telling.{IsCopied, IsDead, IsSent, IsTold};
+ghost use Rattle.gasnet_c.specs.Codes.{end_code, end_node, start_code, step_code, told_at, value_of};
+ghost use Rattle.gasnet_c.specs.Telling.{IsCopied, IsDead, IsNumber, IsSent, IsTold, IsToldStep};
 
 use am_core::{Asked, Delivered, Side, SlotRef};
 use endpoint_rules::{Answer, Begun, Region, Ticked};
+use gas_collectives::{EndAnswer, StartAnswer, StepAnswer};
 use gas_endpoint::Endpoint;
 use named_barrier::{BarrierAnswer, Notified};
 use put_get::Synced;
@@ -45,17 +45,24 @@ pub fn dead() -> Told
     }
 }
 
-/// What an operation tells that isn't asked: a part of it is bad.
-pub fn bad() -> Told
-    ensures { IsBad result }
+/// What tells a number and a node; no datagram is sent.
+fn number(code: u32, to: u16) -> Told
+    ensures { IsNumber code to result }
 {
     Told {
-        code: 5,
-        to: 0,
+        code,
+        to,
         slot: 0,
         len: 0,
         value: 0,
     }
+}
+
+/// What an operation tells that isn't asked, or a collective that isn't started: a part of it is bad.
+pub fn bad() -> Told
+    ensures { IsNumber 5 0 result }
+{
+    number(5, 0)
 }
 
 /// The number of a request's answer.
@@ -247,5 +254,68 @@ pub fn tell(endpoint: &Endpoint, answer: &Answer, buffer: &mut [u8]) -> Told
         slot,
         len,
         value: value_of(answer),
+    }
+}
+
+/// What C is told of the start of a collective.
+pub fn tell_start(answer: &StartAnswer) -> Told
+    ensures { IsNumber (start_code answer.now) 0 result }
+{
+    let code = match answer {
+        StartAnswer::Started => 9,
+        StartAnswer::Busy | StartAnswer::BadArg(_) => 5,
+        StartAnswer::WornOut => 4,
+        StartAnswer::Forbidden(_) => 22,
+        StartAnswer::LockBusy(_) => 18,
+        StartAnswer::NoMemory => 23,
+    };
+    number(code, 0)
+}
+
+/// The number of the answer to a step of a collective.
+fn step_code(answer: &StepAnswer) -> u32
+    ensures { result ≡ step_code answer.now }
+{
+    match answer {
+        StepAnswer::Sent(_) => 1,
+        StepAnswer::Nothing => 20,
+        StepAnswer::Forbidden(_) => 22,
+        StepAnswer::NoMemory => 23,
+    }
+}
+
+/// What C is told of a step of a collective, whose last call sends the datagram of this slot. It is copied into the
+/// buffer, where it fits.
+pub fn tell_step(
+    endpoint: &Endpoint,
+    answer: &StepAnswer,
+    sends: Option<SlotRef>,
+    buffer: &mut [u8],
+) -> Told
+    ensures { IsToldStep endpoint.now answer.now sends result buffer.new }
+{
+    let (to, slot) = told_at(sends);
+    let len = sent(endpoint, sends, buffer);
+    Told {
+        code: step_code(answer),
+        to,
+        slot,
+        len,
+        value: 0,
+    }
+}
+
+/// What C is told of a try to end a collective.
+pub fn tell_end(answer: &EndAnswer) -> Told
+    ensures { IsNumber (end_code answer.now) (end_node answer.now) result }
+{
+    match answer {
+        EndAnswer::Ended => number(9, 0),
+        EndAnswer::Mismatch(node) => number(11, *node),
+        EndAnswer::NotReady => number(10, 0),
+        EndAnswer::NotStarted | EndAnswer::BadArg(_) => number(5, 0),
+        EndAnswer::WornOut(node) => number(4, *node),
+        EndAnswer::Forbidden(_) => number(22, 0),
+        EndAnswer::NoMemory => number(23, 0),
     }
 }

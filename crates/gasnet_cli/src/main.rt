@@ -8,21 +8,43 @@
 //! a job with what its nodes wrote, checks whether their traces are one run, and writes that run's lines.
 //!
 //! The environment sets the hosts of the nodes, the key of the job, and what `launch` starts and keeps ([`settings`]).
-//! Where it sets them wrongly no command runs: the exit status is 2. Standard error has why, and at the end how many
+//! Where it sets them wrongly no command runs: the exit status is 2.
+//!
+//! Standard error has what a person is told: why words, a job or the environment are refused, why a link or a launch
+//! failed, which nodes of it failed ([`ends`]), help, each step beside its answer, what a long command is at, and how many
 //! datagrams a node dropped.
 //!
-//! What is proved of it stands on `run_streams` of `top_call`, which `program` calls with the words of the command line and
-//! the two streams; `program` itself promises nothing.
+//! What is proved of it stands on `run_streams` of `top_call`, which `run` calls with the words of the command line and
+//! the two streams, whose bytes it looks at as they go by. A launch without a port is made with the words of one that was
+//! free. `main` itself promises nothing.
 #![tactic(auto)]
 
+mod command;
+mod counted;
+mod ends;
+mod notes;
+mod ports;
+mod progress;
+mod run;
 mod settings;
+mod telling;
+mod watched;
+mod words;
 
+use crate::command::Command;
+use crate::counted::CountedSpawner;
+use crate::ends::tell_ends;
+use crate::notes::StandardNotes;
+use crate::progress::shown_progress;
+use crate::run::{Behind, run};
 use crate::settings::{Refusal, Settings};
-use real_outside::{LinkSocket, ProcessSpawner, SocketGate, SystemClock, UdpLink};
+use crate::telling::{Causes, tell_dropped, tell_end, tell_help};
+use crate::words::words;
+use real_outside::{ChildEnds, LinkSocket, ProcessSpawner, SocketGate, SystemClock, UdpLink};
 use sealed_link::{Dropped, SealedLink};
 use std::alloc::AllocError;
+use std::io::IsTerminal;
 use std::process::ExitCode;
-use top_call::program;
 
 /// Ends the program before any command, for what the environment sets.
 fn refuse(rt: &HostRuntime, why: Refusal) -> ExitCode {
@@ -37,15 +59,16 @@ fn refuse(rt: &HostRuntime, why: Refusal) -> ExitCode {
     }
 }
 
-/// The spawner of the program that `launch` starts.
+/// The spawner of the program that `launch` starts. How its children end is kept there.
 fn spawner(
     rt: HostRuntime,
     agent: Option<String>,
     folder: Option<String>,
-) -> ProcessSpawner<HostRuntime> {
+    ends: &ChildEnds,
+) -> ProcessSpawner<'_, HostRuntime> {
     let mut spawner = match agent {
-        Some(agent) => ProcessSpawner::new(rt, rt.alloc(), agent),
-        None => ProcessSpawner::of_own_program(rt),
+        Some(agent) => ProcessSpawner::new(rt, rt.alloc(), agent, ends),
+        None => ProcessSpawner::of_own_program(rt, ends),
     };
     if let Some(folder) = folder {
         spawner.keep_in(folder);
@@ -53,24 +76,11 @@ fn spawner(
     spawner
 }
 
-/// Tells how many datagrams were dropped, where there were any.
-fn tell_dropped(rt: &HostRuntime, socket: &LinkSocket, unsealed: &Dropped<'_>) {
-    let Some(address) = socket.address() else {
-        return;
-    };
-    let (strays, others) = (socket.strays(), unsealed.count());
-    if strays != 0 {
-        let _ = eprintln!(rt; "gasnet_cli: {address} dropped {strays} datagrams that no peer sent");
-    }
-    if others != 0 {
-        let _ = eprintln!(rt;
-            "gasnet_cli: {address} dropped {others} datagrams that the key didn't seal, the last by node {}",
-            unsealed.last_sender()
-        );
-    }
-}
-
 fn main(rt: HostRuntime) -> ExitCode {
+    let Ok(words) = words(&rt) else {
+        return refuse(&rt, Refusal::NoMemory);
+    };
+    let is_help = tell_help(&rt, &words);
     let settings = match Settings::read(&rt) {
         Ok(settings) => settings,
         Err(why) => return refuse(&rt, why),
@@ -80,20 +90,36 @@ fn main(rt: HostRuntime) -> ExitCode {
         key,
         agent,
         folder,
+        steps,
     } = settings;
+    let mut command = Command::new(&rt, rt.alloc(), words, steps);
+    let Ok(progress) = shown_progress(&rt, !command.is_node() && rt.stderr().is_terminal()) else {
+        return refuse(&rt, Refusal::NoMemory);
+    };
     let socket = LinkSocket::new();
     let unsealed = Dropped::new(socket.sender());
     let link = UdpLink::new(rt, &socket, &hosts);
-    let spawner = spawner(rt, agent, folder);
-    let clock = SystemClock::new(rt);
-    let gate = SocketGate::new(rt, rt.alloc(), &socket);
-    let status = match key {
-        None => program(&rt, link, spawner, clock, gate),
+    let ends = ChildEnds::new(rt.alloc());
+    let behind = Behind {
+        spawner: CountedSpawner::new(spawner(rt, agent, folder, &ends), &progress),
+        clock: SystemClock::new(rt),
+        gate: SocketGate::new(rt, rt.alloc(), &socket),
+        progress: &progress,
+    };
+    let mut notes = StandardNotes::new(&rt);
+    let (status, spawner) = match key {
+        None => run(&rt, &mut command, link, behind, &mut notes),
         Some(key) => match SealedLink::new(rt.alloc(), link, key, &unsealed) {
-            Ok(sealed) => program(&rt, sealed, spawner, clock, gate),
-            Err(AllocError) => refuse(&rt, Refusal::NoMemory),
+            Ok(link) => run(&rt, &mut command, link, behind, &mut notes),
+            Err(AllocError) => return refuse(&rt, Refusal::NoMemory),
         },
     };
+    progress.end(&rt);
     tell_dropped(&rt, &socket, &unsealed);
+    tell_ends(&rt, &ends);
+    let start = spawner.into_inner().unstarted();
+    if !is_help {
+        tell_end(&rt, &command, Causes::new(socket.fault(), start));
+    }
     status
 }

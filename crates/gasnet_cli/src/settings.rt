@@ -24,6 +24,8 @@ pub struct Settings {
     pub agent: Option<String>,
     /// The folder where `launch` keeps the files of its nodes, by `GASNET_KEEP`.
     pub folder: Option<String>,
+    /// Whether each step is told beside its answer, by `GASNET_STEPS`.
+    pub steps: bool,
 }
 
 /// Why what the environment sets is refused.
@@ -74,6 +76,14 @@ fn value<R: Env + AllocGlobal>(rt: &R, name: &str) -> Result<Option<String>, Ref
         Err(VarError::NotPresent) => Ok(None),
         Err(VarError::NotUnicode) => Err(Refusal::NoText),
         Err(VarError::OutOfMemory) => Err(Refusal::NoMemory),
+    }
+}
+
+/// Whether a variable is 1.
+fn is_one<R: Env + AllocGlobal>(rt: &R, name: &str) -> Result<bool, Refusal> {
+    match value(rt, name)? {
+        Some(text) => Ok(text.as_str() == "1"),
+        None => Ok(false),
     }
 }
 
@@ -140,6 +150,7 @@ impl Settings {
             key: key(rt)?,
             agent: value(rt, "GASNET_AGENT")?,
             folder: value(rt, "GASNET_KEEP")?,
+            steps: is_one(rt, "GASNET_STEPS")?,
         })
     }
 }

@@ -7,8 +7,15 @@ use Rattle.std.proofs.lemmas.List.Concat.{flat_map-append}
 use Rattle.job_text.specs.JobText.{Line, handler_lines, head_lines, job_text, pair_line, schedule_lines, script_lines}
 use Rattle.job_text.specs.JobText.{atomics_lines, spell}
 use Rattle.job_text.specs.declared.job.Job.{Job}
-use Rattle.job_print.specs.Writing.{spaced_word, word_bytes, words_then}
+use Rattle.gas_strided.specs.declared.shapes.Level.{Level}
+use Rattle.gas_strided.specs.declared.shapes.Way.{Way}
+use Rattle.gas_strided.specs.declared.shapes.Way.TheVariants.{Put, Get}
+use Rattle.job_text.specs.Forms.{Spans, Strides, bundle_text, entry_text, none_text}
+use Rattle.job_text.specs.VisLines.{entry_by}
+use Rattle.job_text.specs.declared.vis.VisShape.TheVariants as shapes
+use Rattle.job_print.specs.Writing.{indexed_name, spaced_word, strided_name, word_bytes, words_then}
 use Rattle.job_print.specs.declared.words.Word.{Word}
+use Rattle.job_print.specs.declared.words.Word.TheVariants as word
 
 -- the lines `end` and `done`
 abbrev pub end_line : List ℕ
@@ -126,3 +133,28 @@ text_parts job =
     six_parts (head_lines job) (map pair_line job.settings.pairs) (atomics_lines job.atomics)
     (flat_map handler_lines job.handlers) (flat_map script_lines job.scripts)
     (schedule_lines job.settings job.schedule)
+
+-- ---- lines that begin transfers of many pieces
+
+-- the words of such a line, by its name
+abbrev pub strided_words : (register from to remote local len : ℕ) → List Word
+strided_words register from to remote local len = word.U8 register ∷ word.U16 from ∷ word.U16 to ∷ word.U64 remote
+    ∷ word.U64 local ∷ word.U64 len ∷ []
+
+pub strided_parts : (way : Way) (register from to remote local len : ℕ) (levels : List Level)
+    → entry_text none_text (entry_by way (shapes.Strided remote local len levels) register from to)
+    ≡ strided_name way ++ words_then (strided_words register from to remote local len)
+    (flat_map (bundle_text Strides) levels)
+strided_parts Put register from to remote local len levels = refl
+strided_parts Get register from to remote local len levels = refl
+
+abbrev pub indexed_words : (register from to count : ℕ) → List Word
+indexed_words register from to count =
+    word.U8 register ∷ word.U16 from ∷ word.U16 to ∷ word.U64 count ∷ []
+
+pub indexed_parts : (way : Way) (register from to : ℕ) (remote local : List (ℕ × ℕ))
+    → entry_text none_text (entry_by way (shapes.Indexed remote local) register from to)
+    ≡ indexed_name way ++ words_then (indexed_words register from to (length remote))
+    (flat_map (bundle_text Spans) remote ++ flat_map (bundle_text Spans) local)
+indexed_parts Put register from to remote local = refl
+indexed_parts Get register from to remote local = refl

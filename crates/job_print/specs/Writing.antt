@@ -1,10 +1,12 @@
 -- The words of a line, as they are written.
-use Rattle.std.specs.Prelude.{ℕ, List, [], ◌∷◌, ◌++◌, decimal}
+use Rattle.std.specs.Prelude.{ℕ, List, [], ◌∷◌, ◌++◌, codes, decimal}
 use Rattle.std.specs.Fmt.{signed_decimal}
 use Rattle.std.specs.List.{flat_map}
 use Rattle.job_text.specs.Payloads.{bytes_word, payload_word}
 use Rattle.job_text.specs.Words.{implicit_word, kind_word, op_word, operand_word, role_word}
-use Rattle.job_text.specs.Forms.{Operations, bundle_text}
+use Rattle.gas_strided.specs.declared.shapes.Way.{Way}
+use Rattle.gas_strided.specs.declared.shapes.Way.TheVariants.{Put, Get}
+use Rattle.job_text.specs.Forms.{Operations, Spans, Strides, bundle_text}
 use Rattle.job_print.specs.declared.head.NumberLine.{NumberLine}
 use Rattle.job_print.specs.declared.words.Word.{Word}
 use Rattle.job_print.specs.declared.words.Word.TheVariants as word
@@ -37,6 +39,9 @@ last_text (last.Operands operands) = flat_map (λ operand. 32 ∷ operand_word o
 last_text (last.Registers registers) = flat_map (λ register. 32 ∷ decimal register) registers.now
 last_text (last.Locks locks) = flat_map (λ lock. 32 ∷ decimal lock) locks.now
 last_text (last.WordOps ops) = flat_map (bundle_text Operations) ops.now
+last_text (last.Levels levels) = flat_map (bundle_text Strides) levels.now
+last_text (last.Ranges remote local) =
+    flat_map (bundle_text Spans) remote.now ++ flat_map (bundle_text Spans) local.now
 
 -- a space and a word for each, and then these bytes
 abbrev pub words_then : List Word → List ℕ → List ℕ
@@ -46,3 +51,12 @@ words_then (word ∷ words) bytes = 32 ∷ (word_bytes word ++ words_then words 
 -- a line of a name and a number
 abbrev pub number_line : NumberLine → List ℕ
 number_line line = line.0.now ++ words_then (line.1 ∷ []) []
+
+-- the names of strided and of indexed transfers
+abbrev pub strided_name : Way → List ℕ
+strided_name Put = codes "put-s"
+strided_name Get = codes "get-s"
+
+abbrev pub indexed_name : Way → List ℕ
+indexed_name Put = codes "put-v"
+indexed_name Get = codes "get-v"

@@ -8,9 +8,10 @@ ghost use Rattle.job_text.specs.declared.job.ScheduledEvent.TheVariants as event
 use crate::calls::write_call;
 use crate::forms::write;
 use crate::numbers::write_number;
+use crate::vis::write_vis;
 use crate::words::Word;
 use gas_outside::{BufferedSink, Sink, Wrote};
-use job_text::{ScheduledCall, ScheduledEvent, TimedEvent};
+use job_text::{ScheduledCall, ScheduledEvent, TimedEvent, VisText};
 
 /// Writes a call of a thread of a node.
 fn write_thread_call<K: Sink>(
@@ -32,6 +33,26 @@ fn write_thread_call<K: Sink>(
     write_call(call, sink)
 }
 
+/// Writes that a thread of a node begins a transfer of many pieces.
+fn write_thread_vis<K: Sink>(
+    node: u16,
+    thread: u16,
+    vis: &VisText,
+    sink: &mut BufferedSink<K>,
+) -> Wrote
+    ensures { (nodes threads : ℕ) → GathersAll (outbox K.taken K.faults sink.old)
+        (outbox K.taken K.faults sink.new)
+        (event_text nodes threads (events.Vis node thread vis.now)) result }
+{
+    if let Wrote::Fault = write(b"call", &[Word::U16(node), Word::U16(thread)], sink) {
+        return Wrote::Fault;
+    }
+    if let Wrote::Fault = sink.write_all(b" ") {
+        return Wrote::Fault;
+    }
+    write_vis(vis, sink)
+}
+
 /// Writes an event.
 fn write_event<K: Sink>(event: &ScheduledEvent, sink: &mut BufferedSink<K>) -> Wrote
     ensures { (nodes threads : ℕ) → GathersAll (outbox K.taken K.faults sink.old)
@@ -41,6 +62,12 @@ fn write_event<K: Sink>(event: &ScheduledEvent, sink: &mut BufferedSink<K>) -> W
     match event {
         ScheduledEvent::Call { node, thread, call } => write_thread_call(
             *node, *thread, call, sink,
+        ),
+        ScheduledEvent::Vis { node, thread, vis } => write_thread_vis(
+            *node,
+            *thread,
+            vis.text(),
+            sink,
         ),
         ScheduledEvent::Request { from, to, number } => {
             write(b"request", &[U16(*from), U16(*to), U64(*number)], sink)

@@ -3,7 +3,7 @@
 ghost use Rattle.std.specs.Prelude.{◌++◌, ◌∷◌, [], decimal};
 ghost use Rattle.std.specs.List.{flat_map};
 ghost use Rattle.gas_outside.specs.Buffered.{GathersAll, outbox};
-ghost use Rattle.job_text.specs.Forms.{Operations, bundle_text};
+ghost use Rattle.job_text.specs.Forms.{Operations, Spans, Strides, bundle_text};
 ghost use Rattle.job_text.specs.Words.{operand_word};
 ghost use Rattle.job_print.specs.Writing.{last_text, words_then};
 
@@ -11,6 +11,7 @@ use crate::numbers::{write_number, write_operand};
 use crate::words::{Word, write_spaced};
 use gas_atomic::WordOp;
 use gas_outside::{BufferedSink, Sink, Wrote};
+use gas_strided::Level;
 use job_text::{ListedLocks, Operand, Operands, Registers};
 
 /// The list of words at the end of a line.
@@ -26,6 +27,10 @@ pub(crate) enum Last<'a> {
     Locks(&'a ListedLocks),
     /// Operations of remote atomics.
     WordOps(&'a [WordOp]),
+    /// Levels of a strided transfer.
+    Levels(&'a [Level]),
+    /// Ranges of the other segment, and of the own one.
+    Ranges(&'a [(u64, u64)], &'a [(u64, u64)]),
 }
 
 /// Writes a space and the word of each operand.
@@ -87,6 +92,68 @@ fn write_ops<K: Sink>(ops: &[WordOp], sink: &mut BufferedSink<K>) -> Wrote
     Wrote::Done
 }
 
+/// Writes a space and each word of a level of a strided transfer.
+fn write_level<K: Sink>(level: &Level, sink: &mut BufferedSink<K>) -> Wrote
+    ensures { GathersAll (outbox K.taken K.faults sink.old) (outbox K.taken K.faults sink.new)
+        (bundle_text Strides level.now) result }
+{
+    let words = [
+        Word::U64(level.count),
+        Word::U64(level.remote),
+        Word::U64(level.local),
+    ];
+    write_spaced(&words, sink)
+}
+
+/// Writes the words of levels, in their order.
+fn write_levels<K: Sink>(levels: &[Level], sink: &mut BufferedSink<K>) -> Wrote
+    ensures { GathersAll (outbox K.taken K.faults sink.old) (outbox K.taken K.faults sink.new)
+        (flat_map (bundle_text Strides) levels.now) result }
+{
+    for level in levels {
+        if let Wrote::Fault = write_level(level, sink) {
+            return Wrote::Fault;
+        }
+    }
+    Wrote::Done
+}
+
+/// Writes a space and each word of a range.
+fn write_range<K: Sink>(range: &(u64, u64), sink: &mut BufferedSink<K>) -> Wrote
+    ensures { GathersAll (outbox K.taken K.faults sink.old) (outbox K.taken K.faults sink.new)
+        (bundle_text Spans range.now) result }
+{
+    write_spaced(&[Word::U64(range.0), Word::U64(range.1)], sink)
+}
+
+/// Writes the words of ranges, in their order.
+fn write_ranges<K: Sink>(ranges: &[(u64, u64)], sink: &mut BufferedSink<K>) -> Wrote
+    ensures { GathersAll (outbox K.taken K.faults sink.old) (outbox K.taken K.faults sink.new)
+        (flat_map (bundle_text Spans) ranges.now) result }
+{
+    for range in ranges {
+        if let Wrote::Fault = write_range(range, sink) {
+            return Wrote::Fault;
+        }
+    }
+    Wrote::Done
+}
+
+/// Writes the words of ranges, and of others behind them.
+fn write_both<K: Sink>(
+    first: &[(u64, u64)],
+    others: &[(u64, u64)],
+    sink: &mut BufferedSink<K>,
+) -> Wrote
+    ensures { GathersAll (outbox K.taken K.faults sink.old) (outbox K.taken K.faults sink.new)
+        (flat_map (bundle_text Spans) first.now ++ flat_map (bundle_text Spans) others.now) result }
+{
+    if let Wrote::Fault = write_ranges(first, sink) {
+        return Wrote::Fault;
+    }
+    write_ranges(others, sink)
+}
+
 /// Writes the list at the end of a line.
 fn write_last<K: Sink>(last: Last<'_>, sink: &mut BufferedSink<K>) -> Wrote
     ensures { GathersAll (outbox K.taken K.faults sink.old) (outbox K.taken K.faults sink.new)
@@ -98,6 +165,8 @@ fn write_last<K: Sink>(last: Last<'_>, sink: &mut BufferedSink<K>) -> Wrote
         Last::Registers(registers) => write_numbers(registers.items(), sink),
         Last::Locks(locks) => write_numbers(locks.items(), sink),
         Last::WordOps(ops) => write_ops(ops, sink),
+        Last::Levels(levels) => write_levels(levels, sink),
+        Last::Ranges(remote, local) => write_both(remote, local, sink),
     }
 }
 

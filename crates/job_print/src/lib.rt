@@ -21,6 +21,7 @@ mod printing;
 mod schedules;
 mod scripts;
 mod steps;
+mod vis;
 mod words;
 
 pub use printing::print_job;

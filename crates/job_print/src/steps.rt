@@ -6,6 +6,7 @@ ghost use Rattle.job_text.specs.Scripts.{step_text, transfer_entry, waiting_text
 
 use crate::calls::{write_barrier, write_call};
 use crate::forms::{write, write_list};
+use crate::vis::write_vis;
 use crate::words::Word;
 use gas_outside::{BufferedSink, Sink, Wrote};
 use job_text::{PutText, ScriptStep, TransferText, WaitingStep};
@@ -89,6 +90,7 @@ pub(crate) fn write_step<K: Sink>(step: &ScriptStep, sink: &mut BufferedSink<K>)
 {
     match step {
         ScriptStep::Call { call } => write_call(call, sink),
+        ScriptStep::Vis { vis } => write_vis(vis.text(), sink),
         ScriptStep::Waiting { step } => write_waiting(step, sink),
     }
 }

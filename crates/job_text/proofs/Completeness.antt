@@ -25,6 +25,10 @@ use Rattle.job_text.specs.Places.{pair_fits}
 use Rattle.job_text.specs.JobReading.{State, least_job, start, with_number, behind_setting, with_body, with_handler}
 use Rattle.job_text.specs.JobReading.{with_steps, with_script, total_rounds, next, has_index, has_pair, has_thread}
 use Rattle.job_text.specs.JobReading.{rounds_of, is_full, is_reserved, most_handlers, with_atomics, front_with, read}
+use Rattle.job_text.specs.JobReading.{amounts_of, is_full_script, lines_of}
+use Rattle.job_text.specs.PlanPieces.{most_pieces, event_pieces, schedule_pieces}
+use Rattle.job_text.specs.StepPieces.{step_pieces, steps_pieces}
+use Rattle.job_text.specs.PlanPieces.{scripts_pieces}
 use Rattle.job_text.specs.JobText.{Line, spell, setting_line, sieve_line, pair_line, handler_lines, timed_lines}
 use Rattle.job_text.specs.JobText.{script_lines, schedule_lines, head_lines, lines_with_pairs, lines_with_handlers}
 use Rattle.job_text.specs.JobText.{job_lines, job_text, IsHandler, IsNodeScript, AreThreads, IsScheduleOrNone}
@@ -34,11 +38,14 @@ use Rattle.job_text.specs.declared.job.HandlerText.{HandlerText}
 use Rattle.job_text.specs.declared.job.Job.{Job}
 use Rattle.job_text.specs.declared.job.NodeScript.{NodeScript}
 use Rattle.job_text.specs.declared.job.ScriptStep.{ScriptStep}
+use Rattle.job_text.specs.declared.job.ScheduledEvent.{ScheduledEvent}
 use Rattle.job_text.specs.declared.job.TimedEvent.{TimedEvent}
+use Rattle.job_text.specs.declared.schedules.Amounts.{Amounts}
 use Rattle.job_text.specs.declared.sections.Section.TheVariants as section
 use Rattle.job_text.proofs.Freshness.{AreFresh, AreNew, apart_fresh, fresh_to}
 use Rattle.job_text.proofs.LockLaws.{AreLocks, listed_locks}
 use Rattle.job_text.proofs.LineRuns.{line_again, read_on, over_read}
+use Rattle.job_text.proofs.PlanPieces.{schedule_join, steps_join, scripts_join}
 use Rattle.job_text.proofs.Ranges.{AreNumbers, sum_beside}
 use Rattle.job_text.proofs.StateLaws.{done_line, end_line}
 use Rattle.job_text.proofs.Threads.{threads_new}
@@ -549,11 +556,17 @@ atomics_then job false (line ∷ lines) end second none some h =
 
 -- ---- scripts
 
+-- there is room for a step
+steps_free : (pieces steps : ℕ) (s : ScriptStep) → steps < 4096 → pieces + step_pieces s ≤ 65536
+    → is_full_script pieces steps s ≡ false
+steps_free pieces steps s a b = rw (lt-leb 4096 steps a, le-ltb 65536 (pieces + step_pieces s) b) refl
+
 steps_reach : (script : NodeScript) (front rest : List ScriptStep) (job : Job)
     → AllByRecursion (IsStep (scope_of job)) rest → length (front ++ rest) ≤ 4096
+    → scripts_pieces job.scripts + steps_pieces (front ++ rest) ≤ most_pieces
     → Reaches (record { place = AtSteps (with_steps front script); job = job }) (map step_text rest ++ end_line ∷ [])
     (record { place = AtScripts; job = with_script (with_steps (front ++ rest) script) job })
-steps_reach script front [] job all few = record {
+steps_reach script front [] job all few room = record {
   item = None;
   to = record { place = AtScripts; job = with_script (with_steps front script) job };
   text = refl;
@@ -564,14 +577,17 @@ steps_reach script front [] job all few = record {
     job = with_script (with_steps steps script) job;
   }) (sym (append-nil front));
 }
-steps_reach script front (s ∷ rest) job all few =
+steps_reach script front (s ∷ rest) job all few room =
     let many : length (front ++ s ∷ rest) ≡ length front + suc (length rest) = simp length-append in
+    let pieces = steps_join front (s ∷ rest) in
+    let same = sym (append_assoc front (s ∷ []) rest) in
     record {
       item = Some s;
       to = record { place = AtSteps (with_steps (front ++ s ∷ []) script); job = job };
       text = refl;
       is = all.0;
-      goes = rw (lt-leb 4096 (length front) (omega (arith, many))) refl;
+      goes = rw (steps_free (scripts_pieces job.scripts + steps_pieces front) (length front) s
+          (omega (arith, many)) (omega (arith, pieces, room))) refl;
       behind = subst (λ (steps : List ScriptStep). Reaches (record {
         place = AtSteps (with_steps (front ++ s ∷ []) script);
         job = job;
@@ -579,15 +595,18 @@ steps_reach script front (s ∷ rest) job all few =
         place = AtScripts;
         job = with_script (with_steps steps script) job;
       })) (append_assoc front (s ∷ []) rest)
-          (steps_reach script (front ++ s ∷ []) rest job all.1 (subst (λ
-          (steps : List ScriptStep). length steps ≤ 4096) (sym (append_assoc front (s ∷ []) rest)) few));
+          (steps_reach script (front ++ s ∷ []) rest job all.1
+          (subst (λ (steps : List ScriptStep). length steps ≤ 4096) same few)
+          (subst (λ (steps : List ScriptStep). scripts_pieces job.scripts + steps_pieces steps ≤ most_pieces) same
+          room));
     }
 
 script_reach : (s : NodeScript) (job : Job) → IsNodeScript (scope_of job) s
     → job.settings.nodes ≤ 256 → job.settings.threads ≤ 16 → has_thread job.scripts s.node s.thread ≡ false
+    → scripts_pieces job.scripts + steps_pieces s.steps ≤ most_pieces
     → Reaches (record { place = AtScripts; job = job }) (script_lines s)
     (record { place = AtScripts; job = with_script s job })
-script_reach s job is nodes threads new =
+script_reach s job is nodes threads new room =
     let node = is.node in
     let thread = is.thread in
     record {
@@ -602,7 +621,7 @@ script_reach s job is nodes threads new =
         and_from _ _ (lt-ltb s.node job.settings.nodes node) (lt-ltb s.thread job.settings.threads thread),
       );
       goes = rw new refl;
-      behind = steps_reach s [] s.steps job is.steps is.count;
+      behind = steps_reach s [] s.steps job is.steps is.count room;
     }
 
 abbrev pub with_scripts : Job → List NodeScript → Job
@@ -612,6 +631,7 @@ with_scripts job scripts = record job { scripts = scripts }
 abbrev MayGoOn : Job → (front rest : List NodeScript) → Type 0
 MayGoOn job front rest =
     AllByRecursion (IsNodeScript (scope_of job)) rest × AreThreads (front ++ rest)
+    × (scripts_pieces (front ++ rest) ≤ most_pieces)
 
 abbrev behind_scripts_of : Job → List NodeScript → State
 behind_scripts_of job front = record { place = AtScripts; job = with_scripts job front }
@@ -621,8 +641,17 @@ next_script : (job : Job) → job.settings.nodes ≤ 256 → job.settings.thread
     → Reaches (behind_scripts_of job front) (script_lines s) (behind_scripts_of job (front ++ s ∷ []))
     × MayGoOn job (front ++ s ∷ []) rest
 next_script job nodes threads front s rest may =
-    let one = script_reach s (with_scripts job front) may.0.0 nodes threads (threads_new front rest s may.1) in
-    (one, (may.0.1, subst AreThreads (sym (append_assoc front (s ∷ []) rest)) may.1))
+    let same = sym (append_assoc front (s ∷ []) rest) in
+    let pieces = scripts_join front (s ∷ rest) in
+    let room : scripts_pieces front + steps_pieces s.steps ≤ most_pieces = omega (arith, pieces, may.2) in
+    let one = script_reach s (with_scripts job front) may.0.0 nodes threads (threads_new front rest s may.1) room in (
+      one,
+      (
+        may.0.1,
+        subst AreThreads same may.1,
+        subst (λ (ss : List NodeScript). scripts_pieces ss ≤ most_pieces) same may.2,
+      ),
+    )
 
 scripts_reach : (job : Job) (front rest : List NodeScript) → job.settings.nodes ≤ 256 → job.settings.threads ≤ 16
     → MayGoOn job front rest
@@ -653,12 +682,14 @@ abbrev pub with_schedule : Job → List TimedEvent → Job
 with_schedule job lines = record job { schedule = Some lines }
 
 -- there is room
-not_full : (nodes lines rounds : ℕ) (t : TimedEvent) → lines < 65536 → rounds + rounds_of t.event ≤ 4096 →
-    (rounds + rounds_of t.event) * nodes ≤ 262144 → is_full nodes lines rounds t.event ≡ false
-not_full nodes lines rounds t a b c = rw (
-  lt-leb 65536 lines a,
-  le-ltb 4096 (rounds + rounds_of t.event) b,
-  le-ltb 262144 ((rounds + rounds_of t.event) * nodes) c,
+not_full : (nodes : ℕ) (so_far : Amounts) (e : ScheduledEvent) → so_far.lines < 65536
+    → so_far.rounds + rounds_of e ≤ 4096 → (so_far.rounds + rounds_of e) * nodes ≤ 262144
+    → so_far.pieces + event_pieces e ≤ 65536 → is_full nodes so_far e ≡ false
+not_full nodes so_far e a b c d = rw (
+  lt-leb 65536 so_far.lines a,
+  le-ltb 4096 (so_far.rounds + rounds_of e) b,
+  le-ltb 262144 ((so_far.rounds + rounds_of e) * nodes) c,
+  le-ltb 65536 (so_far.pieces + event_pieces e) d,
 ) refl
 
 fewer : (a b n limit : ℕ) → a ≤ b → b * n ≤ limit → a * n ≤ limit
@@ -667,9 +698,10 @@ fewer a b n limit h k = let m : a * n ≤ b * n = mul-le-mul_right n h in omega 
 schedule_reach : (job : Job) (front rest : List TimedEvent) → AllByRecursion
     (IsTimed (scope_of job)) rest → length (front ++ rest) ≤ 65536 → total_rounds (front
     ++ rest) ≤ 4096 → total_rounds (front ++ rest) * job.settings.nodes ≤ 262144
+    → scripts_pieces job.scripts + schedule_pieces (front ++ rest) ≤ most_pieces
     → Reaches (record { place = AtSchedule; job = with_schedule job front }) (timed_lines job.settings rest
     ++ end_line ∷ []) (record { place = AtDone; job = with_schedule job (front ++ rest) })
-schedule_reach job front [] all a b c = record {
+schedule_reach job front [] all a b c d = record {
   item = None;
   to = record { place = AtDone; job = with_schedule job front };
   text = refl;
@@ -678,29 +710,32 @@ schedule_reach job front [] all a b c = record {
   behind = ap (λ (lines : List TimedEvent). record { place = AtDone; job = with_schedule job lines }) (sym
       (append-nil front));
 }
-schedule_reach job front (t ∷ rest) all a b c =
+schedule_reach job front (t ∷ rest) all a b c d =
     let many : length (front ++ t ∷ rest) ≡ length front + suc (length rest) = simp length-append in
     let sum = rounds_join front (t ∷ rest) in
     let less : total_rounds front + rounds_of t.event ≤ total_rounds (front ++ t ∷ rest) = omega (arith, sum) in
+    let pieces = schedule_join front (t ∷ rest) in
+    let before = scripts_pieces job.scripts in
+    let same = sym (append_assoc front (t ∷ []) rest) in
     record {
       item = Some t;
       to = record { place = AtSchedule; job = with_schedule job (front ++ t ∷ []) };
       text = refl;
       is = all.0;
-      goes = rw (not_full job.settings.nodes (length front) (total_rounds front) t (omega (arith, many)) (omega
-          (arith, less)) (fewer (total_rounds front + rounds_of t.event) (total_rounds
-          (front ++ t ∷ rest)) job.settings.nodes 262144 less c)) refl;
+      goes = rw (not_full job.settings.nodes (amounts_of before front) t.event (omega (arith, many))
+          (omega (arith, less)) (fewer (total_rounds front + rounds_of t.event) (total_rounds
+          (front ++ t ∷ rest)) job.settings.nodes 262144 less c) (omega (arith, pieces, d))) refl;
       behind = subst (λ (lines : List TimedEvent). Reaches (record {
         place = AtSchedule;
         job = with_schedule job
             (front ++ t ∷ []);
       }) (timed_lines job.settings rest ++ end_line ∷ [])
           (record { place = AtDone; job = with_schedule job lines })) (append_assoc front (t ∷ []) rest)
-          (schedule_reach job (front ++ t ∷ []) rest all.1 (subst (λ (lines : List TimedEvent). length lines ≤ 65536)
-          (sym (append_assoc front (t ∷ []) rest)) a)
-          (subst (λ (lines : List TimedEvent). total_rounds lines ≤ 4096) (sym (append_assoc front (t ∷ []) rest)) b)
-          (subst (λ (lines : List TimedEvent). total_rounds lines * job.settings.nodes ≤ 262144) (sym
-          (append_assoc front (t ∷ []) rest)) c));
+          (schedule_reach job (front ++ t ∷ []) rest all.1
+          (subst (λ (lines : List TimedEvent). length lines ≤ 65536) same a)
+          (subst (λ (lines : List TimedEvent). total_rounds lines ≤ 4096) same b)
+          (subst (λ (lines : List TimedEvent). total_rounds lines * job.settings.nodes ≤ 262144) same c)
+          (subst (λ (lines : List TimedEvent). before + schedule_pieces lines ≤ most_pieces) same d));
     }
 
 -- ---- the whole text
@@ -718,9 +753,10 @@ done_reach job = record {
 
 tail_reach : (job : Job) (schedule : Option (List TimedEvent)) → job.schedule ≡ None
     → IsScheduleOrNone (scope_of job) schedule
+    → scripts_pieces job.scripts + schedule_pieces (lines_of schedule) ≤ most_pieces
     → Reaches (record { place = AtScripts; job = job }) (schedule_lines job.settings schedule ++ done_line ∷ [])
     (record { place = Over; job = record job { schedule = schedule } })
-tail_reach job None e is = record {
+tail_reach job None e is room = record {
   item = section.Done;
   to = record { place = Over; job = job };
   text = refl;
@@ -728,7 +764,7 @@ tail_reach job None e is = record {
   goes = refl;
   behind = ap (λ (s : Option (List TimedEvent)). record { place = Over; job = record job { schedule = s } }) e;
 }
-tail_reach job (Some lines) e is = record {
+tail_reach job (Some lines) e is room = record {
   item = section.Schedule;
   to = record { place = AtSchedule; job = with_schedule job [] };
   text = refl;
@@ -738,7 +774,7 @@ tail_reach job (Some lines) e is = record {
       (record { place = AtDone; job = with_schedule job lines })
       (record { place = Over; job = with_schedule job lines }) (timed_lines job.settings lines ++ end_line ∷ [])
       (done_line ∷ [])
-      (schedule_reach job [] lines is.events_are is.count is.rounds is.rounds_of_nodes) (done_reach
+      (schedule_reach job [] lines is.events_are is.count is.rounds is.rounds_of_nodes room) (done_reach
       (with_schedule job lines));
 }
 
@@ -777,8 +813,11 @@ whole_reach job is =
     let second = with_handlers first job.handlers in
     let handler_part = flat_map handler_lines job.handlers in
     let script_part = flat_map script_lines job.scripts in
-    let scripts = scripts_reach second [] job.scripts is.settings.nodes is.settings.threads (is.scripts, is.threads) in
-    let tail = tail_reach (with_scripts second job.scripts) job.schedule refl is.schedule in
+    let pieces = is.pieces in
+    let few : scripts_pieces job.scripts ≤ most_pieces = omega (arith, pieces) in
+    let scripts = scripts_reach second [] job.scripts is.settings.nodes is.settings.threads
+    (is.scripts, is.threads, few) in
+    let tail = tail_reach (with_scripts second job.scripts) job.schedule refl is.schedule pieces in
     let some = some_lines script_part (schedule_lines job.settings job.schedule) done_line in
     let scripted = handlers_then second (script_part ++ last) over some
     (reach_join (record { place = AtScripts; job = second })

@@ -5,26 +5,36 @@ use Rattle.job_text.specs.declared.job.ScheduledEvent.{ScheduledEvent}
 use Rattle.job_text.specs.declared.job.ScheduledEvent.TheVariants as event
 use Rattle.job_text.specs.declared.job.TimedEvent.{TimedEvent}
 use Rattle.job_text.specs.Forms.{U64}
-use Rattle.job_text.specs.Calls.{call_at, call_text, IsCall}
+use Rattle.job_text.specs.ThreadActions.{thread_action_at, thread_action_text, IsThreadAction}
+use Rattle.job_text.specs.declared.thread_actions.ThreadAction.{ThreadAction}
+use Rattle.job_text.specs.declared.thread_actions.ThreadAction.TheVariants as does
+use Rattle.job_text.specs.Events.{event_of, call_row}
 use Rattle.job_text.specs.Events.{events, event_entry, is_apart, event_at, event_text, IsEvent, timed_at, timed_text}
 use Rattle.job_text.specs.Events.{IsTimed}
 use Rattle.job_text.proofs.Takes.{Takes, takes_some, takes_then}
 use Rattle.job_text.proofs.FormLaws.{IsExact, IsTable, IsEntryOf, entry_of, table_exact}
 use Rattle.job_text.proofs.FormLaws.{IsWordOf, word_at_takes, word_at_again, spaced_takes, word_flat, flat_join}
-use Rattle.job_text.proofs.CallLaws.{calls_exact}
+use Rattle.job_text.proofs.VisLaws.{thread_actions_exact}
 
 -- an entry makes its event, by the first row of its name
 event_again : (nodes threads : ℕ) (e : ScheduledEvent) → IsEntryOf (events nodes threads) (event_entry nodes threads) e
 event_again nodes threads (event.Call node thread call) = entry_of refl refl refl
+event_again nodes threads (event.Vis node thread vis) = entry_of refl refl refl
 event_again nodes threads (event.Request from to number) = entry_of refl refl refl
 event_again nodes threads (event.Reply from to number) = entry_of refl refl refl
 event_again nodes threads (event.Tick node) = entry_of refl refl refl
 event_again nodes threads (event.Settle rounds) = entry_of refl refl refl
 
+-- what a thread does has its row
+action_makes : (nodes threads node thread : ℕ) (a : ThreadAction) → event_entry nodes threads (event_of node thread a)
+    ≡ record { row = call_row nodes threads; values = (node, (thread, a)) }
+action_makes nodes threads node thread (does.Call c) = refl
+action_makes nodes threads node thread (does.Vis vis) = refl
+
 -- the rows make what the entries say
 events_are : (nodes threads : ℕ) → IsTable (events nodes threads) (event_entry nodes threads) is_apart
 events_are nodes threads = record {
-  makes = (λ v. refl, (λ v. refl, (λ v. refl, (λ v. refl, (λ v. refl, tt)))));
+  makes = (λ v. action_makes nodes threads v.0 v.1.0 v.1.1, (λ v. refl, (λ v. refl, (λ v. refl, (λ v. refl, tt)))));
   again = λ e h. event_again nodes threads e;
 }
 
@@ -41,8 +51,8 @@ unfolding event_at
 events_exact scope =
     let nodes = scope.settings.nodes in
     let threads = scope.settings.threads in
-    table_exact (call_at scope) call_text (IsCall scope) (events nodes threads) (event_entry nodes threads) is_apart
-    (calls_exact scope) (events_are nodes threads)
+    table_exact (thread_action_at scope) thread_action_text (IsThreadAction scope) (events nodes threads) (event_entry nodes threads) is_apart
+    (thread_actions_exact scope) (events_are nodes threads)
 
 -- a line of a schedule, and the bytes after it
 abbrev pub IsTimedOf : Scope → List ℕ → TimedEvent × List ℕ → Type 0

@@ -1,12 +1,13 @@
 -- Reading by a table of forms is the inverse of writing.
 use Rattle.std.proofs.Common.{◌≡◌, ℕ, zero, suc, ◌+◌, ◌≤◌, List, [], ◌∷◌, ◌++◌, length, Bool, true, false, cond, eqb}
-use Rattle.std.proofs.Common.{Option, Some, refl, ap, sym, subst, ◌∙◌, arith, append_assoc, length-append}
+use Rattle.std.proofs.Common.{Option, Some, refl, ap, sym, subst, ◌∙◌, arith, decimal, append_assoc, length-append}
 use Rattle.std.specs.List.{AllByRecursion, flat_map}
 use Rattle.std.specs.Str.{bytes_eq}
 use Rattle.std.proofs.lemmas.Bool.{leb-true, le-leb, eqb-true, or_parts}
 use Rattle.job_text.specs.Lines.{Word, is_stop, front, back, spaced, ended}
 use Rattle.job_text.specs.Forms.{Part, Meaning, word_text, IsSaid, word_at, part_at, has_space, each_at, parts_at}
 use Rattle.job_text.specs.Forms.{many_at, Together, together_text, AreTogether, together_at}
+use Rattle.job_text.specs.Forms.{Strides, Spans, Split, Number, split_at, split_text}
 use Rattle.job_text.specs.Forms.{Bundle, Operations, parts_of, Bundled, bundled, unbundled, bundle_text, IsBundle}
 use Rattle.job_text.specs.Forms.{bundle_at, bundles_at}
 use Rattle.job_text.specs.Forms.{Shape, End, ◌▸◌, Many, Any, Bundles, Inner, Values, made, values_at, values_text}
@@ -122,11 +123,12 @@ pub record IsSpaced {A : Type 0} (at : List ℕ → Option (A × List ℕ)) (tex
 
 -- a list of it ends where a word ends
 each_ends : {A : Type 0} (at : List ℕ → Option (A × List ℕ)) (text : A → List ℕ) (fits : A → Type 0)
-    → IsSpaced at text fits → (xs : List A) (rest : List ℕ) → is_end (flat_map text xs ++ 10 ∷ rest) ≡ true
-each_ends at text fits is [] rest = refl
-each_ends at text fits is (x ∷ xs) rest =
-    rw (append_assoc (text x) (flat_map text xs) (10 ∷ rest))
-    (space_ends (text x ++ (flat_map text xs ++ 10 ∷ rest)) (is.space x (flat_map text xs ++ 10 ∷ rest)))
+    → IsSpaced at text fits → (xs : List A) (rest : List ℕ) → is_end rest ≡ true
+    → is_end (flat_map text xs ++ rest) ≡ true
+each_ends at text fits is [] rest e = e
+each_ends at text fits is (x ∷ xs) rest e =
+    rw (append_assoc (text x) (flat_map text xs) rest)
+    (space_ends (text x ++ (flat_map text xs ++ rest)) (is.space x (flat_map text xs ++ rest)))
   where
     space_ends : (bytes : List ℕ) → has_space bytes ≡ true → is_end bytes ≡ true
     space_ends [] e = refl
@@ -144,8 +146,22 @@ each_again at text fits is (suc most) (x ∷ xs) rest le h =
     rw (
       append_assoc (text x) (flat_map text xs) (10 ∷ rest),
       is.space x (flat_map text xs ++ 10 ∷ rest),
-      is.again x (flat_map text xs ++ 10 ∷ rest) h.0 (each_ends at text fits is xs rest),
+      is.again x (flat_map text xs ++ 10 ∷ rest) h.0 (each_ends at text fits is xs (10 ∷ rest) refl),
       each_again at text fits is most xs rest (omega arith) h.1,
+    ) refl
+
+-- so many as there are, before whatever ends a word
+each_full : {A : Type 0} (at : List ℕ → Option (A × List ℕ)) (text : A → List ℕ) (fits : A → Type 0)
+    → IsSpaced at text fits → (xs : List A) (rest : List ℕ) → AllByRecursion fits xs → is_end rest ≡ true
+    → each_at at (length xs) (flat_map text xs ++ rest) ≡ Some (xs, rest)
+unfolding each_at
+each_full at text fits is [] rest h e = refl
+each_full at text fits is (x ∷ xs) rest h e =
+    rw (
+      append_assoc (text x) (flat_map text xs) rest,
+      is.space x (flat_map text xs ++ rest),
+      is.again x (flat_map text xs ++ rest) h.0 (each_ends at text fits is xs rest e),
+      each_full at text fits is xs rest h.1 e,
     ) refl
 
 -- ---- lists of words
@@ -224,9 +240,13 @@ together_again (p ∷ parts) said rest h e =
 -- what they make has them again
 bundled_back : (b : Bundle) (said : Together (parts_of b)) → unbundled b (bundled b said) ≡ said
 bundled_back Operations said = refl
+bundled_back Strides said = refl
+bundled_back Spans said = refl
 
 unbundled_back : (b : Bundle) (value : Bundled b) → bundled b (unbundled b value) ≡ value
 unbundled_back Operations value = refl
+unbundled_back Strides value = refl
+unbundled_back Spans value = refl
 
 -- the bytes are the text of a bundle, and the bytes after it
 abbrev pub IsBundleOf : (b : Bundle) → List ℕ → Bundled b × List ℕ → Type 0
@@ -242,6 +262,8 @@ bundle_takes b bytes =
 
 bundle_space : (b : Bundle) (value : Bundled b) (rest : List ℕ) → has_space (bundle_text b value ++ rest) ≡ true
 bundle_space Operations value rest = refl
+bundle_space Strides value rest = refl
+bundle_space Spans value rest = refl
 
 bundle_spaced : (b : Bundle) → IsSpaced (bundle_at b) (bundle_text b) (IsBundle b)
 unfolding bundle_at
@@ -249,6 +271,71 @@ bundle_spaced b = record {
   again = λ value rest h e. rw (together_again (parts_of b) (unbundled b value) rest h e, unbundled_back b value) refl;
   space = bundle_space b;
 }
+
+-- a list of bundles that was read
+abbrev pub AreBundlesOf : (least most : ℕ) → (b : Bundle) → List ℕ → List (Bundled b) × List ℕ → Type 0
+AreBundlesOf least most b bytes xs = (bytes ≡ flat_map (bundle_text b) xs.0 ++ xs.1) × (least ≤ length xs.0)
+    × (length xs.0 ≤ most) × AllByRecursion (IsBundle b) xs.0
+
+bundles_takes : (least most : ℕ) (b : Bundle) (bytes : List ℕ) → Takes (AreBundlesOf least most b bytes)
+    (bundles_at least most b bytes)
+unfolding bundles_at
+bundles_takes least most b bytes =
+    takes_then (AreEachOf (bundle_text b) (IsBundle b) most bytes)
+    (each_takes (bundle_at b) (bundle_text b) (IsBundle b) (bundle_takes b) most bytes) (λ xs h.
+    takes_if (λ t. takes_some (h.0, leb-true least (length xs.0) t, h.1, h.2)) (λ t. takes_none))
+
+-- two lists of which the first is counted
+abbrev pub AreSplitOf : (most : ℕ) → (b : Bundle) → List ℕ → (List (Bundled b) × List (Bundled b)) × List ℕ → Type 0
+AreSplitOf most b bytes x = (bytes ≡ split_text b x.0 ++ x.1) × (IsSaid (Number 1 most) (length x.0.0)
+    × AllByRecursion (IsBundle b) x.0.0 × (1 ≤ length x.0.1) × (length x.0.1 ≤ most)
+    × AllByRecursion (IsBundle b) x.0.1)
+
+-- the parts of them, joined
+split_joined : (b : Bundle) (xs ys : List (Bundled b)) (count : ℕ) (bytes r s rest : List ℕ)
+    → bytes ≡ 32 ∷ (decimal count ++ r) → r ≡ flat_map (bundle_text b) xs ++ s
+    → s ≡ flat_map (bundle_text b) ys ++ rest → length xs ≡ count → bytes ≡ split_text b (xs, ys) ++ rest
+split_joined b xs ys count bytes r s rest h k m e =
+    let first = flat_map (bundle_text b) xs in
+    let others = flat_map (bundle_text b) ys in
+    h ∙ ap (λ (x : List ℕ). 32 ∷ (decimal count ++ x)) (k ∙ ap (λ (x : List ℕ). first ++ x) m)
+    ∙ ap (λ (n : ℕ). 32 ∷ (decimal n ++ (first ++ (others ++ rest)))) (sym e)
+    ∙ ap (λ (x : List ℕ). 32 ∷ (decimal (length xs) ++ x)) (sym (append_assoc first others rest))
+    ∙ ap (λ (x : List ℕ). 32 ∷ x) (sym (append_assoc (decimal (length xs)) (first ++ others) rest))
+
+split_takes : (most : ℕ) (b : Bundle) (bytes : List ℕ) → Takes (AreSplitOf most b bytes) (split_at most b bytes)
+unfolding split_at
+split_takes most b bytes =
+    takes_then (IsPartOf (Number 1 most) bytes) (part_at_takes (Number 1 most) bytes) (λ count h.
+    takes_then (AreBundlesOf count.0 count.0 b count.1) (bundles_takes count.0 count.0 b count.1) (λ xs k.
+    takes_then (AreBundlesOf 1 most b xs.1) (bundles_takes 1 most b xs.1) (λ ys m.
+    let low = k.1 in
+    let high = k.2 in
+    let same : length xs.0 ≡ count.0 = omega (arith, low, high) in
+    takes_some {P = AreSplitOf most b bytes} {x = ((xs.0, ys.0), ys.1)} (
+      split_joined b xs.0 ys.0 count.0 bytes count.1 xs.1 ys.1 h.0 k.0 m.0 same,
+      (subst (λ (n : ℕ). IsSaid (Number 1 most) n) (sym same) h.1, k.3, m.1, m.2, m.3),
+    ))))
+
+split_again : (most : ℕ) (b : Bundle) (v : List (Bundled b) × List (Bundled b)) (rest : List ℕ)
+    → IsSaid (Number 1 most) (length v.0) → AllByRecursion (IsBundle b) v.0 → 1 ≤ length v.1 → length v.1 ≤ most
+    → AllByRecursion (IsBundle b) v.1 → split_at most b (split_text b v ++ 10 ∷ rest) ≡ Some (v, 10 ∷ rest)
+unfolding split_at bundles_at
+split_again most b v rest said first low high others =
+    let spaced = bundle_spaced b in
+    let firsts = flat_map (bundle_text b) v.0 in
+    let tail = flat_map (bundle_text b) v.1 ++ 10 ∷ rest in
+    let ends = each_ends (bundle_at b) (bundle_text b) (IsBundle b) spaced v.1 (10 ∷ rest) refl in
+    rw (
+      append_assoc (decimal (length v.0)) (firsts ++ flat_map (bundle_text b) v.1) (10 ∷ rest),
+      append_assoc firsts (flat_map (bundle_text b) v.1) (10 ∷ rest),
+      part_at_again (Number 1 most) (length v.0) (firsts ++ tail) said
+          (each_ends (bundle_at b) (bundle_text b) (IsBundle b) spaced v.0 tail ends),
+      each_full (bundle_at b) (bundle_text b) (IsBundle b) spaced v.0 tail first ends,
+      le-leb (length v.0) (length v.0) (omega arith),
+      each_again (bundle_at b) (bundle_text b) (IsBundle b) spaced most v.1 rest high others,
+      le-leb 1 (length v.1) low,
+    ) refl
 
 -- ---- what follows a name
 
@@ -293,6 +380,18 @@ bundles_flat b (value ∷ values) h =
     flat_join (bundle_text b value) (flat_map (bundle_text b) values)
     (together_flat (parts_of b) (unbundled b value) h.0) (bundles_flat b values h.1)
 
+-- nor two lists of which the first is counted
+split_flat : (most : ℕ) (b : Bundle) (v : List (Bundled b) × List (Bundled b))
+    → IsSaid (Number 1 most) (length v.0) → AllByRecursion (IsBundle b) v.0 → AllByRecursion (IsBundle b) v.1
+    → IsFlat (split_text b v)
+split_flat most b v said first others = (
+  refl,
+  flat_join (decimal (length v.0)) (flat_map (bundle_text b) v.0 ++ flat_map (bundle_text b) v.1)
+      (word_flat (Number 1 most) (length v.0) said)
+      (flat_join (flat_map (bundle_text b) v.0) (flat_map (bundle_text b) v.1) (bundles_flat b v.0 first)
+      (bundles_flat b v.1 others)),
+)
+
 -- what reads and writes the lines of another table
 pub record IsExact {X : Type 0} (at : List ℕ → Option (X × List ℕ)) (text : X → List ℕ) (fits : X
     → Type 0) : Type 0 where
@@ -331,6 +430,7 @@ values_takes at text fits exact (Bundles least most b) bytes =
     takes_then (AreEachOf (bundle_text b) (IsBundle b) most bytes)
     (each_takes (bundle_at b) (bundle_text b) (IsBundle b) (bundle_takes b) most bytes) (λ xs h.
     takes_if (λ t. takes_some (h.0, (leb-true least (length xs.0) t, h.1, h.2))) (λ t. takes_none))
+values_takes at text fits exact (Split most b) bytes = split_takes most b bytes
 values_takes {X} at text fits exact Inner bytes =
     takes_then (λ rest. bytes ≡ 32 ∷ rest) (spaced_takes bytes) (λ rest e.
     takes_weaker (λ (x : X × List ℕ). (rest ≡ text x.0 ++ x.1) × fits x.0) (exact.takes rest) (λ x h.
@@ -344,7 +444,8 @@ values_end text (p ▸ s) v rest = refl
 values_end text (Many least most p) v rest = parts_end p v rest
 values_end text (Any p) v rest = parts_end p v rest
 values_end text (Bundles least most b) v rest =
-    each_ends (bundle_at b) (bundle_text b) (IsBundle b) (bundle_spaced b) v rest
+    each_ends (bundle_at b) (bundle_text b) (IsBundle b) (bundle_spaced b) v (10 ∷ rest) refl
+values_end text (Split most b) v rest = refl
 values_end text Inner v rest = refl
 
 pub values_again : {X : Type 0} (at : List ℕ → Option (X × List ℕ)) (text : X → List ℕ) (fits : X → Type 0)
@@ -368,6 +469,7 @@ values_again at text fits exact (Bundles least most b) v rest h =
       each_again (bundle_at b) (bundle_text b) (IsBundle b) (bundle_spaced b) most v rest h.1 h.2,
       le-leb least (length v) h.0,
     ) refl
+values_again at text fits exact (Split most b) v rest h = split_again most b v rest h.0 h.1 h.2 h.3 h.4
 values_again at text fits exact Inner v rest h = exact.again v rest h
 
 -- the values of a line end no line
@@ -382,6 +484,7 @@ values_flat at text fits exact (p ▸ s) v h = (
 values_flat at text fits exact (Many least most p) v h = parts_flat p v h.2
 values_flat at text fits exact (Any p) v h = parts_flat p v h
 values_flat at text fits exact (Bundles least most b) v h = bundles_flat b v h.2
+values_flat at text fits exact (Split most b) v h = split_flat most b v h.0 h.1 h.4
 values_flat at text fits exact Inner v h = (refl, exact.flat v h)
 
 -- ---- tables

@@ -1,20 +1,28 @@
 -- The lines of handlers, of scripts and of the schedule, as loops read them.
-use Rattle.std.proofs.Common.{◌≡◌, ℕ, ◌+◌, ◌*◌, ◌<◌, ◌≤◌, ◌||◌, List, [], ◌∷◌, ◌++◌, length, leb, ltb, subst, Option}
+use Rattle.std.proofs.Common.{◌≡◌, ℕ, ◌+◌, ◌*◌, ◌<◌, ◌≤◌, ◌||◌, List, [], ◌∷◌, ◌++◌, length, leb, ltb, Option}
 use Rattle.std.proofs.Common.{Some, None, Result, Err, Bool, true, false, cond, refl, ap, sym, ◌∙◌, arith}
+use Rattle.std.proofs.Common.{length-append}
 use Rattle.std.proofs.lemmas.Bool.{leb-false, ltb-false, ltb-true, lt-ltb, and_parts, and_from, or_parts}
 use Rattle.job_text.specs.Reasons.{reason, why_of}
 use Rattle.job_text.specs.Places.{section_fits}
 use Rattle.job_text.specs.JobReading.{has_thread, has_index, is_reserved, most_handlers, handler_why, section_why}
 use Rattle.job_text.specs.JobReading.{behind_scripts, behind_section}
-use Rattle.job_text.specs.JobReading.{is_schedule, BadLine, is_full, admitted, total_rounds, rounds_of}
+use Rattle.job_text.specs.JobReading.{is_schedule, BadLine, amounts_of, with_event, is_full, admitted, total_rounds}
+use Rattle.job_text.specs.JobReading.{rounds_of, is_full_script}
+use Rattle.job_text.specs.PlanPieces.{event_pieces, schedule_pieces}
+use Rattle.job_text.specs.StepPieces.{step_pieces}
 use Rattle.job_text.specs.declared.fault.JobWhy.{JobWhy}
 use Rattle.job_text.specs.declared.fault.JobWhy.TheVariants.{Count, Entry}
 use Rattle.job_text.specs.declared.job.HandlerText.{HandlerText}
 use Rattle.job_text.specs.declared.job.Job.{Job}
 use Rattle.job_text.specs.declared.job.NodeScript.{NodeScript}
+use Rattle.job_text.specs.declared.job.ScheduledEvent.{ScheduledEvent}
+use Rattle.job_text.specs.declared.job.ScriptStep.{ScriptStep}
 use Rattle.job_text.specs.declared.job.TimedEvent.{TimedEvent}
+use Rattle.job_text.specs.declared.schedules.Amounts.{Amounts}
 use Rattle.job_text.specs.declared.sections.Section.{Section}
 use Rattle.job_text.specs.declared.sections.Section.TheVariants as section
+use Rattle.job_text.proofs.PlanPieces.{schedule_more}
 
 -- a reason that was found is the reason
 pub told_by : {A : Type 0} (total : Result A BadLine) (line : ℕ) (why found : JobWhy) → total ≡ Err
@@ -79,23 +87,22 @@ room_for atomics handlers index h =
 
 -- ---- the schedule
 
--- a line that is let in, and one that isn't
-let_in_by : (b : Bool) (e v : TimedEvent) → ◌≡◌ {A = Option TimedEvent} (cond b None (Some e)) (Some v) → (b ≡ false)
-    × (e ≡ v)
-let_in_by true e v h = absurd (cc)
-let_in_by false e v h = (refl, cc)
+-- an event that is let in, and one that isn't
+let_in_by : (b : Bool) (a v : Amounts) → ◌≡◌ {A = Option Amounts} (cond b None (Some a)) (Some v) → (b ≡ false) × (a ≡ v)
+let_in_by true a v h = absurd (cc)
+let_in_by false a v h = (refl, cc)
 
-kept_out_by : (b : Bool) (e : TimedEvent) → ◌≡◌ {A = Option TimedEvent} (cond b None (Some e)) None → b ≡ true
-kept_out_by true e h = refl
-kept_out_by false e h = absurd (cc)
+kept_out_by : (b : Bool) (a : Amounts) → ◌≡◌ {A = Option Amounts} (cond b None (Some a)) None → b ≡ true
+kept_out_by true a h = refl
+kept_out_by false a h = absurd (cc)
 
-pub let_in : (nodes lines rounds : ℕ) (e v : TimedEvent) → admitted nodes lines rounds e ≡ Some v →
-    (is_full nodes lines rounds e.event ≡ false) × (e ≡ v)
-let_in nodes lines rounds e v h = let_in_by (is_full nodes lines rounds e.event) e v h
+pub let_in : (nodes : ℕ) (so_far : Amounts) (e : ScheduledEvent) (v : Amounts) → admitted nodes so_far e ≡ Some v →
+    (is_full nodes so_far e ≡ false) × (with_event so_far e ≡ v)
+let_in nodes so_far e v h = let_in_by (is_full nodes so_far e) (with_event so_far e) v h
 
-pub kept_out : (nodes lines rounds : ℕ) (e : TimedEvent) → admitted nodes lines rounds e ≡ None
-    → is_full nodes lines rounds e.event ≡ true
-kept_out nodes lines rounds e h = kept_out_by (is_full nodes lines rounds e.event) e h
+pub kept_out : (nodes : ℕ) (so_far : Amounts) (e : ScheduledEvent) → admitted nodes so_far e ≡ None
+    → is_full nodes so_far e ≡ true
+kept_out nodes so_far e h = kept_out_by (is_full nodes so_far e) (with_event so_far e) h
 
 -- the rounds with one line more
 pub rounds_more : (lines : List TimedEvent) (e : TimedEvent) → total_rounds (lines ++ e ∷ [])
@@ -103,21 +110,43 @@ pub rounds_more : (lines : List TimedEvent) (e : TimedEvent) → total_rounds (l
 rounds_more [] e = omega arith
 rounds_more (l ∷ lines) e = let more = rounds_more lines e in omega arith
 
--- where a line is let in, there is room for it
-few_by : (lines rounds nodes : ℕ) → (leb 65536 lines || (ltb 4096 rounds || ltb 262144 (rounds * nodes))) ≡ false →
-    (lines < 65536) × (rounds ≤ 4096) × (rounds * nodes ≤ 262144)
-few_by lines rounds nodes h =
-    let a = or_parts (leb 65536 lines) (ltb 4096 rounds || ltb 262144 (rounds * nodes)) h in
-    let b = or_parts (ltb 4096 rounds) (ltb 262144 (rounds * nodes)) a.1 in
-    (leb-false 65536 lines a.0, ltb-false 4096 rounds b.0, ltb-false 262144 (rounds * nodes) b.1)
+-- how much there is with one line more
+same_amounts : (lines rounds pieces l r p : ℕ) → lines ≡ l → rounds ≡ r → pieces ≡ p → ◌≡◌ {A = Amounts}
+    (record { lines = lines; rounds = rounds; pieces = pieces }) (record { lines = l; rounds = r; pieces = p })
+same_amounts lines rounds pieces l r p e f g = rw (e, f, g) refl
 
-pub few_full : (nodes lines rounds : ℕ) (e : TimedEvent) → is_full nodes lines rounds e.event ≡ false →
-    (lines < 65536) × (rounds + rounds_of e.event ≤ 4096) × ((rounds + rounds_of e.event) * nodes ≤ 262144)
-few_full nodes lines rounds e h = few_by lines (rounds + rounds_of e.event) nodes h
+pub amounts_more : (before : ℕ) (lines : List TimedEvent) (t : TimedEvent) → amounts_of before (lines ++ t ∷ [])
+    ≡ with_event (amounts_of before lines) t.event
+amounts_more before lines t =
+    let pieces = schedule_more lines t in
+    same_amounts (length (lines ++ t ∷ [])) (total_rounds (lines ++ t ∷ [])) (before + schedule_pieces
+    (lines ++ t ∷ [])) (length lines + 1) (total_rounds lines + rounds_of t.event) (before + schedule_pieces lines
+    + event_pieces t.event) (simp length-append) (rounds_more lines t) (omega (arith, pieces))
 
-pub few_more : (nodes lines rounds : ℕ) (e v : TimedEvent) → admitted nodes lines rounds e ≡ Some v → (lines < 65536)
-    × (rounds + rounds_of v.event ≤ 4096)
-few_more nodes lines rounds e v h =
-    let p = let_in nodes lines rounds e v h in
-    let q = few_full nodes lines rounds e p.0 in
-    subst (λ (w : TimedEvent). (lines < 65536) × (rounds + rounds_of w.event ≤ 4096)) p.1 (q.0, q.1)
+-- where an event is let in, there is room for it
+few_by : (lines rounds nodes pieces : ℕ)
+    → (leb 65536 lines || ((ltb 4096 rounds || ltb 262144 (rounds * nodes)) || ltb 65536 pieces)) ≡ false →
+    (lines < 65536) × (rounds ≤ 4096) × (rounds * nodes ≤ 262144) × (pieces ≤ 65536)
+few_by lines rounds nodes pieces h =
+    let many = ltb 4096 rounds || ltb 262144 (rounds * nodes) in
+    let a = or_parts (leb 65536 lines) (many || ltb 65536 pieces) h in
+    let b = or_parts many (ltb 65536 pieces) a.1 in
+    let c = or_parts (ltb 4096 rounds) (ltb 262144 (rounds * nodes)) b.0 in (
+      leb-false 65536 lines a.0,
+      ltb-false 4096 rounds c.0,
+      ltb-false 262144 (rounds * nodes) c.1,
+      ltb-false 65536 pieces b.1,
+    )
+
+pub few_full : (nodes : ℕ) (so_far : Amounts) (e : ScheduledEvent) → is_full nodes so_far e ≡ false →
+    (so_far.lines < 65536) × (so_far.rounds + rounds_of e ≤ 4096) × ((so_far.rounds + rounds_of e) * nodes ≤ 262144)
+    × (so_far.pieces + event_pieces e ≤ 65536)
+few_full nodes so_far e h =
+    few_by so_far.lines (so_far.rounds + rounds_of e) nodes (so_far.pieces + event_pieces e) h
+
+-- where a step is let in, there is room for it
+pub few_steps : (pieces steps : ℕ) (s : ScriptStep) → is_full_script pieces steps s ≡ false →
+    (steps < 4096) × (pieces + step_pieces s ≤ 65536)
+few_steps pieces steps s h =
+    let parts = or_parts (leb 4096 steps) (ltb 65536 (pieces + step_pieces s)) h in
+    (leb-false 4096 steps parts.0, ltb-false 65536 (pieces + step_pieces s) parts.1)

@@ -1,5 +1,5 @@
 -- What was read so far is in range.
-use Rattle.std.proofs.Common.{◌≡◌, ℕ, zero, suc, ◌*◌, ◌-◌, ◌%◌, ◌<◌, ◌≤◌, ◌^◌, ◌&&◌, Bool, true, false, eqb, leb}
+use Rattle.std.proofs.Common.{◌≡◌, ℕ, zero, suc, ◌+◌, ◌*◌, ◌-◌, ◌%◌, ◌<◌, ◌≤◌, ◌^◌, ◌&&◌, Bool, true, false, eqb, leb}
 use Rattle.std.proofs.Common.{cond, List, [], ◌∷◌, ◌++◌, length, take, Option, Some, None, refl, ap, ◌∙◌, arith}
 use Rattle.std.proofs.Common.{length-append}
 use Rattle.std.specs.List.{AllByRecursion}
@@ -17,9 +17,11 @@ use Rattle.job_text.specs.Scopes.{scope_of}
 use Rattle.job_text.specs.declared.scope.Scope.{Scope}
 use Rattle.job_text.specs.JobReading.{with_atomics, is_reserved, most_handlers}
 use Rattle.job_text.specs.JobText.{AreUnreserved}
-use Rattle.job_text.specs.JobReading.{total_rounds, has_index, has_pair, has_thread, line_why, is_full}
+use Rattle.job_text.specs.JobReading.{amounts_of, has_index, has_pair, has_thread, line_why, is_full}
+use Rattle.job_text.specs.PlanPieces.{most_pieces, schedule_pieces, scripts_pieces}
+use Rattle.job_text.specs.StepPieces.{steps_pieces}
 use Rattle.job_text.specs.JobText.{IsHandler, IsNodeScript, AreThreads, IsSchedule, IsScheduleOrNone, IsSieve}
-use Rattle.job_text.specs.JobText.{with_first_pairs, IsJob}
+use Rattle.job_text.specs.JobText.{with_first_pairs, all_pieces, IsJob}
 use Rattle.job_text.specs.declared.fault.JobWhy.{JobWhy}
 use Rattle.job_text.specs.declared.job.HandlerText.{HandlerText}
 use Rattle.job_text.specs.declared.job.Job.{Job}
@@ -27,6 +29,7 @@ use Rattle.job_text.specs.declared.job.NodeScript.{NodeScript}
 use Rattle.job_text.specs.declared.job.TimedEvent.{TimedEvent}
 use Rattle.job_text.proofs.Freshness.{AreFresh, fresh_apart, fresh_more, fresh_from}
 use Rattle.job_text.proofs.HandlerRuns.{few_full, rounds_more}
+use Rattle.job_text.proofs.PlanPieces.{schedule_more as pieces_more, scripts_more}
 use Rattle.job_text.proofs.Threads.{threads_more}
 use Rattle.job_text.proofs.Ranges.{IsNumber, AreNumbers, settings_range, segments_few, fitting, is_pair, pair_range}
 
@@ -151,6 +154,7 @@ pub record IsSound (job : Job) : Type 0 where
   pub scripts : AllByRecursion (IsNodeScript (scope_of job)) job.scripts
   pub threads : AreThreads job.scripts
   pub schedule : IsScheduleOrNone (scope_of job) job.schedule
+  pub pieces : all_pieces job ≤ most_pieces
 
 -- it is a job
 pub sound_job : (job : Job) → IsSound job → IsJob job
@@ -172,7 +176,15 @@ sound_job job is = record {
   scripts = is.scripts;
   threads = is.threads;
   schedule = is.schedule;
+  pieces = is.pieces;
 }
+
+-- no pieces
+no_pieces : (scripts : List NodeScript) (schedule : Option (List TimedEvent)) → scripts ≡ [] → schedule ≡ None
+    → scripts_pieces scripts + schedule_pieces (lines_of schedule) ≤ most_pieces
+no_pieces [] None e f = omega arith
+no_pieces (s ∷ ss) schedule e f = absurd (cc)
+no_pieces [] (Some lines) e f = absurd (cc)
 
 -- a head is a job
 pub head_sound : (job : Job) → IsHead job → IsSound job
@@ -200,6 +212,7 @@ head_sound job is =
       scripts = scripts.0;
       threads = scripts.1;
       schedule = none_is (scope_of job) job.schedule is.schedule;
+      pieces = no_pieces job.scripts job.schedule is.scripts is.schedule;
     }
 
 -- ---- pairs
@@ -255,6 +268,7 @@ pair_sound job pair is fits low high new few unscripted none =
       scripts = (no_script (scope_of (with_own pair job)) job.scripts unscripted).0;
       threads = is.threads;
       schedule = none_is (scope_of (with_own pair job)) job.schedule none;
+      pieces = is.pieces;
     }
 
 -- ---- handlers
@@ -289,6 +303,7 @@ atomics_sound job is second unhandled unscripted none =
       scripts = (no_script scope job.scripts unscripted).0;
       threads = is.threads;
       schedule = none_is scope job.schedule none;
+      pieces = is.pieces;
     }
 
 pub handler_sound : (job : Job) (handler : HandlerText) → IsSound job → IsHandler handler
@@ -313,63 +328,72 @@ handler_sound job handler is one new free few = record {
   scripts = is.scripts;
   threads = is.threads;
   schedule = is.schedule;
+  pieces = is.pieces;
 }
 
 -- ---- scripts
 
 pub script_sound : (job : Job) (script : NodeScript) → IsSound job
     → IsNodeScript (scope_of job) script
-    → has_thread job.scripts script.node script.thread ≡ false → IsSound (with_script script job)
-script_sound job script is one new = record {
-  settings = is.settings;
-  segment = is.segment;
-  segments = is.segments;
-  job_fits = is.job_fits;
-  last_fits = is.last_fits;
-  sums = is.sums;
-  some_patience = is.some_patience;
-  patience = is.patience;
-  sieve = is.sieve;
-  atomics = is.atomics;
-  few_handlers = is.few_handlers;
-  handlers = is.handlers;
-  fresh = is.fresh;
-  unreserved = is.unreserved;
-  scripts = all_more (IsNodeScript (scope_of job)) job.scripts script is.scripts one;
-  threads = threads_more job.scripts script is.threads new;
-  schedule = is.schedule;
-}
+    → has_thread job.scripts script.node script.thread ≡ false → job.schedule ≡ None
+    → scripts_pieces job.scripts + steps_pieces script.steps ≤ most_pieces → IsSound (with_script script job)
+script_sound job script is one new none room =
+    let more = scripts_more job.scripts script in
+    let pieces : scripts_pieces (job.scripts ++ script ∷ []) + 0 ≤ most_pieces = omega (arith, more, room) in
+    record {
+      settings = is.settings;
+      segment = is.segment;
+      segments = is.segments;
+      job_fits = is.job_fits;
+      last_fits = is.last_fits;
+      sums = is.sums;
+      some_patience = is.some_patience;
+      patience = is.patience;
+      sieve = is.sieve;
+      atomics = is.atomics;
+      few_handlers = is.few_handlers;
+      handlers = is.handlers;
+      fresh = is.fresh;
+      unreserved = is.unreserved;
+      scripts = all_more (IsNodeScript (scope_of job)) job.scripts script is.scripts one;
+      threads = threads_more job.scripts script is.threads new;
+      schedule = is.schedule;
+      pieces = rw none pieces;
+    }
 
 -- ---- the schedule
 
 -- a schedule of no line
 pub empty_sound : (job : Job) → IsSound job → IsSound (record job { schedule = Some [] })
-empty_sound job is = record {
-  settings = is.settings;
-  segment = is.segment;
-  segments = is.segments;
-  job_fits = is.job_fits;
-  last_fits = is.last_fits;
-  sums = is.sums;
-  some_patience = is.some_patience;
-  patience = is.patience;
-  sieve = is.sieve;
-  atomics = is.atomics;
-  few_handlers = is.few_handlers;
-  handlers = is.handlers;
-  fresh = is.fresh;
-  unreserved = is.unreserved;
-  scripts = is.scripts;
-  threads = is.threads;
-  schedule = record { count = omega arith; rounds = omega arith; rounds_of_nodes = omega arith; events_are = tt };
-}
+empty_sound job is =
+    let few = is.pieces in
+    record {
+      settings = is.settings;
+      segment = is.segment;
+      segments = is.segments;
+      job_fits = is.job_fits;
+      last_fits = is.last_fits;
+      sums = is.sums;
+      some_patience = is.some_patience;
+      patience = is.patience;
+      sieve = is.sieve;
+      atomics = is.atomics;
+      few_handlers = is.few_handlers;
+      handlers = is.handlers;
+      fresh = is.fresh;
+      unreserved = is.unreserved;
+      scripts = is.scripts;
+      threads = is.threads;
+      schedule = record { count = omega arith; rounds = omega arith; rounds_of_nodes = omega arith; events_are = tt };
+      pieces = omega (arith, few);
+    }
 
 -- one more line
 schedule_more : (scope : Scope) (lines : List TimedEvent) (t : TimedEvent) → IsSchedule scope lines
-    → IsTimed scope t → is_full scope.settings.nodes (length lines) (total_rounds lines) t.event
-    ≡ false → IsSchedule scope (lines ++ t ∷ [])
-schedule_more scope lines t is one room =
-    let few = few_full scope.settings.nodes (length lines) (total_rounds lines) t room in
+    → IsTimed scope t → (before : ℕ) → is_full scope.settings.nodes (amounts_of before lines) t.event ≡ false
+    → IsSchedule scope (lines ++ t ∷ [])
+schedule_more scope lines t is one before room =
+    let few = few_full scope.settings.nodes (amounts_of before lines) t.event room in
     let more = rounds_more lines t in
     record {
       count = simp length-append (omega (arith, few.0));
@@ -388,27 +412,33 @@ full_by true w h = absurd (cc)
 full_by false w h = refl
 
 pub line_sound : (job : Job) (t : TimedEvent) → IsSound job → (lines : List TimedEvent) × (job.schedule ≡ Some lines)
-    → IsTimed (scope_of job) t → line_why job.settings.nodes (lines_of job.schedule) t
-    ≡ None → IsSound (with_line t job)
-line_sound job t is some one free = record {
-  settings = is.settings;
-  segment = is.segment;
-  segments = is.segments;
-  job_fits = is.job_fits;
-  last_fits = is.last_fits;
-  sums = is.sums;
-  some_patience = is.some_patience;
-  patience = is.patience;
-  sieve = is.sieve;
-  atomics = is.atomics;
-  few_handlers = is.few_handlers;
-  handlers = is.handlers;
-  fresh = is.fresh;
-  unreserved = is.unreserved;
-  scripts = is.scripts;
-  threads = is.threads;
-  schedule = schedule_more (scope_of job) (lines_of job.schedule) t
-      (some_is (scope_of job) job.schedule some is.schedule) one (full_by
-      (is_full job.settings.nodes (length (lines_of job.schedule)) (total_rounds
-      (lines_of job.schedule)) t.event) _ free);
-}
+    → IsTimed (scope_of job) t
+    → line_why job.settings.nodes (scripts_pieces job.scripts) (lines_of job.schedule) t ≡ None
+    → IsSound (with_line t job)
+line_sound job t is some one free =
+    let lines = lines_of job.schedule in
+    let amounts = amounts_of (scripts_pieces job.scripts) lines in
+    let room = full_by (is_full job.settings.nodes amounts t.event) _ free in
+    let few = (few_full job.settings.nodes amounts t.event room).3 in
+    let more = pieces_more lines t in
+    record {
+      settings = is.settings;
+      segment = is.segment;
+      segments = is.segments;
+      job_fits = is.job_fits;
+      last_fits = is.last_fits;
+      sums = is.sums;
+      some_patience = is.some_patience;
+      patience = is.patience;
+      sieve = is.sieve;
+      atomics = is.atomics;
+      few_handlers = is.few_handlers;
+      handlers = is.handlers;
+      fresh = is.fresh;
+      unreserved = is.unreserved;
+      scripts = is.scripts;
+      threads = is.threads;
+      schedule = schedule_more (scope_of job) lines t (some_is (scope_of job) job.schedule some is.schedule) one
+          (scripts_pieces job.scripts) room;
+      pieces = omega (arith, more, few);
+    }

@@ -11,6 +11,7 @@ pub mod FormLaws
 pub mod WholeNumbers
 pub mod Names
 pub mod CallLaws
+pub mod VisLaws
 pub mod EventLaws
 pub mod BodyLaws
 pub mod ScriptLaws
@@ -22,6 +23,7 @@ pub mod PairSums
 pub mod Ranges
 pub mod PairLines
 pub mod LockLaws
+pub mod PlanPieces
 pub mod HandlerRuns
 pub mod HeadRuns
 pub mod JobRuns

@@ -13,7 +13,10 @@ use Rattle.job_text.specs.Places.{NamedOr, Named, Other, Item, item_text, item_f
 use Rattle.job_text.specs.JobReading.{State, BadLine, Front, start, limit, line_at, why_at, next, onward, stepped}
 use Rattle.job_text.specs.JobReading.{step, unless, opened, headed, paired, has_index, has_pair, has_thread}
 use Rattle.job_text.specs.JobReading.{handler_why, section_why, pair_why, action_why, step_why, line_why, is_full}
-use Rattle.job_text.specs.JobReading.{total_rounds, lines_of, front_with, of_front, alone, sized, read, job_of}
+use Rattle.job_text.specs.JobReading.{amounts_of, is_full_script, lines_of, front_with, of_front, alone, sized, read}
+use Rattle.job_text.specs.JobReading.{job_of}
+use Rattle.job_text.specs.PlanPieces.{scripts_pieces}
+use Rattle.job_text.specs.StepPieces.{steps_pieces}
 use Rattle.job_text.specs.JobReading.{front_of, served, is_reserved, most_handlers}
 use Rattle.job_text.specs.JobText.{spell, job_lines, job_text, IsJob, JobText, BeginsWith}
 use Rattle.job_text.specs.Reading.{GivesAt}
@@ -197,13 +200,14 @@ next_kind (AtBody handler) job (Some a) why h =
 next_kind AtScripts job s why h = opened_kind job s why h
 next_kind (AtSteps script) job None why h = absurd (cc)
 next_kind (AtSteps script) job (Some s) why h =
-    let o = one_by (leb 4096 (length script.steps)) why (unless_err (step_why script.steps) _ why h) in
-    inr (o.0, leb-true 4096 (length script.steps) o.1)
+    let before = scripts_pieces job.scripts in
+    inr (one_by (is_full_script (before + steps_pieces script.steps) (length script.steps) s) why
+    (unless_err (step_why before script.steps s) _ why h))
 next_kind AtSchedule job None why h = absurd (cc)
 next_kind AtSchedule job (Some t) why h =
-    inr (one_by (is_full job.settings.nodes (length (lines_of job.schedule)) (total_rounds
-    (lines_of job.schedule)) t.event) why
-    (unless_err (line_why job.settings.nodes (lines_of job.schedule) t) _ why h))
+    let before = scripts_pieces job.scripts in
+    inr (one_by (is_full job.settings.nodes (amounts_of before (lines_of job.schedule)) t.event) why
+    (unless_err (line_why job.settings.nodes before (lines_of job.schedule) t) _ why h))
 next_kind AtDone job item why h = absurd (cc)
 next_kind Over job item why h = absurd item
 

@@ -9,10 +9,15 @@ use Rattle.std.proofs.lemmas.Bool.{ne_eqb}
 use Rattle.datagram_grammar.specs.Parameters.{Parameters}
 use Rattle.datagram_grammar.specs.declared.pairs.PairCredits.{PairCredits}
 use Rattle.job_text.specs.Lines.{◌>>=◌, is_stop, front, back}
-use Rattle.job_text.specs.Forms.{none_at, none_text, none_fits}
+use Rattle.job_text.specs.Forms.{none_at, none_text, none_fits, entry_text}
 use Rattle.job_text.specs.Bodies.{action_at, action_text, IsAction}
 use Rattle.job_text.specs.Events.{timed_at, IsTimed}
 use Rattle.job_text.specs.Scripts.{step_at, step_text, IsStep}
+use Rattle.gas_strided.specs.declared.shapes.Way.{Way}
+use Rattle.gas_strided.specs.declared.shapes.Way.TheVariants.{Put, Get}
+use Rattle.job_text.specs.VisLines.{entry_by}
+use Rattle.job_text.specs.declared.vis.VisShape.{VisShape}
+use Rattle.job_text.specs.declared.vis.VisShape.TheVariants as shapes
 use Rattle.job_text.specs.Places.{Setting, Version, Nodes, Credits, Threads, Segment, Last, Resend, Patience}
 use Rattle.job_text.specs.Places as places
 use Rattle.job_text.specs.Places.{Place, AtSetting, AtSieve, AtPairs, AtHandlers, AtBody, AtScripts, AtSteps}
@@ -240,6 +245,13 @@ action_other (action.Add cell operand) rest h = refl
 action_other _ rest h = refl
 
 -- a step isn't the line `end`
+vis_other : (way : Way) (shape : VisShape) (register from to : ℕ) (rest : List ℕ)
+    → bytes_eq (front (entry_text none_text (entry_by way shape register from to) ++ 10 ∷ rest)) (codes "end") ≡ false
+vis_other Put (shapes.Strided remote local len levels) register from to rest = refl
+vis_other Get (shapes.Strided remote local len levels) register from to rest = refl
+vis_other Put (shapes.Indexed remote local) register from to rest = refl
+vis_other Get (shapes.Indexed remote local) register from to rest = refl
+
 step_other : (scope : Scope) → IsOther step_text (IsStep scope)
 step_other scope (step.Call (call.Begin register (transfer.Put to remote local len))) rest h = refl
 step_other scope (step.Call (call.Begin register (transfer.Get to remote local len))) rest h = refl
@@ -248,6 +260,8 @@ step_other scope (step.Call (call.BeginImplicit (transfer.Put to remote local le
 step_other scope (step.Call (call.BeginImplicit (transfer.Get to remote local len))) rest h = refl
 step_other scope (step.Call (call.BeginImplicit (transfer.Memset to remote len byte))) rest h = refl
 step_other scope (step.Call _) rest h = refl
+step_other scope (step.Vis vis) rest h =
+    let words = vis.words in vis_other words.way words.shape words.register words.from words.to rest
 step_other scope (step.Waiting (waiting.Until cell operand)) rest h = refl
 step_other scope (step.Waiting (waiting.Transfer (transfer.Put to remote local len))) rest h = refl
 step_other scope (step.Waiting (waiting.Transfer (transfer.Get to remote local len))) rest h = refl

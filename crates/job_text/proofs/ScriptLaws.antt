@@ -1,7 +1,6 @@
 -- The table of steps that wait, and steps.
-use Rattle.std.proofs.Common.{◌≡◌, ℕ, refl, true, List, ◌∷◌, ◌++◌, Option, Some, None}
+use Rattle.std.proofs.Common.{◌≡◌, ℕ, refl, List, ◌∷◌, ◌++◌, Some, None}
 use Rattle.job_text.specs.declared.scope.Scope.{Scope}
-use Rattle.job_text.specs.declared.job.ScheduledCall.{ScheduledCall}
 use Rattle.job_text.specs.declared.job.ScriptStep.{ScriptStep}
 use Rattle.job_text.specs.declared.job.ScriptStep.TheVariants as step
 use Rattle.job_text.specs.declared.job.TransferText.TheVariants as transfer
@@ -9,13 +8,17 @@ use Rattle.job_text.specs.declared.job.WaitingStep.{WaitingStep}
 use Rattle.job_text.specs.declared.job.WaitingStep.TheVariants as waiting
 use Rattle.job_text.specs.Forms.{none_at, none_text, none_fits}
 use Rattle.job_text.specs.Calls.{calls, later_calls, own_calls, segment_calls, transfer_calls, implicit_calls}
-use Rattle.job_text.specs.Calls.{sync_calls, barrier_calls, call_at, call_text, IsCall}
+use Rattle.job_text.specs.Calls.{sync_calls, barrier_calls, call_at}
 use Rattle.job_text.specs.Scripts.{waits, sync_waits, waiting_entry, waiting_at, waiting_fits, waiting_text}
 use Rattle.job_text.specs.Scripts.{IsWaiting}
-use Rattle.job_text.specs.Scripts.{◌<|>◌, step_at, step_text, IsStep}
-use Rattle.job_text.proofs.Takes.{Takes, takes_some, takes_then}
+use Rattle.job_text.specs.Scripts.{step_at, step_of, step_text, IsStep}
+use Rattle.job_text.specs.ThreadActions.{thread_action_at, thread_action_text, IsThreadAction}
+use Rattle.job_text.specs.VisLines.{vis_at, vis_rows}
+use Rattle.job_text.specs.declared.thread_actions.ThreadAction.{ThreadAction}
+use Rattle.job_text.specs.declared.thread_actions.ThreadAction.TheVariants as does
+use Rattle.job_text.proofs.Takes.{Takes, takes_some, takes_then, takes_or}
 use Rattle.job_text.proofs.FormLaws.{AreMade, IsExact, IsTable, IsEntryOf, IsFlat, entry_of, table_exact, none_exact}
-use Rattle.job_text.proofs.CallLaws.{calls_exact}
+use Rattle.job_text.proofs.VisLaws.{thread_actions_exact}
 
 -- an entry makes its step, by the first row of its name
 waiting_again : (w : WaitingStep) → IsEntryOf waits waiting_entry w
@@ -70,21 +73,44 @@ no_call scope (waiting.WaitImplicit which) rest = refl
 no_call scope (waiting.BarrierWait id flags) rest = refl
 no_call scope (waiting.UntilWord offset number) rest = refl
 
--- what was found, or else another
-takes_or : {A : Type 0} {P : A → Type 0} {r s : Option A} → Takes P r → Takes P s → Takes P (r <|> s)
-takes_or {A} {P} {r = Some x} {s} t u = t
-takes_or {A} {P} {r = None} {s} t u = u
+-- nor does it begin a transfer of many pieces
+no_vis : (scope : Scope) (w : WaitingStep) (rest : List ℕ) → vis_at scope (waiting_text w ++ 10 ∷ rest) ≡ None
+unfolding vis_at vis_rows
+no_vis scope (waiting.Until cell operand) rest = refl
+no_vis scope (waiting.Transfer (transfer.Put to remote local len)) rest = refl
+no_vis scope (waiting.Transfer (transfer.Get to remote local len)) rest = refl
+no_vis scope (waiting.Transfer (transfer.Memset to remote len byte)) rest = refl
+no_vis scope (waiting.PutBegin register put) rest = refl
+no_vis scope (waiting.PutImplicit put) rest = refl
+no_vis scope (waiting.Wait register) rest = refl
+no_vis scope (waiting.WaitAll registers) rest = refl
+no_vis scope (waiting.WaitSome registers) rest = refl
+no_vis scope (waiting.WaitImplicit which) rest = refl
+no_vis scope (waiting.BarrierWait id flags) rest = refl
+no_vis scope (waiting.UntilWord offset number) rest = refl
+
+no_action : (scope : Scope) (w : WaitingStep) (rest : List ℕ)
+    → thread_action_at scope (waiting_text w ++ 10 ∷ rest) ≡ None
+unfolding thread_action_at
+no_action scope w rest = rw (no_call scope w rest, no_vis scope w rest) refl
 
 -- the bytes are the text of a step, and the bytes after it
 abbrev pub IsStepOf : Scope → List ℕ → ScriptStep × List ℕ → Type 0
 IsStepOf scope bytes x = (bytes ≡ step_text x.0 ++ x.1) × IsStep scope x.0
 
+-- what a thread does is a step of the same text
+action_step : (scope : Scope) (bytes : List ℕ) (a : ThreadAction) (rest : List ℕ)
+    → (bytes ≡ thread_action_text a ++ rest) × IsThreadAction scope a → IsStepOf scope bytes (step_of a, rest)
+action_step scope bytes (does.Call c) rest h = h
+action_step scope bytes (does.Vis vis) rest h = h
+
 -- a step that was read
 step_takes : (scope : Scope) (bytes : List ℕ) → Takes (IsStepOf scope bytes) (step_at scope bytes)
 unfolding step_at
 step_takes scope bytes = takes_or {P = IsStepOf scope bytes}
-    (takes_then (λ (x : ScheduledCall × List ℕ). (bytes ≡ call_text x.0 ++ x.1) × IsCall scope x.0)
-    ((calls_exact scope).takes bytes) (λ x h. takes_some {P = IsStepOf scope bytes} {x = (step.Call x.0, x.1)} h))
+    (takes_then (λ (x : ThreadAction × List ℕ). (bytes ≡ thread_action_text x.0 ++ x.1) × IsThreadAction scope x.0)
+    ((thread_actions_exact scope).takes bytes) (λ x h.
+    takes_some {P = IsStepOf scope bytes} {x = (step_of x.0, x.1)} (action_step scope bytes x.0 x.1 h)))
     (takes_then (λ (x : WaitingStep × List ℕ). (bytes ≡ waiting_text x.0 ++ x.1) × IsWaiting scope x.0)
     ((waits_exact scope).takes bytes) (λ x h. takes_some {P = IsStepOf scope bytes} {x = (step.Waiting x.0, x.1)} h))
 
@@ -92,12 +118,14 @@ step_takes scope bytes = takes_or {P = IsStepOf scope bytes}
 step_again : (scope : Scope) (s : ScriptStep) (rest : List ℕ) → IsStep scope s
     → step_at scope (step_text s ++ 10 ∷ rest) ≡ Some (s, 10 ∷ rest)
 unfolding step_at
-step_again scope (step.Call c) rest h = rw ((calls_exact scope).again c rest h) refl
-step_again scope (step.Waiting w) rest h = rw (no_call scope w rest, (waits_exact scope).again w rest h) refl
+step_again scope (step.Call c) rest h = rw ((thread_actions_exact scope).again (does.Call c) rest h) refl
+step_again scope (step.Vis vis) rest h = rw ((thread_actions_exact scope).again (does.Vis vis) rest h) refl
+step_again scope (step.Waiting w) rest h = rw (no_action scope w rest, (waits_exact scope).again w rest h) refl
 
 -- a step ends no line
 step_flat : (scope : Scope) (s : ScriptStep) → IsStep scope s → IsFlat (step_text s)
-step_flat scope (step.Call c) h = (calls_exact scope).flat c h
+step_flat scope (step.Call c) h = (thread_actions_exact scope).flat (does.Call c) h
+step_flat scope (step.Vis vis) h = (thread_actions_exact scope).flat (does.Vis vis) h
 step_flat scope (step.Waiting w) h = (waits_exact scope).flat w h
 
 -- reading a step is the inverse of writing it

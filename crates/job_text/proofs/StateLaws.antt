@@ -20,6 +20,7 @@ use Rattle.job_text.specs.JobReading.{State, with_number, behind_setting, lines_
 use Rattle.job_text.specs.JobReading.{served, with_atomics}
 use Rattle.job_text.specs.JobReading.{opened, headed, paired, acted, scripted, scheduled, pair_why, handler_why}
 use Rattle.job_text.specs.JobReading.{section_why, action_why, step_why, line_why}
+use Rattle.job_text.specs.PlanPieces.{scripts_pieces}
 use Rattle.job_text.specs.JobText.{Line, setting_line, all_settings, sieve_line, pair_line, header_line}
 use Rattle.job_text.specs.JobText.{handler_lines, timed_lines, schedule_lines, head_lines, lines_with_pairs}
 use Rattle.job_text.specs.JobText.{atomics_lines, lines_with_atomics}
@@ -257,7 +258,7 @@ scripted_more : (script : NodeScript) (job : Job) (item : Option ScriptStep) (st
 scripted_more script job None state u h = subst (λ (x : State). SaysMore (AtSteps script) job None x) (ok_same h)
     (script_more job.scripts script (lines_with_handlers job), u)
 scripted_more script job (Some s) state u h =
-    let p = unless_ok (step_why script.steps) _ state h in
+    let p = unless_ok (step_why (scripts_pieces job.scripts) script.steps s) _ state h in
     subst (λ (x : State). SaysMore (AtSteps script) job (Some s) x) p.1 (
       one_behind step_text script.steps s
           (script_line script) (lines_with_scripts job),
@@ -277,7 +278,7 @@ scheduled_more : (job : Job) (item : Option TimedEvent) (state : State) → IsUn
 scheduled_more job None state u h = subst (λ (x : State). SaysMore AtSchedule job None x) (ok_same h)
     (end_schedule job.settings job.schedule (lines_with_scripts job) u, u)
 scheduled_more job (Some t) state u h =
-    let p = unless_ok (line_why job.settings.nodes (lines_of job.schedule) t) _ state h in
+    let p = unless_ok (line_why job.settings.nodes (scripts_pieces job.scripts) (lines_of job.schedule) t) _ state h in
     subst (λ (x : State). SaysMore AtSchedule job (Some t) x) p.1 (
       one_behind
           (timed_text job.settings.nodes job.settings.threads) (lines_of job.schedule) t (codes "schedule")

@@ -1,5 +1,5 @@
 -- What is known wherever a text was read up to.
-use Rattle.std.proofs.Common.{◌≡◌, inl, inr, ℕ, ◌<◌, ◌≤◌, ◌⊎◌, ◌||◌, Bool, true, false, eqb, leb, cond, List, []}
+use Rattle.std.proofs.Common.{◌≡◌, inl, inr, ℕ, ◌+◌, ◌<◌, ◌≤◌, ◌⊎◌, ◌||◌, Bool, true, false, eqb, leb, cond, List, []}
 use Rattle.std.proofs.Common.{◌∷◌}
 use Rattle.std.proofs.Common.{◌++◌, length, ltb, Option, Some, None, Ok, refl, subst, arith, length-append}
 use Rattle.std.proofs.lemmas.Bool.{and_parts, or_parts, eqb-true, leb-true, leb-false, ltb-true}
@@ -17,7 +17,9 @@ use Rattle.job_text.specs.JobReading.{State, least_job, with_number, behind_sett
 use Rattle.job_text.specs.JobReading.{with_step, begun_script, begun, opened, headed, paired, acted, scripted}
 use Rattle.job_text.specs.JobReading.{scheduled, served, is_reserved, most_handlers}
 use Rattle.job_text.specs.JobReading.{has_index, has_pair, has_thread, pair_why, handler_why, section_why, action_why}
-use Rattle.job_text.specs.JobReading.{step_why, line_why}
+use Rattle.job_text.specs.JobReading.{is_full_script, step_why, line_why}
+use Rattle.job_text.specs.PlanPieces.{most_pieces, scripts_pieces}
+use Rattle.job_text.specs.StepPieces.{step_pieces, steps_pieces}
 use Rattle.job_text.specs.JobText.{IsHandler, IsNodeScript, IsSieve}
 use Rattle.job_text.specs.declared.fault.JobWhy.TheVariants.{Entry, Count}
 use Rattle.job_text.specs.declared.job.Action.{Action}
@@ -30,6 +32,8 @@ use Rattle.job_text.specs.declared.job.TimedEvent.{TimedEvent}
 use Rattle.job_text.specs.declared.sections.HandlerHeader.{HandlerHeader}
 use Rattle.job_text.specs.declared.sections.Section.{Section}
 use Rattle.job_text.specs.declared.sections.Section.TheVariants as section
+use Rattle.job_text.proofs.HandlerRuns.{few_steps}
+use Rattle.job_text.proofs.PlanPieces.{steps_more}
 use Rattle.job_text.proofs.Ranges.{IsNumber, AreNumbers}
 use Rattle.job_text.proofs.JobLaws.{AreLeast, numbers_more, IsHead, head_sound, IsSound, pair_sound, pair_free_by}
 use Rattle.job_text.proofs.JobLaws.{atomics_sound, handler_sound, script_sound, all_more, empty_sound, line_sound}
@@ -47,6 +51,7 @@ pub record IsBegun (handler : HandlerText) (job : Job) : Type 0 where
 pub record IsBegunScript (script : NodeScript) (job : Job) : Type 0 where
   pub is : IsNodeScript (scope_of job) script
   pub new : has_thread job.scripts script.node script.thread ≡ false
+  pub room : scripts_pieces job.scripts + steps_pieces script.steps ≤ most_pieces
 
 abbrev pub IsState : Place → Job → Type 0
 IsState (AtSetting setting) job = IsHead job × AreLeast setting job.settings
@@ -85,7 +90,7 @@ sound_completed AtAtomics job is = is.0
 sound_completed AtHandlers job is = is.0
 sound_completed (AtBody handler) job is = handler_sound job handler is.0 is.3.is is.3.new is.3.free is.3.few
 sound_completed AtScripts job is = is.0
-sound_completed (AtSteps script) job is = script_sound job script is.0 is.2.is is.2.new
+sound_completed (AtSteps script) job is = script_sound job script is.0 is.2.is is.2.new is.1 is.2.room
 sound_completed AtSchedule job is = is.0
 sound_completed AtDone job is = is.0
 sound_completed Over job is = is
@@ -202,6 +207,7 @@ opened_state : (job : Job) (s : Section) (state : State) → IsState AtScripts j
 opened_state job (section.Script node thread) state is item h =
     let p = unless_ok (section_why job.scripts (section.Script node thread)) _ state h in
     let there = and_parts (ltb node job.settings.nodes) (ltb thread job.settings.threads) item.1 in
+    let few = is.0.pieces in
     let one : IsBegunScript (begun_script node thread) job = record {
       is = record {
         node = ltb-true node job.settings.nodes there.0;
@@ -210,6 +216,7 @@ opened_state job (section.Script node thread) state is item h =
         steps = tt;
       };
       new = no_entry (has_thread job.scripts node thread) p.0;
+      room = omega (arith, few);
     } in
     subst (λ (x : State). IsState x.place x.job) p.1 (is.0, is.1, one)
 opened_state job section.Schedule state is item h = subst (λ (x : State). IsState x.place x.job) (ok_same h)
@@ -286,25 +293,31 @@ acted_state handler job (Some a) state is item h =
     subst (λ (x : State). IsState x.place x.job) p.1 (is.0, is.1, is.2, one)
 
 -- no reason against a step
-step_free : (script : NodeScript) → step_why script.steps ≡ None → length script.steps < 4096
-step_free script h = leb-false 4096 (length script.steps) (no_count (leb 4096 (length script.steps)) h)
+step_free : (before : ℕ) (script : NodeScript) (s : ScriptStep) → step_why before script.steps s ≡ None
+    → (length script.steps < 4096) × (before + steps_pieces script.steps + step_pieces s ≤ most_pieces)
+step_free before script s h =
+    let pieces = before + steps_pieces script.steps in
+    few_steps pieces (length script.steps) s (no_count (is_full_script pieces (length script.steps) s) h)
 
 scripted_state : (script : NodeScript) (job : Job) (item : Option ScriptStep) (state : State) → IsState
     (AtSteps script) job → IsItem (AtSteps script) (scope_of job) item → scripted script job item ≡ Ok state
     → IsState state.place state.job
 scripted_state script job None state is item h = subst (λ (x : State). IsState x.place x.job) (ok_same h)
-    (script_sound job script is.0 is.2.is is.2.new, is.1)
+    (script_sound job script is.0 is.2.is is.2.new is.1 is.2.room, is.1)
 scripted_state script job (Some s) state is item h =
-    let p = unless_ok (step_why script.steps) _ state h in
-    let lt = step_free script p.0 in
+    let before = scripts_pieces job.scripts in
+    let p = unless_ok (step_why before script.steps s) _ state h in
+    let free = step_free before script s p.0 in
+    let more = steps_more script.steps s in
     let one : IsBegunScript (with_step s script) job = record {
       is = record {
         node = is.2.is.node;
         thread = is.2.is.thread;
-        count = simp length-append (omega arith);
+        count = simp length-append (omega (arith, free.0));
         steps = all_more (IsStep (scope_of job)) script.steps s is.2.is.steps item;
       };
       new = is.2.new;
+      room = omega (arith, more, free.1);
     } in
     subst (λ (x : State). IsState x.place x.job) p.1 (is.0, is.1, one)
 
@@ -312,7 +325,7 @@ scheduled_state : (job : Job) (item : Option TimedEvent) (state : State) → IsS
     → IsItem AtSchedule (scope_of job) item → scheduled job item ≡ Ok state → IsState state.place state.job
 scheduled_state job None state is item h = subst (λ (x : State). IsState x.place x.job) (ok_same h) is
 scheduled_state job (Some t) state is item h =
-    let p = unless_ok (line_why job.settings.nodes (lines_of job.schedule) t) _ state h in
+    let p = unless_ok (line_why job.settings.nodes (scripts_pieces job.scripts) (lines_of job.schedule) t) _ state h in
     subst (λ (x : State). IsState x.place x.job) p.1 (
       line_sound job t is.0 is.1 item p.0,
       (

@@ -1,6 +1,6 @@
 -- What is so of a value that was read, by the parts of its reading.
 use Rattle.std.proofs.Common.{◌≡◌, Bool, true, false, cond, Option, Some, None, refl, subst}
-use Rattle.job_text.specs.Lines.{◌>>=◌}
+use Rattle.job_text.specs.Lines.{◌>>=◌, ◌<|>◌}
 
 -- if a value was read, this is so of it
 pub record Takes {A : Type 0} (P : A → Type 0) (r : Option A) : Type 0 where
@@ -30,3 +30,8 @@ takes_if {A} {P} {b = false} {r} {s} is isnt = isnt refl
 pub takes_weaker : {A : Type 0} (P : A → Type 0) {Q : A → Type 0} {r : Option A} → Takes P r → ((x : A) → P x → Q x)
     → Takes Q r
 takes_weaker P t f = record { so = λ x e. f x (t.so x e) }
+
+-- what was found, or else another
+pub takes_or : {A : Type 0} {P : A → Type 0} {r s : Option A} → Takes P r → Takes P s → Takes P (r <|> s)
+takes_or {A} {P} {r = Some x} {s} t u = t
+takes_or {A} {P} {r = None} {s} t u = u

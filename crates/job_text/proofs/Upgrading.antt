@@ -1,10 +1,15 @@
 -- What may stand in a job may stand in it where the datagrams have the second version.
-use Rattle.std.proofs.Common.{List, [], ◌∷◌, Option, Some, None, refl}
+use Rattle.std.proofs.Common.{◌≡◌, ℕ, true, List, [], ◌∷◌, Option, Some, None, refl, ap, subst}
+use Rattle.std.proofs.lemmas.Bool.{eqb-true}
 use Rattle.std.specs.List.{AllByRecursion}
 use Rattle.datagram_grammar.specs.Parameters.{upgraded}
 use Rattle.job_text.specs.Calls.{IsCall}
 use Rattle.job_text.specs.Events.{IsEvent, IsTimed}
 use Rattle.job_text.specs.JobText.{IsNodeScript, IsScheduleOrNone}
+use Rattle.job_text.specs.Scopes.{is_second}
+use Rattle.job_text.specs.VisLines.{IsVis}
+use Rattle.job_text.specs.declared.vis.VisText.{VisText}
+use Rattle.job_text.proofs.VisLaws.{vis_second}
 use Rattle.job_text.specs.Scripts.{IsStep, IsWaiting}
 use Rattle.job_text.specs.declared.job.NodeScript.{NodeScript}
 use Rattle.job_text.specs.declared.job.ScheduledCall.{ScheduledCall}
@@ -36,8 +41,19 @@ waiting_upgraded : (scope : Scope) (w : WaitingStep) → IsWaiting scope w → I
 waiting_upgraded scope (waiting.UntilWord offset number) is = (is.0, refl)
 waiting_upgraded scope _ is = is
 
+-- settings of the second version are those that they are upgraded to
+second_same : (scope : Scope) → is_second scope ≡ true → scope ≡ upgraded_scope scope
+second_same scope second =
+    let version = eqb-true scope.settings.version 2 second in
+    ap (λ (v : ℕ). record scope { settings = record scope.settings { version = v } }) version
+
+vis_upgraded : (scope : Scope) (vis : VisText) → IsVis scope vis → IsVis (upgraded_scope scope) vis
+vis_upgraded scope vis is =
+    subst (λ (s : Scope). IsVis s vis) (second_same scope (vis_second scope vis is)) is
+
 step_upgraded : (scope : Scope) (s : ScriptStep) → IsStep scope s → IsStep (upgraded_scope scope) s
 step_upgraded scope (step.Call c) is = call_upgraded scope c is
+step_upgraded scope (step.Vis vis) is = vis_upgraded scope vis is
 step_upgraded scope (step.Waiting w) is = waiting_upgraded scope w is
 
 script_upgraded : (scope : Scope) (s : NodeScript) → IsNodeScript scope s → IsNodeScript (upgraded_scope scope) s
@@ -55,6 +71,8 @@ scripts_upgraded scope scripts are = all_so (script_upgraded scope) scripts are
 event_upgraded : (scope : Scope) (e : ScheduledEvent) → IsEvent scope e → IsEvent (upgraded_scope scope) e
 event_upgraded scope (event.Call node thread c) is =
     ((is.0.0, (is.0.1.0, call_upgraded scope c is.0.1.1)), is.1)
+event_upgraded scope (event.Vis node thread vis) is =
+    ((is.0.0, (is.0.1.0, vis_upgraded scope vis is.0.1.1)), is.1)
 event_upgraded scope _ is = is
 
 timed_upgraded : (scope : Scope) (t : TimedEvent) → IsTimed scope t → IsTimed (upgraded_scope scope) t

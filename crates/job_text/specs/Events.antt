@@ -5,48 +5,57 @@ use Rattle.job_text.specs.Lines.{Word, ◌>>=◌, back, spaced}
 use Rattle.job_text.specs.Forms.{Number, Shape, End, ◌▸◌, Inner, Maker, Values, Row, Entry}
 use Rattle.job_text.specs.Forms.{word_at, table_at, entry_text, IsOf, U64, Below}
 use Rattle.job_text.specs.Reasons.{table_form, behind}
-use Rattle.job_text.specs.Calls.{call_at, call_form, call_text, IsCall}
+use Rattle.job_text.specs.ThreadActions.{thread_action_at, thread_action_form, thread_action_text, IsThreadAction}
+use Rattle.job_text.specs.declared.thread_actions.ThreadAction.{ThreadAction}
+use Rattle.job_text.specs.declared.thread_actions.ThreadAction.TheVariants as does
 use Rattle.job_text.specs.declared.scope.Scope.{Scope}
-use Rattle.job_text.specs.declared.job.ScheduledCall.{ScheduledCall}
 use Rattle.job_text.specs.declared.job.ScheduledEvent.{ScheduledEvent}
 use Rattle.job_text.specs.declared.job.ScheduledEvent.TheVariants as event
 use Rattle.job_text.specs.declared.job.TimedEvent.{TimedEvent}
 
 -- a form of event
-abbrev pub form : Word → (shape : Shape) → Maker ScheduledCall shape ScheduledEvent → Row ScheduledCall ScheduledEvent
+abbrev pub form : Word → (shape : Shape) → Maker ThreadAction shape ScheduledEvent → Row ThreadAction ScheduledEvent
 form name shape make = record { name = name; shape = shape; make = make }
 
-abbrev pub call_row : (nodes threads : ℕ) → Row ScheduledCall ScheduledEvent
-call_row nodes threads = form (codes "call") (Below nodes ▸ Below threads ▸ Inner) event.Call
+-- what a thread of a node does
+abbrev pub event_of : (node thread : ℕ) → ThreadAction → ScheduledEvent
+event_of node thread (does.Call call) = event.Call node thread call
+event_of node thread (does.Vis vis) = event.Vis node thread vis
 
-abbrev pub request_row : (nodes : ℕ) → Row ScheduledCall ScheduledEvent
+abbrev pub call_row : (nodes threads : ℕ) → Row ThreadAction ScheduledEvent
+call_row nodes threads = form (codes "call") (Below nodes ▸ Below threads ▸ Inner) event_of
+
+abbrev pub request_row : (nodes : ℕ) → Row ThreadAction ScheduledEvent
 request_row nodes = form (codes "request") (Below nodes ▸ Below nodes ▸ Number 1 (2 ^ 64 - 1) ▸ End) event.Request
 
-abbrev pub reply_row : (nodes : ℕ) → Row ScheduledCall ScheduledEvent
+abbrev pub reply_row : (nodes : ℕ) → Row ThreadAction ScheduledEvent
 reply_row nodes = form (codes "reply") (Below nodes ▸ Below nodes ▸ Number 1 (2 ^ 64 - 1) ▸ End) event.Reply
 
-abbrev pub tick_row : (nodes : ℕ) → Row ScheduledCall ScheduledEvent
+abbrev pub tick_row : (nodes : ℕ) → Row ThreadAction ScheduledEvent
 tick_row nodes = form (codes "tick") (Below nodes ▸ End) event.Tick
 
-abbrev pub settle_row : Row ScheduledCall ScheduledEvent
+abbrev pub settle_row : Row ThreadAction ScheduledEvent
 settle_row = form (codes "settle") (Number 1 4096 ▸ End) event.Settle
 
 -- from `tick` on
-abbrev pub later_events : (nodes : ℕ) → List (Row ScheduledCall ScheduledEvent)
+abbrev pub later_events : (nodes : ℕ) → List (Row ThreadAction ScheduledEvent)
 later_events nodes = tick_row nodes ∷ settle_row ∷ []
 
 -- the forms of events
-abbrev pub events : (nodes threads : ℕ) → List (Row ScheduledCall ScheduledEvent)
+abbrev pub events : (nodes threads : ℕ) → List (Row ThreadAction ScheduledEvent)
 events nodes threads = call_row nodes threads ∷ request_row nodes ∷ reply_row nodes ∷ later_events nodes
 
 -- the words of an event
-abbrev pub words : (row : Row ScheduledCall ScheduledEvent) → Values ScheduledCall row.shape
-    → Entry ScheduledCall ScheduledEvent
+abbrev pub words : (row : Row ThreadAction ScheduledEvent) → Values ThreadAction row.shape
+    → Entry ThreadAction ScheduledEvent
 words row values = record { row = row; values = values }
 
 -- how an event is written
-abbrev pub event_entry : (nodes threads : ℕ) → ScheduledEvent → Entry ScheduledCall ScheduledEvent
-event_entry nodes threads (event.Call node thread call) = words (call_row nodes threads) (node, (thread, call))
+abbrev pub event_entry : (nodes threads : ℕ) → ScheduledEvent → Entry ThreadAction ScheduledEvent
+event_entry nodes threads (event.Call node thread call) =
+    words (call_row nodes threads) (node, (thread, does.Call call))
+event_entry nodes threads (event.Vis node thread vis) =
+    words (call_row nodes threads) (node, (thread, does.Vis vis))
 event_entry nodes threads (event.Request from to number) = words (request_row nodes) (from, (to, (number, tt)))
 event_entry nodes threads (event.Reply from to number) = words (reply_row nodes) (from, (to, (number, tt)))
 event_entry nodes threads (event.Tick node) = words (tick_row nodes) (node, tt)
@@ -60,17 +69,17 @@ is_apart event = true
 
 -- what reads an event from `tick` on
 abbrev pub later_event_at : Scope → List ℕ → Option (ScheduledEvent × List ℕ)
-later_event_at scope bytes = table_at (call_at scope) (later_events scope.settings.nodes) is_apart bytes
+later_event_at scope bytes = table_at (thread_action_at scope) (later_events scope.settings.nodes) is_apart bytes
 
 -- what reads an event
 unfoldable pub event_at : Scope → List ℕ → Option (ScheduledEvent × List ℕ)
 event_at scope bytes =
-    table_at (call_at scope) (events scope.settings.nodes scope.settings.threads) is_apart bytes
+    table_at (thread_action_at scope) (events scope.settings.nodes scope.settings.threads) is_apart bytes
 
 -- whether bytes have the form of an event
 unfoldable pub event_form : Scope → List ℕ → Bool
 event_form scope bytes =
-    table_form (call_form scope) (events scope.settings.nodes scope.settings.threads) bytes
+    table_form (thread_action_form scope) (events scope.settings.nodes scope.settings.threads) bytes
 
 -- whether bytes have the form of a line of a schedule: the time is any word
 unfoldable pub timed_form : Scope → List ℕ → Bool
@@ -84,12 +93,12 @@ timed_at scope bytes =
 
 -- the text of an event
 abbrev pub event_text : (nodes threads : ℕ) → ScheduledEvent → List ℕ
-event_text nodes threads event = entry_text call_text (event_entry nodes threads event)
+event_text nodes threads event = entry_text thread_action_text (event_entry nodes threads event)
 
 -- an event whose words can be said, and which may stand in the job
 abbrev pub IsEvent : Scope → ScheduledEvent → Type 0
 IsEvent scope event =
-    IsOf (IsCall scope) (event_entry scope.settings.nodes scope.settings.threads) is_apart event
+    IsOf (IsThreadAction scope) (event_entry scope.settings.nodes scope.settings.threads) is_apart event
 
 -- the text of a line of a schedule
 abbrev pub timed_text : (nodes threads : ℕ) → TimedEvent → List ℕ

@@ -21,6 +21,7 @@ use Rattle.job_text.specs.declared.operands.NumberPlace.{NumberPlace}
 use Rattle.job_text.specs.declared.operands.NumberPlace.TheVariants.{Schedule, Body}
 use Rattle.gas_atomic.specs.declared.word.Op.{Op}
 use Rattle.gas_atomic.specs.declared.word.WordOp.{WordOp}
+use Rattle.gas_strided.specs.declared.shapes.Level.{Level}
 use Rattle.handler_rules.specs.declared.rules.CallKind.{CallKind}
 use Rattle.handler_rules.specs.declared.rules.Role.{Role as HandlerRole}
 
@@ -182,20 +183,30 @@ together_at (p ∷ parts) bytes =
 -- what such words may be that come again and again
 pub data Bundle : Type 0 where
   Operations : Bundle  -- an operation of remote atomics, the offset of its word and its two operands
+  Strides : Bundle  -- a level of a strided transfer: how often, and the strides there and here
+  Spans : Bundle  -- a range of a segment: its first byte and its length
 
 abbrev pub parts_of : Bundle → List Part
 parts_of Operations = Operation ∷ U64 ∷ U64 ∷ U64 ∷ []
+parts_of Strides = U64 ∷ U64 ∷ U64 ∷ []
+parts_of Spans = U64 ∷ U64 ∷ []
 
 -- the value of them
 abbrev pub Bundled : Bundle → Type 0
 Bundled Operations = WordOp
+Bundled Strides = Level
+Bundled Spans = ℕ × ℕ
 
 abbrev pub bundled : (b : Bundle) → Together (parts_of b) → Bundled b
 bundled Operations said = record { op = said.0; offset = said.1.0; a = said.1.1.0; b = said.1.1.1.0 }
+bundled Strides said = record { count = said.0; remote = said.1.0; local = said.1.1.0 }
+bundled Spans said = (said.0, said.1.0)
 
 -- and the words of a value
 abbrev pub unbundled : (b : Bundle) → Bundled b → Together (parts_of b)
 unbundled Operations word = (word.op, (word.offset, (word.a, (word.b, tt))))
+unbundled Strides level = (level.count, (level.remote, (level.local, tt)))
+unbundled Spans range = (range.0, (range.1, tt))
 
 -- the bytes that say it
 abbrev pub bundle_text : (b : Bundle) → Bundled b → List ℕ
@@ -214,6 +225,17 @@ unfoldable pub bundles_at : (least most : ℕ) → (b : Bundle) → List ℕ →
 bundles_at least most b bytes =
     each_at (bundle_at b) most bytes >>= λ xs. if nat_le least (length xs.0) then Some xs else None
 
+-- how many come first, these, and others: 1 to so many each
+unfoldable pub split_at : (most : ℕ) → (b : Bundle) → List ℕ → Option ((List (Bundled b) × List (Bundled b)) × List ℕ)
+split_at most b bytes =
+    part_at (Number 1 most) bytes >>= λ count. bundles_at count.0 count.0 b count.1 >>= λ first.
+    bundles_at 1 most b first.1 >>= λ others. Some ((first.0, others.0), others.1)
+
+-- the bytes that say it
+abbrev pub split_text : (b : Bundle) → List (Bundled b) × List (Bundled b) → List ℕ
+split_text b v =
+    32 ∷ (decimal (length v.0) ++ (flat_map (bundle_text b) v.0 ++ flat_map (bundle_text b) v.1))
+
 -- ---- what follows a name
 
 -- the words that follow a name
@@ -224,6 +246,7 @@ pub data Shape : Type 0 where
   Many : (least most : ℕ) → Part → Shape  -- such words to the end of the line
   Any : Part → Shape  -- such words to the end of the line, however many
   Bundles : (least most : ℕ) → Bundle → Shape  -- such words together, again and again to the end of the line
+  Split : (most : ℕ) → Bundle → Shape  -- how many come first, these, and others to the end of the line
   Inner : Shape  -- a line of another table
 
 -- what they say together, where X is what the other table says
@@ -233,6 +256,7 @@ Values X (p ▸ s) = Meaning p × Values X s
 Values X (Many least most p) = List (Meaning p)
 Values X (Any p) = List (Meaning p)
 Values X (Bundles least most b) = List (Bundled b)
+Values X (Split most b) = List (Bundled b) × List (Bundled b)
 Values X Inner = X
 
 -- what makes an A of them
@@ -242,6 +266,7 @@ Maker X (p ▸ s) A = Meaning p → Maker X s A
 Maker X (Many least most p) A = List (Meaning p) → A
 Maker X (Any p) A = List (Meaning p) → A
 Maker X (Bundles least most b) A = List (Bundled b) → A
+Maker X (Split most b) A = (first others : List (Bundled b)) → A
 Maker X Inner A = X → A
 
 -- the A that it makes
@@ -251,6 +276,7 @@ made X (p ▸ s) make v = made X s (make v.0) v.1
 made X (Many least most p) make v = make v
 made X (Any p) make v = make v
 made X (Bundles least most b) make v = make v
+made X (Split most b) make v = make v.0 v.1
 made X Inner make v = make v
 
 -- what the bytes say, and the bytes after them, where at reads a line of the other table
@@ -261,6 +287,7 @@ values_at at (p ▸ s) bytes = part_at p bytes >>= λ x. values_at at s x.1 >>= 
 values_at at (Many least most p) bytes = many_at least most p bytes
 values_at at (Any p) bytes = parts_at p (length bytes) bytes
 values_at at (Bundles least most b) bytes = bundles_at least most b bytes
+values_at at (Split most b) bytes = split_at most b bytes
 values_at at Inner bytes = spaced bytes >>= at
 
 -- the bytes that say it, where text writes a line of the other table
@@ -270,6 +297,7 @@ values_text text (p ▸ s) v = 32 ∷ (word_text p v.0 ++ values_text text s v.1
 values_text text (Many least most p) v = flat_map (λ x. 32 ∷ word_text p x) v
 values_text text (Any p) v = flat_map (λ x. 32 ∷ word_text p x) v
 values_text text (Bundles least most b) v = flat_map (bundle_text b) v
+values_text text (Split most b) v = split_text b v
 values_text text Inner v = 32 ∷ text v
 
 -- what can be said so
@@ -279,6 +307,9 @@ AreSaid fits (p ▸ s) v = IsSaid p v.0 × AreSaid fits s v.1
 AreSaid fits (Many least most p) v = (least ≤ length v) × (length v ≤ most) × AllByRecursion (IsSaid p) v
 AreSaid fits (Any p) v = AllByRecursion (IsSaid p) v
 AreSaid fits (Bundles least most b) v = (least ≤ length v) × (length v ≤ most) × AllByRecursion (IsBundle b) v
+AreSaid fits (Split most b) v =
+    IsSaid (Number 1 most) (length v.0) × AllByRecursion (IsBundle b) v.0 × (1 ≤ length v.1) × (length v.1 ≤ most)
+    × AllByRecursion (IsBundle b) v.1
 AreSaid fits Inner v = fits v
 
 -- ---- tables

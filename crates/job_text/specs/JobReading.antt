@@ -15,6 +15,9 @@ use Rattle.job_text.specs.Places.{AtAtomics}
 use Rattle.job_text.specs.Places.{Place, AtSetting, AtSieve, AtPairs, AtHandlers, AtBody, AtScripts, AtSteps}
 use Rattle.job_text.specs.Places.{AtSchedule, AtDone, Over, NamedOr, Named, Other, Item, item_at, item_form}
 use Rattle.job_text.specs.Places as places
+use Rattle.job_text.specs.PlanPieces.{most_pieces, event_pieces, schedule_pieces}
+use Rattle.job_text.specs.StepPieces.{step_pieces, steps_pieces}
+use Rattle.job_text.specs.PlanPieces.{scripts_pieces}
 use Rattle.job_text.specs.declared.fault.JobWhy.{JobWhy}
 use Rattle.job_text.specs.declared.fault.JobWhy.TheVariants.{Size, Early, Entry, Count, After}
 use Rattle.job_text.specs.declared.job.Action.{Action}
@@ -26,6 +29,7 @@ use Rattle.job_text.specs.declared.job.ScheduledEvent.{ScheduledEvent}
 use Rattle.job_text.specs.declared.job.ScheduledEvent.TheVariants as event
 use Rattle.job_text.specs.declared.job.ScriptStep.{ScriptStep}
 use Rattle.job_text.specs.declared.job.TimedEvent.{TimedEvent}
+use Rattle.job_text.specs.declared.schedules.Amounts.{Amounts}
 use Rattle.job_text.specs.declared.sections.HandlerHeader.{HandlerHeader}
 use Rattle.job_text.specs.declared.sections.Section.{Section}
 use Rattle.job_text.specs.declared.sections.Section.TheVariants as section
@@ -178,13 +182,36 @@ total_rounds (timed ∷ others) = rounds_of timed.event + total_rounds others
 abbrev pub are_too_many : (nodes rounds : ℕ) → Bool
 are_too_many nodes rounds = nat_lt 4096 rounds || nat_lt 262144 (rounds * nodes)
 
--- whether there is no room for the event behind so many lines and rounds
-abbrev pub is_full : (nodes lines rounds : ℕ) → ScheduledEvent → Bool
-is_full nodes lines rounds event = nat_le 65536 lines || are_too_many nodes (rounds + rounds_of event)
+-- what these lines have, where the plans of the scripts before them have so many pieces
+abbrev pub amounts_of : (before : ℕ) → List TimedEvent → Amounts
+amounts_of before lines = record {
+  lines = length lines;
+  rounds = total_rounds lines;
+  pieces = before + schedule_pieces lines;
+}
 
--- the line where there is room for it
-abbrev pub admitted : (nodes lines rounds : ℕ) → TimedEvent → Option TimedEvent
-admitted nodes lines rounds timed = if is_full nodes lines rounds timed.event then None else Some timed
+-- the same with one line more
+abbrev pub with_event : Amounts → ScheduledEvent → Amounts
+with_event so_far event = record {
+  lines = so_far.lines + 1;
+  rounds = so_far.rounds + rounds_of event;
+  pieces = so_far.pieces + event_pieces event;
+}
+
+-- whether there is no room for the event behind so much
+abbrev pub is_full : (nodes : ℕ) → Amounts → ScheduledEvent → Bool
+is_full nodes so_far event =
+    nat_le 65536 so_far.lines
+    || (are_too_many nodes (so_far.rounds + rounds_of event)
+    || nat_lt most_pieces (so_far.pieces + event_pieces event))
+
+-- how much there is with the event, where there is room for it
+abbrev pub admitted : (nodes : ℕ) → Amounts → ScheduledEvent → Option Amounts
+admitted nodes so_far event = if is_full nodes so_far event then None else Some (with_event so_far event)
+
+-- whether there is no room for the step behind so many, where all plans so far have so many pieces
+abbrev pub is_full_script : (pieces steps : ℕ) → ScriptStep → Bool
+is_full_script pieces steps step = nat_le 4096 steps || nat_lt most_pieces (pieces + step_pieces step)
 
 -- why a handler with this index may not stand behind these
 abbrev pub handler_why : (atomics : Bool) → List HandlerText → (index : ℕ) → Option JobWhy
@@ -206,13 +233,14 @@ abbrev pub section_why : List NodeScript → Section → Option JobWhy
 section_why scripts (section.Script node thread) = if has_thread scripts node thread then Some Entry else None
 section_why scripts other = None
 
--- why a step may not
-abbrev pub step_why : List ScriptStep → Option JobWhy
-step_why steps = if nat_le 4096 (length steps) then Some Count else None
+-- why a step may not, where the scripts before have so many pieces
+abbrev pub step_why : (before : ℕ) → List ScriptStep → ScriptStep → Option JobWhy
+step_why before steps step =
+    if is_full_script (before + steps_pieces steps) (length steps) step then Some Count else None
 
 -- why a line of the schedule may not
-abbrev pub line_why : (nodes : ℕ) → List TimedEvent → TimedEvent → Option JobWhy
-line_why nodes lines timed = if is_full nodes (length lines) (total_rounds lines) timed.event then Some Count else None
+abbrev pub line_why : (nodes before : ℕ) → List TimedEvent → TimedEvent → Option JobWhy
+line_why nodes before lines timed = if is_full nodes (amounts_of before lines) timed.event then Some Count else None
 
 -- ---- a line
 
@@ -276,13 +304,14 @@ acted handler job (Some action) =
 abbrev pub scripted : NodeScript → Job → Option ScriptStep → Result State JobWhy
 scripted script job None = Ok (record { place = AtScripts; job = with_script script job })
 scripted script job (Some step) =
-    unless (step_why script.steps) (record { place = AtSteps (with_step step script); job = job })
+    unless (step_why (scripts_pieces job.scripts) script.steps step)
+    (record { place = AtSteps (with_step step script); job = job })
 
 -- behind a line of the schedule, or the line `end`
 abbrev pub scheduled : Job → Option TimedEvent → Result State JobWhy
 scheduled job None = Ok (record { place = AtDone; job = job })
 scheduled job (Some timed) =
-    unless (line_why job.settings.nodes (lines_of job.schedule) timed)
+    unless (line_why job.settings.nodes (scripts_pieces job.scripts) (lines_of job.schedule) timed)
     (record { place = AtSchedule; job = with_line timed job })
 
 -- what a line says adds to what was read

@@ -1,5 +1,5 @@
 -- The one text of a job.
-use Rattle.std.specs.Prelude.{◌≡◌, ◌≢◌, ℕ, ◌<◌, ◌≤◌, ◌*◌, ◌^◌, ◌⊎◌, ◌++◌, List, [], ◌∷◌, length, map, take, codes}
+use Rattle.std.specs.Prelude.{◌≡◌, ◌≢◌, ℕ, ◌<◌, ◌≤◌, ◌+◌, ◌*◌, ◌^◌, ◌⊎◌, ◌++◌, List, [], ◌∷◌, length, map, take, codes}
 use Rattle.std.specs.Prelude.{Option, Some, None, slice_get, Bool, true, false, if◌then◌else◌}
 use Rattle.std.specs.List.{AllByRecursion, flat_map}
 use Rattle.datagram_grammar.specs.Parameters.{Parameters, AreInRange, credits_in_all}
@@ -14,7 +14,8 @@ use Rattle.job_text.specs.Places.{setting_entry, sieve_entry, pair_text, atomics
 use Rattle.job_text.specs.Locks.{are_listed}
 use Rattle.job_text.specs.Scopes.{scope_of}
 use Rattle.job_text.specs.declared.scope.Scope.{Scope}
-use Rattle.job_text.specs.JobReading.{has_thread, total_rounds, limit, is_reserved, most_handlers}
+use Rattle.job_text.specs.JobReading.{has_thread, total_rounds, limit, is_reserved, lines_of, most_handlers}
+use Rattle.job_text.specs.PlanPieces.{most_pieces, schedule_pieces, scripts_pieces}
 use Rattle.job_text.specs.declared.job.HandlerText.{HandlerText}
 use Rattle.job_text.specs.declared.job.Job.{Job}
 use Rattle.job_text.specs.declared.job.NodeScript.{NodeScript}
@@ -157,6 +158,10 @@ pub record IsSieve (rule : SieveRule) : Type 0 where
 abbrev pub with_first_pairs : ℕ → Parameters → Parameters
 with_first_pairs count settings = record settings { pairs = take count settings.pairs }
 
+-- the pieces of all plans of a job
+abbrev pub all_pieces : Job → ℕ
+all_pieces job = scripts_pieces job.scripts + schedule_pieces (lines_of job.schedule)
+
 -- a job whose words are in range; behind the line of each pair the sum of all credits is
 pub record IsJob (job : Job) : Type 0 where
   pub settings : AreInRange job.settings
@@ -176,6 +181,7 @@ pub record IsJob (job : Job) : Type 0 where
   pub scripts : AllByRecursion (IsNodeScript (scope_of job)) job.scripts
   pub threads : AreThreads job.scripts
   pub schedule : IsScheduleOrNone (scope_of job) job.schedule
+  pub pieces : all_pieces job ≤ most_pieces
 
 -- the text of a job
 abbrev pub job_text : Job → List ℕ

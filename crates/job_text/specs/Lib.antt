@@ -7,11 +7,15 @@ pub mod Scopes
 pub mod Forms
 pub mod Reasons
 pub mod Calls
+pub mod VisLines
+pub mod ThreadActions
 pub mod Events
 pub mod Bodies
 pub mod Scripts
 pub mod Reading
 pub mod Places
+pub mod StepPieces
+pub mod PlanPieces
 pub mod JobReading
 pub mod HeadReading
 pub mod JobText

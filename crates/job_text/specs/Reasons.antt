@@ -3,7 +3,7 @@ use Rattle.std.specs.Prelude.{ℕ, zero, suc, ◌+◌, ◌-◌, ◌*◌, ◌%◌
 use Rattle.std.specs.Prelude.{true, false, not, ◌&&◌, nat_le, ◌==◌, if◌then◌else◌}
 use Rattle.std.specs.Str.{bytes_eq}
 use Rattle.job_text.specs.Lines.{Word, front, back, spaced}
-use Rattle.job_text.specs.Forms.{Shape, End, ◌▸◌, Many, Any, Bundles, Inner, Row, parts_of}
+use Rattle.job_text.specs.Forms.{Shape, End, ◌▸◌, Many, Any, Bundles, Split, Inner, Row, Number, parts_of, part_at}
 use Rattle.job_text.specs.declared.fault.JobWhy.{JobWhy}
 use Rattle.job_text.specs.declared.fault.JobWhy.TheVariants.{Early, Text, Form, Value as BadValue}
 
@@ -53,6 +53,13 @@ are_bundles before least most size words =
     (nat_le (before + least * size) words && nat_le words (before + most * size))
     && ((words - before) % size == 0)
 
+-- so many words behind others, of which the first, where it says one, says how many bundles come first: then whether
+-- others come behind these, 1 to so many, and else whether some count fits
+abbrev pub are_split : (before most size words : ℕ) → Option (ℕ × List ℕ) → Bool
+are_split before most size words (Some count) =
+    are_bundles (before + 1 + count.0 * size) 1 most size words
+are_split before most size words None = are_bundles (before + 1) 2 (2 * most) size words
+
 -- whether the bytes have the words of a shape, of which n came before, where form tests a line of the other table
 abbrev pub shape_form : (form : List ℕ → Bool) → (n : ℕ) → Shape → List ℕ → Bool
 shape_form form n End bytes = words_left bytes == n
@@ -62,6 +69,8 @@ shape_form form n (Many least most p) bytes = nat_le (n + least) (words_left byt
 shape_form form n (Any p) bytes = nat_le n (words_left bytes)
 shape_form form n (Bundles least most b) bytes =
     are_bundles n least most (length (parts_of b)) (words_left bytes)
+shape_form form n (Split most b) bytes =
+    are_split n most (length (parts_of b)) (words_left bytes) (part_at (Number 1 most) (after_words n bytes))
 shape_form form n Inner bytes = behind form (spaced (after_words n bytes))
 
 -- whether a row has this name, and the bytes after it have the words of its shape

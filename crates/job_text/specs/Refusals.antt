@@ -1,14 +1,16 @@
 -- What a refusal means, apart from the reader.
-use Rattle.std.specs.Prelude.{◌≡◌, ℕ, zero, suc, ◌-◌, ◌<◌, ◌≤◌, List, [], ◌∷◌, ◌++◌, length, Some, true, false, ◌==◌, ◌||◌}
+use Rattle.std.specs.Prelude.{◌≡◌, ℕ, zero, suc, ◌+◌, ◌-◌, ◌<◌, ◌≤◌, List, [], ◌∷◌, ◌++◌, length, Some, true, false, ◌==◌, ◌||◌}
 use Rattle.std.specs.Prelude.{if◌then◌else◌, Err}
 use Rattle.job_text.specs.Reasons.{is_text}
 use Rattle.job_text.specs.Scopes.{scope_of}
 use Rattle.job_text.specs.declared.scope.Scope.{Scope}
 use Rattle.job_text.specs.Places.{Place, AtPairs, AtAtomics, AtHandlers, AtBody, AtScripts, AtSteps, AtSchedule}
 use Rattle.job_text.specs.Places.{NamedOr, Named, Other, Item, item_form, item_text, IsItem}
-use Rattle.job_text.specs.JobReading.{limit, job_of, front_of, with_handler, with_script, lines_of, total_rounds}
+use Rattle.job_text.specs.JobReading.{limit, job_of, front_of, with_handler, with_script, lines_of, amounts_of}
+use Rattle.job_text.specs.PlanPieces.{scripts_pieces}
+use Rattle.job_text.specs.StepPieces.{steps_pieces}
 use Rattle.job_text.specs.JobReading.{has_index, is_reserved, most_handlers}
-use Rattle.job_text.specs.JobReading.{has_pair, has_thread, is_full}
+use Rattle.job_text.specs.JobReading.{has_pair, has_thread, is_full, is_full_script}
 use Rattle.job_text.specs.declared.sections.HandlerHeader.{HandlerHeader}
 use Rattle.job_text.specs.declared.sections.Section.{Section}
 use Rattle.job_text.specs.declared.sections.Section.TheVariants as section
@@ -105,10 +107,10 @@ IsFull AtPairs job (Other item) = IsFullLater job item
 IsFull AtAtomics job item = IsFullLater job item
 IsFull AtHandlers job item = IsFullOfHandlers job item
 IsFull (AtBody handler) job item = 64 ≤ length handler.body
-IsFull (AtSteps script) job item = 4096 ≤ length script.steps
+IsFull (AtSteps script) job (Some step) =
+    is_full_script (scripts_pieces job.scripts + steps_pieces script.steps) (length script.steps) step ≡ true
 IsFull AtSchedule job (Some timed) =
-    is_full job.settings.nodes (length (lines_of job.schedule)) (total_rounds (lines_of job.schedule)) timed.event
-    ≡ true
+    is_full job.settings.nodes (amounts_of (scripts_pieces job.scripts) (lines_of job.schedule)) timed.event ≡ true
 IsFull place job item = ⊥
 
 -- what is wrong with a line, where this was read before it

@@ -1,11 +1,15 @@
 -- The forms of steps in a script.
-use Rattle.std.specs.Prelude.{ℕ, List, [], ◌∷◌, Option, Some, None, Bool, true, false, not, ◌&&◌, ◌||◌, codes}
+use Rattle.std.specs.Prelude.{ℕ, List, [], ◌∷◌, Option, Some, Bool, true, false, not, ◌&&◌, ◌||◌, codes}
 use Rattle.std.specs.Str.{bytes_eq}
-use Rattle.job_text.specs.Lines.{Word, ◌>>=◌, front}
+use Rattle.job_text.specs.Lines.{Word, ◌>>=◌, ◌<|>◌, front}
 use Rattle.job_text.specs.Forms.{Value, Integer, Implicit, Shape, End, ◌▸◌, Many, Maker, Values, Row, Entry}
 use Rattle.job_text.specs.Forms.{table_at, entry_text, IsOf, none_at, none_text, none_fits, U64, U8}
 use Rattle.job_text.specs.Reasons.{table_form}
-use Rattle.job_text.specs.Calls.{move_shape, fill_shape, call_at, call_form, call_text, IsCall}
+use Rattle.job_text.specs.Calls.{move_shape, fill_shape, call_text, IsCall}
+use Rattle.job_text.specs.VisLines.{vis_text, IsVis}
+use Rattle.job_text.specs.ThreadActions.{thread_action_at, thread_action_form}
+use Rattle.job_text.specs.declared.thread_actions.ThreadAction.{ThreadAction}
+use Rattle.job_text.specs.declared.thread_actions.ThreadAction.TheVariants as does
 use Rattle.job_text.specs.Scopes.{is_second}
 use Rattle.job_text.specs.declared.scope.Scope.{Scope}
 use Rattle.job_text.specs.declared.job.PutText.{PutText}
@@ -128,28 +132,29 @@ IsWaiting scope step = IsOf none_fits waiting_entry (waiting_fits scope) step
 
 -- ---- steps
 
--- what was found, or else another
-infixl 5 ◌<|>◌
-abbrev pub ◌<|>◌ : {A : Type 0} → Option A → Option A → Option A
-None <|> other = other
-(Some x) <|> other = Some x
+-- the step that a call is, or the beginning of a transfer of many pieces
+abbrev pub step_of : ThreadAction → ScriptStep
+step_of (does.Call call) = step.Call call
+step_of (does.Vis vis) = step.Vis vis
 
--- what reads a step: a call, or what scripts alone have; no two of these forms have the same name
+-- what reads a step: one of these, or what scripts alone have; no two of these forms have the same name
 unfoldable pub step_at : Scope → List ℕ → Option (ScriptStep × List ℕ)
 step_at scope bytes =
-    (call_at scope bytes >>= λ x. Some (step.Call x.0, x.1))
+    (thread_action_at scope bytes >>= λ x. Some (step_of x.0, x.1))
     <|> (waiting_at scope bytes >>= λ x. Some (step.Waiting x.0, x.1))
 
 -- whether bytes have the form of a step
 unfoldable pub step_form : Scope → List ℕ → Bool
-step_form scope bytes = call_form scope bytes || waiting_form scope bytes
+step_form scope bytes = thread_action_form scope bytes || waiting_form scope bytes
 
 -- the text of a step
 abbrev pub step_text : ScriptStep → List ℕ
 step_text (step.Call call) = call_text call
+step_text (step.Vis vis) = vis_text vis
 step_text (step.Waiting waiting) = waiting_text waiting
 
 -- a step whose words can be said, and which may stand in the job
 abbrev pub IsStep : Scope → ScriptStep → Type 0
 IsStep scope (step.Call call) = IsCall scope call
+IsStep scope (step.Vis vis) = IsVis scope vis
 IsStep scope (step.Waiting waiting) = IsWaiting scope waiting

@@ -272,11 +272,11 @@ fn later_call_form(name: &[u8], rest: &[u8]) -> bool
 }
 
 /// Whether a count of words is that of so many bundles of a size behind others.
-fn are_bundles(words: usize, before: usize, most: usize, size: usize) -> bool
-    requires { (0 < size) × (size ≤ 4) × (before ≤ 100) × (most ≤ 16) }
-    ensures { result ≡ are_bundles before 1 most size words }
+pub fn are_bundles(words: usize, before: usize, least: usize, most: usize, size: usize) -> bool
+    requires { (0 < size) × (size ≤ 4) × (before ≤ 100) × (least ≤ 16) × (most ≤ 32) }
+    ensures { result ≡ are_bundles before least most size words }
 {
-    if words < before + size {
+    if words < before + least * size {
         return false;
     }
     if before + most * size < words {
@@ -294,7 +294,7 @@ fn named_call_form(name: &[u8], rest: &[u8]) -> bool
         return is_between(words_left(rest), 2, 19);
     }
     if is_name(name, b"atomic") {
-        return are_bundles(words_left(rest), 3, 16, 4);
+        return are_bundles(words_left(rest), 3, 1, 16, 4);
     }
     later_call_form(name, rest)
 }

@@ -77,7 +77,8 @@ pub fn tail_at(
         settings: job.settings,
         atomics: job.atomics,
     };
-    let (lines, line, rest) = match schedule_at(alloc, &scope, line, bytes) {
+    let before = job.scripts.pieces();
+    let (lines, line, rest) = match schedule_at(alloc, &scope, before, line, bytes) {
         Ok(read) => read,
         Err(fault) => return Err(fault),
     };

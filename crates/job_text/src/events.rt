@@ -1,16 +1,16 @@
 //! Reading lines of a schedule.
 
 ghost use Rattle.std.specs.Prelude.{◌≡◌, ◌-◌};
-ghost use Rattle.job_text.specs.Events.{later_event_at, event_at, timed_at, event_form, timed_form};
+ghost use Rattle.job_text.specs.Events.{event_of, later_event_at, event_at, timed_at, event_form, timed_form};
 ghost use Rattle.job_text.specs.Forms.{Number, part_at};
 ghost use Rattle.job_text.specs.Reading.{Finds, Reads};
 
-use crate::calls::{call_at, call_form};
 use crate::fault::{Miss, Other};
 use crate::job::{ScheduledEvent, TimedEvent};
 use crate::numbers::{number_at, number_here, short_at};
 use crate::reasons::{skipped, words_left};
 use crate::scope::Scope;
+use crate::thread_actions::{ThreadAction, thread_action_at, thread_action_form};
 use crate::words::{behind_name, is_name, name_of, spaced};
 use std::alloc::Global;
 
@@ -43,6 +43,16 @@ fn later_event_at<'a>(scope: &Scope, bytes: &'a [u8]) -> Result<(ScheduledEvent,
     Err(Other)
 }
 
+/// The event that a thread of a node does this.
+fn event_of(node: u16, thread: u16, action: ThreadAction) -> ScheduledEvent
+    ensures { result ≡ event_of node thread action }
+{
+    match action {
+        ThreadAction::Call { call } => ScheduledEvent::Call { node, thread, call },
+        ThreadAction::Vis { vis } => ScheduledEvent::Vis { node, thread, vis },
+    }
+}
+
 /// The event that a line says, and the bytes after it.
 #[tactic(auto, unfolding(crate::specs::Events::event_at))]
 fn event_at<'a>(
@@ -56,8 +66,8 @@ fn event_at<'a>(
     if let Some(rest) = behind_name(bytes, b"call") {
         let (node, rest) = index_at(rest, nodes)?;
         let (thread, rest) = index_at(rest, threads)?;
-        let (call, rest) = call_at(alloc, scope, spaced(rest)?)?;
-        return Ok((ScheduledEvent::Call { node, thread, call }, rest));
+        let (action, rest) = thread_action_at(alloc, scope, spaced(rest)?)?;
+        return Ok((event_of(node, thread, action), rest));
     }
     if let Some(rest) = behind_name(bytes, b"request") {
         let (from, rest) = index_at(rest, nodes)?;
@@ -103,7 +113,7 @@ fn event_form(scope: &Scope, bytes: &[u8]) -> bool
     let (name, rest) = name_of(bytes);
     if is_name(name, b"call") {
         return match spaced(skipped(skipped(rest))) {
-            Ok(line) => call_form(scope, line),
+            Ok(line) => thread_action_form(scope, line),
             Err(_) => false,
         };
     }

@@ -5,8 +5,11 @@ ghost use Rattle.datagram_grammar.specs.Parameters.{upgraded};
 ghost use Rattle.gas_atomic.specs.BatchRequests.{batch_arguments, spelled_ops};
 ghost use Rattle.job_text.specs.Locks.{are_listed, listed_by};
 ghost use Rattle.job_text.specs.JobReading.{lines_of};
+ghost use Rattle.job_text.specs.PlanPieces.{scripts_pieces};
+ghost use Rattle.job_text.specs.StepPieces.{steps_pieces};
 
 use crate::locks::listed_by;
+use crate::vis::BoxedVis;
 use datagram_grammar::Settings;
 use gas_atomic::WordOp;
 use handler_rules::{CallKind, Role};
@@ -419,13 +422,19 @@ pub enum ScheduledCall {
 }
 
 /// What a line of the schedule asks for.
-#[derive(Debug, Drop)]
+#[derive(Drop)]
 pub enum ScheduledEvent {
     /// A thread of a node makes a call.
     Call {
         node: u16,
         thread: u16,
         call: ScheduledCall,
+    },
+    /// A thread of a node begins a transfer of many pieces.
+    Vis {
+        node: u16,
+        thread: u16,
+        vis: BoxedVis,
     },
     /// The delivery of a request.
     Request {
@@ -450,7 +459,7 @@ pub enum ScheduledEvent {
 }
 
 /// A line of the schedule.
-#[derive(Debug, Drop)]
+#[derive(Drop)]
 pub struct TimedEvent {
     /// The time, in milliseconds.
     pub time: u64,
@@ -499,31 +508,37 @@ pub enum WaitingStep {
 }
 
 /// A step of a script.
-#[derive(Debug, Drop)]
+#[derive(Drop)]
 pub enum ScriptStep {
     /// A call, as a line of a schedule has it.
     Call { call: ScheduledCall },
+    /// Begins a transfer of many pieces.
+    Vis { vis: BoxedVis },
     /// What scripts alone have.
     Waiting { step: WaitingStep },
 }
 
 /// The steps of a script, at most 4,096 where the job was read.
-#[derive(Debug, Drop)]
+#[derive(Drop)]
 pub struct ScriptSteps {
     pub(crate) steps: Vec<ScriptStep>,
+    pub(crate) pieces: usize,
 }
 
 impl Model for ScriptSteps {
-    ghost use Rattle.std.specs.Prelude.{List};
+    ghost use Rattle.std.specs.Prelude.{◌≡◌, List};
+    ghost use Rattle.job_text.specs.StepPieces.{steps_pieces};
     ghost use Rattle.job_text.specs.declared.job.ScriptStep.{ScriptStep};
 
     ghost Value = { List ScriptStep };
 
     ghost view = { λ s. s.steps.items };
+
+    ghost invariant = { λ s. s.pieces ≡ steps_pieces s.steps.items };
 }
 
 /// What a thread of a node does, step by step.
-#[derive(Debug, Drop)]
+#[derive(Drop)]
 pub struct NodeScript {
     /// The node, below the job's nodes where the job was read.
     pub node: u16,
@@ -534,18 +549,22 @@ pub struct NodeScript {
 }
 
 /// The scripts of a job, no two of the same thread where it was read.
-#[derive(Debug, Drop)]
+#[derive(Drop)]
 pub struct NodeScripts {
     pub(crate) scripts: Vec<NodeScript>,
+    pub(crate) pieces: usize,
 }
 
 impl Model for NodeScripts {
-    ghost use Rattle.std.specs.Prelude.{List};
+    ghost use Rattle.std.specs.Prelude.{◌≡◌, ◌≤◌, List};
+    ghost use Rattle.job_text.specs.PlanPieces.{scripts_pieces};
     ghost use Rattle.job_text.specs.declared.job.NodeScript.{NodeScript};
 
     ghost Value = { List NodeScript };
 
     ghost view = { λ s. s.scripts.items };
+
+    ghost invariant = { λ s. (s.pieces ≡ scripts_pieces s.scripts.items) × (s.pieces ≤ 65536) };
 }
 
 /// The actions of a handler, at most 64 where the job was read.
@@ -592,7 +611,7 @@ impl Model for HandlerTexts {
 }
 
 /// The lines of a schedule, at most 65,536 where the job was read.
-#[derive(Debug, Drop)]
+#[derive(Drop)]
 pub struct Schedule {
     pub(crate) lines: Vec<TimedEvent>,
 }
@@ -800,6 +819,13 @@ impl ScriptSteps {
     {
         &self.steps
     }
+
+    /// The pieces of their plans in all.
+    pub fn pieces(&self) -> usize
+        ensures { result ≡ steps_pieces self.now }
+    {
+        self.pieces
+    }
 }
 
 impl NodeScripts {
@@ -808,6 +834,14 @@ impl NodeScripts {
         ensures { result.now ≡ self.now }
     {
         &self.scripts
+    }
+
+    /// The pieces of their plans in all, at most 65,536.
+    pub fn pieces(&self) -> usize
+        ensures pieces { result ≡ scripts_pieces self.now }
+        ensures few { result ≤ 65536 }
+    {
+        self.pieces
     }
 }
 

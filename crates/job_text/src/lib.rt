@@ -32,13 +32,17 @@ mod operand_lists;
 mod operands;
 mod pair_lines;
 mod payloads;
+mod plan_pieces;
 mod reading;
 mod reasons;
 mod schedules;
 mod scope;
 mod script_lines;
 mod sections;
+mod thread_actions;
 mod transfer_calls;
+mod vis;
+mod vis_lines;
 mod waiting_steps;
 mod words;
 
@@ -50,3 +54,4 @@ pub use job::{
     ScheduledEvent, ScriptStep, ScriptSteps, SieveRule, TimedEvent, TransferText, WaitingStep,
 };
 pub use reading::{read_job, read_job_front};
+pub use vis::{BoxedVis, Levels, SegmentRanges, VisShape, VisText, VisWords};

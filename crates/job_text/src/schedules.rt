@@ -5,6 +5,7 @@ ghost use Rattle.job_text.specs.Places.{AtSchedule, AtDone, end_or};
 ghost use Rattle.job_text.specs.Events.{timed_at, timed_form};
 ghost use Rattle.job_text.specs.HeadReading.{told};
 ghost use Rattle.job_text.specs.JobReading.{State, lined, rounds_of, are_too_many, is_full, admitted, read};
+ghost use Rattle.job_text.specs.PlanPieces.{scripts_pieces};
 ghost use Rattle.job_text.specs.Reading.{Reads, Continues, GivesAt};
 ghost use Rattle.job_text.specs.Reasons.{reason};
 ghost use Rattle.job_text.specs.Scopes.{scope_of};
@@ -14,6 +15,7 @@ use crate::events::{timed_at, timed_form};
 use crate::fault::{JobFault, JobWhy, Miss};
 use crate::handler_lines::is_end;
 use crate::job::{Schedule, ScheduledEvent, TimedEvent};
+use crate::plan_pieces::{are_too_many_pieces, event_pieces};
 use crate::reasons::reason_of;
 use crate::scope::Scope;
 use crate::words::{ended, name_of};
@@ -21,6 +23,14 @@ use std::alloc::Global;
 
 /// The most lines of a schedule.
 const LINES: usize = 65_536;
+
+/// What a schedule has so far: its lines, their rounds, and the pieces of all plans of the job up to it.
+#[derive(Clone, Copy)]
+struct Amounts {
+    lines: usize,
+    rounds: u32,
+    pieces: usize,
+}
 
 /// A line of the schedule, or none at the line `end`, and the bytes after it.
 fn timed_or_end<'a>(
@@ -80,34 +90,48 @@ fn are_too_many(nodes: u16, rounds: u64) -> bool
     4096 < rounds || 262_144 < rounds * u64::from(nodes)
 }
 
-/// Whether there is no room for the event behind so many lines and rounds.
-fn is_full(nodes: u16, lines: usize, rounds: u32, event: &ScheduledEvent) -> bool
-    requires { rounds ≤ 4096 }
-    ensures { result ≡ is_full nodes lines rounds event.now }
+/// Whether there is no room for the event behind so much.
+fn is_full(nodes: u16, so_far: Amounts, event: &ScheduledEvent) -> bool
+    requires rounds { so_far.rounds ≤ 4096 }
+    requires pieces { so_far.pieces ≤ 65536 }
+    ensures { result ≡ is_full nodes so_far event.now }
 {
-    lines >= LINES || are_too_many(nodes, u64::from(rounds) + u64::from(rounds_of(event)))
+    let rounds = u64::from(so_far.rounds) + u64::from(rounds_of(event));
+    so_far.lines >= LINES
+        || are_too_many(nodes, rounds)
+        || are_too_many_pieces(so_far.pieces, event_pieces(event))
 }
 
-/// An event for which there is room.
-fn admitted(nodes: u16, lines: usize, rounds: u32, event: TimedEvent) -> Option<TimedEvent>
-    requires { rounds ≤ 4096 }
-    ensures { result ≡ admitted nodes lines rounds event }
+/// What the schedule has with the event, where there is room for it.
+#[tactic(auto, using(crate::proofs::HandlerRuns::few_full))]
+fn admitted(nodes: u16, so_far: Amounts, event: &ScheduledEvent) -> Option<Amounts>
+    requires rounds { so_far.rounds ≤ 4096 }
+    requires pieces { so_far.pieces ≤ 65536 }
+    ensures { result ≡ admitted nodes so_far event.now }
 {
-    if is_full(nodes, lines, rounds, &event.event) {
+    if is_full(nodes, so_far, event) {
         return None;
     }
-    Some(event)
+    Some(Amounts {
+        lines: so_far.lines + 1,
+        rounds: so_far.rounds + rounds_of(event),
+        pieces: so_far.pieces + event_pieces(event),
+    })
 }
 
-/// The lines of a job's schedule up to the line `end`, with the next line's number and the bytes after it.
+/// The lines of a job's schedule up to the line `end`, with the next line's number and the bytes after it. The plans
+/// of its scripts have so many pieces.
 pub fn schedule_at<'a>(
     alloc: Global,
     scope: &Scope,
+    before: usize,
     first: u32,
     bytes: &'a [u8],
 ) -> Result<(Schedule, u32, &'a [u8]), JobFault>
-    requires { first ≤ 20000000 }
-    ensures value { (job : JobState) → scope_of job ≡ scope.now → Continues
+    requires pieces { before ≤ 65536 }
+    requires line { first ≤ 20000000 }
+    ensures value { (job : JobState) → scope_of job ≡ scope.now
+        → scripts_pieces job.scripts ≡ before → Continues
         (λ x. read (record { place = AtDone; job = record job { schedule = Some x.0 } })
         x.1 x.2.now)
         result (read (record { place = AtSchedule; job = record job { schedule = Some [] } })
@@ -117,7 +141,11 @@ pub fn schedule_at<'a>(
     let mut lines = Vec::new(alloc);
     let mut rest = bytes;
     let mut line = first;
-    let mut rounds: u32 = 0;
+    let mut so_far = Amounts {
+        lines: 0,
+        rounds: 0,
+        pieces: before,
+    };
     loop {
         let (next, after) = match next_timed(alloc, scope, line, rest) {
             Ok(read) => read,
@@ -126,12 +154,13 @@ pub fn schedule_at<'a>(
         let Some(event) = next else {
             return Ok((Schedule { lines }, line + 1, after));
         };
-        let Some(event) = admitted(scope.settings.nodes(), lines.len(), rounds, event) else {
+        let Some(amounts) = admitted(scope.settings.nodes(), so_far, &event.event) else {
+            drop(event);
             let why = JobWhy::Count;
             return Err(JobFault::Bad { line, why });
         };
-        rounds += rounds_of(&event.event);
         lines.push(event)?;
+        so_far = amounts;
         rest = after;
         line += 1;
     }

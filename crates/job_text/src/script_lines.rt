@@ -5,7 +5,10 @@ ghost use Rattle.job_text.specs.HeadReading.{told};
 ghost use Rattle.job_text.specs.Places.{AtScripts, AtSteps, end_or, section_fits};
 ghost use Rattle.job_text.specs.Scripts.{step_at, step_form};
 ghost use Rattle.job_text.specs.JobReading.{State, begun_script, behind_scripts, behind_section, has_thread};
-ghost use Rattle.job_text.specs.JobReading.{is_schedule, lined, read, section_why, with_script, with_steps};
+ghost use Rattle.job_text.specs.JobReading.{is_full_script, is_schedule, lined, read, section_why};
+ghost use Rattle.job_text.specs.JobReading.{with_script, with_steps};
+ghost use Rattle.job_text.specs.PlanPieces.{scripts_pieces};
+ghost use Rattle.job_text.specs.StepPieces.{steps_pieces};
 ghost use Rattle.job_text.specs.Reading.{Reads, Continues, GivesAt};
 ghost use Rattle.job_text.specs.Reasons.{reason};
 ghost use Rattle.job_text.specs.Scopes.{scope_of};
@@ -15,6 +18,7 @@ ghost use Rattle.job_text.specs.declared.job.NodeScript.{NodeScript as ScriptVal
 use crate::fault::{JobFault, JobWhy, Miss, Other};
 use crate::handler_lines::is_end;
 use crate::job::{NodeScript, NodeScripts, ScriptStep, ScriptSteps};
+use crate::plan_pieces::{are_too_many_pieces, step_pieces};
 use crate::reasons::reason_of;
 use crate::scope::Scope;
 use crate::sections::{Section, section_form, section_line};
@@ -64,37 +68,53 @@ fn next_step<'a>(
     }
 }
 
-/// The steps of a script up to the line `end`, with the next line's number and the bytes after it.
+/// Whether there is no room for the step behind so many, where all plans so far have so many pieces.
+fn is_full_script(pieces: usize, steps: usize, step: &ScriptStep) -> bool
+    requires { pieces ≤ 65536 }
+    ensures { result ≡ is_full_script pieces steps step.now }
+{
+    steps >= STEPS || are_too_many_pieces(pieces, step_pieces(step))
+}
+
+/// The steps of a script up to the line `end`, with the next line's number and the bytes after it. The plans of the
+/// scripts before it have so many pieces.
 fn steps_at<'a>(
     alloc: Global,
     scope: &Scope,
+    before: usize,
     first: u32,
     bytes: &'a [u8],
 ) -> Result<(ScriptSteps, u32, &'a [u8]), JobFault>
-    requires { first ≤ 20000000 }
-    ensures value { (script : ScriptValue) (job : JobState) → scope_of job ≡ scope.now →
+    requires pieces { before ≤ 65536 }
+    requires line { first ≤ 20000000 }
+    ensures value { (script : ScriptValue) (job : JobState) → scope_of job ≡ scope.now
+        → scripts_pieces job.scripts ≡ before →
         Continues (λ x. read (record {
           place = AtScripts;
           job = with_script (with_steps x.0 script) job;
         }) x.1 x.2.now)
         result (read (record { place = AtSteps (with_steps [] script); job = job }) first bytes.now) }
     ensures later { IfOk result (λ x. x.1 ≤ first + 4097) }
+    ensures few { IfOk result (λ x. before + steps_pieces x.0 ≤ 65536) }
 {
     let mut steps = Vec::new(alloc);
     let mut rest = bytes;
     let mut line = first;
+    let mut pieces: usize = 0;
     loop {
         let (next, after) = match next_step(alloc, scope, line, rest) {
             Ok(read) => read,
             Err(fault) => return Err(fault),
         };
         let Some(step) = next else {
-            return Ok((ScriptSteps { steps }, line + 1, after));
+            return Ok((ScriptSteps { steps, pieces }, line + 1, after));
         };
-        if steps.len() >= STEPS {
+        if is_full_script(before + pieces, steps.len(), &step) {
+            drop(step);
             let why = JobWhy::Count;
             return Err(JobFault::Bad { line, why });
         }
+        pieces += step_pieces(&step);
         steps.push(step)?;
         rest = after;
         line += 1;
@@ -185,6 +205,7 @@ pub fn scripts_at<'a>(
     let mut scripts = Vec::new(alloc);
     let mut rest = bytes;
     let mut line = first;
+    let mut pieces: usize = 0;
     loop {
         let (section, after) = match next_section(&scope.settings, &scripts, line, rest) {
             Ok(read) => read,
@@ -192,12 +213,13 @@ pub fn scripts_at<'a>(
         };
         let Section::Script { node, thread } = section else {
             let schedule = is_schedule(section);
-            return Ok((NodeScripts { scripts }, schedule, line + 1, after));
+            return Ok((NodeScripts { scripts, pieces }, schedule, line + 1, after));
         };
-        let (steps, later, after) = match steps_at(alloc, scope, line + 1, after) {
+        let (steps, later, after) = match steps_at(alloc, scope, pieces, line + 1, after) {
             Ok(read) => read,
             Err(fault) => return Err(fault),
         };
+        pieces += steps.pieces();
         scripts.push(script_of(node, thread, steps))?;
         rest = after;
         line = later;

@@ -5,10 +5,9 @@ ghost use Rattle.job_text.specs.Forms.{named_at, none_at};
 ghost use Rattle.job_text.specs.Reading.{Reads};
 ghost use Rattle.job_text.specs.Reasons.{named_form};
 ghost use Rattle.job_text.specs.Scripts.{put, step_at, step_form, sync_waits, waiting_at, waiting_fits};
-ghost use Rattle.job_text.specs.Scripts.{waiting_form, waits};
+ghost use Rattle.job_text.specs.Scripts.{step_of, waiting_form, waits};
 
 use crate::atomics_line::is_second;
-use crate::calls::{call_at, call_form};
 use crate::fault::Miss;
 use crate::job::{PutText, ScriptStep, WaitingStep};
 use crate::kinds::implicit_at;
@@ -17,6 +16,7 @@ use crate::operand_lists::registers_at;
 use crate::operands::{integer_at, value_at};
 use crate::reasons::{is_between, words_left};
 use crate::scope::Scope;
+use crate::thread_actions::{ThreadAction, thread_action_at, thread_action_form};
 use crate::transfer_calls::{Move, boxed, fill_at, get_of, memset_of, move_at, put_of};
 use crate::words::{is_name, name_of};
 use std::alloc::Global;
@@ -141,6 +141,16 @@ fn waiting_at<'a>(
     Ok((step, rest))
 }
 
+/// The step that a thread does this.
+fn step_of(action: ThreadAction) -> ScriptStep
+    ensures { result ≡ step_of action }
+{
+    match action {
+        ThreadAction::Call { call } => ScriptStep::Call { call },
+        ThreadAction::Vis { vis } => ScriptStep::Vis { vis },
+    }
+}
+
 /// The step that a line says, and the bytes after it.
 #[tactic(auto, unfolding(crate::specs::Scripts::step_at))]
 pub fn step_at<'a>(
@@ -150,8 +160,8 @@ pub fn step_at<'a>(
 ) -> Result<(ScriptStep, &'a [u8]), Miss>
     ensures { Reads (λ x. (x.0, x.1.now)) result (step_at scope.now bytes.now) }
 {
-    match call_at(alloc, scope, bytes) {
-        Ok((call, rest)) => Ok((ScriptStep::Call { call }, rest)),
+    match thread_action_at(alloc, scope, bytes) {
+        Ok((action, rest)) => Ok((step_of(action), rest)),
         Err(Miss::NoMemory) => Err(Miss::NoMemory),
         Err(Miss::Unlike) => {
             let (step, rest) = waiting_at(alloc, scope, bytes)?;
@@ -219,5 +229,5 @@ fn waiting_form(scope: &Scope, bytes: &[u8]) -> bool
 pub fn step_form(scope: &Scope, bytes: &[u8]) -> bool
     ensures { result ≡ step_form scope.now bytes.now }
 {
-    call_form(scope, bytes) || waiting_form(scope, bytes)
+    thread_action_form(scope, bytes) || waiting_form(scope, bytes)
 }

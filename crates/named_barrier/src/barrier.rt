@@ -7,9 +7,9 @@ ghost use Rattle.named_barrier.specs.BarrierState.{last_due, now_due, note_at};
 ghost use Rattle.named_barrier.specs.Stands.{Stands};
 
 use crate::answer::{BarrierAnswer, Notified};
-use crate::known::{Known, Notify, is_other, join, no_part, own_part, part_of};
+use crate::known::{Known, Notify, is_other, join, no_part, note_of, own_part, part_of};
 use crate::mask::{has_all, is_in, put_in};
-use crate::rounds::{Place, routed};
+use crate::rounds::{Place, targets};
 use datagram_grammar::BarrierNote;
 use std::alloc::AllocError;
 use std::marker::Model;
@@ -18,6 +18,9 @@ use std::marker::Model;
 ///
 /// Its phases are numbered from 0. What it keeps is of three of them: the present one, the next one, of which notes
 /// may come before this node notifies, and the one that ended last, whose notes may have to go still.
+///
+/// `goes_now` and `goes_last` are the nodes to which the route sends the note of the present phase, and of the one that
+/// ended last, whether it was sent or not. They are kept as notifies and notes come, so no call searches the rounds.
 #[derive(Drop)]
 pub struct Barrier {
     nodes: u16,
@@ -29,6 +32,8 @@ pub struct Barrier {
     last: Known,
     sent_now: [u64; 4],
     sent_last: [u64; 4],
+    goes_now: [u64; 4],
+    goes_last: [u64; 4],
 }
 
 impl Model for Barrier {
@@ -62,6 +67,8 @@ impl Barrier {
             last: no_part(),
             sent_now: [0; 4],
             sent_last: [0; 4],
+            goes_now: [0; 4],
+            goes_last: [0; 4],
         })
     }
 
@@ -89,6 +96,11 @@ impl Barrier {
         let own = Notify { id, flags };
         self.own = Some(own);
         self.present = join(&own_part(self.me, own), &self.present);
+        let at = Place {
+            nodes: self.nodes,
+            me: self.me,
+        };
+        self.goes_now = targets(at, true, &self.present.mask);
         Notified::Ok
     }
 
@@ -125,10 +137,12 @@ impl Barrier {
         let is_mismatch = self.present.combined.mismatch || is_other(own, id, flags);
         self.last = self.present;
         self.sent_last = self.sent_now;
+        self.goes_last = self.goes_now;
         self.own = None;
         self.present = self.next;
         self.next = no_part();
         self.sent_now = [0; 4];
+        self.goes_now = [0; 4];
         self.phase += 1;
         if is_mismatch {
             BarrierAnswer::Mismatch
@@ -146,6 +160,11 @@ impl Barrier {
     {
         if note.phase == self.phase {
             self.present = join(&self.present, &part_of(note));
+            let at = Place {
+                nodes: self.nodes,
+                me: self.me,
+            };
+            self.goes_now = targets(at, self.own.is_some(), &self.present.mask);
         } else if note.phase > self.phase && note.phase - self.phase == 1 {
             self.next = join(&self.next, &part_of(note));
         }
@@ -156,14 +175,10 @@ impl Barrier {
         requires { to < self.now.nodes }
         ensures { result ≡ last_due self.now to }
     {
-        if self.phase == 0 || is_in(&self.sent_last, to) {
+        if self.phase == 0 || !is_in(&self.goes_last, to) || is_in(&self.sent_last, to) {
             return None;
         }
-        let at = Place {
-            nodes: self.nodes,
-            me: self.me,
-        };
-        routed(at, &self.last, self.phase - 1, to)
+        Some(note_of(self.phase - 1, &self.last))
     }
 
     /// The note of the present phase that must go to the node still.
@@ -171,14 +186,10 @@ impl Barrier {
         requires { to < self.now.nodes }
         ensures { result ≡ now_due self.now to }
     {
-        if self.own.is_none() || is_in(&self.sent_now, to) {
+        if !is_in(&self.goes_now, to) || is_in(&self.sent_now, to) {
             return None;
         }
-        let at = Place {
-            nodes: self.nodes,
-            me: self.me,
-        };
-        routed(at, &self.present, self.phase, to)
+        Some(note_of(self.phase, &self.present))
     }
 
     /// The note that must go to the node and wasn't sent; None exactly where there is none (profile).

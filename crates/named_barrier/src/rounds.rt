@@ -1,14 +1,11 @@
 //! The route of notes, in rounds.
 
-ghost use Rattle.std.specs.Prelude.{◌≡◌, ◌<◌, ◌≤◌, true};
+ghost use Rattle.std.specs.Prelude.{◌≡◌, ◌<◌, ◌≤◌, ◌+◌, ◌-◌, ◌%◌, ℕ, true, not, nat_lt};
 ghost use Rattle.datagram_grammar.specs.Notes.{mask_number};
-ghost use Rattle.named_barrier.specs.Route.{has_back, any_round};
-ghost use Rattle.named_barrier.specs.Record.{routed};
-ghost use Rattle.named_barrier.specs.Views.{part};
+ghost use Rattle.named_barrier.specs.Masks.{has};
+ghost use Rattle.named_barrier.specs.Route.{has_back, goes_to};
 
-use crate::known::{Known, note_of};
-use crate::mask::is_in;
-use datagram_grammar::BarrierNote;
+use crate::mask::{is_in, put_in};
 
 /// A node among the nodes of a job.
 #[derive(Clone, Copy, Drop)]
@@ -19,49 +16,65 @@ pub struct Place {
     pub me: u16,
 }
 
-/// Whether of the nodes me, me - 1 and so on, modulo n, the first many are in the mask.
-fn has_back(at: Place, mask: &[u64; 4], many: u16) -> bool
+/// The node so many places before this one, modulo n.
+#[inline(always)]
+fn before(at: Place, back: u16) -> u16
     requires few { at.nodes ≤ 256 }
     requires in_range { at.me < at.nodes }
-    requires many { many ≤ at.nodes }
-    ensures { result ≡ has_back at.nodes at.me (mask_number mask.now) many }
+    requires back { back < at.nodes }
+    ensures { result ≡ (at.me + at.nodes - back) % at.nodes }
 {
-    for back in 0..many {
-        if !is_in(mask, (at.me + at.nodes - back) % at.nodes) {
-            return false;
-        }
+    if back <= at.me {
+        at.me - back
+    } else {
+        at.me + at.nodes - back
     }
-    true
 }
 
-/// Whether in some round the note goes to the node.
-fn any_round(at: Place, mask: &[u64; 4], to: u16) -> bool
+/// The node so many places behind this one, modulo n.
+#[inline(always)]
+fn further(at: Place, step: u16) -> u16
     requires few { at.nodes ≤ 256 }
     requires in_range { at.me < at.nodes }
-    ensures { result ≡ any_round at.nodes at.me (mask_number mask.now) to at.nodes }
+    requires step { step < at.nodes }
+    ensures { result ≡ (at.me + step) % at.nodes }
 {
+    let to = at.me + step;
+    if to < at.nodes { to } else { to - at.nodes }
+}
+
+/// How many of the nodes me, me - 1 and so on, modulo n, are in the mask before the first one that isn't.
+fn known_back(at: Place, mask: &[u64; 4]) -> u16
+    requires few { at.nodes ≤ 256 }
+    requires in_range { at.me < at.nodes }
+    ensures { (many : ℕ) → many ≤ at.nodes
+        → has_back at.nodes at.me (mask_number mask.now) many ≡ not (nat_lt result many) }
+{
+    for back in 0..at.nodes {
+        if !is_in(mask, before(at, back)) {
+            return back;
+        }
+    }
+    at.nodes
+}
+
+/// The nodes to which the route sends a note, from one that knows the nodes in the mask: none before it has notified.
+pub(crate) fn targets(at: Place, notified: bool, mask: &[u64; 4]) -> [u64; 4]
+    requires few { at.nodes ≤ 256 }
+    requires in_range { at.me < at.nodes }
+    ensures { (to : ℕ) → has (mask_number result) to
+        ≡ goes_to at.nodes at.me notified (mask_number mask.now) to }
+{
+    if !notified {
+        return [0; 4];
+    }
+    let known = known_back(at, mask);
+    let mut nodes = [0; 4];
     for round in 0..8u16 {
         let step = 1u16 << round;
-        if step < at.nodes && (at.me + step) % at.nodes == to && has_back(at, mask, step) {
-            return true;
+        if step < at.nodes && step <= known {
+            put_in(&mut nodes, further(at, step));
         }
     }
-    false
-}
-
-/// The note of the phase that goes to the node, from one that knows this.
-pub(crate) fn routed(at: Place, known: &Known, phase: u64, to: u16) -> Option<BarrierNote>
-    requires few { at.nodes ≤ 256 }
-    requires in_range { at.me < at.nodes }
-    ensures { result ≡ routed at.nodes at.me (record {
-      phase = phase;
-      notified = true;
-      part = part known.now;
-    }) to }
-{
-    if any_round(at, &known.mask, to) {
-        Some(note_of(phase, known))
-    } else {
-        None
-    }
+    nodes
 }

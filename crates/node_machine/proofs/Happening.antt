@@ -30,9 +30,8 @@ use Rattle.node_runs.specs.Fitting.{AreBytes}
 use Rattle.node_runs.specs.Laws.{GotBytes}
 use Rattle.node_runs.specs.Outgoing.{slot_of, StaysWell}
 use Rattle.node_runs.specs.Turn.{node_run, node_sends, coming, comes, before_try}
-use Rattle.script_steps.specs.Tries.{EndpointJob, Happening, HasHappened, Happen}
+use Rattle.script_steps.specs.Tries.{EndpointJob, Happening, HasHappened, Happen, IsAtSameNode}
 use Rattle.node_machine.specs.Parts.{at_once}
-use Rattle.gas_endpoint.proofs.Stepping.{same_node}
 use Rattle.gas_endpoint.proofs.Delivering.{version_at}
 
 -- ---- two lists of events, one after the other
@@ -63,15 +62,25 @@ well-append job IsKept me now (event ∷ first) second node well later =
     (well.0, well-append job IsKept me now first second (node_after job me node now event) well.1 later)
 
 -- what holds of the same node after an event holds of it before
-pub at_same : (old new : CoreState) (P : Parameters → List (Option Entry) → ℕ → Type 0) → IsSameNode old new
+pub at_same : (old new : CoreState) (P : Parameters → List (Option Entry) → ℕ → Type 0) → IsAtSameNode old new
     → P new.settings new.table new.me → P old.settings old.table old.me
 at_same old new P same holds =
     subst (λ me. P old.settings old.table me) same.me_is
     (subst (λ table. P old.settings table new.me) same.table
     (subst (λ settings. P settings new.table new.me) same.settings holds))
 
-pub same_here : (core : CoreState) → IsSameNode core core
-same_here core = record { settings = refl; me_is = refl; table = refl; segment_length = refl }
+pub same_here : (core : CoreState) → IsAtSameNode core core
+same_here core = record { settings = refl; me_is = refl; table = refl }
+
+pub same_then : (old mid new : CoreState) → IsAtSameNode old mid → IsAtSameNode mid new → IsAtSameNode old new
+same_then old mid new first second = record {
+  settings = second.settings ∙ first.settings;
+  me_is = second.me_is ∙ first.me_is;
+  table = second.table ∙ first.table;
+}
+
+at_node : (old new : CoreState) → IsSameNode old new → IsAtSameNode old new
+at_node old new same = record { settings = same.settings; me_is = same.me_is; table = same.table }
 
 -- these events, and then those
 abbrev pub then_those : (meaning : Meaning) (old : EndpointState) (first second : Happening) → Happening
@@ -86,7 +95,7 @@ pub happen_then : (meaning : Meaning) (old mid new : EndpointState) (first secon
     → second.now ≡ first.now → Happen meaning old first mid → Happen meaning mid second new
     → Happen meaning old (then_those meaning old first second) new
 happen_then meaning old mid new first second one A B = record {
-  same = same_node old.core mid.core new.core A.same B.same;
+  same = same_then old.core mid.core new.core A.same B.same;
   happened = λ node stands.
       let job = job_here meaning old in
       let me = old.core.me in
@@ -133,7 +142,7 @@ pub one_happens : (meaning : Meaning) (old new : EndpointState) (now : ℕ) (eve
     → NodeSteps meaning old (transition now event answer) new → NodeSends meaning old (transition now event answer)
     → Happen meaning old (at_once now (event ∷ []) (option_to_list (sends answer))) new
 one_happens meaning old new now event answer N S = record {
-  same = N.same;
+  same = at_node old.core new.core N.same;
   happened = λ node stands.
       let job = job_here meaning old in
       let it = N.steps node stands in
@@ -143,7 +152,7 @@ one_happens meaning old new now event answer N S = record {
         well = (
           well_of old node stands,
           at_same old.core new.core (λ settings table me. NodeInvariant settings (IsEndpointKept settings) me
-              (node_after job old.core.me node now event)) N.same
+              (node_after job old.core.me node now event)) (at_node old.core new.core N.same)
               (well_of new (node_after job old.core.me node now event) it.1),
         );
       };
@@ -191,7 +200,7 @@ pub bytes_happen : (meaning : Meaning) (old new : EndpointState) (now : ℕ) (by
     → Happen meaning old (at_once now (comes old.core.settings.version (Some bytes)) (option_to_list (sends answer)))
     new
 bytes_happen meaning old new now bytes answer are B S = record {
-  same = B.same;
+  same = at_node old.core new.core B.same;
   happened = λ node stands.
       (known_happen meaning old new now bytes answer stands.core.range.version are B S).happened node stands;
 }

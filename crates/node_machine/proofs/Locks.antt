@@ -52,6 +52,7 @@ use Rattle.node_runs.specs.Turn.{node_run, coming, before_try, events_of}
 use Rattle.node_runs.proofs.Acting.{calls_may}
 use Rattle.script_steps.specs.Forms.{step_form, is_held, begun_handle, sync_of, on_transfers}
 use Rattle.lists.proofs.Tests.{some_none}
+use Rattle.script_steps.proofs.BegunPieces.{plan_may}
 use Rattle.script_steps.proofs.Calm.{waits_there}
 use Rattle.node_machine.specs.Scripted.{after_next, tried_next}
 
@@ -153,6 +154,8 @@ step_free : (one : ScriptStep) (at : TryContext) (node : Node EndpointLocal) →
 step_free (step.Call (call.Lock lock)) at node free = absurd (true≢false free)
 step_free (step.Call (call.Unlock lock)) at node free = absurd (true≢false free)
 step_free (step.Call _) at node free = refl
+step_free (step.Vis vis) at node free =
+    plan_may IsFree (λ one. refl) vis.plan vis.words.from vis.words.register at node
 step_free (step.Waiting (waiting.Transfer transfer)) at node free = (refl, sync_free)
 step_free (step.Waiting _) at node free = refl
 

@@ -36,7 +36,7 @@ traces_run fit job traces ranks is few reaches =
     (state_of job)
     state_steps (scripts_at job) traces ranks
     (job_fits job.settings (handlers_of job) is.settings is.job_fits is.last_fits is.handlers)
-    (λ node. fit (scripts_at job node)
+    (λ node. fit job.settings (scripts_at job node)
     (λ thread. steps_said (scope_of job) job.scripts node thread is.scripts))
     few (states_carry job) reaches
 

@@ -43,21 +43,23 @@ no_thread scope (script ∷ scripts) node thread are past =
       | inr other ↦ rw other later
     ]
 
--- steps of a job are steps of some job
+-- steps of a job are steps of some job of its settings
 some_steps : (scope : Scope) (steps : List ScriptStep) → AllByRecursion (IsStep scope) steps
-    → AllByRecursion IsJobStep steps
+    → AllByRecursion (IsJobStep scope.settings) steps
 some_steps scope [] are = tt
-some_steps scope (one ∷ steps) are = ((scope, are.0), some_steps scope steps are.1)
+some_steps scope (one ∷ steps) are = ((scope, refl, are.0), some_steps scope steps are.1)
 
 -- each of them can be said
 pub steps_said : (scope : Scope) (scripts : List NodeScript) (node thread : ℕ)
-    → AllByRecursion (IsNodeScript scope) scripts → AllByRecursion IsJobStep (steps_of_thread scripts node thread)
+    → AllByRecursion (IsNodeScript scope) scripts
+    → AllByRecursion (IsJobStep scope.settings) (steps_of_thread scripts node thread)
 steps_said scope [] node thread are = tt
 steps_said scope (script ∷ scripts) node thread are =
     by_test (is_of node thread script) (steps_said scope scripts node thread are.1)
   where
-    by_test : (b : Bool) → AllByRecursion IsJobStep (steps_of_thread scripts node thread)
-        → AllByRecursion IsJobStep (steps_or_none (cond b (Some script) (find (is_of node thread) scripts)))
+    by_test : (b : Bool) → AllByRecursion (IsJobStep scope.settings) (steps_of_thread scripts node thread)
+        → AllByRecursion (IsJobStep scope.settings)
+        (steps_or_none (cond b (Some script) (find (is_of node thread) scripts)))
     by_test true later = some_steps scope script.steps are.0.steps
     by_test false later = later
 
@@ -128,7 +130,7 @@ opened_is job me endpoint scripts is node stands first = record {
   said = λ thread progress at.
       let inside = slice_get_within scripts thread progress at in
       let there : thread < job.settings.threads = subst (λ n. thread < n) first.threads inside in
-      subst CanBeSaid (same_Some (scripts_at job me thread) progress (sym (first.each thread there) ∙ at))
+      subst (CanBeSaid job.settings) (same_Some (scripts_at job me thread) progress (sym (first.each thread there) ∙ at))
       (steps_said (scope_of job) job.scripts me thread is.scripts);
   record_ = (opening_node (nothing_begun job.settings), stands);
 }

@@ -21,7 +21,7 @@ use Rattle.node_record.specs.Record.{Node}
 use Rattle.node_record.specs.SlotMessages.{message_at}
 use Rattle.node_record.specs.declared.answer.SlotRef.{SlotRef}
 use Rattle.endpoint_rules.specs.EndpointLocal.{EndpointLocal}
-use Rattle.endpoint_rules.specs.declared.answer.Answer.{Answer}
+use Rattle.node_runs.specs.declared.script_answer.ScriptAnswer.{ScriptAnswer}
 use Rattle.gas_endpoint.specs.EndpointState.{EndpointState, EndpointStands}
 use Rattle.job_text.specs.declared.job.Job.{Job as JobState}
 use Rattle.job_text.specs.declared.job.ScriptStep.{ScriptStep}
@@ -84,7 +84,7 @@ abbrev pub scripts_then : Turning → List (Progress ScriptStep)
 scripts_then it = slice_set it.machine.scripts it.taken.thread it.progress
 
 -- the machine after it, with these datagrams and this answer
-abbrev pub machine_with : Turning → (outgoing : List SlotRef) → (answer : Option Answer) → MachineKept
+abbrev pub machine_with : Turning → (outgoing : List SlotRef) → (answer : Option ScriptAnswer) → MachineKept
 machine_with it outgoing answer = record {
   job = it.machine.job;
   endpoint = it.endpoint;
@@ -258,7 +258,7 @@ some_facts it T = facts_at it T (some_state it.machine T.is.record_.0) T.is.reco
 
 -- whether a thread polls changes only in a turn that ends a step
 pub polls_stay : (it : Turning) → IsTurning it → is_some it.done.ended ≡ false
-    → (outgoing : List SlotRef) (answer : Option Answer) (thread : ℕ)
+    → (outgoing : List SlotRef) (answer : Option ScriptAnswer) (thread : ℕ)
     → polls_at (machine_with it outgoing answer) thread ≡ polls_at it.machine thread
 polls_stay it T none outgoing answer thread =
     let F = some_facts it T in
@@ -267,7 +267,7 @@ polls_stay it T none outgoing answer thread =
     ap (λ (held : List Held). not (holds (owner.Thread thread) held)) locks
 
 -- the machine after it is one
-pub machine_is : (it : Turning) → IsTurning it → (outgoing : List SlotRef) (answer : Option Answer)
+pub machine_is : (it : Turning) → IsTurning it → (outgoing : List SlotRef) (answer : Option ScriptAnswer)
     → IsMachine (machine_with it outgoing answer)
 machine_is it T outgoing answer = record {
   job = T.is.job;
@@ -279,10 +279,10 @@ machine_is it T outgoing answer = record {
   threads = length-set it.machine.scripts it.taken.thread it.progress ∙ T.is.threads;
   said = λ thread progress at. elim (cases_eq thread it.taken.thread) [
     | inl same ↦
-        subst CanBeSaid (same_Some it.progress progress
+        subst (CanBeSaid it.machine.job.settings) (same_Some it.progress progress
         (sym (get-set_same it.machine.scripts it.taken.thread it.progress T.inside)
         ∙ (ap (slice_get (scripts_then it)) (sym same) ∙ at)))
-        (T.takes.said (T.is.said it.taken.thread T.before T.there))
+        (T.takes.said it.machine.job.settings (T.is.said it.taken.thread T.before T.there))
     | inr apart ↦
         T.is.said thread progress
         (sym (get-set_other it.machine.scripts it.taken.thread it.progress thread apart) ∙ at)
@@ -298,7 +298,7 @@ copied_some (Some bytes) = refl
 -- ---- from what the code says
 
 -- a machine that has these cursors
-abbrev pub machine_at : JobState → EndpointState → List Cursor → List SlotRef → Option Answer → MachineKept
+abbrev pub machine_at : JobState → EndpointState → List Cursor → List SlotRef → Option ScriptAnswer → MachineKept
 machine_at job endpoint cursors outgoing answer = record {
   job = job;
   endpoint = endpoint;
@@ -323,15 +323,16 @@ reads_is machine job cursors from thread place cursor same low at is read = reco
 
 -- what is left of the thread's script can be said
 pub read_said : (job : JobState) (endpoint : EndpointState) (cursors : List Cursor) (outgoing : List SlotRef)
-    (answer : Option Answer) (thread : ℕ) (cursor : Cursor)
+    (answer : Option ScriptAnswer) (thread : ℕ) (cursor : Cursor)
     → IsMachine (machine_at job endpoint cursors outgoing answer) → Reads job cursors thread cursor
-    → CanBeSaid (progress_of cursor)
+    → CanBeSaid endpoint.core.settings (progress_of cursor)
 read_said job endpoint cursors outgoing answer thread cursor is R =
-    is.said thread (progress_of cursor)
-    (slice_get-map progress_of cursors thread ∙ ap (option_map progress_of) R.read)
+    subst (λ settings. CanBeSaid settings (progress_of cursor)) (sym is.node.settings_are)
+    (is.said thread (progress_of cursor)
+    (slice_get-map progress_of cursors thread ∙ ap (option_map progress_of) R.read))
 
 pub turning_is : (job : JobState) (endpoint : EndpointState) (cursors : List Cursor) (outgoing : List SlotRef)
-    (answer : Option Answer) (taken : TurnTaken) (cursor : Cursor) (handlers : JobHandlers) (done : Done)
+    (answer : Option ScriptAnswer) (taken : TurnTaken) (cursor : Cursor) (handlers : JobHandlers) (done : Done)
     (later : EndpointState) (progress : Progress ScriptStep)
     → IsMachine (machine_at job endpoint cursors outgoing answer) → Reads job cursors taken.thread cursor
     → handlers ≡ handlers_of job
@@ -372,14 +373,14 @@ takes_is calm it T = record {
 
 -- both of a machine whose cursors were read and written
 pub record Took (job : JobState) (endpoint : EndpointState) (cursors : List Cursor) (outgoing : List SlotRef)
-    (answer : Option Answer) (taken : TurnTaken) (done : Done) (later : EndpointState) (more : List Cursor) : Type 0
+    (answer : Option ScriptAnswer) (taken : TurnTaken) (done : Done) (later : EndpointState) (more : List Cursor) : Type 0
   where
     pub is : IsMachine (machine_at job later more outgoing answer)
     pub takes : MachineTakes (machine_at job endpoint cursors outgoing answer) taken done
         (machine_at job later more outgoing answer)
 
 pub took : WaitingIsCalm → (job : JobState) (endpoint : EndpointState) (cursors : List Cursor)
-    (outgoing : List SlotRef) (answer : Option Answer) (taken : TurnTaken) (place : ℕ) (cursor next : Cursor)
+    (outgoing : List SlotRef) (answer : Option ScriptAnswer) (taken : TurnTaken) (place : ℕ) (cursor next : Cursor)
     (handlers : JobHandlers) (done : Done) (later : EndpointState)
     → IsMachine (machine_at job endpoint cursors outgoing answer) → Reads job cursors taken.thread cursor
     → place ≡ taken.thread → handlers ≡ handlers_of job
@@ -406,7 +407,7 @@ took calm job endpoint cursors outgoing answer taken place cursor next handlers 
     }
 
 -- what the machine keeps of a turn is nothing that holds of every machine
-pub still_machine : (machine : MachineKept) (outgoing : List SlotRef) (answer : Option Answer) → IsMachine machine
+pub still_machine : (machine : MachineKept) (outgoing : List SlotRef) (answer : Option ScriptAnswer) → IsMachine machine
     → IsMachine (record machine { outgoing = outgoing; answer = answer })
 still_machine machine outgoing answer is =
     record { job = is.job; node = is.node; threads = is.threads; said = is.said; record_ = is.record_ }

@@ -16,7 +16,6 @@ use Rattle.node_record.specs.Record.{Node}
 use Rattle.node_record.specs.SlotMessages.{message_at}
 use Rattle.node_record.specs.declared.answer.SlotRef.{SlotRef}
 use Rattle.plain_world.specs.Sent.{Packet, Asking, Replying}
-use Rattle.am_core.specs.CoreContracts.{IsSameNode}
 use Rattle.endpoint_rules.specs.EndpointLocal.{EndpointLocal, IsEndpointKept}
 use Rattle.endpoint_rules.specs.declared.answer.Answer.{Answer}
 use Rattle.endpoint_rules.proofs.Sound.{rules_sound}
@@ -26,12 +25,13 @@ use Rattle.job_text.specs.declared.job.ScriptStep.{ScriptStep}
 use Rattle.node_runs.specs.Actions.{Progress, OwnScripts, tried_step}
 use Rattle.node_runs.specs.Laws.{GotBytes}
 use Rattle.node_runs.specs.Outgoing.{slot_of, SentStands}
+use Rattle.node_runs.specs.declared.script_answer.ScriptAnswer.{ScriptAnswer}
 use Rattle.node_runs.specs.Scripts.{NodeJob, Tried as FormTried, TryContext}
 use Rattle.node_runs.specs.Turn.{MachineState, before_try, first_events, as_tried, turn_events, tried_answer}
 use Rattle.node_runs.specs.Turn.{node_run, is_some_there, datagram, receiver, message_of}
 use Rattle.node_runs.proofs.Outgoings.{sent_stand, turns_come_first}
 use Rattle.script_steps.specs.Forms.{step_form}
-use Rattle.script_steps.specs.Tries.{HasHappened, Happen, context_here}
+use Rattle.script_steps.specs.Tries.{HasHappened, Happen, IsAtSameNode, context_here}
 use Rattle.script_steps.specs.declared.trial.Tried.{Tried}
 use Rattle.node_machine.specs.Kept.{CanBeSaid}
 use Rattle.node_machine.specs.Parts.{at_once}
@@ -39,9 +39,8 @@ use Rattle.node_machine.specs.Scripted.{NextTrial, TriesNext, events_of_next, tr
 use Rattle.node_machine.specs.NodeState.{datagram_at, as_there}
 use Rattle.node_machine.specs.Turns.{slots_of, job_at, TurnTaken, turn_by, GoesAsTurn, TakesTurn}
 use Rattle.node_machine.specs.declared.turn.Done.{Done}
-use Rattle.node_machine.proofs.Happening.{happen_then, at_same, run-append}
+use Rattle.node_machine.proofs.Happening.{happen_then, at_same, run-append, same_then}
 use Rattle.node_machine.proofs.Locks.{turn_keeps}
-use Rattle.gas_endpoint.proofs.Stepping.{same_node}
 
 -- ---- the slots of packets
 
@@ -107,7 +106,7 @@ tried_is meaning old mid new taken state slots tried stands before tries =
 
 -- what the try did at the node after the events before it, as at the node before them
 try_at : (meaning : Meaning) (old mid new : EndpointState) (trial : NextTrial) (slots : List SlotRef)
-    → IsSameNode old.core mid.core
+    → IsAtSameNode old.core mid.core
     → Happen meaning mid (record {
       now = trial.now;
       events = events_of_next (context_here meaning mid trial.thread trial.now) trial.progress;
@@ -226,21 +225,22 @@ state_goes meaning old mid new taken state slots tried done lawful bytes stands 
         ∙ (ap (λ (t : FormTried (Progress ScriptStep)). t.ended) went ∙ none))
 
 -- what can be said of a script can be said of its rest
-rest_said : (step : ScriptStep) (rest : List ScriptStep) (began : Option Answer) (ended : Option Answer)
-    (later : Option Answer) → AllByRecursion IsJobStep (step ∷ rest)
-    → AllByRecursion IsJobStep (cond {A = Progress ScriptStep} (is_some ended) (record { left = rest; began = None })
-    (record { left = step ∷ rest; began = later })).left
-rest_said step rest began None later said = said
-rest_said step rest began (Some answer) later said = said.1
+rest_said : (settings : Parameters) (step : ScriptStep) (rest : List ScriptStep) (ended : Option ScriptAnswer)
+    (later : Option Answer) → AllByRecursion (IsJobStep settings) (step ∷ rest)
+    → CanBeSaid settings (cond {A = Progress ScriptStep} (is_some ended) (record { left = rest; began = None })
+    (record { left = step ∷ rest; began = later }))
+rest_said settings step rest None later said = said
+rest_said settings step rest (Some answer) later said = said.1
 
-progress_said : (progress : Progress ScriptStep) (tried : Tried) → CanBeSaid progress
-    → CanBeSaid (progress_after progress tried)
-progress_said progress tried said = by_left progress.left progress.began said
+progress_said : (progress : Progress ScriptStep) (tried : Tried) (settings : Parameters)
+    → CanBeSaid settings progress → CanBeSaid settings (progress_after progress tried)
+progress_said progress tried settings said = by_left progress.left progress.began said
   where
-    by_left : (left : List ScriptStep) (began : Option Answer) → AllByRecursion IsJobStep left
-        → CanBeSaid (progress_after (record { left = left; began = began }) tried)
+    by_left : (left : List ScriptStep) (began : Option Answer) → AllByRecursion (IsJobStep settings) left
+        → CanBeSaid settings (progress_after (record { left = left; began = began }) tried)
     by_left [] began said = said
-    by_left (step ∷ rest) began said = rest_said step rest began tried.ended (option_or tried.began began) said
+    by_left (step ∷ rest) began said =
+        rest_said settings step rest tried.ended (option_or tried.began began) said
 
 pub turn_goes : (meaning : Meaning) (old mid new : EndpointState) (taken : TurnTaken) (progress : Progress ScriptStep)
     (polls : Bool) (slots : List SlotRef) (tried : Tried) (done : Done)
@@ -254,7 +254,7 @@ pub turn_goes : (meaning : Meaning) (old mid new : EndpointState) (taken : TurnT
 turn_goes meaning old mid new taken progress polls slots tried done lawful bytes polled before tries slots_is ended_is
     began_is =
     record {
-      same = same_node old.core mid.core new.core before.same tries.happen.same;
+      same = same_then old.core mid.core new.core before.same tries.happen.same;
       said = progress_said progress tried;
       goes = λ state stands own.
           let version = old.core.settings.version in

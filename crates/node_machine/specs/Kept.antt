@@ -2,10 +2,11 @@
 -- Origin: this project's profile.
 use Rattle.std.specs.Prelude.{ℕ, ◌≡◌, ◌==◌, Bool, not, List, [], length, Option, None, Some, slice_get}
 use Rattle.std.specs.List.{AllByRecursion, list_all}
+use Rattle.datagram_grammar.specs.Parameters.{Parameters}
 use Rattle.hsl_locks.specs.declared.answer.Owner.TheVariants as owner
 use Rattle.hsl_locks.specs.Locks.{holds}
 use Rattle.node_record.specs.declared.answer.SlotRef.{SlotRef}
-use Rattle.endpoint_rules.specs.declared.answer.Answer.{Answer}
+use Rattle.node_runs.specs.declared.script_answer.ScriptAnswer.{ScriptAnswer}
 use Rattle.gas_endpoint.specs.EndpointState.{EndpointState, IsNodeOf}
 use Rattle.gas_endpoint.specs.Parts.{HasRecord}
 use Rattle.job_text.specs.JobText.{IsJob}
@@ -23,7 +24,7 @@ pub record MachineKept : Type 0 where
   pub scripts : List (Progress ScriptStep)
   -- the slots of the messages that its last turn sent which wasn't empty, in order
   pub outgoing : List SlotRef
-  pub answer : Option Answer  -- of the script step that ended in that turn
+  pub answer : Option ScriptAnswer  -- of the script step that ended in that turn
 
 -- ---- scripts
 
@@ -47,9 +48,9 @@ is_done progress = length progress.left == 0
 abbrev pub are_done : List (Progress ScriptStep) → Bool
 are_done scripts = list_all is_done scripts
 
--- each word of the steps that are left can be said in a text
-abbrev pub CanBeSaid : Progress ScriptStep → Type 0
-CanBeSaid progress = AllByRecursion IsJobStep progress.left
+-- the steps that are left may stand in a job of these settings
+abbrev pub CanBeSaid : Parameters → Progress ScriptStep → Type 0
+CanBeSaid settings progress = AllByRecursion (IsJobStep settings) progress.left
 
 -- ---- the machine
 
@@ -64,5 +65,5 @@ pub record IsMachine (machine : MachineKept) : Type 0 where
       machine.endpoint
   pub threads : length machine.scripts ≡ machine.job.settings.threads
   pub said : (thread : ℕ) (progress : Progress ScriptStep) → slice_get machine.scripts thread ≡ Some progress
-      → CanBeSaid progress
+      → CanBeSaid machine.job.settings progress
   pub record_ : HasRecord machine.endpoint

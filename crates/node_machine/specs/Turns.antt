@@ -2,10 +2,10 @@
 -- Origin: this project's profile.
 use Rattle.std.specs.Prelude.{ℕ, ◌≡◌, ◌||◌, Bool, List, ◌++◌, length, map, Option, None, is_some}
 use Rattle.std.specs.Option.{option_to_list}
+use Rattle.datagram_grammar.specs.Parameters.{Parameters}
 use Rattle.handler_rules.specs.Runs.{Meaning}
 use Rattle.lists.specs.Put.{put}
 use Rattle.node_record.specs.declared.answer.SlotRef.{SlotRef}
-use Rattle.am_core.specs.CoreContracts.{IsSameNode}
 use Rattle.endpoint_rules.specs.EndpointLocal.{EndpointLocal}
 use Rattle.gas_endpoint.specs.EndpointState.{EndpointState, EndpointStands}
 use Rattle.job_text.specs.declared.job.ScriptStep.{ScriptStep}
@@ -14,6 +14,7 @@ use Rattle.node_runs.specs.Scripts.{NodeJob}
 use Rattle.node_runs.specs.Turn.{MachineState, Turn, turn, try_of, datagram, is_some_there}
 use Rattle.node_runs.specs.WorldRun.{endpoint_job}
 use Rattle.script_steps.specs.Forms.{step_form}
+use Rattle.script_steps.specs.Tries.{IsAtSameNode}
 use Rattle.node_machine.specs.Kept.{CanBeSaid}
 use Rattle.node_machine.specs.NodeState.{datagram_at, as_there}
 use Rattle.node_machine.specs.declared.outgoing.Outgoing.{Outgoing}
@@ -63,8 +64,8 @@ pub record GoesAsTurn
 pub record TakesTurn
     (meaning : Meaning) (old : EndpointState × Progress ScriptStep) (taken : TurnTaken) (done : Done)
     (new : EndpointState × Progress ScriptStep) : Type 0 where
-  pub same : IsSameNode old.0.core new.0.core
-  pub said : CanBeSaid old.1 → CanBeSaid new.1
+  pub same : IsAtSameNode old.0.core new.0.core
+  pub said : (settings : Parameters) → CanBeSaid settings old.1 → CanBeSaid settings new.1
   pub goes : (state : MachineState EndpointLocal (OwnScripts ScriptStep))
       → EndpointStands old.0 state.node → state.own taken.thread ≡ old.1
       → GoesAsTurn (job_at meaning old.0) old.0.core.me taken state done

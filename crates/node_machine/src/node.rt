@@ -13,10 +13,10 @@ ghost use Rattle.node_machine.specs.NodeState.{NodeStands, is_of, opening_state,
 use crate::cursor::{Cursor, are_done, cursor_at};
 use crate::outgoing::Outgoing;
 use crate::turn::{Done, ThreadTurn, take_turn};
-use endpoint_rules::Answer;
 use gas_endpoint::Endpoint;
 use job_text::{NodeScript, ScriptStep};
 use machine::{Machine, Turned};
+use node_runs::ScriptAnswer;
 use node_script::Script;
 use std::alloc::{AllocError, Global};
 use std::marker::Model;
@@ -33,7 +33,7 @@ pub struct NodeMachine<'a> {
     /// What its last turn sent that wasn't empty.
     outgoing: Outgoing,
     /// The answer of the script step that ended in that turn.
-    answer: Option<Answer>,
+    answer: Option<ScriptAnswer>,
 }
 
 impl<'a> Model for NodeMachine<'a> {
@@ -116,7 +116,7 @@ impl<'a> NodeMachine<'a> {
 
     /// The answer of the script step that ended in the last turn that wasn't empty; None exactly where none ended in
     /// it.
-    pub fn answer(&self) -> Option<Answer>
+    pub fn answer(&self) -> Option<ScriptAnswer>
         ensures { result ≡ self.now.answer }
     {
         self.answer

@@ -12,10 +12,10 @@ ghost use Rattle.node_machine.specs.Turns.{TakesTurn, slots_of};
 use crate::cursor::Cursor;
 use crate::outgoing::Outgoing;
 use crate::parts::before_try;
-use endpoint_rules::Answer;
 use gas_endpoint::Endpoint;
 use handler_rules::Handlers;
 use hsl_locks::Owner;
+use node_runs::ScriptAnswer;
 use script_steps::{Trial, Tried, attempt};
 
 /// Which thread takes a turn, and when.
@@ -35,7 +35,7 @@ pub struct Done {
     /// The messages that it sent.
     pub outgoing: Outgoing,
     /// The answer of the script step that it ended.
-    pub ended: Option<Answer>,
+    pub ended: Option<ScriptAnswer>,
     /// It began a script step, and didn't end it.
     pub began: bool,
 }
@@ -58,7 +58,7 @@ fn try_next<H: Handlers>(
     turn: ThreadTurn,
 ) -> Tried
     requires thread { turn.thread < endpoint.old.core.settings.threads }
-    requires said { CanBeSaid (progress_of cursor.now) }
+    requires said { CanBeSaid endpoint.old.core.settings (progress_of cursor.now) }
     ensures { TriesNext (H.meaning handlers.now) endpoint.old
         (record { now = turn.now; thread = turn.thread; progress = progress_of cursor.now })
         result endpoint.new }
@@ -92,7 +92,7 @@ pub fn take_turn<H: Handlers>(
     got: Option<&[u8]>,
 ) -> Done
     requires thread { turn.thread < endpoint.old.core.settings.threads }
-    requires said { CanBeSaid (progress_of cursor.old) }
+    requires said { CanBeSaid endpoint.old.core.settings (progress_of cursor.old) }
     requires polls { ForItsRecord endpoint.old (λ node.
         turn.polls ≡ not (holds (Owner.Thread turn.thread) node.local.core.locks)) }
     requires got { IsSome got → turn.polls ≡ true }

@@ -12,6 +12,7 @@ use Rattle.node_record.specs.NodeStep.{NodeEvent}
 use Rattle.endpoint_rules.specs.Called.{node_event}
 use Rattle.endpoint_rules.specs.EndpointRules.{OtherCall}
 use Rattle.endpoint_rules.specs.declared.answer.Answer.{Answer}
+use Rattle.node_runs.specs.declared.script_answer.ScriptAnswer.{ScriptAnswer}
 use Rattle.node_runs.specs.Scripts.{ThreadCall, Scripts, TryContext, NodeJob}
 use Rattle.node_runs.specs.Actions.{Form, Once, Again, Until, Twice, Looks, Several, calls_of, ended_by, begins}
 use Rattle.node_runs.specs.Actions.{Progress, OwnScripts, Reading, next_calls, tried_step, scripts_of, FormMay}
@@ -114,7 +115,7 @@ step_same {Kept} {Action} form at began (action ∷ rest) before after answer e 
     go (is_some (ended_by one began after answer)) (begins one && is_none began) (ap is_some e)
     (not_begun (begins one && is_none began) (ended_by one began after answer) e b)
   where
-    not_begun : (starts : Bool) (ended : Option Answer) → ended ≡ None → (starts && is_none ended) ≡ false
+    not_begun : (starts : Bool) (ended : Option ScriptAnswer) → ended ≡ None → (starts && is_none ended) ≡ false
         → starts ≡ false
     not_begun true None h k = absurd (true≢false k)
     not_begun true (Some x) h k = absurd (some_none h)

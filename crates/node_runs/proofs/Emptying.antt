@@ -12,7 +12,7 @@ use Rattle.node_record.specs.Step.{Site, TickChoice, Resends, Sends, Rests, tick
 use Rattle.node_record.specs.NodeStep.{NodeEvent, Ticks, site_of, node_after}
 use Rattle.plain_world.specs.Sent.{Packet, asking, ticked_sends, sends}
 use Rattle.endpoint_rules.specs.EndpointRules.{OtherCall}
-use Rattle.endpoint_rules.specs.declared.answer.Answer.{Answer}
+use Rattle.node_runs.specs.declared.script_answer.ScriptAnswer.{ScriptAnswer}
 use Rattle.node_runs.specs.Scripts.{NodeJob}
 use Rattle.node_runs.specs.Turn.{MachineState, turn, node_run, node_sends, is_some_there, as_tried, try_of}
 use Rattle.node_runs.specs.Turn.{datagram, context, try_events, try_answer}
@@ -51,7 +51,7 @@ pub or_parts : (a b : Bool) → (a || b) ≡ false → (a ≡ false) × (b ≡ f
 or_parts true b e = absurd (true≢false e)
 or_parts false b e = (refl, e)
 
-pub none_of : (o : Option Answer) → is_some o ≡ false → o ≡ None
+pub none_of : (o : Option ScriptAnswer) → is_some o ≡ false → o ≡ None
 none_of None e = refl
 none_of (Some a) e = absurd (true≢false e)
 
@@ -61,7 +61,7 @@ nil_parts (p ∷ first) second e = absurd (cons_nil e)
 
 -- the machine, from its parts
 machine_is : {Kept Own : Type 0} (state : MachineState Kept Own) (changed : Bool) (node : Node Kept) (own : Own)
-    (datagrams : List (ℕ × List ℕ)) (answer : Option Answer)
+    (datagrams : List (ℕ × List ℕ)) (answer : Option ScriptAnswer)
     → changed ≡ false → node ≡ state.node → own ≡ state.own
     → ◌≡◌ {A = MachineState Kept Own} (record {
       node = node;

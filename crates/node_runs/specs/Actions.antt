@@ -3,10 +3,12 @@
 use Rattle.std.specs.Prelude.{ℕ, ◌≡◌, Bool, true, false, not, ◌&&◌, if◌then◌else◌, List, [], ◌∷◌}
 use Rattle.std.specs.Prelude.{Option, None, Some, is_some, is_none}
 use Rattle.std.specs.List.{AllByRecursion}
-use Rattle.std.specs.Option.{option_to_list}
+use Rattle.std.specs.Option.{option_map, option_to_list}
 use Rattle.lists.specs.Put.{put}
 use Rattle.node_record.specs.Record.{Node}
 use Rattle.endpoint_rules.specs.declared.answer.Answer.{Answer}
+use Rattle.node_runs.specs.declared.script_answer.ScriptAnswer.{ScriptAnswer}
+use Rattle.node_runs.specs.declared.script_answer.ScriptAnswer.TheVariants as said
 use Rattle.node_runs.specs.Scripts.{ThreadCall, Tried, TryContext, Scripts}
 
 -- how a step is tried
@@ -17,7 +19,7 @@ pub data Form (Kept : Type 0) : Type 0 where
   -- barrier-wait at not-ready
   Again : (waits : Answer → Bool) → ThreadCall → Form Kept
   -- one call, again at each turn until its answer gives one of the step: a cell or a word is looked at
-  Until : ThreadCall → (ends : Answer → Option Answer) → Form Kept
+  Until : ThreadCall → (ends : Answer → Option ScriptAnswer) → Form Kept
   -- the first try begins, and ends the step only where its answer names no second call; each later try makes the second
   -- call, again while its answer is one to wait at: a blocking transfer, whose second call is the sync of the handle
   -- that was given. `says` is the answer of the step
@@ -28,7 +30,7 @@ pub data Form (Kept : Type 0) : Type 0 where
   Looks : (begin : ThreadCall) → (ready : Answer → Node Kept → Bool) → Form Kept
   -- these calls in one try, in this order, whatever their answers, which an action that is read so knows by the context
   -- and the record of the try: `says` is the answer of the step, which ends
-  Several : (calls : List ThreadCall) → (says : Answer) → Form Kept
+  Several : (calls : List ThreadCall) → (says : ScriptAnswer) → Form Kept
 
 -- the calls of a try, in order, by the answer with which the step began
 abbrev pub calls_of : {Kept : Type 0} → Form Kept → (began : Option Answer) → List ThreadCall
@@ -42,14 +44,14 @@ calls_of (Looks begin ready) (Some answer) = []
 calls_of (Several calls says) began = calls
 
 -- the answer, unless it is one to wait at
-abbrev pub unless : Bool → Answer → Option Answer
+abbrev pub unless : Bool → Answer → Option ScriptAnswer
 unless true answer = None
-unless false answer = Some answer
+unless false answer = Some (said.Call answer)
 
 -- the answer of the step, where a try ended it whose first call had this answer, and whose calls left this record
 abbrev pub ended_by : {Kept : Type 0}
-    → Form Kept → (began : Option Answer) → (after : Node Kept) → (answer : Option Answer) → Option Answer
-ended_by (Once call) began after answer = answer
+    → Form Kept → (began : Option Answer) → (after : Node Kept) → (answer : Option Answer) → Option ScriptAnswer
+ended_by (Once call) began after answer = option_map (λ one. said.Call one) answer
 ended_by (Again waits call) began after None = None
 ended_by (Again waits call) began after (Some answer) = unless (waits answer) answer
 ended_by (Until call ends) began after None = None
@@ -95,8 +97,8 @@ next_calls form at began (action ∷ rest) node = calls_of (form action at node)
 
 -- the script after a try of this form: it goes on, or its step has begun, or it is as it was
 abbrev pub progress_after : {Kept Action : Type 0}
-    → Form Kept → (action : Action) → (rest : List Action) → (began : Option Answer) → (ended answer : Option Answer)
-    → Progress Action
+    → Form Kept → (action : Action) → (rest : List Action) → (began : Option Answer) → (ended : Option ScriptAnswer)
+    → (answer : Option Answer) → Progress Action
 progress_after form action rest began ended answer =
     if is_some ended then record { left = rest; began = None }
     else (if begins form && is_none began then record { left = action ∷ rest; began = answer }

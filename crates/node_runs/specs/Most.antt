@@ -2,8 +2,8 @@
 -- Origin: this project's profile.
 use Rattle.std.specs.Prelude.{ℕ, max, List, [], ◌∷◌, ◌++◌, Option, None, Some}
 use Rattle.node_record.specs.Held.{held}
-use Rattle.endpoint_rules.specs.declared.answer.Answer.{Answer}
 use Rattle.machine.specs.declared.entry.Entry.{Entry}
+use Rattle.node_runs.specs.declared.script_answer.ScriptAnswer.{ScriptAnswer}
 use Rattle.node_runs.specs.Scripts.{NodeJob}
 use Rattle.node_runs.specs.Turn.{MachineState, try_of, turn}
 
@@ -18,9 +18,9 @@ most_in job me state (entry ∷ entries) most =
 -- the answer of a script step, with its thread
 pub record StepAnswer : Type 0 where
   pub thread : ℕ
-  pub answer : Answer
+  pub answer : ScriptAnswer
 
-abbrev pub step_answer : (thread : ℕ) → Option Answer → List StepAnswer
+abbrev pub step_answer : (thread : ℕ) → Option ScriptAnswer → List StepAnswer
 step_answer thread None = []
 step_answer thread (Some answer) = record { thread = thread; answer = answer } ∷ []
 

@@ -9,6 +9,7 @@ use Rattle.node_record.specs.NodeStep.{Job}
 use Rattle.endpoint_rules.specs.Called.{Meant}
 use Rattle.endpoint_rules.specs.EndpointRules.{OtherCall}
 use Rattle.endpoint_rules.specs.declared.answer.Answer.{Answer}
+use Rattle.node_runs.specs.declared.script_answer.ScriptAnswer.{ScriptAnswer}
 
 -- a call that a thread makes: a request (`Requests`), or another call (`Performs`)
 abbrev pub ThreadCall : Type 0
@@ -17,7 +18,7 @@ ThreadCall = Meant
 -- how a try of a thread's step went
 pub record Tried (Own : Type 0) : Type 0 where
   pub left : Own  -- what is left of the node's scripts
-  pub ended : Option Answer  -- the answer of the step, where the try ended it
+  pub ended : Option ScriptAnswer  -- the answer of the step, where the try ended it
   pub began : Bool  -- the try began the operation of its step, and didn't end it
 
 -- in which job a step is tried, at which node, by which thread and when

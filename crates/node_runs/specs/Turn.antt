@@ -17,6 +17,7 @@ use Rattle.plain_world.specs.Sent.{Packet, Asking, Replying, sends}
 use Rattle.endpoint_rules.specs.Called.{node_event}
 use Rattle.endpoint_rules.specs.EndpointRules.{OtherCall, RecordEvent, told}
 use Rattle.endpoint_rules.specs.declared.answer.Answer.{Answer}
+use Rattle.node_runs.specs.declared.script_answer.ScriptAnswer.{ScriptAnswer}
 use Rattle.node_runs.specs.Scripts.{ThreadCall, Tried, TryContext, NodeJob}
 
 -- ---- several events of a node at one time
@@ -107,7 +108,7 @@ pub record MachineState (Kept Own : Type 0) : Type 0 where
   pub node : Node Kept
   pub own : Own  -- what is left of its scripts
   pub outgoing : List (ℕ × List ℕ)  -- the datagrams of its last turn that wasn't empty, each with its receiver
-  pub answer : Option Answer  -- of the script step that ended in that turn
+  pub answer : Option ScriptAnswer  -- of the script step that ended in that turn
 
 -- the delivery of bytes by whether they are refused: their message comes, unless they are none
 abbrev pub coming : {Call : Type 0} → (version : ℕ) → Option Refused → List ℕ → List (NodeEvent Call)

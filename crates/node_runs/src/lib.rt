@@ -5,7 +5,7 @@
 //! after another (`specs/Turn.antt`). What a try calls, and when it ends its step, is a parameter (`Scripts`); steps have
 //! six forms (`specs/Actions.antt`), of which one makes several calls in a try, and the others at most one.
 //! `specs/Order.antt` says which orders of the entries of several traces can go, and `specs/WorldRun.antt` what it means
-//! that such an order is a run of the world. It has no code.
+//! that such an order is a run of the world. It has no code but the type of what a step is answered (`ScriptAnswer`).
 //!
 //! What is proved is named by the clauses of these laws, for any reading of actions as forms:
 //!
@@ -26,7 +26,9 @@
 #![tactic(auto)]
 
 mod laws;
+mod script_answer;
 
 pub use laws::{
     carrying_law, empty_law, merge_law, outgoing_law, run_law, states_law, waiting_law,
 };
+pub use script_answer::ScriptAnswer;

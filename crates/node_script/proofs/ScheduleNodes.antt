@@ -1,5 +1,8 @@
 -- The nodes and threads that the lines of a job's schedule name are there.
-use Rattle.std.proofs.Common.{◌≡◌, ℕ, zero, suc, ◌-◌, ◌<◌, ◌≤◌, List, [], ◌∷◌, Option, Some, None, subst, arith}
+use Rattle.std.proofs.Common.{◌≡◌, ℕ, zero, suc, ◌-◌, ◌<◌, ◌≤◌, List, [], ◌∷◌, length, Option, Some, None}
+use Rattle.std.proofs.Common.{refl, sym, ap, subst, ◌∙◌, arith}
+use Rattle.std.proofs.lemmas.Bool.{and_parts, leb-true}
+use Rattle.std.specs.Prelude.{◌&&◌, is_none, nat_le}
 use Rattle.std.specs.List.{AllByRecursion}
 use Rattle.job_text.specs.declared.job.Job.{Job as JobState}
 use Rattle.job_text.specs.declared.job.ScheduledEvent.{ScheduledEvent}
@@ -11,10 +14,17 @@ use Rattle.job_text.specs.Calls.{IsCall}
 use Rattle.job_text.specs.Events.{IsEvent, IsTimed}
 use Rattle.job_text.specs.JobReading.{lines_of}
 use Rattle.job_text.specs.JobText.{IsJob, IsScheduleOrNone}
-use Rattle.job_text.specs.Scopes.{scope_of}
+use Rattle.job_text.specs.Scopes.{is_second, scope_of}
+use Rattle.job_text.specs.VisLines.{IsVis, shape_fault, shape_plan, vis_plan}
+use Rattle.job_text.specs.declared.vis.VisShape.{VisShape}
+use Rattle.job_text.specs.declared.vis.VisShape.TheVariants as shapes
+use Rattle.job_text.specs.declared.vis.VisText.{VisText}
+use Rattle.gas_strided.specs.Plans.{PlanState}
+use Rattle.gas_strided.specs.declared.shapes.Way.{Way}
+use Rattle.datagram_grammar.specs.Parameters.{Parameters}
 use Rattle.job_text.specs.declared.scope.Scope.{Scope}
 use Rattle.node_script.specs.ScheduledCalls.{IsGiven}
-use Rattle.node_script.specs.ScriptInvariant.{IsWithin, AreWithin}
+use Rattle.node_script.specs.ScriptInvariant.{IsWithin, AreWithin, MayBegin}
 
 -- a number up to one less than some is below them
 below : (n count : ℕ) → 1 ≤ count → n ≤ count - 1 → n < count
@@ -27,6 +37,28 @@ call_given scope (calls.Long text) h = h.0.1.1.0
 call_given scope (calls.LongAsync text) h = h.0.1.1.0
 call_given scope _ h = tt
 
+-- the plan of such a line is one of the job's settings
+plan_of_settings : (settings : Parameters) (way : Way) (to : ℕ) (shape : VisShape)
+    → (shape_plan settings way to shape).settings ≡ settings
+plan_of_settings settings way to (shapes.Strided remote local len levels) = refl
+plan_of_settings settings way to (shapes.Indexed remote local) = refl
+
+-- a thread that is there may begin the pieces of such a line
+may_begin : (scope : Scope) (thread : ℕ) (vis : VisText) → thread < scope.settings.threads → IsVis scope vis
+    → MayBegin scope.settings thread vis
+may_begin scope thread vis there h =
+    let words = vis.words in
+    let plan = vis_plan scope.settings words in
+    let fits = and_parts (is_second scope && is_none (shape_fault scope.settings words.way words.to words.shape))
+    (nat_le words.from (length plan.pieces)) h.0.1 in
+    record {
+      thread_there = there;
+      plan_of = ap (λ (plan : PlanState). plan.settings) h.1
+          ∙ plan_of_settings scope.settings words.way words.to words.shape;
+      from_in = subst (λ (plan : PlanState). words.from ≤ length plan.pieces) (sym h.1)
+          (leb-true words.from (length plan.pieces) fits.1);
+    }
+
 -- an event in range is within
 event_within : (scope : Scope) (e : ScheduledEvent) → 1 ≤ scope.settings.nodes → 1 ≤ scope.settings.threads
     → IsEvent scope e → IsWithin scope.settings e
@@ -34,6 +66,10 @@ event_within scope (event.Call node thread call) some thread_there h = (
   below node scope.settings.nodes some h.0.0.1,
   below thread scope.settings.threads thread_there h.0.1.0.1,
   call_given scope call h.0.1.1,
+)
+event_within scope (event.Vis node thread vis) some thread_there h = (
+  below node scope.settings.nodes some h.0.0.1,
+  may_begin scope thread vis (below thread scope.settings.threads thread_there h.0.1.0.1) h.0.1.1,
 )
 event_within scope (event.Request from to number) some thread_there h =
     (below from scope.settings.nodes some h.0.0.1, below to scope.settings.nodes some h.0.1.0.1)

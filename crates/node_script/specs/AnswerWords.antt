@@ -42,6 +42,8 @@ use Rattle.named_barrier.specs.declared.answer.Notified.{Notified}
 use Rattle.named_barrier.specs.declared.answer.Notified.TheVariants as notified
 use Rattle.named_barrier.specs.declared.answer.BarrierAnswer.{BarrierAnswer}
 use Rattle.named_barrier.specs.declared.answer.BarrierAnswer.TheVariants as barrier
+use Rattle.gas_strided.specs.declared.shapes.Vis.{Vis}
+use Rattle.gas_strided.specs.declared.shapes.Vis.TheVariants as vis
 use Rattle.node_script.specs.Lines.{Word, Line}
 
 -- the word of the part of a call that is bad
@@ -234,3 +236,12 @@ answer_words sight (answers.Barrier answer) = barrier_words answer
 answer_words sight (answers.Local answer) = local_words sight.segment answer
 answer_words sight (answers.Delivered answer) = delivered_words answer
 answer_words sight (answers.Ticked sent) = ticked_words sight.numbers sent
+
+-- the words of how a transfer of many pieces began
+abbrev pub vis_words : Vis → Line
+vis_words vis.Whole = codes "whole" ∷ []
+vis_words (vis.Part next) = codes "part" ∷ decimal next ∷ []
+vis_words vis.TooMany = codes "too-many" ∷ []
+vis_words vis.Nested = codes "nested" ∷ []
+vis_words (vis.Forbidden rule) = forbidden_words rule
+vis_words vis.NoMemory = codes "no-memory" ∷ []

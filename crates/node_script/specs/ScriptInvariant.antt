@@ -1,5 +1,5 @@
 -- What holds of each job that was made.
-use Rattle.std.specs.Prelude.{◌≡◌, ℕ, ◌<◌, List, Option, Some, slice_get}
+use Rattle.std.specs.Prelude.{◌≡◌, ℕ, ◌<◌, ◌≤◌, length, List, Option, Some, slice_get}
 use Rattle.datagram_grammar.specs.Parameters.{Parameters}
 use Rattle.handler_rules.specs.declared.table.Entry.{Entry}
 use Rattle.node_script.specs.Registration.{JobHandlers, registered}
@@ -8,12 +8,21 @@ use Rattle.job_text.specs.JobReading.{lines_of}
 use Rattle.job_text.specs.declared.job.ScheduledEvent.{ScheduledEvent}
 use Rattle.job_text.specs.declared.job.ScheduledEvent.TheVariants as scheduled
 use Rattle.job_text.specs.declared.job.TimedEvent.{TimedEvent}
+use Rattle.job_text.specs.declared.vis.VisText.{VisText}
+
+-- the thread may begin the pieces of this plan from that one on: it is one of the job's, as the plan is, and that piece
+-- is at most their number
+pub record MayBegin (settings : Parameters) (thread : ℕ) (vis : VisText) : Type 0 where
+  pub thread_there : thread < settings.threads
+  pub plan_of : vis.plan.settings ≡ settings
+  pub from_in : vis.words.from ≤ length vis.plan.pieces
 
 -- the nodes that an event names are there, and the thread that calls; that node to which a request goes may be missing.
 -- The payload of a request is one of a schedule
 abbrev pub IsWithin : Parameters → ScheduledEvent → Type 0
 IsWithin settings (scheduled.Call node thread call) =
     (node < settings.nodes) × (thread < settings.threads) × IsGiven call
+IsWithin settings (scheduled.Vis node thread vis) = (node < settings.nodes) × MayBegin settings thread vis
 IsWithin settings (scheduled.Request from to number) = (from < settings.nodes) × (to < settings.nodes)
 IsWithin settings (scheduled.Reply from to number) = (from < settings.nodes) × (to < settings.nodes)
 IsWithin settings (scheduled.Tick node) = node < settings.nodes

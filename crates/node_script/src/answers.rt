@@ -4,7 +4,7 @@ ghost use Rattle.std.specs.Prelude.{◌≡◌, ◌≤◌, ◌∷◌, decimal, le
 ghost use Rattle.gas_outside.specs.Buffered.{GathersAll, outbox};
 ghost use Rattle.node_script.specs.Lines.{ending, line_text};
 ghost use Rattle.gas_endpoint.specs.EndpointState.{ForItsRecord};
-ghost use Rattle.node_script.specs.AnswerWords.{answer_words, local_words, sent_words, ticked_words};
+ghost use Rattle.node_script.specs.AnswerWords.{answer_words, local_words, sent_words, ticked_words, vis_words};
 ghost use Rattle.node_script.specs.AnswersTold.{HasNumber, NamesItsBytes, NamesWhatIs, TicksItsNumbers, sight_at};
 
 use crate::answer_texts::{
@@ -20,6 +20,7 @@ use am_core::SlotRef;
 use endpoint_rules::{Answer, Local, Ticked};
 use gas_endpoint::Endpoint;
 use gas_outside::{BufferedSink, Sink, Wrote};
+use gas_strided::Vis;
 
 /// The most bytes of a line that shows no bytes of a segment, and more.
 const LINE: usize = 128;
@@ -106,6 +107,22 @@ fn write_words<K: Sink>(answer: &Answer, endpoint: &Endpoint, sink: &mut Buffere
     }
 }
 
+/// The text of how a transfer of many pieces began, behind the number of its line.
+fn write_vis_words<K: Sink>(answer: &Vis, sink: &mut BufferedSink<K>) -> Wrote
+    requires { 100 ≤ sink.old.room }
+    ensures { GathersAll (outbox K.taken K.faults sink.old) (outbox K.taken K.faults sink.new)
+        (ending (vis_words answer.now)) result }
+{
+    match answer {
+        Vis::Whole => write_word(b"whole", sink),
+        Vis::Part { next } => write_numbered(b"part", *next as u64, sink),
+        Vis::TooMany => write_word(b"too-many", sink),
+        Vis::Nested => write_word(b"nested", sink),
+        Vis::Forbidden(rule) => write_reason(b"forbidden", rule_word(*rule), sink),
+        Vis::NoMemory => write_word(b"no-memory", sink),
+    }
+}
+
 /// Writes the line of an answer of an endpoint as it stands after it: this number, and then the words of the answer.
 /// Where the answer names a request that was sent, its slot has it; a range that it shows is inside the segment.
 ///
@@ -126,4 +143,18 @@ pub fn write_answer<K: Sink>(
     }
     sink.put_number(number);
     write_words(answer, endpoint, sink)
+}
+
+/// Writes the line of how a transfer of many pieces began: this number, and then the words of that.
+///
+/// `Fault` comes only where the sink failed; a prefix of the line went in then, or none of it. It takes no memory.
+pub fn write_vis<K: Sink>(number: u64, answer: &Vis, sink: &mut BufferedSink<K>) -> Wrote
+    ensures { GathersAll (outbox K.taken K.faults sink.old) (outbox K.taken K.faults sink.new)
+        (line_text (decimal number ∷ vis_words answer.now)) result }
+{
+    if let Wrote::Fault = sink.make_room(LINE) {
+        return Wrote::Fault;
+    }
+    sink.put_number(number);
+    write_vis_words(answer, sink)
 }

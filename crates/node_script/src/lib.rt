@@ -11,7 +11,7 @@
 //!   theirs, and a reply is one that was let through.
 //! - `write_answer` writes a line: a number, and the words of an answer (`answer_words`) by the numbers at the
 //!   endpoint's slots and its segment, for every record for which the endpoint stands; at a fault of the sink a prefix
-//!   of it. `write_line` writes any line.
+//!   of it; `write_vis` that of how a transfer of many pieces began (`vis_words`). `write_line` writes any line.
 #![tactic(auto)]
 
 mod answer_texts;
@@ -30,7 +30,7 @@ mod shown;
 mod transfer_texts;
 
 pub use answer_words::{lock_fault_word, rule_word};
-pub use answers::write_answer;
+pub use answers::{write_answer, write_vis};
 pub use body_numbers::value_of;
 pub use handlers::ScriptHandlers;
 pub use line::{call_of, some_of, transfer_of};

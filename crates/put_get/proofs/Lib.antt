@@ -4,6 +4,7 @@ pub mod Entries
 pub mod Outs
 pub mod Said
 pub mod Tests
+pub mod Extents
 pub mod Issued
 pub mod Counts
 pub mod Queueing

@@ -1,7 +1,7 @@
 -- What is marked is what a test holds of.
 use Rattle.std.proofs.Common.{◌≡◌, ℕ, zero, suc, ◌<◌, Bool, true, false, true≢false, ◌&&◌, ◌||◌, List, [], ◌∷◌, Option}
 use Rattle.std.proofs.Common.{None, Some, length, unwrap_or, replicate, refl, sym, ap, ◌∙◌, arith}
-use Rattle.std.specs.List.{slice_get}
+use Rattle.std.specs.List.{slice_get, list_any}
 use Rattle.lists.proofs.Places.{slice_get-replicate}
 use Rattle.put_get.specs.declared.table.Standing.{Standing}
 use Rattle.put_get.specs.declared.table.Check.{Check}
@@ -72,6 +72,14 @@ pub flag_within : (flags : List Bool) (node : ℕ) → flag_at flags node ≡ tr
 flag_within [] node is = absurd (true≢false (sym is))
 flag_within (flag ∷ flags) zero is = omega arith
 flag_within (flag ∷ flags) (suc node) is = let later = flag_within flags node is in omega (arith, later)
+
+-- no flag is set
+pub no_flag : (flags : List Bool) → list_any (λ (flag : Bool). flag) flags ≡ false → (node : ℕ)
+    → flag_at flags node ≡ false
+no_flag [] none node = refl
+no_flag (true ∷ flags) none node = absurd (true≢false none)
+no_flag (false ∷ flags) none zero = refl
+no_flag (false ∷ flags) none (suc node) = no_flag flags none node
 
 -- where nothing else was marked
 pub only : (test : Standing → Bool) (places : List (Option Standing)) (marks : List Bool)

@@ -13,6 +13,7 @@
 //! transfer that is done at once) isn't here: it needs the node's active messages.
 #![tactic(auto)]
 
+mod extent;
 mod operation;
 mod queue;
 mod slots;

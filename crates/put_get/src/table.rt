@@ -1,12 +1,13 @@
 //! The records of a node's operations, in 256 places.
 
 ghost use Rattle.std.specs.Prelude.{◌≡◌, ◌<◌, ◌≤◌, ℕ, List, Option, None, Some, length, replicate, slice_get};
-ghost use Rattle.std.specs.Prelude.{slice_set, IfOk, IfSome, IfNone, Bool, not, ◌||◌};
+ghost use Rattle.std.specs.Prelude.{slice_set, IfOk, IfSome, IfNone, Bool, not, ◌||◌, ◌&&◌};
 ghost use Rattle.put_get.specs.Syncs.{is_kind, flag_at};
 ghost use Rattle.put_get.specs.Table.{taken, is_unissued, waits_by, passes, picked, on_place, picks, ready, IsLeast};
 ghost use Rattle.put_get.specs.Table.{unless_marked, also, has, AreMarks, IsPlaceOf, AreDropped};
 ghost use Rattle.std.specs.List.{list_any};
 
+use crate::extent::Extent;
 use crate::operation::{Some3, Transfer};
 use crate::queue::Queue;
 use slab::Slab;
@@ -128,6 +129,18 @@ pub(crate) fn flag_at(flags: &[bool], place: usize) -> bool
     }
 }
 
+/// Whether a flag is set.
+fn has_flag(flags: &[bool]) -> bool
+    ensures { result ≡ list_any (λ (flag : Bool). flag) flags.now }
+{
+    for flag in flags {
+        if *flag {
+            return true;
+        }
+    }
+    false
+}
+
 /// One or the other.
 pub(crate) fn either(mark: bool, other: bool) -> bool
     ensures { result ≡ mark || other }
@@ -157,18 +170,31 @@ fn ready(place: Option<Standing>, can: &[bool]) -> Option<Standing>
     None
 }
 
-/// 256 places, whose records a slab keeps. Those of the records with an unissued chunk wait in the queue.
+/// Whether a record stands there that is meant, and passes.
+fn is_match(place: Option<Standing>, pick: Pick, check: Check) -> bool
+    ensures { result ≡ on_place (λ there. picked pick there && passes check there) place }
+{
+    match place {
+        Some(standing) => standing.is_picked(pick) && standing.passes(check),
+        None => false,
+    }
+}
+
+/// 256 places, whose records a slab keeps. Those of the records with an unissued chunk wait in the queue. The extent
+/// bounds each search to the places that are taken.
 #[derive(Drop)]
 pub(crate) struct Table {
     keys: Vec<usize>,
     records: Slab<Option<Standing>>,
     queue: Queue,
+    extent: Extent,
 }
 
 impl Model for Table {
     ghost use Rattle.std.specs.Prelude.{List, Option, ◌≡◌, length};
     ghost use Rattle.put_get.specs.Table.{places_of, IsKeyed, waits_at};
     ghost use Rattle.put_get.specs.Queue.{Queues};
+    ghost use Rattle.put_get.specs.Extent.{IsExtent};
     ghost use Rattle.put_get.specs.declared.table.Standing.{Standing};
 
     ghost Value = { List (Option Standing) };
@@ -177,7 +203,8 @@ impl Model for Table {
 
     ghost invariant = { λ t.
         (length t.keys.items ≡ 256) × IsKeyed t.keys.items t.records
-        × Queues (waits_at (places_of t.keys.items t.records)) t.queue };
+        × Queues (waits_at (places_of t.keys.items t.records)) t.queue
+        × IsExtent t.extent (places_of t.keys.items t.records) };
 }
 
 impl Table {
@@ -194,6 +221,7 @@ impl Table {
             keys,
             records,
             queue: Queue::new(alloc)?,
+            extent: Extent { low: 0, end: 0 },
         })
     }
 
@@ -214,6 +242,7 @@ impl Table {
         self.queue
             .change(place, waits_by(self.records[key]), waits_by(standing));
         self.records[key] = standing;
+        self.extent = self.extent.after_write(place, standing.is_some());
     }
 
     /// Whether no record has an unissued chunk.
@@ -224,10 +253,14 @@ impl Table {
     }
 
     /// The oldest record of which a chunk may be issued; `can` has a flag for each node. It looks only at the records
-    /// with an unissued chunk, from the oldest one on, and at none behind the one that it finds.
+    /// with an unissued chunk, from the oldest one on, and at none behind the one that it finds; at none at all where no
+    /// flag is set.
     pub fn oldest(&self, can: &[bool]) -> Option<Standing>
         ensures { IsLeast (flag_at can.now) self.now result }
     {
+        if !has_flag(can) {
+            return None;
+        }
         for index in 0..self.queue.len() {
             let place = self.queue.at(index).place;
             if let Some(standing) = ready(self.at(place), can) {
@@ -237,28 +270,42 @@ impl Table {
         None
     }
 
-    /// The first place that is blank.
+    /// The first place that is blank. It looks at no place below the extent's `low`, which are taken.
     pub fn first_blank(&self) -> Option<usize>
         ensures found { IfSome result (λ place. slice_get self.now place ≡ Some None) }
         ensures full { IfNone result (taken self.now ≡ 256) }
         ensures many { length self.now ≡ 256 }
     {
-        let _ = &self.keys;
-        for place in 0usize..256 {
+        for place in self.extent.low..self.extent.end {
             if self.at(place).is_none() {
                 return Some(place);
             }
         }
-        None
+        if self.extent.end < 256 {
+            Some(self.extent.end)
+        } else {
+            None
+        }
     }
 
     /// Whether some record is meant.
     pub fn any(&self, pick: Pick) -> bool
         ensures { result ≡ list_any (on_place (picked pick)) self.now }
     {
-        let _ = &self.keys;
-        for place in 0usize..256 {
+        for place in 0..self.extent.end {
             if is_picked(self.at(place), pick) {
+                return true;
+            }
+        }
+        false
+    }
+
+    /// Whether some record that is meant passes. It looks at none behind the first one that does.
+    pub fn any_passes(&self, pick: Pick, check: Check) -> bool
+        ensures { result ≡ has (picked pick) check self.now }
+    {
+        for place in 0..self.extent.end {
+            if is_match(self.at(place), pick, check) {
                 return true;
             }
         }
@@ -270,7 +317,7 @@ impl Table {
         ensures { (test : Standing → Bool) → AreMarks test self.now marks.old
             → AreMarks (also test (picked pick)) self.now marks.new }
     {
-        for place in 0usize..256 {
+        for place in 0..self.extent.end {
             marks[place] = either(marks[place], is_picked(self.at(place), pick));
         }
     }
@@ -280,8 +327,7 @@ impl Table {
         ensures { (test : Standing → Bool) → AreMarks test self.now marks.now
             → result ≡ has test check self.now }
     {
-        let _ = &self.keys;
-        for place in 0usize..256 {
+        for place in 0..self.extent.end {
             if picks(self.at(place), flag_at(marks, place), check) {
                 return true;
             }
@@ -299,14 +345,35 @@ impl Table {
         self.queue.place_of(number)
     }
 
+    /// One more than the greatest place that is taken, or 0.
+    fn taken_end(&self) -> usize
+        ensures within { result ≤ 256 }
+        ensures end { (place : ℕ) (there : Standing)
+            → slice_get self.now place ≡ Some (Some there) → place < result }
+    {
+        for place in (0..self.extent.end).rev() {
+            if self.at(place).is_some() {
+                return place + 1;
+            }
+        }
+        0
+    }
+
+    /// The extent ends behind the greatest place that is taken.
+    fn lower_end(&mut self)
+        ensures { self.new ≡ self.old }
+    {
+        self.extent.end = self.taken_end();
+    }
+
     /// The records that are marked go.
     pub fn drop_marked(&mut self, marks: &[bool; 256])
         ensures { (test : Standing → Bool) → AreMarks test self.old marks.now
             → AreDropped test self.old self.new }
     {
-        let _ = &self.keys;
-        for place in 0usize..256 {
+        for place in 0..self.extent.end {
             self.set(place, unless_marked(self.at(place), flag_at(marks, place)));
         }
+        self.lower_end();
     }
 }

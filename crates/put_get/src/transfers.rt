@@ -11,7 +11,7 @@ ghost use Rattle.put_get.specs.Operation.{has_unissued, next_chunk, issue, has_o
 ghost use Rattle.put_get.specs.Syncs.{Choice, is_implicit, chosen, flag_at, members, sync_answer, handle_answer};
 ghost use Rattle.put_get.specs.Syncs.{after_handle, implicit_of, implicit_answer, left_by, issued_answer, fault_here};
 ghost use Rattle.put_get.specs.Syncs.{fault_of, members_of, all_answer, whole_of, some_here, some_answer, is_whole};
-ghost use Rattle.put_get.specs.Table.{AreMarks, also, is_unissued};
+ghost use Rattle.put_get.specs.Table.{AreMarks, also, is_unissued, picked};
 ghost use Rattle.put_get.specs.Stands.{HasOperations, room_of, Stands, Agrees, member_in, member_of, member_of_any};
 ghost use Rattle.put_get.specs.Stands.{is_whole_in, whole_here, whole_in, IsFirstWorn, CanNote, next_of};
 
@@ -263,6 +263,43 @@ impl Transfers {
         }
     }
 
+    /// The smallest node that is worn out and has an unissued chunk of what is meant.
+    fn first_worn_of(&self, worn: &[bool], pick: Pick) -> Option<u16>
+        requires { length worn.now ≤ 65536 }
+        ensures { IsFirstWorn (flag_at worn.now) (picked pick) self.now.table result }
+    {
+        for node in 0..worn.len() {
+            if flag_at(worn, node) && self.table.any_passes(pick, Check::UnissuedTo(node as u16)) {
+                return Some(node as u16);
+            }
+        }
+        None
+    }
+
+    /// Where what is meant is complete it goes. While it isn't, the first record that is unfinished answers, and no
+    /// record is marked.
+    fn sync_picked(&mut self, worn: &[bool], pick: Pick) -> Synced
+        requires { length worn.now ≤ 65536 }
+        ensures answer { (operations : List Operation) (choice : Choice) → Stands self.old operations
+            → Agrees choice (picked pick)
+            → result ≡ sync_answer (flag_at worn.now) (chosen choice 1 operations) }
+        ensures stands { (operations : List Operation) (choice : Choice) → Stands self.old operations
+            → Agrees choice (picked pick)
+            → Stands self.new (left_by result choice operations) }
+        ensures room { room_of self.new ≡ room_of self.old }
+    {
+        if !self.table.any_passes(pick, Check::Unfinished) {
+            let mut marks = [false; 256];
+            self.table.mark(pick, &mut marks);
+            self.table.drop_marked(&marks);
+            return Synced::Ok;
+        }
+        match self.first_worn_of(worn, pick) {
+            Some(node) => Synced::WornOut(node),
+            None => Synced::NotReady,
+        }
+    }
+
     /// What is wrong with a handle whose members are marked, if anything is: no operation and no region has it, or
     /// another thread's has.
     fn fault(&self, thread: u16, marks: &[bool; 256]) -> Option<Synced>
@@ -314,10 +351,7 @@ impl Transfers {
             → Stands self.new (left_by result (implicit_of thread which) operations) }
         ensures room { room_of self.new ≡ room_of self.old }
     {
-        let mut marks = [false; 256];
-        self.table
-            .mark(Pick::Implicit { thread, which }, &mut marks);
-        self.sync_marked(worn, &marks)
+        self.sync_picked(worn, Pick::Implicit { thread, which })
     }
 }
 

@@ -14,18 +14,24 @@
 //!   appended; after another answer nothing was; its count of faults never falls, and `Failed` comes only where that
 //!   count rose, or stands at its last value.
 //!
+//! `ChildEnds` keeps how the children of a spawner ended; nothing is proved of it.
+//!
 //! What each does with the system is tested in `real_tests`.
 #![tactic(auto)]
 
+mod child_ends;
 mod drain;
 mod hosts;
+mod link_fault;
 mod link_socket;
 mod process_spawner;
 mod socket_gate;
 mod system_clock;
 mod udp_link;
 
+pub use child_ends::{ChildEnd, ChildEnds};
 pub use hosts::Hosts;
+pub use link_fault::LinkFault;
 pub use link_socket::LinkSocket;
 pub use process_spawner::ProcessSpawner;
 pub use socket_gate::SocketGate;

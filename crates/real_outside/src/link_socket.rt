@@ -1,5 +1,6 @@
 //! The socket of a link.
 
+use crate::link_fault::LinkFault;
 use std::net::{SocketAddr, UdpSocket};
 use std::sync::OnceLock;
 use std::sync::atomic::{AtomicU64, Ordering};
@@ -11,6 +12,7 @@ pub struct LinkSocket {
     strays: AtomicU64,
     sender: AtomicU64,
     orphaned: AtomicU64,
+    fault: OnceLock<LinkFault>,
 }
 
 impl LinkSocket {
@@ -21,6 +23,7 @@ impl LinkSocket {
             strays: AtomicU64::new(0),
             sender: AtomicU64::new(0),
             orphaned: AtomicU64::new(0),
+            fault: OnceLock::new(),
         }
     }
 
@@ -32,6 +35,16 @@ impl LinkSocket {
     /// How many datagrams were dropped that no peer sent.
     pub fn strays(&self) -> u64 {
         self.strays.load(Ordering::SeqCst)
+    }
+
+    /// Why the link failed, the first time that it did.
+    pub fn fault(&self) -> Option<LinkFault> {
+        self.fault.get().copied()
+    }
+
+    /// Keeps why the link failed, where nothing is kept yet.
+    pub(crate) fn note_fault(&self, fault: LinkFault) {
+        let _ = self.fault.try_set(fault);
     }
 
     /// Where the rank of the peer stands whose datagram was received last, at first 0.

@@ -4,6 +4,7 @@ ghost use Rattle.std.specs.Prelude.{◌≡◌, ◌≤◌, ◌<◌, IfSome, vec_l
 ghost use Rattle.gas_outside.specs.Faults.{Rose};
 ghost use Rattle.gas_outside.specs.Spawner.{AppendsOutput};
 
+use crate::child_ends::{ChildEnd, ChildEnds};
 use crate::drain::{Drained, drain};
 use gas_outside::{Finished, Spawner, Started};
 use std::alloc::Global;
@@ -27,13 +28,17 @@ use std::{env, fs, io, thread};
 /// runs, a finish of a rank without a child, an output over the limit and an end by a signal are faults, and so is each
 /// other error of the system. It tells nothing of its children.
 #[derive(Drop)]
-pub struct ProcessSpawner<R: Processes> {
+pub struct ProcessSpawner<'a, R: Processes> {
     rt: R,
     alloc: Global,
     program: String,
     folder: Option<String>,
+    /// Where it keeps how its children ended.
+    ends: &'a ChildEnds,
     children: Vec<Running<R::Started>>,
     faults: u64,
+    /// The rank of the first child that couldn't be started, with the system's number of the error.
+    unstarted: Option<(u16, i32)>,
 }
 
 /// A child that was started, with the thread that reads its output.
@@ -52,31 +57,44 @@ fn own_path<R: Files + AllocGlobal>(rt: &R) -> String {
     }
 }
 
-impl<R: Processes + Files + AllocGlobal> ProcessSpawner<R> {
+impl<'a, R: Processes + Files + AllocGlobal> ProcessSpawner<'a, R> {
     /// A spawner of the program that runs. Where the system can't tell its path each start is a fault.
-    pub fn of_own_program(rt: R) -> ProcessSpawner<R> {
+    pub fn of_own_program(rt: R, ends: &'a ChildEnds) -> ProcessSpawner<'a, R> {
         let alloc = rt.alloc();
         let program = own_path(&rt);
-        ProcessSpawner::new(rt, alloc, program)
+        ProcessSpawner::new(rt, alloc, program, ends)
     }
 }
 
-impl<R: Processes> ProcessSpawner<R> {
-    /// A spawner of the program with this path, or of the one that the system finds by this name.
-    pub fn new(rt: R, alloc: Global, program: String) -> ProcessSpawner<R> {
+impl<'a, R: Processes> ProcessSpawner<'a, R> {
+    /// A spawner of the program with this path, or of the one that the system finds by this name. How its children end is
+    /// kept there.
+    pub fn new(
+        rt: R,
+        alloc: Global,
+        program: String,
+        ends: &'a ChildEnds,
+    ) -> ProcessSpawner<'a, R> {
         ProcessSpawner {
             rt,
             alloc,
             program,
             folder: None,
+            ends,
             children: Vec::new(alloc),
             faults: 0,
+            unstarted: None,
         }
     }
 
     /// Gives it a folder for the files of its children.
     pub fn keep_in(&mut self, folder: String) {
         self.folder = Some(folder);
+    }
+
+    /// The first child that couldn't be started, with the system's number of the error, where it has one.
+    pub fn unstarted(&self) -> Option<(u16, i32)> {
+        self.unstarted
     }
 
     /// The place of the child of a rank.
@@ -100,7 +118,7 @@ impl<R: Processes> ProcessSpawner<R> {
     }
 }
 
-impl<R: Processes<Started = SystemProcess> + Threads> ProcessSpawner<R> {
+impl<R: Processes<Started = SystemProcess> + Threads> ProcessSpawner<'_, R> {
     /// Starts the child of a rank, begins to read its output, and gives it its input.
     fn try_start(&mut self, rank: u16, port: u16, input: &[u8]) -> io::Result<()>
         ensures { self.new.faults ≡ self.old.faults }
@@ -160,7 +178,7 @@ fn stop<P: OpenProcess>(child: &mut Child<P>) {
     }
 }
 
-impl<R: Processes<Started = SystemProcess> + Files + Threads> ProcessSpawner<R> {
+impl<R: Processes<Started = SystemProcess> + Files + Threads> ProcessSpawner<'_, R> {
     /// Waits until a child ends, and appends its output.
     fn end(&self, running: Running<R::Started>, into: &mut Vec<u8>) -> Finished
         ensures { AppendsOutput result into.old.items into.new.items }
@@ -173,10 +191,12 @@ impl<R: Processes<Started = SystemProcess> + Files + Threads> ProcessSpawner<R> 
         let output = match output.join(&self.rt) {
             Drained::Bytes(output) => output.into_bytes(),
             Drained::NoMemory => {
+                self.ends.keep(rank, ChildEnd::Lost);
                 stop(&mut child);
                 return Finished::NoMemory;
             }
             Drained::Fault => {
+                self.ends.keep(rank, ChildEnd::Lost);
                 stop(&mut child);
                 return Finished::Failed;
             }
@@ -190,10 +210,11 @@ impl<R: Processes<Started = SystemProcess> + Files + Threads> ProcessSpawner<R> 
         Finished::Ended(status)
     }
 
-    /// Waits for a child's exit status, and keeps its files. None where the status can't be had, or a signal ended the
+    /// Waits for a child's exit status, and keeps it, with its files. None where the status can't be had, or a signal ended the
     /// child.
     fn status_of(&self, rank: u16, child: &mut Child<R::Started>, output: &[u8]) -> Option<u8> {
         let status = child.wait().ok()?;
+        self.ends.keep(rank, ChildEnd::Ended(status));
         if let Some(folder) = &self.folder {
             let _ = self.keep(folder.as_str(), rank, output, status);
         }
@@ -211,7 +232,7 @@ impl<R: Processes<Started = SystemProcess> + Files + Threads> ProcessSpawner<R> 
     }
 }
 
-impl<R: Processes<Started = SystemProcess> + Files + Threads> Spawner for ProcessSpawner<R> {
+impl<R: Processes<Started = SystemProcess> + Files + Threads> Spawner for ProcessSpawner<'_, R> {
     ghost use Rattle.std.specs.Prelude.{None};
 
     ghost told = { λ _. None };
@@ -221,7 +242,12 @@ impl<R: Processes<Started = SystemProcess> + Files + Threads> Spawner for Proces
     /// Starts the program with the words `node RANK PORT`, and a thread that reads its output; then it gives its input
     /// to its pipe, and waits until the pipe took all of it, or the child ended before.
     fn start(&mut self, rank: u16, port: u16, input: &[u8]) -> Started {
-        if self.try_start(rank, port, input).is_err() {
+        if let Err(error) = self.try_start(rank, port, input) {
+            self.ends.keep(rank, ChildEnd::Unstarted);
+            self.unstarted = match (self.unstarted, error.raw_os_error()) {
+                (None, Some(code)) => Some((rank, code)),
+                (before, _) => before,
+            };
             self.faults = self.faults.saturating_add(1);
             return Started::Failed;
         }

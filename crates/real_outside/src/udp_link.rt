@@ -5,6 +5,7 @@ ghost use Rattle.std.specs.Io.{ReadsAtMost};
 ghost use Rattle.gas_outside.specs.Faults.{Rose};
 
 use crate::hosts::Hosts;
+use crate::link_fault::LinkFault;
 use crate::link_socket::LinkSocket;
 use gas_outside::{Link, LinkAnswer, Received};
 use std::io;
@@ -151,7 +152,9 @@ impl<R: Net> Link for UdpLink<'_, R> {
     /// Opens the port of this rank at the address of its host. It is a fault where another socket has that port, this
     /// host hasn't that address, there aren't as many hosts as nodes, or a port would be past 65,535.
     fn bind(&mut self, rank: u16, nodes: u16, port: u16) -> LinkAnswer {
-        if self.open(rank, nodes, port).is_err() {
+        if let Err(error) = self.open(rank, nodes, port) {
+            let own = self.hosts.address(port, rank);
+            self.socket.note_fault(LinkFault::of_bind(own, &error));
             self.faults = self.faults.saturating_add(1);
             return LinkAnswer::Failed;
         }
@@ -161,7 +164,8 @@ impl<R: Net> Link for UdpLink<'_, R> {
 
     /// Sends a datagram, which may be lost.
     fn send(&mut self, to: u16, bytes: &[u8]) -> LinkAnswer {
-        if self.hand(to, bytes).is_err() {
+        if let Err(error) = self.hand(to, bytes) {
+            self.socket.note_fault(LinkFault::of_call(&error));
             self.faults = self.faults.saturating_add(1);
             return LinkAnswer::Failed;
         }
@@ -173,7 +177,7 @@ impl<R: Net> Link for UdpLink<'_, R> {
         match self.take(buf) {
             Ok(len) => return Received::Got(len),
             Err(error) if is_loss(&error) => return Received::Empty,
-            Err(_) => {}
+            Err(error) => self.socket.note_fault(LinkFault::of_call(&error)),
         }
         self.faults = self.faults.saturating_add(1);
         Received::Failed

@@ -1,17 +1,38 @@
 use gas_outside::{Finished, Spawner, Started};
-use real_outside::ProcessSpawner;
+use real_outside::{ChildEnd, ChildEnds, ProcessSpawner};
 use std::fs;
 use std::test::Fail;
 
 /// A spawner of the program with this name.
-fn spawner_of(rt: HostRuntime, program: &str) -> Result<ProcessSpawner<HostRuntime>, Fail> {
+fn spawner_of<'a>(
+    rt: HostRuntime,
+    program: &str,
+    ends: &'a ChildEnds,
+) -> Result<ProcessSpawner<'a, HostRuntime>, Fail> {
     let program = String::from_str(rt.alloc(), program)?;
-    Ok(ProcessSpawner::new(rt, rt.alloc(), program))
+    Ok(ProcessSpawner::new(rt, rt.alloc(), program, ends))
+}
+
+/// The exit status that was kept of the child of a rank.
+fn code_kept(ends: &ChildEnds, rank: u16) -> Option<i32> {
+    match ends.of(rank) {
+        Some(ChildEnd::Ended(status)) => status.code(),
+        _ => None,
+    }
+}
+
+/// The exit status in the answer of a finish.
+fn code_of(finished: Finished) -> Option<i32> {
+    match finished {
+        Finished::Ended(code) => Some(i32::from(code)),
+        _ => None,
+    }
 }
 
 #[test]
 fn gives_a_child_its_words(rt: HostRuntime) -> Result<(), Fail> {
-    let mut spawner = spawner_of(rt, "echo")?;
+    let ends = ChildEnds::new(rt.alloc());
+    let mut spawner = spawner_of(rt, "echo", &ends)?;
     let mut output = Vec::new(rt.alloc());
     let started = [
         spawner.start(0, 21_000, &[]),
@@ -33,11 +54,13 @@ fn gives_a_child_its_words(rt: HostRuntime) -> Result<(), Fail> {
 #[test]
 fn tells_how_a_child_ends(rt: HostRuntime) -> Result<(), Fail> {
     for (program, want) in [("false", Finished::Ended(1)), ("yes", Finished::Failed)] {
-        let mut spawner = spawner_of(rt, program)?;
+        let ends = ChildEnds::new(rt.alloc());
+        let mut spawner = spawner_of(rt, program, &ends)?;
         let mut output = Vec::new(rt.alloc());
         let started = spawner.start(3, 21_000, b"gasnet 1\n");
         let finished = spawner.finish(3, &mut output);
         assert!(rt; started == Started::Started && finished == want && output.is_empty());
+        assert!(rt; code_kept(&ends, 3) == code_of(want));
     }
     Ok(())
 }
@@ -46,7 +69,8 @@ fn tells_how_a_child_ends(rt: HostRuntime) -> Result<(), Fail> {
 #[test]
 fn reads_the_outputs_of_all_children_at_once(rt: HostRuntime) -> Result<(), Fail> {
     let input = vec![in rt.alloc(); b'.'; 300_000]?;
-    let mut spawner = spawner_of(rt, "tee")?;
+    let ends = ChildEnds::new(rt.alloc());
+    let mut spawner = spawner_of(rt, "tee", &ends)?;
     for rank in 0..3 {
         assert!(rt; spawner.start(rank, 21_000, &input) == Started::Started);
     }
@@ -63,9 +87,11 @@ fn reads_the_outputs_of_all_children_at_once(rt: HostRuntime) -> Result<(), Fail
 
 #[test]
 fn fails_where_there_is_no_program(rt: HostRuntime) -> Result<(), Fail> {
-    let mut spawner = spawner_of(rt, "/no/such/program")?;
+    let ends = ChildEnds::new(rt.alloc());
+    let mut spawner = spawner_of(rt, "/no/such/program", &ends)?;
     let mut output = Vec::new(rt.alloc());
     assert!(rt; spawner.start(0, 21_000, &[]) == Started::Failed);
     assert!(rt; spawner.finish(0, &mut output) == Finished::Failed);
+    assert!(rt; matches!(&ends.of(0), Some(ChildEnd::Unstarted)) && ends.of(1).is_none());
     Ok(())
 }

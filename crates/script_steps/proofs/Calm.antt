@@ -64,6 +64,7 @@ use Rattle.node_script.specs.ScheduledCalls.{meant_by, given_from, some_of}
 use Rattle.node_runs.specs.Actions.{Form, Once, Again, Until, Twice, Looks, Several, calls_of, ended_by, begins}
 use Rattle.node_runs.specs.Actions.{OwnScripts, next_calls, tried_step, scripts_of, unless}
 use Rattle.node_runs.specs.Empty.{IsCalm}
+use Rattle.node_runs.specs.declared.script_answer.ScriptAnswer.{ScriptAnswer}
 use Rattle.node_runs.specs.Scripts.{ThreadCall, TryContext}
 use Rattle.node_runs.specs.Turn.{node_run, events_of, first_answer}
 use Rattle.node_runs.specs.WorldRun.{endpoint_job}
@@ -340,6 +341,7 @@ waiting_calm place node (waiting.BarrierWait id flags) = barrier_leaves place no
 step_calm : (place : TryContext) (node : Node EndpointLocal) (one : ScriptStep)
     → WaitsCalm place node (step_form one place node)
 step_calm place node (step.Call made) = call_calm place node made
+step_calm place node (step.Vis vis) = tt
 step_calm place node (step.Waiting one) = waiting_calm place node one
 
 -- an answer is no end exactly where it is one to wait at
@@ -348,7 +350,7 @@ waits_there true answer e = refl
 waits_there false answer e = absurd (cc)
 
 -- a try whose step has begun now
-begun_now : (ended : Option Answer) → ended ≡ None → is_none ended ≡ false → ⊥
+begun_now : (ended : Option ScriptAnswer) → ended ≡ None → is_none ended ≡ false → ⊥
 begun_now None e not = true≢false not
 begun_now (Some answer) e not = cc
 

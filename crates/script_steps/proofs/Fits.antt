@@ -3,6 +3,7 @@ use Rattle.std.proofs.Common.{◌≡◌, ℕ, ℤ, Bool, List, [], ◌∷◌, Op
 use Rattle.std.specs.List.{AllByRecursion}
 use Rattle.std.specs.Option.{option_map}
 use Rattle.std.proofs.lemmas.Option.{same_Some}
+use Rattle.datagram_grammar.specs.Parameters.{Parameters}
 use Rattle.node_record.specs.Record.{Node}
 use Rattle.put_get.specs.declared.operation.Handle.{Handle}
 use Rattle.endpoint_rules.specs.EndpointLocal.{EndpointLocal}
@@ -18,6 +19,7 @@ use Rattle.node_runs.specs.Scripts.{ThreadCall, TryContext}
 use Rattle.script_laws.proofs.Calls.{calls_fit}
 use Rattle.script_steps.specs.Forms.{tried_while, waits_of, waiting_form, step_form, begun_handle, on_transfers}
 use Rattle.script_steps.specs.Forms.{IsJobStep, sync_of}
+use Rattle.script_steps.proofs.BegunPieces.{plan_may}
 
 -- a call that a schedule has, too
 call_may : (waits : Option (Answer → Bool)) (meant : ThreadCall) → CallFits meant
@@ -44,19 +46,22 @@ waiting_may cells (waiting.WaitSome registers) = tt
 waiting_may cells (waiting.WaitImplicit which) = tt
 waiting_may cells (waiting.BarrierWait id flags) = tt
 
-step_may : (one : ScriptStep) → IsJobStep one → (at : TryContext) (node : Node EndpointLocal) → KeptFits node.local
-    → FormMay CallFits (step_form one at node)
-step_may (step.Call made) is at node fits =
-    call_may (waits_of made) _ (calls_fit is.0 node.local.core.cells made fits.cells is.1)
-step_may (step.Waiting one) is at node fits = waiting_may node.local.core.cells one
+step_may : (settings : Parameters) (one : ScriptStep) → IsJobStep settings one
+    → (at : TryContext) (node : Node EndpointLocal) → KeptFits node.local → FormMay CallFits (step_form one at node)
+step_may settings (step.Call made) is at node fits =
+    call_may (waits_of made) _ (calls_fit is.0 node.local.core.cells made fits.cells is.2)
+step_may settings (step.Vis vis) is at node fits =
+    plan_may CallFits (λ one. tt) vis.plan vis.words.from vis.words.register at node
+step_may settings (step.Waiting one) is at node fits = waiting_may node.local.core.cells one
 
-all_may : (steps : List ScriptStep) → AllByRecursion IsJobStep steps
+all_may : (settings : Parameters) (steps : List ScriptStep) → AllByRecursion (IsJobStep settings) steps
     → AllByRecursion
     (λ (one : ScriptStep). (at : TryContext) (node : Node EndpointLocal) → KeptFits node.local
     → FormMay CallFits (step_form one at node)) steps
-all_may [] all = tt
-all_may (one ∷ steps) all = (step_may one all.0, all_may steps all.1)
+all_may settings [] all = tt
+all_may settings (one ∷ steps) all = (step_may settings one all.0, all_may settings steps all.1)
 
-pub steps_fit : (own : OwnScripts ScriptStep) → ((thread : ℕ) → AllByRecursion IsJobStep (own thread).left)
+pub steps_fit : (settings : Parameters) (own : OwnScripts ScriptStep)
+    → ((thread : ℕ) → AllByRecursion (IsJobStep settings) (own thread).left)
     → ActionsMay KeptFits CallFits step_form own
-steps_fit own all thread = all_may (own thread).left (all thread)
+steps_fit settings own all thread = all_may settings (own thread).left (all thread)

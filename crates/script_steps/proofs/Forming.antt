@@ -15,6 +15,7 @@ use Rattle.job_text.specs.declared.job.ScheduledCall.TheVariants as call
 use Rattle.job_text.specs.declared.job.TransferText.{TransferText}
 use Rattle.job_text.specs.declared.job.WaitingStep.TheVariants as waiting
 use Rattle.node_runs.specs.Actions.{Form, Once, Again, Until, Twice, Looks, calls_of, ended_by, begins, unless}
+use Rattle.node_runs.specs.declared.script_answer.ScriptAnswer.{ScriptAnswer}
 use Rattle.node_runs.specs.Scripts.{ThreadCall}
 use Rattle.node_script.specs.ScheduledCalls.{meant_by, transfer_of}
 use Rattle.script_steps.specs.Forms.{call_form, tried_while, waits_of, waiting_form, waits_at, begun_handle}
@@ -54,7 +55,8 @@ ends_so None meant began after answer = refl
 ends_so (Some waits) meant began after answer = refl
 
 -- it begins nothing
-not_begun : (waits : Option (Answer → Bool)) (meant : ThreadCall) (began ended answer : Option Answer)
+not_begun : (waits : Option (Answer → Bool)) (meant : ThreadCall) (began : Option Answer)
+    (ended : Option ScriptAnswer) (answer : Option Answer)
     → None ≡ begun_by (tried_while waits meant) began ended answer
 not_begun None meant began ended answer = refl
 not_begun (Some waits) meant began ended answer = refl

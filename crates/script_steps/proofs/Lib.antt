@@ -2,3 +2,4 @@ mod Trying
 mod Forming
 pub mod Fits
 pub mod Calm
+pub mod BegunPieces

@@ -28,9 +28,11 @@ use Rattle.node_runs.specs.Actions.{Form, Once, Again, Until, Twice, Looks, Seve
 use Rattle.node_runs.specs.Actions.{begins}
 use Rattle.node_runs.specs.Actions.{progress_after, tried_form}
 use Rattle.node_runs.specs.Outgoing.{slot_of, StaysWell}
+use Rattle.node_runs.specs.declared.script_answer.ScriptAnswer.{ScriptAnswer}
 use Rattle.node_runs.specs.Scripts.{ThreadCall, Tried as FormTried}
 use Rattle.node_runs.specs.Turn.{node_run, node_sends, events_of, first_answer}
-use Rattle.script_steps.specs.Tries.{EndpointJob, Happening, HasHappened, Happen, Made, made_happening, Makes}
+use Rattle.script_steps.specs.Tries.{EndpointJob, Happening, HasHappened, Happen, IsAtSameNode, Made}
+use Rattle.script_steps.specs.Tries.{made_happening, Makes}
 use Rattle.script_steps.specs.Tries.{FormTrial}
 use Rattle.script_steps.specs.Tries.{trial_calls, trial_events, trial_answer, trial_after, begun_by, WentSo}
 use Rattle.script_steps.specs.Tries.{trial_happening, TriesForm, as_form, left_by, as_tried, IsTriedSo, Tries}
@@ -77,7 +79,7 @@ pub call_made : (meaning : Meaning) (old new : EndpointState) (made : Made)
 call_made meaning old new made steps sent =
     record {
       happen = record {
-        same = steps.same;
+        same = record { settings = steps.same.settings; me_is = steps.same.me_is; table = steps.same.table };
         happened = λ node stands.
             let event = node_event made.thread made.meant in
             let after = node_after (job_here meaning old) old.core.me node made.now event in
@@ -126,7 +128,7 @@ CallsOf meaning old trial tried new node calls =
 
 -- so the try went
 pub goes_so : (meaning : Meaning) (old new : EndpointState) (trial : FormTrial) (tried : Tried)
-    → IsSameNode old.core new.core
+    → IsAtSameNode old.core new.core
     → ForItsRecord old (λ node. CallsOf meaning old trial tried new node (trial_calls trial node))
     → TriesForm meaning old trial tried new
 goes_so meaning old new trial tried same all =
@@ -180,7 +182,7 @@ pub tries_nothing : (meaning : Meaning) (endpoint : EndpointState) (trial : Form
     → tried.began ≡ None → TriesForm meaning endpoint trial tried endpoint
 tries_nothing meaning endpoint trial tried sent none ended began =
     goes_so meaning endpoint endpoint trial tried
-    (record { settings = refl; me_is = refl; table = refl; segment_length = refl })
+    (record { settings = refl; me_is = refl; table = refl })
     (λ node stands. subst (CallsOf meaning endpoint trial tried endpoint node) (sym (none node stands)) (
       stands,
       ap option_to_list sent,
@@ -203,7 +205,8 @@ first_call (Several calls says) starts = absurd (true≢false (sym starts))
 
 -- how a try went by whether it begins something, the answer with which its step began, whether and how it ended it, and
 -- the answer of its call
-went_by : (step : ScriptStep) (rest : List ScriptStep) (starts : Bool) (began ended answer : Option Answer)
+went_by : (step : ScriptStep) (rest : List ScriptStep) (starts : Bool) (began : Option Answer)
+    (ended : Option ScriptAnswer) (answer : Option Answer)
     → (starts ≡ true → began ≡ None → (said : Answer) × (answer ≡ Some said))
     → ◌≡◌ {A = FormTried (Progress ScriptStep)}
     (record {
@@ -242,13 +245,13 @@ told_so : (form : Form EndpointLocal) (trial : Trial) (tried : Tried) (after : N
     → tried_form form trial.step.now rest trial.began after answer ≡ as_tried trial tried rest
 told_so form trial tried after answer ended began says rest =
     let step = trial.step.now in
-    let by_end : Option Answer → FormTried (Progress ScriptStep) = λ end.
+    let by_end : Option ScriptAnswer → FormTried (Progress ScriptStep) = λ end.
     record {
       left = progress_after form step rest trial.began end answer;
       ended = end;
       began = begins form && is_none trial.began && is_none end;
     } in
-    let as_told : (end begun : Option Answer) → FormTried (Progress ScriptStep) = λ end begun.
+    let as_told : (end : Option ScriptAnswer) (begun : Option Answer) → FormTried (Progress ScriptStep) = λ end begun.
     record {
       left = cond {A = Progress ScriptStep} (is_some end) (record { left = rest; began = None })
           (record { left = step ∷ rest; began = option_or begun trial.began });

@@ -1,7 +1,9 @@
 -- How each step of a script is tried, and where it ends.
 -- Origin: this project's profile; waiting is that of the blocking calls of GASNet 1.8.1.
-use Rattle.std.specs.Prelude.{ℕ, ℤ, int_le, ◌==◌, if◌then◌else◌, Bool, true, false, not, List, [], Option, None, Some}
+use Rattle.std.specs.Prelude.{◌≡◌, ℕ, ℤ, int_le, ◌==◌, if◌then◌else◌, Bool, true, false, not, List, [], map}
+use Rattle.std.specs.Prelude.{Option, None, Some}
 use Rattle.std.specs.Option.{option_map}
+use Rattle.datagram_grammar.specs.Parameters.{Parameters}
 use Rattle.hsl_locks.specs.declared.answer.LockAnswer.TheVariants as locking
 use Rattle.named_barrier.specs.declared.answer.BarrierAnswer.TheVariants as barrier
 use Rattle.node_record.specs.Record.{Node}
@@ -35,8 +37,13 @@ use Rattle.job_text.specs.declared.job.WaitingStep.{WaitingStep}
 use Rattle.job_text.specs.declared.job.WaitingStep.TheVariants as waiting
 use Rattle.node_script.specs.Bodies.{operand_value}
 use Rattle.node_script.specs.ScheduledCalls.{meant_by, transfer_of, some_of}
-use Rattle.node_runs.specs.Actions.{Form, Once, Again, Until, Twice, Looks, Reading}
-use Rattle.node_runs.specs.Scripts.{ThreadCall}
+use Rattle.gas_strided.specs.Beginning.{BeginCall, calls_made, vis_answer}
+use Rattle.gas_strided.specs.Plans.{PlanState}
+use Rattle.node_caller.specs.Sites.{Site, ThreadCall as CallerCall}
+use Rattle.node_runs.specs.Actions.{Form, Once, Again, Until, Twice, Looks, Several, Reading}
+use Rattle.node_runs.specs.Scripts.{ThreadCall, TryContext}
+use Rattle.node_runs.specs.declared.script_answer.ScriptAnswer.{ScriptAnswer}
+use Rattle.node_runs.specs.declared.script_answer.ScriptAnswer.TheVariants as said
 
 -- ---- answers at which a step waits
 
@@ -60,16 +67,16 @@ is_not_ready _ = false
 -- ---- answers that end a step which looks at the own node
 
 -- ok, where the cell that was read is at least the value
-abbrev pub reached : (value : ℤ) → Answer → Option Answer
+abbrev pub reached : (value : ℤ) → Answer → Option ScriptAnswer
 reached value (answers.Local (local.Cell number)) =
-    if int_le value number then Some (answers.Local local.Done) else None
+    if int_le value number then Some (said.Call (answers.Local local.Done)) else None
 reached value _ = None
 
 -- ok, where the word that was read is this number; and a refusal of the place
-abbrev pub word_reached : (number : ℕ) → Answer → Option Answer
+abbrev pub word_reached : (number : ℕ) → Answer → Option ScriptAnswer
 word_reached number (answers.Local (local.Number found)) =
-    if found == number then Some (answers.Local local.Done) else None
-word_reached number answer = Some answer
+    if found == number then Some (said.Call (answers.Local local.Done)) else None
+word_reached number answer = Some (said.Call answer)
 
 -- ---- calls that a schedule has, too
 
@@ -131,6 +138,30 @@ is_sent first node = is_issued (begun_handle first) node
 abbrev pub put_of : PutText → Transfer
 put_of put = transfers.Put put.to put.remote put.local put.len
 
+-- ---- transfers of many pieces
+
+-- in which job, at which node and when, as a caller has it
+abbrev pub site_of : TryContext → Site
+site_of at = record {
+  settings = at.settings;
+  table = at.table;
+  meaning = at.meaning;
+  node = at.me;
+  now = at.now;
+}
+
+-- the calls of a thread
+abbrev pub calls_of_all : List CallerCall → List ThreadCall
+calls_of_all calls = map (λ (one : CallerCall). one.call) calls
+
+-- the pieces of a plan from one on are begun in a region of the thread, whose handle goes into the register. The calls
+-- and the answer are those of that beginning, of the record that the try finds
+abbrev pub plan_form : (plan : PlanState) → (from register : ℕ) → TryContext → Node EndpointLocal → Form EndpointLocal
+plan_form plan from register at node =
+    let asked : BeginCall = record { plan = plan; thread = at.thread; from = from; register = register } in
+    let answer = vis_answer (site_of at) node asked in
+    Several (calls_of_all (calls_made asked answer)) (said.Vis answer)
+
 -- ---- steps
 
 -- how a step that scripts alone have is tried, by the cells of its node
@@ -158,6 +189,7 @@ waiting_form cells (waiting.BarrierWait id flags) = Again is_not_ready (Performs
 -- how a step is tried, by the record of its node as the try begins: `cN` is read from the node's cells
 abbrev pub step_form : Reading EndpointLocal ScriptStep
 step_form (step.Call call) at node = call_form call (meant_by node.local.core.cells call)
+step_form (step.Vis vis) at node = plan_form vis.plan vis.words.from vis.words.register at node
 step_form (step.Waiting waiting) at node = waiting_form node.local.core.cells waiting
 
 -- ---- kinds of steps
@@ -166,9 +198,9 @@ step_form (step.Waiting waiting) at node = waiting_form node.local.core.cells wa
 abbrev pub IsJobCall : ScheduledCall → Type 0
 IsJobCall call = (scope : Scope) × IsCall scope call
 
--- so may the step
-abbrev pub IsJobStep : ScriptStep → Type 0
-IsJobStep step = (scope : Scope) × IsStep scope step
+-- the step may stand in some job of these settings
+abbrev pub IsJobStep : Parameters → ScriptStep → Type 0
+IsJobStep settings step = (scope : Scope) × (scope.settings ≡ settings) × IsStep scope step
 
 -- the step begins a put, and waits until its chunks are issued
 abbrev pub IsPut : WaitingStep → Type 0

@@ -15,7 +15,8 @@ use Rattle.script_steps.specs.Forms.{IsJobStep, step_form}
 -- each call of scripts whose steps a text can say may be made, where the node keeps what fits
 abbrev pub StepsFit : Type 0
 StepsFit =
-    (own : OwnScripts ScriptStep) → ((thread : ℕ) → AllByRecursion IsJobStep (own thread).left)
+    (settings : Parameters) (own : OwnScripts ScriptStep)
+    → ((thread : ℕ) → AllByRecursion (IsJobStep settings) (own thread).left)
     → ActionsMay KeptFits CallFits step_form own
 
 -- a try that waits leaves the record of its node, and the scripts

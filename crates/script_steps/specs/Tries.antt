@@ -7,7 +7,7 @@ use Rattle.handler_rules.specs.Runs.{Meaning}
 use Rattle.node_record.specs.Record.{Node}
 use Rattle.node_record.specs.NodeStep.{Job, node_answer}
 use Rattle.node_record.specs.declared.answer.SlotRef.{SlotRef}
-use Rattle.am_core.specs.CoreContracts.{IsSameNode}
+use Rattle.am_core.specs.CoreState.{CoreState}
 use Rattle.endpoint_rules.specs.Called.{node_event}
 use Rattle.endpoint_rules.specs.EndpointLocal.{EndpointLocal, IsEndpointKept}
 use Rattle.endpoint_rules.specs.EndpointRules.{OtherCall, RecordEvent, told}
@@ -17,9 +17,13 @@ use Rattle.gas_endpoint.specs.EndpointState.{EndpointState, EndpointStands, ForI
 use Rattle.job_text.specs.declared.job.ScriptStep.{ScriptStep}
 use Rattle.node_runs.specs.Actions.{Form, Progress, calls_of, ended_by, begins, tried_form, unless}
 use Rattle.node_runs.specs.Outgoing.{slot_of, StaysWell}
+use Rattle.node_runs.specs.declared.script_answer.ScriptAnswer.{ScriptAnswer}
 use Rattle.node_runs.specs.Scripts.{ThreadCall, Tried as FormTried, TryContext}
 use Rattle.node_runs.specs.Turn.{node_run, node_sends, events_of, first_answer}
-use Rattle.script_steps.specs.Forms.{is_sent, step_form}
+use Rattle.gas_strided.specs.Beginning.{BeginCall, calls_made, vis_answer}
+use Rattle.gas_strided.specs.declared.shapes.Vis.{Vis}
+use Rattle.node_caller.specs.Sites.{node_in_the_end}
+use Rattle.script_steps.specs.Forms.{is_sent, site_of, step_form}
 use Rattle.script_steps.specs.declared.trial.Trial.{Trial}
 use Rattle.script_steps.specs.declared.trial.Tried.{Tried}
 
@@ -44,10 +48,16 @@ pub record HasHappened
     pub slots_are : happening.slots ≡ map slot_of (node_sends job me happening.now (happening.events node) node)
     pub well : StaysWell job (IsEndpointKept job.settings) me happening.now (happening.events node) node
 
+-- the core of the same node of the same job, with the same table
+pub record IsAtSameNode (old new : CoreState) : Type 0 where
+  pub settings : new.settings ≡ old.settings
+  pub me_is : new.me ≡ old.me
+  pub table : new.table ≡ old.table
+
 -- these events happened to the endpoint, of every record for which it stood
 pub record Happen (meaning : Meaning) (old : EndpointState) (happening : Happening) (new : EndpointState) : Type 0
   where
-    pub same : IsSameNode old.core new.core
+    pub same : IsAtSameNode old.core new.core
     pub happened : ForItsRecord old (λ node. HasHappened (job_here meaning old) old.core.me happening node new)
 
 -- a call of a thread at a time, with its answer
@@ -98,7 +108,8 @@ abbrev pub trial_after : EndpointJob → (me : ℕ) → FormTrial → Node Endpo
 trial_after job me trial node = node_run job me trial.now (trial_events trial node) node
 
 -- the answer with which a try of this form began its step, where it began it and didn't end it
-abbrev pub begun_by : Form EndpointLocal → (began ended answer : Option Answer) → Option Answer
+abbrev pub begun_by : Form EndpointLocal
+    → (began : Option Answer) → (ended : Option ScriptAnswer) → (answer : Option Answer) → Option Answer
 begun_by form began ended answer = if begins form && is_none began && is_none ended then answer else None
 
 -- how the try went, of a record that it found
@@ -180,3 +191,16 @@ pub record Tries (meaning : Meaning) (old : EndpointState) (trial : Trial) (trie
     : Type 0 where
   pub happen : Happen meaning old (trial_happening (as_form meaning old trial) tried) new
   pub tried_so : ForItsRecord old (IsTriedSo meaning old trial tried)
+
+-- ---- the beginning of a plan's pieces
+
+-- the endpoint stands for what the calls leave, and the answer is the one that they give
+pub record HasBegun
+    (old : EndpointState) (at : TryContext) (asked : BeginCall) (answer : Vis) (new : EndpointState) : Type 0
+  where
+    pub settings : new.core.settings ≡ old.core.settings
+    pub me_is : new.core.me ≡ old.core.me
+    pub table : new.core.table ≡ old.core.table
+    pub answered : ForItsRecord old (λ node. answer ≡ vis_answer (site_of at) node asked)
+    pub leaves : ForItsRecord old (λ node.
+        EndpointStands new (node_in_the_end (site_of at) node (calls_made asked answer)))

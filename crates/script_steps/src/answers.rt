@@ -9,6 +9,7 @@ use endpoint_rules::{Answer, Begun, Local};
 use hsl_locks::LockAnswer;
 use job_text::ScheduledCall;
 use named_barrier::BarrierAnswer;
+use node_runs::ScriptAnswer;
 use put_get::{Handle, Synced};
 
 /// Whether a request can't go now.
@@ -51,23 +52,27 @@ pub(crate) fn waits_at(call: &ScheduledCall, answer: &Answer) -> bool
 }
 
 /// The answer of the step of an `until`, where the number of the cell that was read ends it.
-pub(crate) fn reached(value: i32, answer: &Answer) -> Option<Answer>
+pub(crate) fn reached(value: i32, answer: &Answer) -> Option<ScriptAnswer>
     ensures { result ≡ reached value answer.now }
 {
     match answer {
-        Answer::Local(Local::Cell(number)) if value <= *number => Some(Answer::Local(Local::Done)),
+        Answer::Local(Local::Cell(number)) if value <= *number => {
+            Some(ScriptAnswer::Call(Answer::Local(Local::Done)))
+        }
         _ => None,
     }
 }
 
 /// The answer of the step of an `until-word`, where the word that was read, or a refusal of its place, ends it.
-pub(crate) fn word_reached(number: u64, answer: &Answer) -> Option<Answer>
+pub(crate) fn word_reached(number: u64, answer: &Answer) -> Option<ScriptAnswer>
     ensures { result ≡ word_reached number answer.now }
 {
     match answer {
-        Answer::Local(Local::Number(found)) if *found == number => Some(Answer::Local(Local::Done)),
+        Answer::Local(Local::Number(found)) if *found == number => {
+            Some(ScriptAnswer::Call(Answer::Local(Local::Done)))
+        }
         Answer::Local(Local::Number(_)) => None,
-        _ => Some(*answer),
+        _ => Some(ScriptAnswer::Call(*answer)),
     }
 }
 

@@ -13,6 +13,7 @@ use crate::trial::{Trial, Tried};
 use endpoint_rules::{Answer, Call, Event};
 use gas_endpoint::Endpoint;
 use handler_rules::Handlers;
+use node_runs::ScriptAnswer;
 
 /// The call of a try.
 pub(crate) fn make<H: Handlers>(
@@ -58,7 +59,11 @@ impl Tried {
     {
         Tried {
             sent: call.sends(),
-            ended: if waits { None } else { Some(step) },
+            ended: if waits {
+                None
+            } else {
+                Some(ScriptAnswer::Call(step))
+            },
             began: None,
         }
     }

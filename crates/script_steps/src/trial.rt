@@ -3,6 +3,7 @@
 use am_core::SlotRef;
 use endpoint_rules::Answer;
 use job_text::ScriptStep;
+use node_runs::ScriptAnswer;
 
 /// A try of a step of a thread's script.
 #[derive(Clone, Copy)]
@@ -23,7 +24,7 @@ pub struct Tried {
     /// The slot of the message that its call sent, if it sent one.
     pub sent: Option<SlotRef>,
     /// The answer of the step, where the try ended it.
-    pub ended: Option<Answer>,
+    pub ended: Option<ScriptAnswer>,
     /// The answer with which the step began, where this try began it and didn't end it.
     pub began: Option<Answer>,
 }

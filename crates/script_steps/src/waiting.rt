@@ -17,6 +17,7 @@ use endpoint_rules::{Answer, Call};
 use gas_endpoint::Endpoint;
 use handler_rules::Handlers;
 use job_text::{Operand, PutText, TransferText, WaitingStep};
+use node_runs::ScriptAnswer;
 use node_script::{some_of, transfer_of, value_of};
 use put_get::Transfer;
 
@@ -168,7 +169,7 @@ fn look(endpoint: &Endpoint, first: &Answer) -> Tried
     if is_sent(endpoint, first) {
         Tried {
             sent: None,
-            ended: Some(*first),
+            ended: Some(ScriptAnswer::Call(*first)),
             began: None,
         }
     } else {

@@ -1,3 +1,3 @@
 mod Located
-mod PairsDone
+pub mod PairsDone
 mod UnderWay

@@ -3,23 +3,15 @@ use Rattle.std.proofs.Common.{◌≡◌, ℕ, ◌+◌, List, [], ◌∷◌, ◌+
 use Rattle.std.proofs.Common.{sym, ap, ◌∙◌, arith, codes, length-append, append-nil, lit<}
 use Rattle.std.proofs.lemmas.Fmt.{decimal_digit}
 use Rattle.std.specs.Prelude.{decimal}
-use Rattle.std.specs.List.{AllByRecursion}
 use Rattle.datagram_grammar.specs.Content.{is_version}
 use Rattle.datagram_grammar.specs.Parameters.{Parameters, credits_in_all, credits_of, upgraded}
 use Rattle.datagram_grammar.proofs.Keeping.{upgraded_range}
 use Rattle.datagram_grammar.proofs.Noted.{each_version}
 use Rattle.job_text.specs.declared.job.Job.{Job as JobState}
-use Rattle.job_text.specs.declared.job.NodeScript.{NodeScript}
-use Rattle.job_text.specs.declared.job.ScriptStep.{ScriptStep}
-use Rattle.job_text.specs.declared.job.ScriptStep.TheVariants as step
 use Rattle.job_text.specs.declared.job.TimedEvent.{TimedEvent}
-use Rattle.job_text.specs.declared.job.WaitingStep.{WaitingStep}
-use Rattle.job_text.specs.declared.job.WaitingStep.TheVariants as waiting
-use Rattle.job_text.specs.declared.scope.Scope.{Scope}
-use Rattle.job_text.specs.Events.{IsTimed}
 use Rattle.job_text.specs.Scopes.{scope_of}
-use Rattle.job_text.specs.Scripts.{IsStep, waiting_fits}
-use Rattle.job_text.specs.JobText.{IsJob, IsNodeScript, IsScheduleOrNone, JobText, Line, job_lines, job_text}
+use Rattle.job_text.specs.JobText.{IsJob, JobText, Line, job_lines, job_text}
+use Rattle.job_text.proofs.Upgrading.{schedule_upgraded, scripts_upgraded}
 use Rattle.job_text.specs.JobText.{lines_with_scripts}
 use Rattle.job_text.specs.JobText.{schedule_lines, spell}
 use Rattle.node_script.specs.Lines.{Line as Words}
@@ -31,54 +23,6 @@ use Rattle.top_call.specs.HowEnds.{said_last}
 use Rattle.top_call.specs.UpgradeCommand.{world_says}
 
 -- ---- in range
-
--- what lines of the job with datagrams of version 2 may say
-abbrev second : Scope → Scope
-second scope = record scope { settings = upgraded scope.settings }
-
-events_in_range : (scope : Scope) (events : List TimedEvent) → AllByRecursion (IsTimed scope) events
-    → AllByRecursion (IsTimed (second scope)) events
-events_in_range scope [] are = tt
-events_in_range scope (event ∷ events) are =
-    (record { time = are.0.time; event = are.0.event }, events_in_range scope events are.1)
-
-schedule_in_range : (scope : Scope) (schedule : Option (List TimedEvent))
-    → IsScheduleOrNone scope schedule → IsScheduleOrNone (second scope) schedule
-schedule_in_range scope None is = tt
-schedule_in_range scope (Some events) is = record {
-  count = is.count;
-  rounds = is.rounds;
-  rounds_of_nodes = is.rounds_of_nodes;
-  events_are = events_in_range scope events is.events_are;
-}
-
--- a step that may stand in the job may stand in that one
-waiting_fits_again : (scope : Scope) (one : WaitingStep) → waiting_fits scope one ≡ true
-    → waiting_fits (second scope) one ≡ true
-waiting_fits_again scope (waiting.UntilWord offset number) fits = refl
-waiting_fits_again scope _ fits = fits
-
-step_in_range : (scope : Scope) (one : ScriptStep) → IsStep scope one → IsStep (second scope) one
-step_in_range scope (step.Call call) is = is
-step_in_range scope (step.Waiting one) is = (is.0, waiting_fits_again scope one is.1)
-
-steps_in_range : (scope : Scope) (steps : List ScriptStep) → AllByRecursion (IsStep scope) steps
-    → AllByRecursion (IsStep (second scope)) steps
-steps_in_range scope [] are = tt
-steps_in_range scope (one ∷ steps) are = (step_in_range scope one are.0, steps_in_range scope steps are.1)
-
-scripts_in_range : (scope : Scope) (scripts : List NodeScript) → AllByRecursion (IsNodeScript scope) scripts
-    → AllByRecursion (IsNodeScript (second scope)) scripts
-scripts_in_range scope [] are = tt
-scripts_in_range scope (script ∷ scripts) are = (
-  record {
-    node = are.0.node;
-    thread = are.0.thread;
-    count = are.0.count;
-    steps = steps_in_range scope script.steps are.0.steps;
-  },
-  scripts_in_range scope scripts are.1,
-)
 
 job_in_range : (job : JobState) → IsJob job → IsJob (in_version job 2)
 unfolding credits_in_all credits_of
@@ -93,13 +37,14 @@ job_in_range job is = record {
   patience = is.patience;
   sieve = is.sieve;
   atomics = λ has. refl;
+  pieces = is.pieces;
   few_handlers = is.few_handlers;
   handlers = is.handlers;
   apart = is.apart;
   unreserved = is.unreserved;
-  scripts = scripts_in_range (scope_of job) job.scripts is.scripts;
+  scripts = scripts_upgraded (scope_of job) job.scripts is.scripts;
   threads = is.threads;
-  schedule = schedule_in_range (scope_of job) job.schedule is.schedule;
+  schedule = schedule_upgraded (scope_of job) job.schedule is.schedule;
 }
 
 -- ---- as long

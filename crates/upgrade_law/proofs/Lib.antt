@@ -1,5 +1,6 @@
 pub mod Agreeing
 pub mod Asking
+mod Beginning
 pub mod Bodies
 pub mod Coming
 pub mod Ends

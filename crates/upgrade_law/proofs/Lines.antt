@@ -19,24 +19,29 @@ use Rattle.job_text.specs.declared.job.Job.{Job as JobState}
 use Rattle.job_text.specs.declared.job.ScheduledEvent.{ScheduledEvent}
 use Rattle.job_text.specs.declared.job.ScheduledEvent.TheVariants as scheduled
 use Rattle.job_text.specs.declared.job.TimedEvent.{TimedEvent}
-use Rattle.node_script.specs.AnswerWords.{Sight, sight_of}
+use Rattle.node_script.specs.AnswerWords.{Sight, sight_of, vis_words}
 use Rattle.node_script.specs.Bodies.{script_meaning}
 use Rattle.node_script.specs.LawfulBodies.{lawful-script}
 use Rattle.node_script.specs.Lines.{Line}
 use Rattle.node_script.specs.Registration.{handlers_of, registered}
 use Rattle.node_script.specs.ScheduledCalls.{meant_by}
-use Rattle.world_run.specs.Schedules.{call_event, scheduled_event, line_events, schedule_events}
+use Rattle.gas_strided.specs.Beginning.{calls_made}
+use Rattle.gas_strided.specs.declared.shapes.Vis.{Vis}
+use Rattle.world_run.specs.Schedules.{call_event, line_events, schedule_events, begin_answer, begin_asked}
+use Rattle.world_run.specs.Schedules.{call_events}
 use Rattle.node_script.specs.ScriptInvariant.{IsWithin, AreWithin}
 use Rattle.world_run.proofs.CallsAmong.{call_among}
+use Rattle.world_run.proofs.ScheduleAmong.{calls_among}
 use Rattle.node_script.proofs.ScheduleNodes.{job_within}
 use Rattle.plain_world.proofs.Worlds.{opening_holds}
 use Rattle.lists.proofs.Numbered.{numbered_nil}
-use Rattle.world_run.specs.RunText.{world_words, event_words, words_by, line_words, answer_lines, node_of, node_lines}
+use Rattle.world_run.specs.RunText.{world_words, event_words, words_at, line_words, answer_lines, node_of, node_lines}
 use Rattle.world_run.specs.RunText.{lines_of_node, node_line, violations, last_violations, violation_line, end_lines}
 use Rattle.world_run.specs.RunText.{any_violation, run_records, run_most}
 use Rattle.upgrade_law.specs.Respelled.{Versions, one_job, other_job, respell_world, respelled}
 use Rattle.upgrade_law.specs.Upgraded.{IsSameRun, in_version}
 use Rattle.upgrade_law.proofs.Agreeing.{rules_agree}
+use Rattle.upgrade_law.proofs.Beginning.{begin_alike}
 use Rattle.upgrade_law.proofs.Bodies.{script_ignores}
 use Rattle.upgrade_law.proofs.Ends.{held_alike, sight_alike}
 use Rattle.upgrade_law.proofs.Settling.{AreSound, EventsAlike, Stood, after_events, settle_alike}
@@ -63,9 +68,8 @@ words_alike : (v : Versions) (world : Records) (entry : TimedEvent) → Stood v 
 words_alike v world entry stood = by_event entry.event
   where
     by_event : (event : ScheduledEvent)
-        → words_by (other_job v) (respell_world v.spell world) entry.time
-        (scheduled_event (respell_world v.spell world) event)
-        ≡ words_by (one_job v) world entry.time (scheduled_event world event)
+        → words_at (other_job v) (respell_world v.spell world) entry.time event
+        ≡ words_at (one_job v) world entry.time event
     by_event (scheduled.Call node thread call) =
         event_words_alike v world (timed entry.time (call_event world node thread call)) stood
     by_event (scheduled.Request from to number) =
@@ -73,6 +77,8 @@ words_alike v world entry stood = by_event entry.event
     by_event (scheduled.Reply from to number) =
         event_words_alike v world (timed entry.time (ReplyComes from to number)) stood
     by_event (scheduled.Tick node) = event_words_alike v world (timed entry.time (Ticks node)) stood
+    by_event (scheduled.Vis node thread vis) =
+        ap vis_words (begin_alike v node entry.time (world node) (begin_asked thread vis))
     by_event (scheduled.Settle rounds) = refl
 
 -- the events of a line
@@ -87,6 +93,13 @@ line_alike v sound time (scheduled.Request from to number) within =
 line_alike v sound time (scheduled.Reply from to number) within =
     record { same = λ w stood. refl; among = λ w. (within, tt) }
 line_alike v sound time (scheduled.Tick node) within = record { same = λ w stood. refl; among = λ w. (within, tt) }
+line_alike v sound time (scheduled.Vis node thread vis) within =
+    let asked = begin_asked thread vis in record {
+      same = λ w stood. ap (λ (answer : Vis). call_events time node (calls_made asked answer))
+          (begin_alike v node time (w node) asked);
+      among = λ w. calls_among v.settings time node
+          (calls_made asked (begin_answer (one_job v) w time node asked)) within.0;
+    }
 line_alike v sound time (scheduled.Settle rounds) within = settle_alike v sound time rounds
 
 -- ---- schedules

@@ -28,11 +28,11 @@ use Rattle.job_text.specs.JobReading.{lines_of}
 use Rattle.job_text.specs.declared.job.ScheduledEvent.{ScheduledEvent}
 use Rattle.job_text.specs.declared.job.ScheduledEvent.TheVariants as scheduled
 use Rattle.job_text.specs.declared.job.TimedEvent.{TimedEvent}
-use Rattle.world_run.specs.RunText.{node_of, world_words, event_words, words_by, answer_lines, end_lines, run_events}
+use Rattle.world_run.specs.RunText.{node_of, world_words, event_words, answer_lines, end_lines, run_events}
 use Rattle.world_run.specs.RunText.{run_records, run_most}
 use Rattle.world_run.specs.RunLaws.{records_at, IsOneEvent, LinesTell, Tells, RanToldOnce, ReturnedToldOnce}
 use Rattle.world_run.specs.RunLaws.{PlacesRise, event_place, events_before}
-use Rattle.world_run.proofs.ScheduleLines.{one_event}
+use Rattle.world_run.proofs.ScheduleLines.{one_answer, one_event}
 use Rattle.lists.proofs.Appended.{get-append_kept, get-append_right}
 
 -- ---- lists
@@ -53,6 +53,7 @@ event_of w (scheduled.Call node thread c) one = (_, refl)
 event_of w (scheduled.Request from to number) one = (_, refl)
 event_of w (scheduled.Reply from to number) one = (_, refl)
 event_of w (scheduled.Tick node) one = (_, refl)
+event_of w (scheduled.Vis node thread vis) one = absurd one
 event_of w (scheduled.Settle rounds) one = absurd one
 
 -- of such a line of a schedule: its event stands past those of the lines before it, and the line's words come from the
@@ -79,7 +80,7 @@ told_first job e es w first one =
       after = refl;
       is = x.1;
       at = ap (λ (xs : List (Timed OtherCall)). slice_get (xs ++ more) 0) (one_event job w e.time e.event x.0 x.1);
-      told = ap (λ (o : Option RecordsEvent). Some (decimal first ∷ words_by job w e.time o)) x.1
+      told = ap (λ (words : Line). Some (decimal first ∷ words)) (one_answer job w e.time e.event x.0 x.1)
           ∙ ap (λ (n : ℕ). Some (decimal n ∷ event_words job w (timed e.time x.0))) number;
     }
 

@@ -5,6 +5,7 @@ use Rattle.plain_world.specs.Headline.{Headline}
 use Rattle.endpoint_rules.specs.EndpointRules.{at_the_opening}
 use Rattle.transfer_laws.proofs.Laws.{transfers_hold}
 use Rattle.barrier_laws.proofs.Laws.{barrier_holds}
+use Rattle.strided_laws.proofs.PairsDone.{pairs_are_done}
 use Rattle.atomic_laws.proofs.Laws.{atomics_hold}
 use Rattle.gas_world.proofs.Headline.{headline, run_greatest}
 use Rattle.job_text.specs.JobReading.{lines_of}
@@ -41,6 +42,8 @@ laws_within j range within = record {
   returned = returned_told_once j (run_headline j range within);
   most = run_greatest j.settings (registered (handlers_of j)).table (script_meaning (handlers_of j)) (run_events j);
   transfers = transfers_hold j.settings (registered (handlers_of j)).table (script_meaning (handlers_of j)) range
+      (lawful-script (handlers_of j));
+  plans = pairs_are_done j.settings (registered (handlers_of j)).table (script_meaning (handlers_of j)) range
       (lawful-script (handlers_of j));
   barrier = barrier_holds j.settings (registered (handlers_of j)).table (script_meaning (handlers_of j)) range
       (lawful-script (handlers_of j));

@@ -7,7 +7,10 @@ use Rattle.endpoint_rules.specs.EndpointRules.{Records, RecordsEvent}
 use Rattle.node_script.specs.ScriptInvariant.{IsWithin, AreWithin}
 use Rattle.gas_world.specs.Settling.{WorldJob}
 use Rattle.gas_world.proofs.Among.{AreAmong, both_among, settle_among}
-use Rattle.world_run.specs.Schedules.{scheduled_event, line_events, schedule_events}
+use Rattle.gas_strided.specs.Beginning.{calls_made}
+use Rattle.node_caller.specs.Sites.{ThreadCall}
+use Rattle.world_run.specs.Schedules.{scheduled_event, line_events, schedule_events, begin_answer, begin_asked}
+use Rattle.world_run.specs.Schedules.{call_events}
 use Rattle.node_script.specs.ScheduledCalls.{meant_by}
 use Rattle.world_run.proofs.CallsAmong.{call_among}
 use Rattle.job_text.specs.declared.job.ScheduledEvent.{ScheduledEvent}
@@ -25,6 +28,7 @@ event_among s w (scheduled.Call node thread c) x h is =
 event_among s w (scheduled.Request from to number) x h is = subst (IsAmong s) (same_Some _ x is) h
 event_among s w (scheduled.Reply from to number) x h is = subst (IsAmong s) (same_Some _ x is) h
 event_among s w (scheduled.Tick node) x h is = subst (IsAmong s) (same_Some _ x is) h
+event_among s w (scheduled.Vis node thread vis) x h is = absurd (cc)
 event_among s w (scheduled.Settle rounds) x h is = absurd (cc)
 
 -- the node on which an event of the world falls is there
@@ -37,6 +41,13 @@ node_among s (Ticks node) h = h
 
 -- ---- lines
 
+-- calls of a node that is there
+pub calls_among : (s : Parameters) (now node : ℕ) (calls : List ThreadCall) → node < s.nodes
+    → AreAmong s (call_events now node calls)
+calls_among s now node [] low = tt
+calls_among s now node (one ∷ calls) low =
+    (call_among s node one.thread one.call low, calls_among s now node calls low)
+
 -- of a line
 line_among : (job : WorldJob) (w : Records) (now : ℕ) (e : ScheduledEvent) → IsWithin job.settings e
     → AreAmong job.settings (line_events job w now e)
@@ -45,6 +56,9 @@ line_among job w now (scheduled.Call node thread c) h =
 line_among job w now (scheduled.Request from to number) h = (h, tt)
 line_among job w now (scheduled.Reply from to number) h = (h, tt)
 line_among job w now (scheduled.Tick node) h = (h, tt)
+line_among job w now (scheduled.Vis node thread vis) h =
+    let asked = begin_asked thread vis in
+    calls_among job.settings now node (calls_made asked (begin_answer job w now node asked)) h.0
 line_among job w now (scheduled.Settle rounds) h = settle_among job now rounds w
 
 -- of the lines of a schedule

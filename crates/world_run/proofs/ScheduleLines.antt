@@ -9,9 +9,12 @@ use Rattle.gas_world.specs.Aims.{MayFall}
 use Rattle.gas_world.specs.Events.{event_of}
 use Rattle.endpoint_rules.specs.EndpointRules.{Records, RecordsEvent, timed}
 use Rattle.gas_world.specs.declared.event.WorldEvent.{WorldEvent}
-use Rattle.world_run.specs.ScheduleLine.{IsLine, MayBeTaken}
+use Rattle.world_run.specs.ScheduleLine.{IsLine, MayBeTaken, NamesNodes}
 use Rattle.gas_world.specs.Settling.{WorldJob}
 use Rattle.world_run.specs.Schedules.{scheduled_event, line_events}
+use Rattle.world_run.specs.RunText.{event_words, words_at}
+use Rattle.world_run.specs.declared.schedule_line.Beginning.{Beginning}
+use Rattle.node_script.specs.ScriptInvariant.{MayBegin}
 use Rattle.world_run.specs.declared.schedule_line.Line.{Line}
 use Rattle.world_run.specs.declared.schedule_line.Line.TheVariants as lines
 use Rattle.job_text.specs.declared.job.ScheduledEvent.{ScheduledEvent}
@@ -55,6 +58,25 @@ pub settle_line : (w : Records) (o : Option TimedEvent) (e : TimedEvent) (read :
 settle_line w o e read line now rounds at is line_is h =
     read_at w o e read (Some (lines.Settle now rounds)) at (is ∙ ap (λ (l : Line). Some l) line_is) h
 
+-- a transfer of many pieces was read
+pub vis_line : (w : Records) (o : Option TimedEvent) (e : TimedEvent) (read : Option Line) (line : Line) (now : ℕ)
+    (begin : Beginning) → o ≡ Some e → read ≡ Some line → line ≡ lines.Vis now begin → IsLine w o read
+    → (now ≡ e.time) × (e.event ≡ scheduled.Vis begin.node begin.thread begin.vis.now)
+vis_line w o e read line now begin at is line_is h =
+    read_at w o e read (Some (lines.Vis now begin)) at (is ∙ ap (λ (l : Line). Some l) line_is) h
+
+-- its node is there, and its thread may begin it
+pub vis_there : (settings : Parameters) (read : Option Line) (line : Line) (now : ℕ) (begin : Beginning)
+    → read ≡ Some line → line ≡ lines.Vis now begin → IfSome read (NamesNodes settings) → begin.node < settings.nodes
+vis_there settings read line now begin is line_is there =
+    subst (NamesNodes settings) line_is (subst (λ (o : Option Line). IfSome o (NamesNodes settings)) is there)
+
+pub vis_may : (settings : Parameters) (read : Option Line) (line : Line) (now : ℕ) (begin : Beginning)
+    → read ≡ Some line → line ≡ lines.Vis now begin → IfSome read (MayBeTaken settings)
+    → MayBegin settings begin.thread begin.vis.now
+vis_may settings read line now begin is line_is may =
+    subst (MayBeTaken settings) line_is (subst (λ (o : Option Line). IfSome o (MayBeTaken settings)) is may)
+
 -- an event that was read may fall
 pub event_may : (settings : Parameters) (read : Option Line) (line : Line) (now : ℕ) (event : WorldEvent)
     → read ≡ Some line → line ≡ lines.Event now event → IfSome read (MayBeTaken settings) → MayFall settings event
@@ -74,4 +96,19 @@ one_event job w now (scheduled.Request from to number) x h =
     ap (λ (y : RecordsEvent). timed now y ∷ []) (same_Some _ x h)
 one_event job w now (scheduled.Reply from to number) x h = ap (λ (y : RecordsEvent). timed now y ∷ []) (same_Some _ x h)
 one_event job w now (scheduled.Tick node) x h = ap (λ (y : RecordsEvent). timed now y ∷ []) (same_Some _ x h)
+one_event job w now (scheduled.Vis node thread vis) x h = absurd (cc)
 one_event job w now (scheduled.Settle rounds) x h = absurd (cc)
+
+-- the words of a line, by its one event
+pub one_answer : (job : WorldJob) (w : Records) (now : ℕ) (e : ScheduledEvent) (x : RecordsEvent)
+    → scheduled_event w e ≡ Some x → words_at job w now e ≡ event_words job w (timed now x)
+one_answer job w now (scheduled.Call node thread c) x h =
+    ap (λ (y : RecordsEvent). event_words job w (timed now y)) (same_Some _ x h)
+one_answer job w now (scheduled.Request from to number) x h =
+    ap (λ (y : RecordsEvent). event_words job w (timed now y)) (same_Some _ x h)
+one_answer job w now (scheduled.Reply from to number) x h =
+    ap (λ (y : RecordsEvent). event_words job w (timed now y)) (same_Some _ x h)
+one_answer job w now (scheduled.Tick node) x h =
+    ap (λ (y : RecordsEvent). event_words job w (timed now y)) (same_Some _ x h)
+one_answer job w now (scheduled.Vis node thread vis) x h = absurd (cc)
+one_answer job w now (scheduled.Settle rounds) x h = absurd (cc)

@@ -11,22 +11,28 @@ use Rattle.gas_world.specs.Events.{ForItsRecords, Steps, job_in}
 use Rattle.gas_world.specs.WorldState.{WorldState}
 use Rattle.gas_world.specs.declared.event.WorldAnswer.{WorldAnswer}
 use Rattle.gas_world.specs.declared.event.WorldAnswer.TheVariants as answers
-use Rattle.node_script.specs.AnswerWords.{sight_of}
+use Rattle.node_script.specs.AnswerWords.{sight_of, vis_words}
+use Rattle.node_script.specs.Bodies.{script_meaning}
 use Rattle.node_script.specs.Lines.{Line, spell, line_text}
+use Rattle.node_script.specs.Registration.{JobHandlers}
 use Rattle.gas_world.specs.Settling.{WorldJob, Moves, settle_events}
-use Rattle.world_run.specs.Schedules.{scheduled_event, line_events, schedule_events}
+use Rattle.gas_strided.specs.Beginning.{BeginCall}
+use Rattle.gas_strided.specs.declared.shapes.Vis.{Vis}
+use Rattle.world_run.specs.Schedules.{scheduled_event, line_events, schedule_events, begin_answer, begin_asked}
+use Rattle.world_run.specs.Schedules.{begin_events}
+use Rattle.world_run.specs.declared.schedule_line.Beginning.{Beginning}
 use Rattle.job_text.specs.declared.job.ScheduledEvent.{ScheduledEvent}
 use Rattle.job_text.specs.declared.job.ScheduledEvent.TheVariants as scheduled
 use Rattle.job_text.specs.declared.job.TimedEvent.{TimedEvent}
-use Rattle.world_run.specs.RunText.{node_of, world_words, event_words, words_by, answer_lines}
-use Rattle.world_run.specs.ScheduleRun.{Stood, StandsAfter, Stage, Plan, event_plan, settle_plan, line_plan}
-use Rattle.world_run.specs.ScheduleRun.{planned, RunsPlan, Writes, answer_text}
+use Rattle.world_run.specs.RunText.{node_of, world_words, event_words, words_at, answer_lines}
+use Rattle.world_run.specs.ScheduleRun.{Stood, StandsAfter, Stage, Plan, begin_plan, event_plan, settle_plan}
+use Rattle.world_run.specs.ScheduleRun.{line_plan, planned, RunsPlan, Writes, answer_text}
 use Rattle.world_run.specs.LinesWritten.{LinesUpTo, Says, OnDone, said_of}
 use Rattle.world_run.specs.declared.said.Said.{Said}
 use Rattle.world_run.specs.declared.said.Said.TheVariants.{Done, NoMemory}
 use Rattle.world_run.proofs.Halfway.{Halfway, halfway_none, halfway_more, halfway_all}
 use Rattle.world_run.proofs.LinesWritten.{no_lines_yet, lines_done, lines_all, lines_said, one_line, on_done}
-use Rattle.world_run.proofs.ScheduleLines.{one_event}
+use Rattle.world_run.proofs.ScheduleLines.{one_answer, one_event}
 
 -- ---- what is planned
 
@@ -58,11 +64,28 @@ event_is_line job number now event line records h = record {
   number = refl;
   words =
       ap (λ t. event_words job records (timed t event)) h.0
-      ∙ sym (ap (words_by job records line.time) h.1);
+      ∙ sym (one_answer job records line.time line.event event h.1);
   events =
       ap (λ t. timed t event ∷ []) h.0
       ∙ sym (one_event job records line.time line.event event h.1);
 }
+
+-- that of a line that begins a transfer of many pieces is that of the beginning
+pub vis_is_line : (job : WorldJob) (number now : ℕ) (begin : Beginning) (line : TimedEvent) (records : Records)
+    → (now ≡ line.time) × (line.event ≡ scheduled.Vis begin.node begin.thread begin.vis.now)
+    → IsSamePlan job (begin_plan number now begin.node (begin_asked begin.thread begin.vis.now))
+    (line_plan number line) records
+vis_is_line job number now begin line records h =
+    let asked = begin_asked begin.thread begin.vis.now in
+    record {
+      number = refl;
+      words =
+          ap (λ t. vis_words (begin_answer job records t begin.node asked)) h.0
+          ∙ sym (ap (λ (e : ScheduledEvent). words_at job records line.time e) h.1);
+      events =
+          ap (λ t. begin_events job records t begin.node asked) h.0
+          ∙ sym (ap (λ (e : ScheduledEvent). line_events job records line.time e) h.1);
+    }
 
 -- that of a line of rounds is that of the rounds
 pub settle_is_line : (job : WorldJob) (number now rounds : ℕ) (line : TimedEvent) (records : Records)
@@ -70,7 +93,7 @@ pub settle_is_line : (job : WorldJob) (number now rounds : ℕ) (line : TimedEve
     → IsSamePlan job (settle_plan number now rounds) (line_plan number line) records
 settle_is_line job number now rounds line records h = record {
   number = refl;
-  words = sym (ap (λ (e : ScheduledEvent). words_by job records line.time (scheduled_event records e)) h.1);
+  words = sym (ap (λ (e : ScheduledEvent). words_at job records line.time e) h.1);
   events =
       ap (λ t. settle_events job t rounds records) h.0
       ∙ sym (ap (λ (e : ScheduledEvent). line_events job records line.time e) h.1);
@@ -110,6 +133,37 @@ event_told meaning old new number now event (answers.Node answer) wrote n steps 
 event_told meaning old new number now event answers.Unsent wrote n steps writes =
     told meaning old new number (timed now event) answers.Unsent wrote steps writes
 event_told meaning old new number now event answers.NoMemory wrote n steps writes = absurd (n refl)
+
+-- the pieces of a plan were begun, and the line of the answer was written
+pub vis_told : (job : WorldJob) (old new : Stage) (number now node : ℕ) (asked : BeginCall) (answer : Vis)
+    (wrote : Wrote)
+    → ForItsRecords old.world (λ records most. answer ≡ begin_answer job records now node asked)
+    → Moves job (λ records. begin_events job records now node asked) old.world new.world
+    → GathersAll old.out new.out (line_text (decimal number ∷ vis_words answer)) wrote
+    → RunsPlan job (begin_plan number now node asked) old new (said_of wrote)
+vis_told job old new number now node asked answer wrote answered moves line = λ records most stands.
+    let text = λ (a : Vis). line_text (decimal number ∷ vis_words a) in
+    let written =
+    subst (λ (a : Vis). GathersAll old.out new.out (text a) wrote) (answered records most stands) line
+    in (
+      one_line old.out new.out (decimal number ∷ vis_words (begin_answer job records now node asked)) wrote written,
+      on_done wrote (StandsAfter job new.world (begin_events job records now node asked) records most)
+          (moves records most stands),
+    )
+
+-- so by the handlers of a job, where those that ran are its own
+pub begun_told : (handlers own : JobHandlers) → own ≡ handlers → (old new : Stage) (number now node : ℕ)
+    (asked : BeginCall) (answer : Vis) (wrote : Wrote)
+    → ForItsRecords old.world (λ records most.
+    answer ≡ begin_answer (job_in (script_meaning own) old.world) records now node asked)
+    → Moves (job_in (script_meaning own) old.world)
+    (λ records. begin_events (job_in (script_meaning own) old.world) records now node asked) old.world new.world
+    → GathersAll old.out new.out (line_text (decimal number ∷ vis_words answer)) wrote
+    → RunsPlan (job_in (script_meaning handlers) old.world) (begin_plan number now node asked) old new (said_of wrote)
+begun_told handlers own same old new number now node asked answer wrote answered moves line =
+    subst (λ (mine : JobHandlers). RunsPlan (job_in (script_meaning mine) old.world) (begin_plan number now node asked)
+    old new (said_of wrote)) same
+    (vis_told (job_in (script_meaning own) old.world) old new number now node asked answer wrote answered moves line)
 
 -- rounds were run, and their line was written
 pub settle_told : (job : WorldJob) (old new : Stage) (number now rounds : ℕ) (wrote : Wrote)

@@ -10,6 +10,7 @@ use Rattle.plain_world.specs.Headline.{Headline, IsGreatest, after_first}
 use Rattle.transfer_laws.specs.TransferLaws.{TransfersHold}
 use Rattle.barrier_laws.specs.BarrierLaws.{BarrierHolds}
 use Rattle.atomic_laws.specs.AtomicLaws.{AtomicsHold}
+use Rattle.strided_laws.specs.StridedLaws.{StridedHolds}
 use Rattle.job_text.specs.declared.job.Job.{Job as JobState}
 use Rattle.node_script.specs.Bodies.{script_meaning}
 use Rattle.node_script.specs.Lines.{Line}
@@ -50,8 +51,9 @@ pub record IsTold (job : JobState) (line : ℕ) (entry : TimedEvent) : Type 0 wh
   pub told : slice_get (run_lines job) line
       ≡ Some (decimal (line + 1) ∷ event_words (world_job job) (records_at job place) (timed entry.time event))
 
--- the line is one event, and not rounds of them
+-- the line is one event, and not rounds of them, nor the calls that begin a transfer of many pieces
 abbrev pub IsOneEvent : ScheduledEvent → Type 0
+IsOneEvent (scheduled.Vis node thread vis) = ⊥
 IsOneEvent (scheduled.Settle rounds) = ⊥
 IsOneEvent _ = Unit {0}
 
@@ -94,9 +96,9 @@ PlacesRise job =
 -- its events are among the nodes of the job; the headline holds of it; its lines tell the answers of its events, in
 -- their order, so that no line tells again that a request ran or came back; the most that the end lines tell of a node
 -- is the greatest number of message buffers that it held; and in it, as in each run of a job with its settings and
--- handlers, what a synchronisation of transfers that answers Ok tells was done, a try of the barrier that ends a phase
--- tells the outcome of the nodes' notifies, and, where the job has atomics, batches of operations act at one moment, in
--- one history
+-- handlers, what a synchronisation of transfers that answers Ok tells was done, each pair of bytes of a plan whose pieces
+-- were synchronised was transferred exactly once, a try of the barrier that ends a phase tells the outcome of the nodes'
+-- notifies, and, where the job has atomics, batches of operations act at one moment, in one history
 pub record RunLaws (job : JobState) : Type 0 where
   pub among : AllByRecursion (λ (timed : Timed OtherCall). IsAmong job.settings timed.event) (run_events job)
   pub headline : Headline (world_job job) (λ node. nothing_begun job.settings) (run_events job)
@@ -107,6 +109,7 @@ pub record RunLaws (job : JobState) : Type 0 where
   pub most : (node : ℕ)
       → IsGreatest (world_job job) (run_events job) (at_the_opening job.settings) node (run_most job node)
   pub transfers : TransfersHold job.settings (registered (handlers_of job)).table (script_meaning (handlers_of job))
+  pub plans : StridedHolds job.settings (registered (handlers_of job)).table (script_meaning (handlers_of job))
   pub barrier : BarrierHolds job.settings (registered (handlers_of job)).table (script_meaning (handlers_of job))
   pub atomics : job.atomics ≡ true
       → AtomicsHold job.settings (registered (handlers_of job)).table (script_meaning (handlers_of job))

@@ -19,10 +19,13 @@ use Rattle.gas_world.specs.declared.event.WorldAnswer.{WorldAnswer}
 use Rattle.gas_world.specs.declared.event.WorldAnswer.TheVariants as answers
 use Rattle.node_script.specs.Lines.{Word, Line}
 use Rattle.job_text.specs.declared.job.Job.{Job as JobState}
-use Rattle.node_script.specs.AnswerWords.{Sight, sight_of, answer_words, lock_fault_word, rule_word}
+use Rattle.node_script.specs.AnswerWords.{Sight, sight_of, answer_words, lock_fault_word, rule_word, vis_words}
 use Rattle.gas_world.specs.Settling.{WorldJob}
 use Rattle.world_run.specs.Schedules.{world_job, scheduled_event, line_events, schedule_events}
+use Rattle.world_run.specs.Schedules.{begin_asked, begin_answer}
 use Rattle.job_text.specs.JobReading.{lines_of}
+use Rattle.job_text.specs.declared.job.ScheduledEvent.{ScheduledEvent}
+use Rattle.job_text.specs.declared.job.ScheduledEvent.TheVariants as scheduled
 use Rattle.job_text.specs.declared.job.TimedEvent.{TimedEvent}
 
 -- ---- answers
@@ -54,9 +57,15 @@ abbrev pub words_by : WorldJob → Records → (now : ℕ) → Option RecordsEve
 words_by job records now None = codes "settled" ∷ []
 words_by job records now (Some event) = event_words job records (timed now event)
 
+-- the words of the answer to what a line asks for at a time
+abbrev pub words_at : WorldJob → Records → (now : ℕ) → ScheduledEvent → Line
+words_at job records now (scheduled.Vis node thread vis) =
+    vis_words (begin_answer job records now node (begin_asked thread vis))
+words_at job records now event = words_by job records now (scheduled_event records event)
+
 -- the words of the answer to a line of a schedule
 abbrev pub line_words : WorldJob → Records → TimedEvent → Line
-line_words job records entry = words_by job records entry.time (scheduled_event records entry.event)
+line_words job records entry = words_at job records entry.time entry.event
 
 -- a line for each line of a schedule: its number, and the words of its answer
 abbrev pub answer_lines : WorldJob → (number : ℕ) → List TimedEvent → Records → List Line

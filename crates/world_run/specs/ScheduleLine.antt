@@ -7,14 +7,17 @@ use Rattle.gas_world.specs.Aims.{MayFall}
 use Rattle.gas_world.specs.Events.{event_of}
 use Rattle.world_run.specs.Schedules.{scheduled_event}
 use Rattle.job_text.specs.declared.job.TimedEvent.{TimedEvent}
+use Rattle.node_script.specs.ScriptInvariant.{MayBegin}
 use Rattle.job_text.specs.declared.job.ScheduledEvent.TheVariants as scheduled
 use Rattle.world_run.specs.declared.schedule_line.Line.{Line}
 use Rattle.world_run.specs.declared.schedule_line.Line.TheVariants as lines
 
--- a line of a schedule, where the nodes have these records: its time, and its event or its rounds
+-- a line of a schedule, where the nodes have these records: its time, and its event, its transfer or its rounds
 abbrev pub IsLineOf : Records → TimedEvent → Line → Type 0
 IsLineOf records timed (lines.Event now event) =
     (now ≡ timed.time) × (scheduled_event records timed.event ≡ Some (event_of event))
+IsLineOf records timed (lines.Vis now begin) =
+    (now ≡ timed.time) × (timed.event ≡ scheduled.Vis begin.node begin.thread begin.vis.now)
 IsLineOf records timed (lines.Settle now rounds) = (now ≡ timed.time) × (timed.event ≡ scheduled.Settle rounds)
 
 -- none exactly where there is no such line
@@ -26,9 +29,11 @@ IsLine records _ _ = ⊥
 -- the nodes that the line names are there, as a step of a world wants
 abbrev pub NamesNodes : Parameters → Line → Type 0
 NamesNodes settings (lines.Event now event) = IsAmong settings (event_of event)
+NamesNodes settings (lines.Vis now begin) = begin.node < settings.nodes
 NamesNodes settings (lines.Settle now rounds) = Unit {0}
 
 -- the thread that calls is there, and a list of registers isn't too long, as a step of a world wants
 abbrev pub MayBeTaken : Parameters → Line → Type 0
 MayBeTaken settings (lines.Event now event) = MayFall settings event
+MayBeTaken settings (lines.Vis now begin) = MayBegin settings begin.thread begin.vis.now
 MayBeTaken settings (lines.Settle now rounds) = Unit {0}

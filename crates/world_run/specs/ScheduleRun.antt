@@ -13,14 +13,15 @@ use Rattle.gas_endpoint.specs.EndpointState.{IsNodeOf}
 use Rattle.gas_world.specs.WorldState.{WorldState}
 use Rattle.gas_world.specs.declared.event.WorldAnswer.{WorldAnswer}
 use Rattle.gas_world.specs.declared.event.WorldAnswer.TheVariants as answers
-use Rattle.node_script.specs.AnswerWords.{sight_of}
+use Rattle.node_script.specs.AnswerWords.{sight_of, vis_words}
 use Rattle.node_script.specs.AnswersTold.{NamesWhatIs}
 use Rattle.node_script.specs.Bodies.{script_meaning}
 use Rattle.node_script.specs.Lines.{Line, line_text, spell}
 use Rattle.job_text.specs.declared.job.Job.{Job as JobState}
 use Rattle.node_script.specs.Registration.{handlers_of, registered}
 use Rattle.gas_world.specs.Settling.{WorldJob, settle_events}
-use Rattle.world_run.specs.Schedules.{line_events, schedule_events}
+use Rattle.gas_strided.specs.Beginning.{BeginCall}
+use Rattle.world_run.specs.Schedules.{begin_answer, begin_events, line_events, schedule_events}
 use Rattle.job_text.specs.declared.job.TimedEvent.{TimedEvent}
 use Rattle.world_run.specs.RunText.{world_words, event_words, line_words, answer_lines, any_violation, lines_of_node}
 use Rattle.world_run.specs.RunText.{end_lines, run_records, run_most}
@@ -39,6 +40,11 @@ pub record Stood (world : WorldState) : Type 0 where
 abbrev pub StandsAfter : WorldJob → WorldState → List (Timed OtherCall) → Records → (ℕ → ℕ) → Type 0
 StandsAfter job world events records most =
     Stands world (run job events records) (most_after job events records most)
+
+-- it is a world of the same job
+pub record IsOfSameJob (old new : WorldState) : Type 0 where
+  pub settings : new.settings ≡ old.settings
+  pub table : new.table ≡ old.table
 
 -- ---- lines of a schedule
 
@@ -63,6 +69,15 @@ event_plan number event =
       number = number;
       words = λ job records. event_words job records event;
       events = λ job records. event ∷ [];
+    }
+
+-- that of the beginning of a transfer of many pieces
+abbrev pub begin_plan : (number now node : ℕ) → BeginCall → Plan
+begin_plan number now node asked =
+    record {
+      number = number;
+      words = λ job records. vis_words (begin_answer job records now node asked);
+      events = λ job records. begin_events job records now node asked;
     }
 
 -- that of rounds

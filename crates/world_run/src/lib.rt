@@ -1,11 +1,11 @@
 //! The run of a job in a world of endpoints, and the text of it.
 //!
-//! `run_job` runs the lines of a schedule in order, each as one event or as rounds of them, and writes the answer of
-//! each; then the lines of each node. `run_lines` (`specs/RunText.antt`) is that text, line by line, as the run of the
+//! `run_job` runs the lines of a schedule in order, each as one event, as the calls that begin a transfer of many pieces,
+//! or as rounds of events, and writes the answer of each; then the lines of each node. `run_lines` (`specs/RunText.antt`) is that text, line by line, as the run of the
 //! records has it.
 //!
-//! - **What a line gives** (`line_at`): the event or the rounds of a line of the schedule (`IsLine`), with each `cN`
-//!   read from its node's cells in the world; none exactly where there is no such line.
+//! - **What a line gives** (`line_at`): the event, the transfer or the rounds of a line of the schedule (`IsLine`), with
+//!   each `cN` read from its node's cells in the world; none exactly where there is no such line.
 //! - **How a run ends** [`run`: `RunEnds`]: all its lines went into the sink, and the world that it gives stands for
 //!   the end of the run; or the sink failed, and a front of their text went in; or memory ran out, and whole lines of
 //!   them did.
@@ -18,7 +18,8 @@
 //!   - the `most` of a node's line is the greatest number of message buffers that the node held in a state of the run
 //!     (`IsGreatest`);
 //!   - what a synchronisation of transfers that answers `ok` tells was done between the beginning and the answer
-//!     (`TransfersHold`), and a try of the barrier that ends a phase tells the outcome of the nodes' notifies
+//!     (`TransfersHold`), each pair of bytes of a plan whose pieces were synchronised was transferred exactly once
+//!     (`StridedHolds`), and a try of the barrier that ends a phase tells the outcome of the nodes' notifies
 //!     (`BarrierHolds`);
 //!   - where the job has atomics, each batch of operations acts at most once, at one moment, in the one history of its
 //!     words (`AtomicsHold`).

@@ -4,7 +4,8 @@ ghost use Rattle.std.specs.Prelude.{◌≡◌, ◌<◌, ◌+◌, length, Some, s
 ghost use Rattle.gas_outside.specs.Buffered.{outbox};
 ghost use Rattle.endpoint_rules.specs.EndpointRules.{at_the_opening, timed};
 ghost use Rattle.gas_world.specs.Aims.{MayFall};
-ghost use Rattle.gas_world.specs.Events.{event_of, job_in};
+ghost use Rattle.gas_world.specs.Events.{ForItsRecords, event_of, job_in};
+ghost use Rattle.gas_world.specs.Settling.{Moves};
 ghost use Rattle.gas_world.specs.Stands.{Stands};
 ghost use Rattle.plain_world.specs.World.{IsAmong};
 ghost use Rattle.node_script.specs.Bodies.{script_meaning};
@@ -13,19 +14,25 @@ ghost use Rattle.node_script.specs.Registration.{handlers_of, registered};
 ghost use Rattle.job_text.specs.JobReading.{lines_of};
 ghost use Rattle.job_text.specs.declared.job.TimedEvent.{TimedEvent};
 ghost use Rattle.world_run.specs.RunText.{node_of, run_lines};
+ghost use Rattle.node_script.specs.ScriptInvariant.{MayBegin};
+ghost use Rattle.world_run.specs.Schedules.{begin_answer, begin_asked, begin_events};
 ghost use Rattle.world_run.specs.RunLaws.{RunLaws};
-ghost use Rattle.world_run.specs.ScheduleRun.{Stood, stage, event_plan, settle_plan, line_plan};
+ghost use Rattle.world_run.specs.ScheduleRun.{Stood, stage, begin_plan, event_plan, settle_plan};
+ghost use Rattle.world_run.specs.ScheduleRun.{line_plan, IsOfSameJob};
 ghost use Rattle.world_run.specs.ScheduleRun.{RunsByScript, RunsLines, StandsForRun};
 ghost use Rattle.world_run.specs.LinesWritten.{Says, OnDone};
 ghost use Rattle.world_run.specs.RunEnds.{RunEnds};
 
 use crate::output::{any_violation, write_event_answer, write_nodes, write_numbered};
 use crate::said::Said;
-use crate::schedule_line::{Line, line_at};
+use crate::schedule_line::{Beginning, Line, line_at};
 use gas_outside::{BufferedSink, Sink};
+use gas_strided::Vis;
 use gas_world::{World, WorldAnswer, WorldEvent};
-use node_script::Script;
+use handler_rules::Handlers;
+use node_script::{Script, write_vis};
 use std::alloc::{AllocError, Global};
+use world_caller::AtNode;
 
 /// The node on which an event falls.
 fn node_of(event: &WorldEvent<'_>) -> u16
@@ -77,6 +84,59 @@ fn run_event<K: Sink>(
     }
 }
 
+/// Begins the pieces of a plan at a node.
+fn begin_pieces<H: Handlers>(
+    world: &mut World,
+    handlers: &H,
+    now: u64,
+    begin: &Beginning<'_>,
+) -> Vis
+    requires node { begin.now.node < world.old.settings.nodes }
+    requires begins { MayBegin world.old.settings begin.now.thread begin.now.vis.now }
+    ensures job { IsOfSameJob world.old world.new }
+    ensures answered { ForItsRecords world.old (λ records most.
+        result ≡ begin_answer (job_in (H.meaning handlers.now) world.old) records now begin.now.node
+        (begin_asked begin.now.thread begin.now.vis.now)) }
+    ensures moves { Moves (job_in (H.meaning handlers.now) world.old)
+        (λ records. begin_events (job_in (H.meaning handlers.now) world.old) records now begin.now.node
+        (begin_asked begin.now.thread begin.now.vis.now)) world.old world.new }
+{
+    let mut caller = AtNode {
+        world,
+        node: begin.node,
+        handlers,
+        now,
+    };
+    let words = &begin.vis.words;
+    let from = usize::from(words.from);
+    begin
+        .vis
+        .plan
+        .begin(&mut caller, begin.thread, from, words.register)
+}
+
+/// Begins the pieces of a plan at a node, and writes the line of its answer.
+fn run_vis<K: Sink>(
+    world: &mut World,
+    script: &Script,
+    at: Place,
+    begin: &Beginning<'_>,
+    sink: &mut BufferedSink<K>,
+) -> Said
+    requires node { begin.now.node < world.old.settings.nodes }
+    requires begins { MayBegin world.old.settings begin.now.thread begin.now.vis.now }
+    ensures settings { world.new.settings ≡ world.old.settings }
+    ensures table { world.new.table ≡ world.old.table }
+    ensures runs { RunsByScript script.now
+        (begin_plan at.number at.now begin.now.node (begin_asked begin.now.thread begin.now.vis.now))
+        (stage K.taken K.faults world.old sink.old) (stage K.taken K.faults world.new sink.new) result }
+{
+    match begin_pieces(world, script.handlers(), at.now, begin) {
+        Vis::NoMemory => Said::NoMemory,
+        answer => Said::from_wrote(write_vis(at.number, &answer, sink)),
+    }
+}
+
 /// Runs so many rounds, and writes the line of their answer.
 fn run_settle<K: Sink>(
     world: &mut World,
@@ -118,6 +178,9 @@ fn run_line<K: Sink>(
     match line_at(script, place, world, &mut args) {
         Some(Line::Event { now, event }) => {
             run_event(world, script, Place { number, now }, &event, sink)
+        }
+        Some(Line::Vis { now, begin }) => {
+            run_vis(world, script, Place { number, now }, &begin, sink)
         }
         Some(Line::Settle { now, rounds }) => {
             run_settle(world, script, Place { number, now }, rounds, sink)

@@ -7,11 +7,22 @@ ghost use Rattle.world_run.specs.ScheduleLine.{IsLine, IsLineOf, MayBeTaken, Nam
 ghost use Rattle.job_text.specs.JobReading.{lines_of};
 
 use gas_world::{World, WorldEvent};
-use job_text::{ScheduledEvent, TimedEvent};
+use job_text::{ScheduledEvent, TimedEvent, VisText};
 use node_script::{Script, call_of};
 
+/// A transfer of many pieces that a thread of a node is to begin.
+#[derive(Clone, Copy)]
+pub struct Beginning<'a> {
+    /// The node.
+    pub node: u16,
+    /// The thread.
+    pub thread: u16,
+    /// The plan, the piece to begin from, and the register of the handle.
+    pub vis: &'a VisText,
+}
+
 /// A line of a schedule, as it is run.
-#[derive(Clone, Copy, Debug)]
+#[derive(Clone, Copy)]
 pub enum Line<'a> {
     /// An event at its time.
     Event {
@@ -19,6 +30,13 @@ pub enum Line<'a> {
         now: u64,
         /// The event.
         event: WorldEvent<'a>,
+    },
+    /// The beginning of a transfer of many pieces at its time: several calls.
+    Vis {
+        /// The time.
+        now: u64,
+        /// What is begun.
+        begin: Beginning<'a>,
     },
     /// Rounds of ticks and deliveries, all at one time.
     Settle {
@@ -64,6 +82,14 @@ fn line_of<'a>(timed: &'a TimedEvent, world: &World, args: &'a mut [i32; 17]) ->
             thread: *thread,
             call: call_of(call, world.endpoint(*node).cells(), args),
         },
+        ScheduledEvent::Vis { node, thread, vis } => {
+            let begin = Beginning {
+                node: *node,
+                thread: *thread,
+                vis: vis.text(),
+            };
+            return Line::Vis { now, begin };
+        }
         ScheduledEvent::Request { from, to, number } => WorldEvent::Request {
             from: *from,
             to: *to,

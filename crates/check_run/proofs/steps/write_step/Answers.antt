@@ -2,15 +2,15 @@
 use Rattle.std.proofs.Common.{ℕ, List, ◌∷◌, decimal, subst, ◌∙◌}
 use Rattle.gas_outside.specs.Buffered.{Gathers, GathersAll, GathersFront, outbox}
 use Rattle.node_script.specs.AnswersTold.{sight_at}
-use Rattle.node_script.specs.AnswerWords.{answer_words}
 use Rattle.node_script.specs.Lines.{line_text}
+use Rattle.check_run.specs.StepLines.{script_words}
 use Rattle.check_run.proofs.StepText.{rank_cut, space_cut, step_said}
 use Rattle.check_run.proofs.steps.write_step.Goals as goal
 
 pub returns-in-Fault : goal.returns-in-Fault
 returns-in-Fault g c = λ node stands.
     rank_cut (decimal c.args.at.rank) (decimal c.args.at.thread)
-    (answer_words (sight_at c.args.endpoint.now node) c.args.answer.now)
+    (script_words (sight_at c.args.endpoint.now node) c.args.answer.now)
     (outbox g.K.Sink.taken g.K.Sink.faults c.args.sink.now) (outbox g.K.Sink.taken g.K.Sink.faults c.write_all.new.self)
     (subst (λ (bytes : List ℕ). GathersFront (outbox g.K.Sink.taken g.K.Sink.faults c.args.sink.now)
     (outbox g.K.Sink.taken g.K.Sink.faults c.write_all.new.self) bytes)
@@ -19,7 +19,7 @@ returns-in-Fault g c = λ node stands.
 pub returns-in-Fault-write_all : goal.returns-in-Fault-write_all
 returns-in-Fault-write_all g c = λ node stands.
     space_cut (decimal c.args.at.rank) (decimal c.args.at.thread)
-    (answer_words (sight_at c.args.endpoint.now node) c.args.answer.now)
+    (script_words (sight_at c.args.endpoint.now node) c.args.answer.now)
     (outbox g.K.Sink.taken g.K.Sink.faults c.args.sink.now) (outbox g.K.Sink.taken g.K.Sink.faults c.write_all.new.self)
     (outbox g.K.Sink.taken g.K.Sink.faults c.write_all-2.new.self)
     (subst (λ (bytes : List ℕ). Gathers (outbox g.K.Sink.taken g.K.Sink.faults c.args.sink.now)
@@ -28,14 +28,14 @@ returns-in-Fault-write_all g c = λ node stands.
 
 pub returns : goal.returns
 returns g c = λ node stands.
-    let words = answer_words (sight_at c.args.endpoint.now node) c.args.answer.now in
+    let words = script_words (sight_at c.args.endpoint.now node) c.args.answer.now in
     step_said (decimal c.args.at.rank) (decimal c.args.at.thread) words
     (outbox g.K.Sink.taken g.K.Sink.faults c.args.sink.now) (outbox g.K.Sink.taken g.K.Sink.faults c.write_all.new.self)
     (outbox g.K.Sink.taken g.K.Sink.faults c.write_all-2.new.self)
-    (outbox g.K.Sink.taken g.K.Sink.faults c.write_answer.new.sink) c.write_answer.result
+    (outbox g.K.Sink.taken g.K.Sink.faults c.write_said.new.sink) c.write_said.result
     (subst (λ (bytes : List ℕ). Gathers (outbox g.K.Sink.taken g.K.Sink.faults c.args.sink.now)
     (outbox g.K.Sink.taken g.K.Sink.faults c.write_all.new.self) bytes)
     (c.as_bytes.ensures.value ∙ c.format.ensures.text) c.in_default.ensures) c.in_default-write_all.ensures
     (subst (λ (thread : ℕ). GathersAll (outbox g.K.Sink.taken g.K.Sink.faults c.write_all-2.new.self)
-    (outbox g.K.Sink.taken g.K.Sink.faults c.write_answer.new.sink) (line_text (decimal thread ∷ words))
-    c.write_answer.result) c.from.ensures (c.write_answer.ensures node stands))
+    (outbox g.K.Sink.taken g.K.Sink.faults c.write_said.new.sink) (line_text (decimal thread ∷ words))
+    c.write_said.result) c.from.ensures (c.write_said.ensures node stands))

@@ -1,4 +1,4 @@
-use Rattle.std.proofs.Common.{ℕ, ℤ, ◌∷◌, ◌++◌, [], subst, decimal}
+use Rattle.std.proofs.Common.{ℤ, ◌∷◌, ◌++◌, [], subst, decimal}
 use Rattle.std.specs.Fmt.{signed_decimal}
 use Rattle.std.specs.Int.{w32}
 use Rattle.std.proofs.lemmas.Int.{to_z-of_z}

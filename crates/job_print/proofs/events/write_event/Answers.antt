@@ -3,6 +3,10 @@ use Rattle.job_print.proofs.events.write_event.Goals as goal
 pub returns-in-Call : goal.returns-in-Call
 returns-in-Call g c = λ nodes threads. rw c.in-Call.is (c.write_thread_call.ensures nodes threads)
 
+pub returns-in-Vis : goal.returns-in-Vis
+returns-in-Vis g c = λ nodes threads.
+    rw c.in-Vis.is (rw c.text.ensures at (c.write_thread_vis.ensures nodes threads))
+
 pub returns-in-Request : goal.returns-in-Request
 returns-in-Request g c = λ nodes threads. rw c.in-Request.is c.write.ensures
 

@@ -1,4 +1,4 @@
-use Rattle.std.proofs.Common.{◌∙◌, ◌+◌, refl, Some}
+use Rattle.std.proofs.Common.{◌∙◌, ◌+◌, refl, sym, Some}
 use Rattle.job_text.specs.declared.job.Job.{Job}
 use Rattle.job_text.proofs.LineRuns.{over_read}
 use Rattle.job_text.proofs.endings.tail_at.Goals as goal
@@ -9,5 +9,5 @@ returns-then-not-schedule c = rw c.if-not-schedule.true (over_read c.args.job c.
 pub returns : goal.returns
 returns c =
     let job : Job = record c.args.job { schedule = Some c.in-Ok.read.0 } in
-    rw c.if-not-schedule.false (c.in-Ok.ensures.value c.args.job refl ∙ c.in-Ok-done_line.ensures job
+    rw c.if-not-schedule.false (c.in-Ok.ensures.value c.args.job refl (sym c.pieces-before.ensures.pieces) ∙ c.in-Ok-done_line.ensures job
     ∙ over_read job (c.in-Ok.read.1 + 1) c.in-Ok-done_line.rest.now)

@@ -1,17 +1,19 @@
 use Rattle.std.proofs.Common.{◌≡◌, ◌≤◌, ◌+◌, ◌-◌, length, [], Some}
-use Rattle.job_text.specs.JobReading.{total_rounds, read}
+use Rattle.job_text.specs.JobReading.{amounts_of, read}
 use Rattle.job_text.specs.Places.{AtSchedule}
+use Rattle.job_text.specs.PlanPieces.{scripts_pieces}
 use Rattle.job_text.specs.Scopes.{scope_of}
 use Rattle.job_text.specs.declared.job.Job.{Job}
 use Rattle.job_text.proofs.schedules.schedule_at.Given as goal
 
 abbrev pub invariant-loop-read : goal.invariant-loop-read
 invariant-loop-read l = record {
-  so_far : (job : Job) → scope_of job ≡ l.scope →
+  lines_so_far : (job : Job) → scope_of job ≡ l.scope → scripts_pieces job.scripts ≡ l.before →
       read (record { place = AtSchedule; job = record job { schedule = Some l.lines.items } }) l.line l.rest
       ≡ read (record { place = AtSchedule; job = record job { schedule = Some [] } }) l.first l.bytes;
-  rounds : l.rounds ≡ total_rounds l.lines.items;
-  few_rounds : l.rounds ≤ 4096;
+  amounts : l.so_far ≡ amounts_of l.before l.lines.items;
+  rounds : l.so_far.rounds ≤ 4096;
+  pieces : l.so_far.pieces ≤ 65536;
   line : l.line ≡ l.first + length l.lines.items;
   few : length l.lines.items ≤ 65536;
 }

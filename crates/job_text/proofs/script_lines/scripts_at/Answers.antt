@@ -10,6 +10,7 @@ use Rattle.job_text.specs.declared.scope.Scope.{Scope}
 use Rattle.job_text.specs.declared.sections.Section.{Section}
 use Rattle.job_text.proofs.HandlerRuns.{other_section, script_there, script_new}
 use Rattle.job_text.proofs.JobLaws.{all_more}
+use Rattle.job_text.proofs.PlanPieces.{scripts_more}
 use Rattle.job_text.proofs.Threads.{IsThere, threads_more, threads_few}
 use Rattle.job_text.proofs.script_lines.scripts_at.Goals as goal
 
@@ -33,7 +34,8 @@ returns-in-Err-steps_at-clause-value c = λ plain same.
     ∙ c.in-Ok.ensures.value job (ap (λ (s : Scope). s.settings) same) (sym c.deref.ensures.value)
     ∙ ap (λ (s : Section). read (behind_section job s) (c.loop-read.line + 1) c.in-Ok.read.1.now) c.in-Script.is in
     subst (λ (r : Result Front BadLine). FailsAt c.in-Err-steps_at.fault r) (sym begun)
-    (c.in-Err-steps_at.ensures.value (begun_script c.in-Script.node c.in-Script.thread) job same)
+    (c.in-Err-steps_at.ensures.value (begun_script c.in-Script.node c.in-Script.thread) job same
+    (sym c.loop-read.invariant.pieces))
 
 pub loop-read-preserved : goal.loop-read-preserved
 loop-read-preserved c =
@@ -46,6 +48,7 @@ loop-read-preserved c =
     let new = script_new scripts c.in-Script.node c.in-Script.thread why in
     let are = threads_more scripts script c.loop-read.invariant.threads new in
     let there = all_more (IsThere 256 16) scripts script c.loop-read.invariant.there is in
+    let more = scripts_more scripts script in
     let pushed = c.in_ok-push.ensures.items ∙ ap (λ (s : NodeScript). scripts ++ s ∷ []) c.script_of.ensures in
     record {
       so_far = λ plain same. let job : Job = record plain { scripts = scripts } in
@@ -53,13 +56,16 @@ loop-read-preserved c =
             place = AtScripts;
             job = record plain { scripts = ss };
           }) c.in-Ok-steps_at.read.1 c.in-Ok-steps_at.read.2.now) pushed
-          ∙ sym (c.in-Ok-steps_at.ensures.value (begun_script c.in-Script.node c.in-Script.thread) job same)
+          ∙ sym (c.in-Ok-steps_at.ensures.value (begun_script c.in-Script.node c.in-Script.thread) job same
+          (sym c.loop-read.invariant.pieces))
           ∙ ap (λ (s : Section). read (behind_section job s) (c.loop-read.line + 1) c.in-Ok.read.1.now)
           (sym c.in-Script.is)
           ∙ sym (c.in-Ok.ensures.value job (ap (λ (s : Scope). s.settings) same) (sym c.deref.ensures.value))
           ∙ c.loop-read.invariant.so_far plain same;
       threads = rw pushed are;
       there = rw pushed there;
+      pieces = rw pushed (omega (arith, more, c.loop-read.invariant.pieces, c.pieces-pieces.ensures));
+      room = omega (arith, c.in-Ok-steps_at.ensures.few, c.pieces-pieces.ensures);
       few = rw pushed (threads_few (scripts ++ script ∷ []) are there);
       line = rw pushed (simp length-append (omega
           (arith, c.loop-read.invariant.line, c.in-Ok-steps_at.ensures.later)));

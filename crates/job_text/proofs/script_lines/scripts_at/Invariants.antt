@@ -3,6 +3,7 @@ use Rattle.std.specs.List.{AllByRecursion}
 use Rattle.job_text.specs.JobReading.{read}
 use Rattle.job_text.specs.JobText.{AreThreads}
 use Rattle.job_text.specs.Places.{AtScripts}
+use Rattle.job_text.specs.PlanPieces.{scripts_pieces}
 use Rattle.job_text.specs.Scopes.{scope_of}
 use Rattle.job_text.specs.declared.job.Job.{Job}
 use Rattle.job_text.proofs.Threads.{IsThere}
@@ -15,6 +16,8 @@ invariant-loop-read l = record {
       ≡ read (record { place = AtScripts; job = record job { scripts = [] } }) l.first l.bytes;
   threads : AreThreads l.scripts.items;
   there : AllByRecursion (IsThere 256 16) l.scripts.items;
+  pieces : l.pieces ≡ scripts_pieces l.scripts.items;
+  room : l.pieces ≤ 65536;
   few : length l.scripts.items ≤ 4096;
   line : l.line ≤ l.first + 4098 * length l.scripts.items;
 }

@@ -1,6 +1,8 @@
 use Rattle.std.proofs.Common.{◌≡◌, ◌≤◌, ◌+◌, ◌-◌, length, []}
 use Rattle.job_text.specs.JobReading.{read, with_steps}
 use Rattle.job_text.specs.Places.{AtSteps}
+use Rattle.job_text.specs.PlanPieces.{scripts_pieces}
+use Rattle.job_text.specs.StepPieces.{steps_pieces}
 use Rattle.job_text.specs.Scopes.{scope_of}
 use Rattle.job_text.specs.declared.job.NodeScript.{NodeScript}
 use Rattle.job_text.specs.declared.job.Job.{Job}
@@ -8,9 +10,11 @@ use Rattle.job_text.proofs.script_lines.steps_at.Given as goal
 
 abbrev pub invariant-loop-read : goal.invariant-loop-read
 invariant-loop-read l = record {
-  so_far : (script : NodeScript) (job : Job) → scope_of job ≡ l.scope →
+  so_far : (script : NodeScript) (job : Job) → scope_of job ≡ l.scope → scripts_pieces job.scripts ≡ l.before →
       read (record { place = AtSteps (with_steps l.steps.items script); job = job }) l.line l.rest
       ≡ read (record { place = AtSteps (with_steps [] script); job = job }) l.first l.bytes;
+  pieces : l.pieces ≡ steps_pieces l.steps.items;
+  room : l.before + l.pieces ≤ 65536;
   line : l.line ≡ l.first + length l.steps.items;
   few : length l.steps.items ≤ 4096;
 }

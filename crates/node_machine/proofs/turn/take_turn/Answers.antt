@@ -4,6 +4,7 @@ use Rattle.datagram_grammar.specs.Parameters.{Parameters}
 use Rattle.job_text.specs.declared.job.ScriptStep.{ScriptStep}
 use Rattle.node_runs.specs.Actions.{Progress}
 use Rattle.node_machine.specs.Cursors.{progress_of}
+use Rattle.node_machine.specs.Kept.{CanBeSaid}
 use Rattle.node_machine.specs.Turns.{TurnTaken, TakesTurn}
 use Rattle.node_machine.specs.declared.turn.Done.{Done}
 use Rattle.node_machine.proofs.Turning.{turn_goes}
@@ -13,6 +14,11 @@ pub try_next-tried-requires-clause-thread : goal.try_next-tried-requires-clause-
 try_next-tried-requires-clause-thread g c =
     subst (λ (settings : Parameters). c.args.turn.thread < settings.threads)
     (sym c.before_try-sent.ensures.happen.same.settings) c.requires.thread
+
+pub try_next-tried-requires-clause-said : goal.try_next-tried-requires-clause-said
+try_next-tried-requires-clause-said g c =
+    subst (λ (settings : Parameters). CanBeSaid settings (progress_of c.args.cursor.now))
+    (sym c.before_try-sent.ensures.happen.same.settings) c.requires.said
 
 pub returns : goal.returns
 returns g c =

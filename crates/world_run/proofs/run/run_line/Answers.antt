@@ -1,4 +1,4 @@
-use Rattle.std.proofs.Common.{◌+◌, sym, subst}
+use Rattle.std.proofs.Common.{◌+◌, ◌<◌, sym, subst}
 use Rattle.std.specs.List.{slice_get}
 use Rattle.datagram_grammar.specs.Parameters.{Parameters}
 use Rattle.plain_world.specs.World.{IsAmong}
@@ -8,11 +8,14 @@ use Rattle.gas_world.specs.Events.{event_of, job_in}
 use Rattle.node_script.specs.Bodies.{script_meaning}
 use Rattle.node_script.specs.Registration.{handlers_of}
 use Rattle.job_text.specs.JobReading.{lines_of}
-use Rattle.world_run.specs.ScheduleRun.{stage, event_plan, settle_plan, line_plan}
+use Rattle.node_script.specs.ScriptInvariant.{MayBegin}
+use Rattle.world_run.specs.Schedules.{begin_asked}
+use Rattle.world_run.specs.ScheduleRun.{stage, begin_plan, event_plan, settle_plan, line_plan}
 use Rattle.world_run.proofs.ScheduleAmong.{event_among}
 use Rattle.node_script.proofs.ScheduleNodes.{job_within}
-use Rattle.world_run.proofs.ScheduleRuns.{same_plan, event_is_line, settle_is_line}
-use Rattle.world_run.proofs.ScheduleLines.{timed_there, event_line, event_may, settle_line, never_none}
+use Rattle.world_run.proofs.ScheduleRuns.{same_plan, event_is_line, settle_is_line, vis_is_line}
+use Rattle.world_run.proofs.ScheduleLines.{timed_there, event_line, event_may, settle_line, never_none, vis_line}
+use Rattle.world_run.proofs.ScheduleLines.{vis_may, vis_there}
 use Rattle.world_run.proofs.run.run_line.Goals as goal
 
 pub run_event-requires-clause-among : goal.run_event-requires-clause-among
@@ -51,6 +54,34 @@ returns-in-Some-Event-clause-runs g c = λ line at.
     event_is_line job number now event line w
     (event_line w (slice_get lines c.args.place) line c.line_at.result c.in-Some-Event.field-0 now c.in-Some-Event.event
     at c.in-Some-Event.is c.in-Some-Event.field-0-is (c.line_at.ensures.line w most h))) c.run_event.ensures.runs
+
+pub run_vis-requires-clause-node : goal.run_vis-requires-clause-node
+run_vis-requires-clause-node g c =
+    subst (λ (settings : Parameters). c.in-Some-Vis.begin.node < settings.nodes) (sym c.requires.settings)
+    (vis_there c.args.script.now.settings c.line_at.result c.in-Some-Vis.field-0 c.in-Some-Vis.now c.in-Some-Vis.begin
+    c.in-Some-Vis.is c.in-Some-Vis.field-0-is c.line_at.ensures.nodes)
+
+pub run_vis-requires-clause-begins : goal.run_vis-requires-clause-begins
+run_vis-requires-clause-begins g c =
+    let begin = c.in-Some-Vis.begin in
+    subst (λ (settings : Parameters). MayBegin settings begin.thread begin.vis.now) (sym c.requires.settings)
+    (vis_may c.args.script.now.settings c.line_at.result c.in-Some-Vis.field-0 c.in-Some-Vis.now begin
+    c.in-Some-Vis.is c.in-Some-Vis.field-0-is c.line_at.ensures.called)
+
+pub returns-in-Some-Vis-clause-runs : goal.returns-in-Some-Vis-clause-runs
+returns-in-Some-Vis-clause-runs g c = λ line at.
+    let job = job_in (script_meaning (handlers_of c.args.script.now)) c.args.world.now in
+    let lines = lines_of c.args.script.now.schedule in
+    let number = c.args.place + 1 in
+    let now = c.in-Some-Vis.now in
+    let begin = c.in-Some-Vis.begin in
+    same_plan job (begin_plan number now begin.node (begin_asked begin.thread begin.vis.now)) (line_plan number line)
+    (stage g.K.Sink.taken g.K.Sink.faults c.args.world.now c.args.sink.now)
+    (stage g.K.Sink.taken g.K.Sink.faults c.run_vis.new.world c.run_vis.new.sink) c.run_vis.result
+    (λ w most h.
+    vis_is_line job number now begin line w
+    (vis_line w (slice_get lines c.args.place) line c.line_at.result c.in-Some-Vis.field-0 now begin at
+    c.in-Some-Vis.is c.in-Some-Vis.field-0-is (c.line_at.ensures.line w most h))) c.run_vis.ensures.runs
 
 pub returns-in-Some-Settle-clause-runs : goal.returns-in-Some-Settle-clause-runs
 returns-in-Some-Settle-clause-runs g c = λ line at.

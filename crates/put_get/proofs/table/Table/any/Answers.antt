@@ -1,10 +1,11 @@
-use Rattle.std.proofs.Common.{length, sym, ap, ◌∙◌, arith, inl, inr}
+use Rattle.std.proofs.Common.{sym, ap, ◌∙◌, subst, arith, inl, inr}
 use Rattle.std.specs.List.{slice_get}
 use Rattle.std.proofs.lemmas.Bool.{cases_eq}
-use Rattle.std.proofs.lemmas.Option.{same_Some, slice_get_within}
+use Rattle.std.proofs.lemmas.Option.{same_Some}
 use Rattle.put_get.specs.Table.{on_place, picked}
-use Rattle.put_get.proofs.Places.{places_length}
-use Rattle.put_get.proofs.Tests.{any_from, none_picked}
+use Rattle.put_get.specs.Extent.{IsExtent}
+use Rattle.put_get.proofs.Tests.{any_from}
+use Rattle.put_get.proofs.Extents.{none_within}
 use Rattle.put_get.proofs.table.Table.any.Goals as goal
 
 pub returns-then-is_picked : goal.returns-then-is_picked
@@ -23,8 +24,8 @@ loop-place-preserved c place there less at = elim (cases_eq place c.loop-place.p
 
 pub returns : goal.returns
 returns c =
-    let many = ap length (sym c.self.view_is)
-    ∙ (places_length c.self.inside.keys.items c.self.inside.records ∙ c.self.invariant.0) in
-    sym (none_picked (on_place (picked c.args.pick)) c.args.self.now
-    (λ place there at. c.loop-place.invariant place there (let within =
-    slice_get_within c.args.self.now place there at in omega (arith, within, many)) at))
+    let extent = c.self.inside.extent in
+    let known = subst (IsExtent extent) c.self.view_is c.self.invariant.3 in
+    let past = c.loop-place-test.false in
+    sym (none_within (picked c.args.pick) extent c.args.self.now known
+    (λ place there less at. c.loop-place.invariant place there (omega (arith, less, past)) at))

@@ -1,12 +1,15 @@
-use Rattle.std.proofs.Common.{◌≡◌, ◌<◌, ◌≤◌, ◌+◌, ℕ, List, Option, Some, length, set, sym, ap, ◌∙◌, subst, arith}
+use Rattle.std.proofs.Common.{◌≡◌, ◌<◌, ◌≤◌, ◌+◌, ℕ, List, Option, Some, length, set, sym, ap, ◌∙◌, subst, arith, inl, inr}
 use Rattle.std.specs.List.{slice_get}
 use Rattle.std.proofs.lemmas.Option.{slice_get_within}
 use Rattle.put_get.specs.declared.table.Standing.{Standing}
 use Rattle.put_get.specs.Syncs.{flag_at}
-use Rattle.put_get.specs.Table.{unless_marked}
+use Rattle.std.proofs.lemmas.Bool.{cases_lt}
+use Rattle.put_get.specs.Extent.{IsExtent}
+use Rattle.put_get.specs.Table.{unless_marked, AreDropped}
 use Rattle.put_get.proofs.Places.{places_length}
 use Rattle.put_get.proofs.Tests.{rewrite_more}
 use Rattle.put_get.proofs.Marks.{dropped_is}
+use Rattle.put_get.proofs.Extents.{dropped_beyond}
 use Rattle.put_get.proofs.table.Table.drop_marked.Goals as goal
 
 pub loop-place-preserved : goal.loop-place-preserved
@@ -29,11 +32,19 @@ pub returns : goal.returns
 returns c test M =
     let many = ap length (sym c.self.view_is)
     ∙ (places_length c.self.inside.keys.items c.self.inside.records ∙ c.self.invariant.0) in
-    record {
+    let known = subst (IsExtent c.self.inside.extent) c.self.view_is c.self.invariant.3 in
+    let past = c.loop-place-test.false in
+    subst (AreDropped test c.args.self.now) (sym c.lower_end.ensures)
+    (record {
       many = c.loop-place.invariant.0;
-      each = λ place there at. (
-          let within = slice_get_within c.args.self.now place there at in
-          c.loop-place.invariant.1 place there (omega (arith, within, many)) at
-          ∙ ap Some (dropped_is test c.args.self.now c.args.marks.now place there M
-          (omega (arith, within, many)) at));
-    }
+      each = λ place there at. elim (cases_lt place c.loop-place.place) [
+        | inl less ↦
+            (let within = slice_get_within c.args.self.now place there at in
+            c.loop-place.invariant.1 place there less at
+            ∙ ap Some (dropped_is test c.args.self.now c.args.marks.now place there M
+            (omega (arith, within, many)) at))
+        | inr far ↦ c.loop-place.invariant.2 place there far at
+            ∙ ap Some (dropped_beyond test c.self.inside.extent c.args.self.now place there known
+            (omega (arith, far, past)) at)
+      ];
+    })

@@ -1,11 +1,12 @@
-use Rattle.std.proofs.Common.{◌&&◌, length, sym, ap, ◌∙◌, arith, inl, inr}
+use Rattle.std.proofs.Common.{◌&&◌, sym, ap, ◌∙◌, subst, arith, inl, inr}
 use Rattle.std.specs.List.{slice_get}
 use Rattle.std.proofs.lemmas.Bool.{cases_eq}
-use Rattle.std.proofs.lemmas.Option.{same_Some, slice_get_within}
+use Rattle.std.proofs.lemmas.Option.{same_Some}
 use Rattle.put_get.specs.Syncs.{flag_at}
 use Rattle.put_get.specs.Table.{on_place, picks, passes}
-use Rattle.put_get.proofs.Places.{places_length}
-use Rattle.put_get.proofs.Tests.{any_from, none_picked}
+use Rattle.put_get.specs.Extent.{IsExtent}
+use Rattle.put_get.proofs.Tests.{any_from}
+use Rattle.put_get.proofs.Extents.{none_within}
 use Rattle.put_get.proofs.Marks.{picks_is}
 use Rattle.put_get.proofs.table.Table.has.Goals as goal
 
@@ -15,7 +16,7 @@ returns-then-picks c test M =
     sym (any_from (on_place (λ r. test r && passes c.args.check r)) c.args.self.now c.loop-place.place c.at.result
     c.at.ensures
     (sym (picks_is test c.args.check c.args.self.now c.args.marks.now c.loop-place.place c.at.result M
-    (omega (arith, end)) c.at.ensures)
+    (omega (arith, end, c.self.invariant.3.within)) c.at.ensures)
     ∙ (ap (λ mark. picks mark c.args.check c.at.result) (sym c.flag_at.ensures)
     ∙ (sym c.picks.ensures ∙ c.if-picks.true))))
 
@@ -32,9 +33,10 @@ loop-place-preserved c place there less at = elim (cases_eq place c.loop-place.p
 
 pub returns : goal.returns
 returns c test M =
-    let many = ap length (sym c.self.view_is)
-    ∙ (places_length c.self.inside.keys.items c.self.inside.records ∙ c.self.invariant.0) in
-    sym (none_picked (on_place (λ r. test r && passes c.args.check r)) c.args.self.now (λ place there at.
-    let within = slice_get_within c.args.self.now place there at in
-    sym (picks_is test c.args.check c.args.self.now c.args.marks.now place there M (omega (arith, within, many)) at)
-    ∙ c.loop-place.invariant place there (omega (arith, within, many)) at))
+    let extent = c.self.inside.extent in
+    let known = subst (IsExtent extent) c.self.view_is c.self.invariant.3 in
+    let past = c.loop-place-test.false in
+    sym (none_within (λ r. test r && passes c.args.check r) extent c.args.self.now known (λ place there less at.
+    sym (picks_is test c.args.check c.args.self.now c.args.marks.now place there M
+    (omega (arith, less, known.within)) at)
+    ∙ c.loop-place.invariant place there (omega (arith, less, past)) at))

@@ -1,14 +1,27 @@
-use Rattle.std.proofs.Common.{ap, ◌∙◌, Some, arith}
+use Rattle.std.proofs.Common.{ap, ◌∙◌, subst, Some, arith, inl, inr}
 use Rattle.std.specs.List.{slice_get}
+use Rattle.std.proofs.lemmas.Bool.{cases_lt}
 use Rattle.put_get.specs.Table.{flat}
-use Rattle.put_get.specs.Table.{on_place, picked}
+use Rattle.put_get.specs.Table.{also, on_place, picked}
+use Rattle.put_get.specs.Extent.{IsExtent}
 use Rattle.put_get.proofs.Marks.{also_is}
+use Rattle.put_get.proofs.Extents.{marks_beyond}
 use Rattle.put_get.proofs.table.Table.mark.Goals as goal
 
 pub returns : goal.returns
-returns c test M = record {
-  many = c.loop-place.invariant.0 ∙ M.many;
-  each = λ place less. c.loop-place.invariant.1 place (on_place test (flat (slice_get c.args.self.now place)))
-      (omega (arith, less)) (M.each place less)
-      ∙ ap Some (also_is test (picked c.args.pick) (flat (slice_get c.args.self.now place)));
-}
+returns c test M =
+    let places = c.args.self.now in
+    let extent = c.self.inside.extent in
+    let known = subst (IsExtent extent) c.self.view_is c.self.invariant.3 in
+    let past = c.loop-place-test.false in
+    record {
+      many = c.loop-place.invariant.0 ∙ M.many;
+      each = λ place less. elim (cases_lt place c.loop-place.place) [
+        | inl marked ↦ c.loop-place.invariant.1 place (on_place test (flat (slice_get places place))) marked
+            (M.each place less)
+            ∙ ap Some (also_is test (picked c.args.pick) (flat (slice_get places place)))
+        | inr far ↦ c.loop-place.invariant.2 place (on_place test (flat (slice_get places place))) far (M.each place less)
+            ∙ ap Some (marks_beyond test (also test (picked c.args.pick)) extent places place known
+            (omega (arith, far, past)))
+      ];
+    }

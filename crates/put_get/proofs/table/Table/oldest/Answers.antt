@@ -1,9 +1,17 @@
 use Rattle.std.proofs.Common.{Some, sym, ap, ◌∙◌, subst, arith}
 use Rattle.put_get.specs.Syncs.{flag_at}
 use Rattle.put_get.specs.Queue.{Queues}
-use Rattle.put_get.specs.Table.{waits_at}
+use Rattle.put_get.specs.Table.{waits_at, is_unissued}
+use Rattle.put_get.specs.Operation.{target}
+use Rattle.std.proofs.Math.Bool.{and-false}
+use Rattle.put_get.proofs.Marks.{no_flag}
 use Rattle.put_get.proofs.Waiting.{ready_some, ready_more, least_none, least_some}
 use Rattle.put_get.proofs.table.Table.oldest.Goals as goal
+
+pub returns-then-not-has_flag : goal.returns-then-not-has_flag
+returns-then-not-has_flag c place there at =
+    rw (no_flag c.args.can.now (sym c.has_flag.ensures ∙ (grind (arith, c.if-not-has_flag.true))) (target there.transfer))
+    (and-false (is_unissued there))
 
 pub returns-in-Some : goal.returns-in-Some
 returns-in-Some c =

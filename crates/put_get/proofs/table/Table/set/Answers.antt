@@ -3,6 +3,7 @@ use Rattle.std.proofs.lemmas.Option.{slice_get_read}
 use Rattle.slab.specs.Slab.{with_value, Updates}
 use Rattle.slab.proofs.SlabLemmas.{Updates-with_value}
 use Rattle.put_get.specs.Queue.{Queues}
+use Rattle.put_get.specs.Extent.{IsExtent}
 use Rattle.put_get.specs.Table.{flat, places_of, waits_by, waits_at}
 use Rattle.put_get.proofs.Places.{places_length, read_there, places_set, keyed_set}
 use Rattle.put_get.proofs.Queueing.{queued_as, queues_changed}
@@ -26,14 +27,14 @@ change-requires c = record {
       c.args.place c.waits_by.result c.self.invariant.2 (was c);
 }
 
-updates : (c : goal.After-self-1)
+updates : (c : goal.After-self-2-1)
     → Updates c.self.inside.records (with_value c.self.inside.records c.index-key.result.now c.args.standing)
     c.index-key.result.now (Some c.args.standing)
 updates c = Updates-with_value c.self.inside.records c.index-key.result.now c.args.standing
     (ap is_some c.index_mut.ensures.value)
 
 -- the place alone is written
-written : (c : goal.After-self-1)
+written : (c : goal.After-self-2-1)
     → places_of c.self.inside.keys.items (with_value c.self.inside.records c.index-key.result.now c.args.standing)
     ≡ slice_set (places_of c.self.inside.keys.items c.self.inside.records) c.args.place c.args.standing
 written c =
@@ -60,6 +61,8 @@ invariant_of-self c =
           (was (goal.at.invariant_of-self c).After-waits_by-2)
           (waits_written places place c.args.standing within ∙ sym c.waits_by-2.ensures)
           (waits_elsewhere places place c.args.standing) c.change.ensures),
+      subst (IsExtent c.after_write-self-inside.result) (sym (written c))
+          (c.after_write-self-inside.ensures places c.args.standing c.self.invariant.3 c.is_some.ensures),
     )
 
 pub returns : goal.returns

@@ -1,0 +1,29 @@
+-- What the library's own handlers leave, by the handler.
+use Rattle.std.proofs.Common.{◌≡◌, ◌≢◌, ℕ, Bool, sym, subst}
+use Rattle.std.specs.Prelude.{if◌then◌else◌}
+use Rattle.std.proofs.lemmas.Bool.{eq-eqb, ne_eqb}
+use Rattle.handler_rules.specs.Desks.{At, Stage, frame_of, start_of}
+use Rattle.handler_rules.specs.Runs.{untouched}
+use Rattle.gas_atomic.specs.Served.{served}
+use Rattle.collective_area.specs.Served.{stamped}
+use Rattle.gasnet_c.specs.OwnHandlers.{serving}
+
+-- that of collectives
+pub runs_collective : (handler : ℕ) (opening new : Stage) → handler ≡ 254
+    → At opening (stamped (frame_of opening.desk) (start_of opening) (untouched (start_of opening))) new
+    → At opening (serving handler (frame_of opening.desk) (start_of opening)) new
+runs_collective handler opening new is at =
+    subst (λ (test : Bool). At opening
+    (if test then stamped (frame_of opening.desk) (start_of opening) (untouched (start_of opening))
+    else served handler (frame_of opening.desk) (start_of opening) (untouched (start_of opening))) new)
+    (sym (eq-eqb handler 254 is)) at
+
+-- another one
+pub runs_batch : (handler : ℕ) (opening new : Stage) → handler ≢ 254
+    → At opening (served handler (frame_of opening.desk) (start_of opening) (untouched (start_of opening))) new
+    → At opening (serving handler (frame_of opening.desk) (start_of opening)) new
+runs_batch handler opening new apart at =
+    subst (λ (test : Bool). At opening
+    (if test then stamped (frame_of opening.desk) (start_of opening) (untouched (start_of opening))
+    else served handler (frame_of opening.desk) (start_of opening) (untouched (start_of opening))) new)
+    (sym (ne_eqb handler 254 apart)) at

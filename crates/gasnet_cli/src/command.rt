@@ -1,0 +1,84 @@
+//! The command that a run is of, and what is kept of the run.
+
+use crate::ports::{FreePorts, free_ports};
+use crate::watched::Seen;
+use std::alloc::Global;
+use std::io::Eprint;
+use std::net::Net;
+use std::rt::Clock;
+
+/// A command, and what is kept of its run.
+#[derive(Drop)]
+pub struct Command {
+    /// The words with which the top call is made.
+    pub words: Vec<String>,
+    /// What was read.
+    pub input: Seen,
+    /// What was written.
+    pub output: Seen,
+    /// Whether each step is told beside its answer. Then all that is written is kept, and else its end alone.
+    pub steps: bool,
+    /// What holds the ports that were taken, if any were.
+    pub ports: Option<FreePorts>,
+}
+
+/// Whether the words are those of a launch without a port.
+fn lacks_port(words: &[String]) -> bool {
+    match words {
+        [word] => word.as_str() == "launch",
+        _ => false,
+    }
+}
+
+impl Command {
+    /// The command of these words, before its run. A launch without a port gets one that is free, which is told.
+    pub fn new<R: Eprint + Net + Clock>(
+        rt: &R,
+        alloc: Global,
+        words: Vec<String>,
+        steps: bool,
+    ) -> Command {
+        let mut command = Command {
+            words,
+            input: Seen::new(alloc),
+            output: Seen::new(alloc),
+            steps,
+            ports: None,
+        };
+        if command.is_node() {
+            command.steps = false;
+        }
+        if lacks_port(&command.words) {
+            command.take_ports(rt, alloc);
+        }
+        command
+    }
+
+    /// Takes ports that are free, and tells the first.
+    fn take_ports<R: Eprint + Net + Clock>(&mut self, rt: &R, alloc: Global) {
+        let Some(ports) = free_ports(rt) else {
+            let _ = eprintln!(rt;
+                "gasnet_cli: no 257 ports in a row are free; expected launch PORT"
+            );
+            return;
+        };
+        if let Ok(word) = format!(in alloc; "{}", ports.port) {
+            let _ = eprintln!(rt; "gasnet_cli: launch {word}");
+            let _ = self.words.push(word);
+        }
+        self.ports = Some(ports);
+    }
+
+    /// The name of the command, empty where there are no words.
+    pub fn name(&self) -> &str {
+        match self.words.first() {
+            Some(name) => name.as_str(),
+            None => "",
+        }
+    }
+
+    /// Whether it is that of one node.
+    pub fn is_node(&self) -> bool {
+        self.name() == "node"
+    }
+}

@@ -1,0 +1,129 @@
+//! What a command is at.
+
+use std::alloc::{AllocError, Global};
+use std::io::Eprint;
+use std::rt::Clock;
+use std::sync::Arc;
+use std::sync::atomic::{AtomicU64, Ordering};
+use std::thread;
+use std::thread::Threads;
+use std::time::Duration;
+
+/// The milliseconds between two looks.
+const LOOK: u64 = 100;
+
+/// The looks before anything is shown.
+const BEFORE: u64 = 20;
+
+/// The looks of a second.
+const SECOND: u64 = 10;
+
+/// What a command read and wrote so far.
+#[derive(Drop)]
+pub struct Progress {
+    read: AtomicU64,
+    lines: AtomicU64,
+    started: AtomicU64,
+    ended: AtomicU64,
+    shown: AtomicU64,
+    over: AtomicU64,
+}
+
+impl Progress {
+    /// Nothing yet.
+    pub fn new() -> Progress {
+        Progress {
+            read: AtomicU64::new(0),
+            lines: AtomicU64::new(0),
+            started: AtomicU64::new(0),
+            ended: AtomicU64::new(0),
+            shown: AtomicU64::new(0),
+            over: AtomicU64::new(0),
+        }
+    }
+
+    /// So many bytes more were read.
+    pub fn count_read(&self, bytes: usize) {
+        if let Ok(bytes) = u64::try_from(bytes) {
+            self.read.fetch_add(bytes, Ordering::SeqCst);
+        }
+    }
+
+    /// These bytes were written.
+    pub fn count_written(&self, bytes: &[u8]) {
+        let lines = bytes.iter().filter(|byte| **byte == b'\n').count();
+        if let Ok(lines) = u64::try_from(lines) {
+            self.lines.fetch_add(lines, Ordering::SeqCst);
+        }
+    }
+
+    /// One more node was started.
+    pub fn count_started(&self) {
+        self.started.fetch_add(1, Ordering::SeqCst);
+    }
+
+    /// One more node has ended.
+    pub fn count_ended(&self) {
+        self.ended.fetch_add(1, Ordering::SeqCst);
+    }
+
+    /// The line that is shown after so many seconds.
+    fn line(&self, alloc: Global, seconds: u64) -> Result<String, AllocError> {
+        let read = self.read.load(Ordering::SeqCst);
+        let lines = self.lines.load(Ordering::SeqCst);
+        let (started, ended) = (
+            self.started.load(Ordering::SeqCst),
+            self.ended.load(Ordering::SeqCst),
+        );
+        let mut text = format!(in alloc;
+            "gasnet_cli: {seconds} s, read {read} bytes, wrote {lines} lines"
+        )?;
+        if started != 0 {
+            write!(text, ", {started} nodes started, {ended} finished")?;
+        }
+        Ok(text)
+    }
+
+    /// Shows on a terminal what the command is at, each second from the second one on, until it is over.
+    pub fn show<R: Eprint + Clock + AllocGlobal>(&self, rt: &R) {
+        for look in 1..u64::MAX {
+            thread::sleep(rt, Duration::from_millis(LOOK));
+            if self.over.load(Ordering::SeqCst) != 0 {
+                return;
+            }
+            if look < BEFORE || look % SECOND != 0 {
+                continue;
+            }
+            self.shown.store(1, Ordering::SeqCst);
+            if let Ok(line) = self.line(rt.alloc(), look / SECOND) {
+                let _ = eprint!(rt; "\r{line}\x1b[K");
+            }
+        }
+    }
+
+    /// The command is over: nothing more is shown, and what was shown is cleared.
+    pub fn end<R: Eprint + Clock>(&self, rt: &R) {
+        self.over.store(1, Ordering::SeqCst);
+        if self.shown.load(Ordering::SeqCst) != 0 {
+            thread::sleep(rt, Duration::from_millis(LOOK));
+            let _ = eprint!(rt; "\r\x1b[K");
+        }
+    }
+}
+
+/// What a command is at, shown on standard error by a thread of its own where that is a terminal.
+pub fn shown_progress<R: Threads + Eprint + Clock + AllocGlobal + Clone + Send + Drop + 'static>(
+    rt: &R,
+    is_terminal: bool,
+) -> Result<Arc<Progress>, AllocError> {
+    let progress = Arc::new(rt.alloc(), Progress::new())?;
+    if !is_terminal {
+        return Ok(progress);
+    }
+    let theirs = Arc::try_clone(&progress)?;
+    let handle = rt.clone()?;
+    if let Ok(shows) = thread::spawn(rt, move || theirs.show(&handle)) {
+        drop(shows);
+    }
+    Ok(progress)
+}

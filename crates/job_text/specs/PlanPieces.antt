@@ -1,0 +1,25 @@
+-- How many pieces the plans of a job have.
+use Rattle.std.specs.Prelude.{ℕ, ◌+◌, List, [], ◌∷◌}
+use Rattle.job_text.specs.StepPieces.{vis_pieces, steps_pieces}
+use Rattle.job_text.specs.declared.job.NodeScript.{NodeScript}
+use Rattle.job_text.specs.declared.job.ScheduledEvent.{ScheduledEvent}
+use Rattle.job_text.specs.declared.job.ScheduledEvent.TheVariants as event
+use Rattle.job_text.specs.declared.job.TimedEvent.{TimedEvent}
+
+-- the most pieces of all plans of a job
+abbrev pub most_pieces : ℕ
+most_pieces = 65536
+
+-- those of an event, and of all lines of a schedule
+abbrev pub event_pieces : ScheduledEvent → ℕ
+event_pieces (event.Vis node thread vis) = vis_pieces vis
+event_pieces other = 0
+
+abbrev pub schedule_pieces : List TimedEvent → ℕ
+schedule_pieces [] = 0
+schedule_pieces (timed ∷ others) = event_pieces timed.event + schedule_pieces others
+
+-- those of all scripts
+abbrev pub scripts_pieces : List NodeScript → ℕ
+scripts_pieces [] = 0
+scripts_pieces (script ∷ others) = steps_pieces script.steps + scripts_pieces others

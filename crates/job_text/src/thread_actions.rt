@@ -1,0 +1,49 @@
+//! Reading what a thread does in a line.
+
+ghost use Rattle.std.specs.Prelude.{◌≡◌};
+ghost use Rattle.job_text.specs.Reading.{Reads};
+ghost use Rattle.job_text.specs.ThreadActions.{thread_action_at, thread_action_form};
+
+use crate::calls::{call_at, call_form};
+use crate::fault::Miss;
+use crate::job::ScheduledCall;
+use crate::scope::Scope;
+use crate::vis::BoxedVis;
+use crate::vis_lines::{vis_at, vis_form};
+use std::alloc::Global;
+
+/// What a thread does in a line.
+#[derive(Drop)]
+pub enum ThreadAction {
+    /// It makes a call.
+    Call { call: ScheduledCall },
+    /// It begins a transfer of many pieces.
+    Vis { vis: BoxedVis },
+}
+
+/// What a thread does by a line, and the bytes after it.
+#[tactic(auto, unfolding(crate::specs::ThreadActions::thread_action_at))]
+pub fn thread_action_at<'a>(
+    alloc: Global,
+    scope: &Scope,
+    bytes: &'a [u8],
+) -> Result<(ThreadAction, &'a [u8]), Miss>
+    ensures { Reads (λ x. (x.0, x.1.now)) result (thread_action_at scope.now bytes.now) }
+{
+    match call_at(alloc, scope, bytes) {
+        Ok((call, rest)) => Ok((ThreadAction::Call { call }, rest)),
+        Err(Miss::NoMemory) => Err(Miss::NoMemory),
+        Err(Miss::Unlike) => {
+            let (vis, rest) = vis_at(alloc, scope, bytes)?;
+            Ok((ThreadAction::Vis { vis }, rest))
+        }
+    }
+}
+
+/// Whether bytes have the form of what a thread does by a line.
+#[tactic(auto, unfolding(crate::specs::ThreadActions::thread_action_form))]
+pub fn thread_action_form(scope: &Scope, bytes: &[u8]) -> bool
+    ensures { result ≡ thread_action_form scope.now bytes.now }
+{
+    call_form(scope, bytes) || vis_form(scope, bytes)
+}

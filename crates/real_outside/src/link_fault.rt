@@ -1,0 +1,38 @@
+//! Why a link failed.
+
+use std::io;
+use std::io::ErrorKind;
+use std::net::SocketAddr;
+
+/// Why a link failed, for a person.
+#[derive(Clone, Copy, Drop)]
+pub enum LinkFault {
+    /// There aren't as many hosts as nodes, or a node has no port.
+    NoAddress,
+    /// Nobody reads standard output any more.
+    Unread,
+    /// The address couldn't be bound, by the system's error of this number.
+    Bind(SocketAddr, i32),
+    /// Another call of the system failed, by the error of this number; 0 where it told none.
+    Other(i32),
+}
+
+impl LinkFault {
+    /// Why the socket couldn't be bound to its own address, if it has one.
+    pub(crate) fn of_bind(own: Option<SocketAddr>, error: &io::Error) -> LinkFault {
+        match (own, error.raw_os_error()) {
+            (Some(address), Some(code)) => LinkFault::Bind(address, code),
+            (_, Some(code)) => LinkFault::Other(code),
+            _ => LinkFault::NoAddress,
+        }
+    }
+
+    /// Why a datagram couldn't be sent or received.
+    pub(crate) fn of_call(error: &io::Error) -> LinkFault {
+        match error.raw_os_error() {
+            Some(code) => LinkFault::Other(code),
+            None if error.kind() == ErrorKind::BrokenPipe => LinkFault::Unread,
+            None => LinkFault::Other(0),
+        }
+    }
+}

@@ -1,0 +1,201 @@
+-- The try of a step that begins the pieces of a plan: its calls are those of the beginning, and none of them sends.
+use Rattle.std.proofs.Common.{◌≡◌, ℕ, ◌≤◌, length, List, [], ◌∷◌, ◌++◌, map, None, Some, refl, sym, ap, ◌∙◌, subst}
+use Rattle.std.specs.List.{AllByRecursion}
+use Rattle.datagram_grammar.specs.Parameters.{Parameters}
+use Rattle.handler_rules.specs.Runs.{Meaning, IsLawfulMeaning}
+use Rattle.node_record.specs.Invariant.{NodeInvariant}
+use Rattle.node_record.specs.NodeStep.{Does, IsAllSound}
+use Rattle.node_record.specs.Record.{Node}
+use Rattle.node_record.proofs.NodeEvents.{event_keeps}
+use Rattle.endpoint_rules.specs.EndpointLocal.{EndpointLocal, IsEndpointKept}
+use Rattle.endpoint_rules.specs.EndpointRules.{OnTransfers, RecordEvent, job_of}
+use Rattle.endpoint_rules.specs.TransferCalls.{TransferCall, BeginImplicit, RegionBegin, RegionEnd}
+use Rattle.endpoint_rules.specs.Called.{Meant, Performs}
+use Rattle.endpoint_rules.proofs.Sound.{rules_sound}
+use Rattle.gas_endpoint.specs.EndpointState.{EndpointState, EndpointStands}
+use Rattle.gas_strided.specs.Beginning.{BeginCall, beginnings, calls_made, in_region, on_transfers}
+use Rattle.gas_strided.specs.Beginning.{transfer_of, vis_answer}
+use Rattle.gas_strided.specs.Plans.{PlanState}
+use Rattle.gas_strided.specs.declared.shapes.Piece.{Piece}
+use Rattle.gas_strided.specs.declared.shapes.Vis.{Vis}
+use Rattle.gas_strided.specs.declared.shapes.Vis.TheVariants as vis
+use Rattle.job_text.specs.Scripts.{IsStep}
+use Rattle.job_text.specs.declared.job.ScriptStep.{ScriptStep}
+use Rattle.job_text.specs.declared.job.ScriptStep.TheVariants as step
+use Rattle.job_text.specs.declared.vis.VisText.{VisText}
+use Rattle.job_text.proofs.VisLaws.{vis_from, vis_settings}
+use Rattle.node_caller.specs.Sites.{ThreadCall, node_in_the_end, node_then}
+use Rattle.node_runs.specs.Actions.{FormMay}
+use Rattle.node_runs.specs.Outgoing.{slot_of, StaysWell}
+use Rattle.node_runs.specs.Scripts.{TryContext}
+use Rattle.node_runs.specs.Turn.{events_of, node_run, node_sends}
+use Rattle.node_runs.specs.declared.script_answer.ScriptAnswer.TheVariants as said
+use Rattle.script_steps.specs.Forms.{IsJobStep, site_of, calls_of_all, plan_form}
+use Rattle.script_steps.specs.Tries.{FormTrial, HasBegun, TriesForm, context_here, read_as}
+use Rattle.script_steps.specs.declared.trial.Trial.{Trial}
+use Rattle.script_steps.specs.declared.trial.Tried.{Tried}
+use Rattle.script_steps.proofs.Trying.{CallsOf, goes_so, well_of}
+
+-- ---- calls on transfers, one after another
+
+-- those of a thread
+abbrev pub all_on : (thread : ℕ) → List TransferCall → List ThreadCall
+all_on thread calls = map (on_transfers thread) calls
+
+-- the events that they are
+abbrev pub events_on : (thread : ℕ) → List TransferCall → List RecordEvent
+events_on thread calls = events_of thread (calls_of_all (all_on thread calls))
+
+-- the record that they leave
+end_is : (at : TryContext) (node : Node EndpointLocal) (calls : List TransferCall)
+    → node_in_the_end (site_of at) node (all_on at.thread calls)
+    ≡ node_run (job_of at.settings at.table at.meaning) at.me at.now (events_on at.thread calls) node
+end_is at node [] = refl
+end_is at node (call ∷ calls) = end_is at (node_then (site_of at) node (on_transfers at.thread call)) calls
+
+-- they send nothing
+none_sent : (at : TryContext) (node : Node EndpointLocal) (calls : List TransferCall)
+    → node_sends (job_of at.settings at.table at.meaning) at.me at.now (events_on at.thread calls) node ≡ []
+none_sent at node [] = refl
+none_sent at node (call ∷ calls) = none_sent at (node_then (site_of at) node (on_transfers at.thread call)) calls
+
+-- the invariant holds between them
+all_well : (at : TryContext) (node : Node EndpointLocal) (calls : List TransferCall)
+    → IsAllSound (job_of at.settings at.table at.meaning).behaviour (IsEndpointKept at.settings)
+    → NodeInvariant at.settings (IsEndpointKept at.settings) at.me node
+    → StaysWell (job_of at.settings at.table at.meaning) (IsEndpointKept at.settings) at.me at.now
+    (events_on at.thread calls) node
+all_well at node [] sound well = well
+all_well at node (call ∷ calls) sound well = (
+  well,
+  all_well at (node_then (site_of at) node (on_transfers at.thread call)) calls sound
+      (event_keeps (job_of at.settings at.table at.meaning) (IsEndpointKept at.settings) at.me node at.now
+      (Does at.thread (OnTransfers call)) sound well tt),
+)
+
+-- ---- the calls of a beginning
+
+-- the pieces, and the end of the region
+abbrev pieces_then : PlanState → (register : ℕ) → List Piece → List TransferCall
+pieces_then plan register [] = RegionEnd register ∷ []
+pieces_then plan register (piece ∷ pieces) =
+    BeginImplicit (transfer_of plan piece) ∷ pieces_then plan register pieces
+
+pieces_are : (plan : PlanState) (thread register : ℕ) (pieces : List Piece)
+    → beginnings plan thread pieces ++ on_transfers thread (RegionEnd register) ∷ []
+    ≡ all_on thread (pieces_then plan register pieces)
+pieces_are plan thread register [] = refl
+pieces_are plan thread register (piece ∷ pieces) =
+    ap (λ (later : List ThreadCall). on_transfers thread (BeginImplicit (transfer_of plan piece)) ∷ later)
+    (pieces_are plan thread register pieces)
+
+-- each call is one on transfers
+abbrev pub AreOnTransfers : (thread : ℕ) → List ThreadCall → Type 0
+AreOnTransfers thread calls = (on : List TransferCall) × (calls ≡ all_on thread on)
+
+region_are : (asked : BeginCall) (pieces : List Piece) → AreOnTransfers asked.thread (in_region asked pieces)
+region_are asked pieces = (
+  RegionBegin ∷ pieces_then asked.plan asked.register pieces,
+  ap (λ (later : List ThreadCall). on_transfers asked.thread RegionBegin ∷ later)
+      (pieces_are asked.plan asked.thread asked.register pieces),
+)
+
+made_are : (asked : BeginCall) (answer : Vis) → AreOnTransfers asked.thread (calls_made asked answer)
+made_are asked vis.Whole = region_are asked _
+made_are asked (vis.Part next) = region_are asked _
+made_are asked vis.TooMany = region_are asked _
+made_are asked vis.Nested = (RegionBegin ∷ [], refl)
+made_are asked (vis.Forbidden why) = (RegionBegin ∷ [], refl)
+made_are asked vis.NoMemory = ([], refl)
+
+-- what may be said of each call on transfers may be said of these
+made_may : (May : Meant → Type 0) → ((call : TransferCall) → May (Performs (OnTransfers call)))
+    → (asked : BeginCall) (answer : Vis) → AllByRecursion May (calls_of_all (calls_made asked answer))
+made_may May each asked answer =
+    let are = made_are asked answer in
+    subst (λ (calls : List ThreadCall). AllByRecursion May (calls_of_all calls)) (sym are.1) (of_all are.0)
+  where
+    of_all : (on : List TransferCall) → AllByRecursion May (calls_of_all (all_on asked.thread on))
+    of_all [] = tt
+    of_all (call ∷ later) = (each call, of_all later)
+
+pub plan_may : (May : Meant → Type 0) → ((call : TransferCall) → May (Performs (OnTransfers call)))
+    → (plan : PlanState) (from register : ℕ) (at : TryContext) (node : Node EndpointLocal)
+    → FormMay May (plan_form plan from register at node)
+plan_may May each plan from register at node =
+    let asked : BeginCall = record { plan = plan; thread = at.thread; from = from; register = register } in
+    made_may May each asked (vis_answer (site_of at) node asked)
+
+-- what such calls do to a node, as the events of a try
+pub record DoAsEvents (at : TryContext) (node : Node EndpointLocal) (calls : List ThreadCall) : Type 0 where
+  pub leaves : node_in_the_end (site_of at) node calls
+      ≡ node_run (job_of at.settings at.table at.meaning) at.me at.now
+      (events_of at.thread (calls_of_all calls)) node
+  pub sends : node_sends (job_of at.settings at.table at.meaning) at.me at.now
+      (events_of at.thread (calls_of_all calls)) node
+      ≡ []
+  pub well : StaysWell (job_of at.settings at.table at.meaning) (IsEndpointKept at.settings) at.me at.now
+      (events_of at.thread (calls_of_all calls)) node
+
+pub made_do : (at : TryContext) (node : Node EndpointLocal) (asked : BeginCall) (answer : Vis)
+    → asked.thread ≡ at.thread
+    → IsAllSound (job_of at.settings at.table at.meaning).behaviour (IsEndpointKept at.settings)
+    → NodeInvariant at.settings (IsEndpointKept at.settings) at.me node
+    → DoAsEvents at node (calls_made asked answer)
+made_do at node asked answer same sound well =
+    let are = subst (λ (thread : ℕ). AreOnTransfers thread (calls_made asked answer)) same (made_are asked answer) in
+    subst (DoAsEvents at node) (sym are.1) (record {
+      leaves = end_is at node are.0;
+      sends = none_sent at node are.0;
+      well = all_well at node are.0 sound well;
+    })
+
+-- ---- the step
+
+-- what a beginning asks of the plan of a step of a job, and of the piece to begin from
+pub may_begin : (settings : Parameters) (one : ScriptStep) (vis found : VisText) → IsJobStep settings one
+    → one ≡ step.Vis vis → found ≡ vis
+    → (found.words.from ≤ length found.plan.pieces) × (found.plan.settings ≡ settings)
+may_begin settings one vis found is_step is same =
+    let scope = is_step.0 in
+    let text = subst (IsStep scope) is is_step.2 in
+    subst (λ (these : VisText). (these.words.from ≤ length these.plan.pieces) × (these.plan.settings ≡ settings))
+    (sym same) (vis_from scope vis text, vis_settings scope vis text ∙ is_step.1)
+
+-- ---- the try
+
+-- the endpoint that was lent is the one that the caller leaves
+pub pieces_tried : (meaning : Meaning) (old new last : EndpointState) (trial : Trial) (plan : PlanState)
+    (from register : ℕ) (answer : Vis) → IsLawfulMeaning meaning
+    → HasBegun old (context_here meaning old trial.thread trial.time)
+    (record { plan = plan; thread = trial.thread; from = from; register = register }) answer new
+    → last ≡ new
+    → TriesForm meaning old
+    (read_as trial (plan_form plan from register (context_here meaning old trial.thread trial.time)))
+    (record { sent = None; ended = Some (said.Vis answer); began = None }) last
+pieces_tried meaning old new last trial plan from register answer lawful B is =
+    subst (TriesForm meaning old form tried) (sym is)
+    (goes_so meaning old new form tried (record { settings = B.settings; me_is = B.me_is; table = B.table })
+    (λ node stands.
+    subst (λ (one : Vis). CallsOf meaning old form tried new node (calls_of_all (calls_made asked one)))
+    (B.answered node stands)
+    (let does = made_do at node asked answer refl
+    (rules_sound old.core.settings old.core.table meaning stands.core.range lawful) (well_of old node stands) in (
+      subst (EndpointStands new) does.leaves (B.leaves node stands),
+      sym (ap (map slot_of) does.sends),
+      does.well,
+      ap (λ (one : Vis). Some (said.Vis one)) (B.answered node stands),
+      refl,
+    ))))
+  where
+    at : TryContext
+    at = context_here meaning old trial.thread trial.time
+
+    asked : BeginCall
+    asked = record { plan = plan; thread = trial.thread; from = from; register = register }
+
+    form : FormTrial
+    form = read_as trial (plan_form plan from register at)
+
+    tried : Tried
+    tried = record { sent = None; ended = Some (said.Vis answer); began = None }

@@ -1,0 +1,21 @@
+//! What the program tells a person: help, why words or a job's text are refused, and the steps of a run.
+//!
+//! All of it goes to standard error. No clause speaks of these texts; that their functions end, and read nothing that
+//! isn't there, is proved as of all code.
+#![tactic(auto)]
+
+mod commands;
+mod faults;
+mod forms;
+mod help;
+mod kinds;
+mod pages;
+mod places;
+mod steps;
+mod usage;
+
+pub use commands::{COMMANDS, CommandText, Parameter};
+pub use faults::{BadLine, job_fault};
+pub use help::help_for;
+pub use steps::{lines_told, steps_told};
+pub use usage::{place_fault, usage_fault};

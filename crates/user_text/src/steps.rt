@@ -1,0 +1,125 @@
+//! The steps and lines of a job beside their answers, for a person.
+
+use crate::faults::{next_line, text_of};
+use crate::places::{Place, Reading};
+use std::alloc::{AllocError, Global};
+
+/// The steps of a script that weren't told yet.
+#[derive(Clone, Copy)]
+struct Script<'a> {
+    node: &'a str,
+    thread: &'a str,
+    steps: &'a [u8],
+    told: u64,
+}
+
+/// The scripts of a job's text, and its schedule.
+#[derive(Drop)]
+struct Parts<'a> {
+    scripts: Vec<Script<'a>>,
+    schedule: &'a [u8],
+}
+
+/// The parts of a job's text.
+fn parts_of(alloc: Global, text: &[u8]) -> Result<Parts<'_>, AllocError> {
+    let mut reading = Reading::new();
+    let mut parts = Parts {
+        scripts: Vec::new(alloc),
+        schedule: &[],
+    };
+    let mut rest = text;
+    for _ in 0..text.len() {
+        let Some((line, after)) = next_line(rest) else {
+            return Ok(parts);
+        };
+        let line = text_of(line);
+        let before = reading.place;
+        reading.pass(line);
+        rest = after;
+        if before == reading.place {
+            continue;
+        }
+        match reading.place {
+            Place::Steps => {
+                let mut words = line.split(' ').skip(1);
+                let (node, thread) = (words.next().unwrap_or(""), words.next().unwrap_or(""));
+                parts.scripts.push(Script {
+                    node,
+                    thread,
+                    steps: after,
+                    told: 0,
+                })?;
+            }
+            Place::Schedule => parts.schedule = after,
+            Place::Behind => return Ok(parts),
+            _ => {}
+        }
+    }
+    Ok(parts)
+}
+
+/// Tells the next step of a thread with its answer. False where there is none.
+fn tell_step(
+    told: &mut String,
+    scripts: &mut [Script<'_>],
+    line: &str,
+) -> Result<bool, AllocError> {
+    let mut words = line.splitn(3, ' ');
+    let (node, thread) = (words.next().unwrap_or(""), words.next().unwrap_or(""));
+    let answer = words.next().unwrap_or("");
+    for script in scripts.iter_mut() {
+        if script.node == node && script.thread == thread {
+            let Some((step, after)) = next_line(script.steps) else {
+                return Ok(false);
+            };
+            script.steps = after;
+            script.told = script.told.saturating_add(1);
+            let (number, step) = (script.told, text_of(step));
+            write!(told, "step {node} {thread} {number} `{step}`: {answer}\n")?;
+            return Ok(true);
+        }
+    }
+    Ok(false)
+}
+
+/// The steps of a job beside their answers: a line `step RANK THREAD NUMBER` with the step and the answer for each line of
+/// steps with which the output of `check` or `launch` begins.
+pub fn steps_told(alloc: Global, job: &[u8], output: &[u8]) -> Result<String, AllocError> {
+    let mut told = String::new(alloc);
+    let Parts { mut scripts, .. } = parts_of(alloc, job)?;
+    let mut rest = output;
+    for _ in 0..output.len() {
+        let Some((line, after)) = next_line(rest) else {
+            return Ok(told);
+        };
+        if !tell_step(&mut told, &mut scripts, text_of(line))? {
+            return Ok(told);
+        }
+        rest = after;
+    }
+    Ok(told)
+}
+
+/// The lines of a job's schedule beside their answers: a line `line NUMBER` with the line and the answer for each line of
+/// answers with which the output of `world` begins.
+pub fn lines_told(alloc: Global, job: &[u8], output: &[u8]) -> Result<String, AllocError> {
+    let mut told = String::new(alloc);
+    let Parts { scripts, schedule } = parts_of(alloc, job)?;
+    drop(scripts);
+    let (mut asked, mut answered) = (schedule, output);
+    for _ in 0..output.len() {
+        let (Some((line, later)), Some((answer, after))) = (next_line(asked), next_line(answered))
+        else {
+            return Ok(told);
+        };
+        let (line, answer) = (text_of(line), text_of(answer));
+        let (number, words) = answer.split_once(' ').unwrap_or(("", ""));
+        if line == "end" || number == "status" {
+            return Ok(told);
+        }
+        write!(told, "line {number} `{line}`: {words}\n")?;
+        asked = later;
+        answered = after;
+    }
+    Ok(told)
+}
