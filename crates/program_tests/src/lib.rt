@@ -1,4 +1,4 @@
-//! Tests of public calls that no word of the program shows by itself: the rows of the program are in `rows`.
+//! Tests of public calls that no word of the program shows by itself: the cases of the program are in `cases`.
 //!
 //! A job is read with bytes behind it, and the text of a job of version 1 is printed. The numbers of the drill and of
 //! locks are compared with values from outside.

@@ -1,0 +1,150 @@
+"""Running the program on a case: with an input that fails, an output that is full, children and a peer of ours."""
+import os
+import re
+import socket
+import subprocess
+import sys
+import tempfile
+import threading
+import time
+import tty
+from contextlib import ExitStack, contextmanager
+from dataclasses import dataclass, field
+from pathlib import Path
+
+SECONDS = 60
+HOST = "127.0.0.1"
+# One case of `node` at a time, since several have the same ports.
+PORTS = threading.Lock()
+# Starts the program with a file size that is limited. A write past that fails, since Python ignores the signal.
+LIMITED = (
+    "import os, resource, sys; most = int(sys.argv[1]);"
+    "resource.setrlimit(resource.RLIMIT_FSIZE, (most, most)); os.execv(sys.argv[2], sys.argv[2:])"
+)
+# The child of each rank. Where it is the last that can be started, it takes itself away before it reads.
+CHILD = """\
+#!/bin/sh
+cd "${0%/*}"
+[ -e "$2.last" ] && rm "$0"
+cat > "$2.read"
+echo "$3" > "$2.port"
+cat "$2.text"
+. "./$2.end"
+"""
+TURN = re.compile(rb"^(turn [0-9]+) [0-9]+ ", re.M)
+
+
+@dataclass
+class Came:
+    """What came of a run: its exit status, what children and peer had of it, and the text that it wrote."""
+
+    status: int
+    told: list = field(default_factory=list)
+    text: bytes = b""
+
+
+def run(program, case):
+    """Runs the program on a case."""
+    with ExitStack() as stack:
+        folder = Path(stack.enter_context(tempfile.TemporaryDirectory()))
+        if case.words[:1] == ["node"]:
+            stack.enter_context(PORTS)
+            return run_node(program, case, folder)
+        if case.words[:1] == ["launch"]:
+            return run_launch(program, case, folder)
+        return ended(program, case, folder)
+
+
+def ended(program, case, folder, during=lambda child: None, **environment):
+    """Runs the program to its end. What it wrote is in a file, which may have a limit of its size."""
+    call = [program, *case.words]
+    if case.takes is not None:
+        call = [sys.executable, "-c", LIMITED, str(case.takes), *call]
+    with open(folder / "written", "w+b") as written, input_of(case, folder) as read:
+        own = {**os.environ, **environment}
+        with subprocess.Popen(call, stdin=read, stdout=written, stderr=subprocess.DEVNULL, env=own) as child:
+            try:
+                during(child)
+                status = child.wait(SECONDS)
+            finally:
+                child.kill()
+        return Came(status, [], (folder / "written").read_bytes())
+
+
+@contextmanager
+def input_of(case, folder):
+    """The standard input of a case: its text as a file, or one half of a terminal whose other half was closed."""
+    if not case.failing_read:
+        (folder / "job").write_bytes(case.text)
+        with open(folder / "job", "rb") as read:
+            yield read
+        return
+    read, other = os.openpty()
+    tty.setraw(other)
+    os.write(other, case.text if case.failing_read > 1 else b"")
+    os.close(other)
+    yield read
+    os.close(read)
+
+
+def run_launch(program, case, folder):
+    """Runs a launch over the children of a case. What of them was started and finished is told by files."""
+    agent, kept = folder / "agent", folder / "kept"
+    for rank, child in enumerate(case.children):
+        (folder / f"{rank}.text").write_bytes(child.text)
+        (folder / f"{rank}.end").write_text("kill -9 $$" if child.status is None else f"exit {child.status}")
+    if case.children:
+        (folder / f"{len(case.children) - 1}.last").touch()
+        agent.write_text(CHILD)
+        agent.chmod(0o700)
+    came = ended(program, case, folder, GASNET_AGENT=str(agent), GASNET_KEEP=str(kept))
+    ranks = range(len(case.children))
+    came.told += [started(folder, rank, case.text) for rank in ranks if (folder / f"{rank}.port").exists()]
+    came.told += [f"finishes {rank}" for rank in ranks if (kept / f"{rank}.end").exists()]
+    return came
+
+
+def started(folder, rank, job):
+    """What is told of a child that was started."""
+    given = "what was read" if (folder / f"{rank}.read").read_bytes() == job else "other bytes"
+    return f"starts {rank} at port {(folder / f'{rank}.port').read_text().strip()} with {given}"
+
+
+def run_node(program, case, folder):
+    """Runs a node. The times of its turns are told as 0."""
+    if case.peer is None:
+        came = ended(program, case, folder)
+    else:
+        came = run_beside_peer(program, case, folder)
+    came.text = TURN.sub(rb"\1 0 ", came.text)
+    return came
+
+
+def run_beside_peer(program, case, folder):
+    """Runs a node, and tells what it sent to the peer."""
+    rank, port = map(int, case.words[1:])
+    with socket.socket(socket.AF_INET, socket.SOCK_DGRAM) as peer:
+        peer.bind((HOST, port + case.peer))
+        peer.connect((HOST, port + rank))
+        came = ended(program, case, folder, lambda child: send(peer, case.waits, child))
+        peer.setblocking(False)
+        came.told += [f"sends {case.peer} x{datagram.hex()}" for datagram in received(peer)]
+    return came
+
+
+def send(peer, datagram, child):
+    """Sends a datagram, if there is one, again until a socket is there that it came to."""
+    while datagram is not None and child.poll() is None:
+        peer.send(datagram)
+        if not peer.getsockopt(socket.SOL_SOCKET, socket.SO_ERROR):
+            return
+        time.sleep(0.001)
+
+
+def received(peer):
+    """The datagrams that came to a socket."""
+    while True:
+        try:
+            yield peer.recv(65_536)
+        except (BlockingIOError, ConnectionRefusedError):
+            return
