@@ -60,7 +60,7 @@ def wanted(case, said, texts):
 
 
 def paired(book, name):
-    """Each case of a file with what has to come of it; a heading with nothing. What doesn't fit is told in its place."""
+    """Each case of a file with what has to come of it. Where the two files don't fit, a fault stands in its place."""
     told, texts = said_of(name), {}
     cases = list(book.cases(name))
     for number in range(max(len(cases), len(told))):
@@ -101,7 +101,7 @@ def judge(program, case, want):
 
 
 def judged(program, chosen):
-    """The cases of these files with what is wrong with each, in their order. As many run at once as there are processors."""
+    """The cases of these files, in order, with what is wrong with each. They run side by side on the processors."""
     try:
         book = Book()
         pairs = [pair for name in chosen for pair in paired(book, name)]

@@ -58,9 +58,12 @@ def run(program, case):
 def ended(program, case, folder, during=lambda child: None, **environment):
     """Runs the program to its end. What it wrote is in a file, which may have a limit of its size."""
     call = [program, *case.words]
-    if case.takes is not None:
+    if case.takes:
         call = [sys.executable, "-c", LIMITED, str(case.takes), *call]
-    with open(folder / "written", "w+b") as written, input_of(case, folder) as read:
+    output = folder / "written"
+    if case.takes == 0:
+        output.symlink_to("/dev/full")
+    with open(output, "wb") as written, input_of(case, folder) as read:
         own = {**os.environ, **environment}
         with subprocess.Popen(call, stdin=read, stdout=written, stderr=subprocess.DEVNULL, env=own) as child:
             try:
@@ -68,7 +71,7 @@ def ended(program, case, folder, during=lambda child: None, **environment):
                 status = child.wait(SECONDS)
             finally:
                 child.kill()
-        return Came(status, [], (folder / "written").read_bytes())
+    return Came(status, [], b"" if case.takes == 0 else output.read_bytes())
 
 
 @contextmanager
@@ -134,7 +137,9 @@ def run_beside_peer(program, case, folder):
 
 def send(peer, datagram, child):
     """Sends a datagram, if there is one, again until a socket is there that it came to."""
-    while datagram is not None and child.poll() is None:
+    for _ in range(1_000 * SECONDS):
+        if datagram is None or child.poll() is not None:
+            return
         peer.send(datagram)
         if not peer.getsockopt(socket.SOL_SOCKET, socket.SO_ERROR):
             return
