@@ -4,6 +4,7 @@ import re
 import subprocess
 from concurrent.futures import ThreadPoolExecutor
 from dataclasses import dataclass, field
+from itertools import zip_longest
 
 from .reading import FOLDER, Book, Case, Unread, split_lines
 from .running import SECONDS, Came, run
@@ -47,7 +48,7 @@ def wanted(case, said, texts):
     want = Came(int(said.head.removeprefix(f"{case.name} => ")))
     for line in said.lines:
         front = FRONT.fullmatch(line)
-        if front and int(front[2]) == len(texts[front[3]]):
+        if front and int(front[2]) == len(texts.get(front[3], b"")):
             want.text += texts[front[3]][: int(front[1])]
         elif line == BEHIND:
             want.text += split_lines(case.text, 1)[1]
@@ -59,18 +60,25 @@ def wanted(case, said, texts):
     return want
 
 
+def head_of(part):
+    """A heading, the name of a case, or the first line of what is said."""
+    match part:
+        case Case():
+            return part.name
+        case Said():
+            return part.head
+    return part
+
+
 def paired(book, name):
-    """Each case of a file with what has to come of it. Where the two files don't fit, a fault stands in its place."""
-    told, texts = said_of(name), {}
-    cases = list(book.cases(name))
-    for number in range(max(len(cases), len(told))):
-        case = cases[number] if number < len(cases) else None
-        said = told[number] if number < len(told) else Said(0, "(nothing)")
-        place = f"cases/{name}.expected:{said.number}"
+    """Each case of a file with what has to come of it. Where the two files part, a fault stands in their place."""
+    texts, parts = {}, Said(0, "nothing more")
+    for case, said in zip_longest(book.cases(name), said_of(name), fillvalue=parts):
         if isinstance(case, Case) and re.fullmatch(re.escape(case.name) + " => [0-9]+", said.head):
             yield case, wanted(case, said, texts)
-        elif case != said.head:
-            yield Judged(place, said.head, f"wanted {case.name if isinstance(case, Case) else case}"), None
+        elif isinstance(case, Case) or case != said.head:
+            yield Judged(f"cases/{name}.expected:{said.number}", said.head, f"wanted {head_of(case)}"), None
+            return
 
 
 def differing(want, came):
@@ -83,7 +91,7 @@ def differing(want, came):
 
 
 def text_lines(text):
-    return text.decode(errors="replace").split("\n")
+    return text.decode(errors="backslashreplace").split("\n")
 
 
 def judge(program, case, want):
@@ -106,6 +114,6 @@ def judged(program, chosen):
         book = Book()
         pairs = [pair for name in chosen for pair in paired(book, name)]
     except Unread as unread:
-        return [Judged(str(unread), "", "not understood")]
+        return [Judged(*unread.args, "not understood")]
     with ThreadPoolExecutor(os.cpu_count()) as pool:
         return list(pool.map(lambda pair: pair[0] if pair[1] is None else judge(program, *pair), pairs))

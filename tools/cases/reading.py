@@ -9,7 +9,7 @@ PART = re.compile(rb"\\(?:(n)|x([0-9a-f]{2})|\*([0-9]+)\(([^)]*)\)|)")
 
 
 class Unread(Exception):
-    """A line of a file that is none of the known ones."""
+    """A line of a file that is none of the known ones: its place, and the line."""
 
 
 @dataclass
@@ -90,7 +90,7 @@ def blocks_of(name):
         elif line and blocks:
             blocks[-1].lines.append((number, line))
         elif line:
-            raise Unread(f"cases/{name}.cases:{number}: {line}")
+            raise Unread(f"cases/{name}.cases:{number}", line)
     return blocks
 
 
@@ -132,7 +132,7 @@ class Book:
             try:
                 self.add(case, word, rest)
             except (KeyError, ValueError) as error:
-                raise Unread(f"cases/{block.file}.cases:{number}: {line}") from error
+                raise Unread(f"cases/{block.file}.cases:{number}", line) from error
         return case
 
     def add(self, case, word, rest):
@@ -168,7 +168,7 @@ class Book:
             place, bar, text = line.partition(" | ")
             where = f"cases/{block.file}.cases:{number}"
             if not bar or not re.fullmatch(r"(front )?[0-9]+", place):
-                raise Unread(f"{where}: {line}")
+                raise Unread(where, line)
             yield Case(line, where, words.split(), row_text(base, place, text))
 
 
