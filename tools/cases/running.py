@@ -21,16 +21,7 @@ LIMITED = (
     "import os, resource, sys; most = int(sys.argv[1]);"
     "resource.setrlimit(resource.RLIMIT_FSIZE, (most, most)); os.execv(sys.argv[2], sys.argv[2:])"
 )
-# The child of each rank. Where it is the last that can be started, it takes itself away before it reads.
-CHILD = """\
-#!/bin/sh
-cd "${0%/*}"
-[ -e "$2.last" ] && rm "$0"
-cat > "$2.read"
-echo "$3" > "$2.port"
-cat "$2.text"
-. "./$2.end"
-"""
+CHILD = Path(__file__).resolve().parent / "child"
 TURN = re.compile(rb"^(turn [0-9]+) [0-9]+ ", re.M)
 
 
@@ -98,8 +89,7 @@ def run_launch(program, case, folder):
         (folder / f"{rank}.end").write_text("kill -9 $$" if child.status is None else f"exit {child.status}")
     if case.children:
         (folder / f"{len(case.children) - 1}.last").touch()
-        agent.write_text(CHILD)
-        agent.chmod(0o700)
+        agent.symlink_to(CHILD)
     came = ended(program, case, folder, GASNET_AGENT=str(agent), GASNET_KEEP=str(kept))
     ranks = range(len(case.children))
     came.told += [started(folder, rank, case.text) for rank in ranks if (folder / f"{rank}.port").exists()]
