@@ -25,6 +25,7 @@ What stands in a block:
   longer than a pipe takes at once.
 - `peer 1` has the port of that rank, and tells what the node sends there. With `waits NAME` it sends the node that
   text, once the node has its own port.
+- `hosts 127.0.0.1 255.255.255.255` says the hosts of the nodes. No node can send to the second of these.
 
 FILE.expected says of a run its name and its exit status, as `a drill => 0`. Behind it come the children that were
 started and finished, the datagrams that the peer got, and the text that was written, each line behind a `|`, with a

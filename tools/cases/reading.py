@@ -33,6 +33,7 @@ class Case:
     children: list = field(default_factory=list)
     peer: int | None = None
     waits: bytes | None = None
+    hosts: str = ""
 
 
 @dataclass
@@ -155,6 +156,8 @@ class Book:
                 case.children.append(Child(self.text(second), None if first == "killed" else int(first)))
             case "peer":
                 case.peer = int(rest)
+            case "hosts":
+                case.hosts = rest
             case "waits":
                 case.waits = self.text(rest)
             case _:

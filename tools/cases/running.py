@@ -105,7 +105,9 @@ def started(folder, rank, job):
 
 def run_node(program, case, folder):
     """Runs a node. The times of its turns are told as 0."""
-    if case.peer is None:
+    if case.hosts:
+        came = ended(program, case, folder, GASNET_HOSTS=case.hosts)
+    elif case.peer is None:
         came = ended(program, case, folder)
     else:
         came = run_beside_peer(program, case, folder)
