@@ -21,8 +21,9 @@ What stands in a block:
 - `fails read 1` lets the first read of standard input fail; `fails read 2` the one behind the text.
 - `takes 8192` lets standard output take so many bytes, and no more.
 - `child 9 NAME` is the child of the next rank that `launch` starts: it writes that text and ends with that status. A
-  signal ends `child killed NAME`. A rank without a child can't be started: where one before it can, the job has to be
-  longer than a pipe takes at once.
+  signal ends `child killed NAME`.
+- `no child` lets the start of the next rank fail. Where there is a child before it, the job has to be longer than a pipe
+  takes at once, so that the child has begun to read it.
 - `peer 1` has the port of that rank, and tells what the node sends there. With `waits NAME` it sends the node that
   text, once the node has its own port.
 - `hosts 127.0.0.1 255.255.255.255` says the hosts of the nodes. No node can send to the second of these.

@@ -31,6 +31,7 @@ class Case:
     failing_read: int = 0
     takes: int | None = None
     children: list = field(default_factory=list)
+    no_more_children: bool = False
     peer: int | None = None
     waits: bytes | None = None
     hosts: str = ""
@@ -154,6 +155,8 @@ class Book:
                 case.takes = int(rest)
             case "child":
                 case.children.append(Child(self.text(second), None if first == "killed" else int(first)))
+            case "no" if rest == "child":
+                case.no_more_children = True
             case "peer":
                 case.peer = int(rest)
             case "hosts":

@@ -88,8 +88,9 @@ def run_launch(program, case, folder):
         (folder / f"{rank}.text").write_bytes(child.text)
         (folder / f"{rank}.end").write_text("kill -9 $$" if child.status is None else f"exit {child.status}")
     if case.children:
-        (folder / f"{len(case.children) - 1}.last").touch()
         agent.symlink_to(CHILD)
+    if case.no_more_children:
+        (folder / f"{len(case.children) - 1}.last").touch()
     came = ended(program, case, folder, GASNET_AGENT=str(agent), GASNET_KEEP=str(kept))
     ranks = range(len(case.children))
     came.told += [started(folder, rank, case.text) for rank in ranks if (folder / f"{rank}.port").exists()]
