@@ -1,12 +1,11 @@
 //! Sockets of 127.0.0.1, the system's clock, and processes.
 
-use gas_outside::{Clock, Finished, Gate, Link, LinkAnswer, Received, Spawner, Started};
-use real_outside::{
-    ChildEnd, ChildEnds, Hosts, LinkSocket, ProcessSpawner, SocketGate, SystemClock, UdpLink,
-};
+use gas_outside::{Clock, Finished, Link, LinkAnswer, Received, Spawner, Started};
+use real_outside::{ChildEnd, ChildEnds, Hosts, LinkSocket, ProcessSpawner, SystemClock, UdpLink};
 use std::net::UdpSocket;
 use std::test::Fail;
-use std::time::Instant;
+use std::thread::sleep;
+use std::time::{Duration, Instant};
 
 /// Binds the links of both nodes of a job to the first two ports from 23,000 on that nothing else
 /// has, and tells the first of them.
@@ -31,43 +30,55 @@ const CARRIED: [(&[u8], &[u8]); 3] = [
     (&[1, 2, 3, 4, 5], &[1, 2, 3, 4]),
 ];
 
+/// Whether what one node sends comes to the other.
+fn carries<L: Link>(near: &mut L, far: &mut L) -> bool {
+    let mut room = [0u8; 4];
+    for (bytes, want) in CARRIED {
+        let answers = (near.send(1, bytes), far.receive(&mut room));
+        if answers != (LinkAnswer::Done, Received::Got(want.len())) || !room.starts_with(want) {
+            return false;
+        }
+    }
+    far.receive(&mut room) == Received::Empty
+}
+
+/// Sends two bytes to a port, from one that no node has.
+fn send_as_stranger(rt: HostRuntime, port: u16) -> bool {
+    match UdpSocket::bind(&rt, "127.0.0.1:0") {
+        Ok(stranger) => stranger.send_to(&[1, 2], ("127.0.0.1", port)).is_ok(),
+        Err(_) => false,
+    }
+}
+
+/// Whether node 0 gets what node 1 sends, and not what it sends itself.
+fn hears_its_peer<L: Link>(near: &mut L, far: &mut L) -> bool {
+    let mut room = [0u8; 4];
+    near.send(0, &[1, 2, 3]) == LinkAnswer::Done
+        && far.send(0, &[1]) == LinkAnswer::Done
+        && near.receive(&mut room) == Received::Got(1)
+        && near.receive(&mut room) == Received::Empty
+}
+
 // The node itself, and a socket with another port, are no peers of node 0. Node 1 is.
 #[test]
-fn carries_what_peers_send(rt: HostRuntime) -> Result<(), Fail> {
+fn carries_what_peers_send(rt: HostRuntime) {
     let (near, far) = (LinkSocket::new(), LinkSocket::new());
     let hosts = Hosts::local(rt.alloc());
     let mut first = UdpLink::new(rt, &near, &hosts);
     let mut second = UdpLink::new(rt, &far, &hosts);
-    let port = bind_both(&mut first, &mut second).ok_or("no port is free")?;
-    let gate = SocketGate::new(rt, rt.alloc(), &far);
-    let mut room = [0u8; 4];
-    for (bytes, want) in CARRIED {
-        let sent = first.send(1, bytes);
-        gate.before_turn(0, true);
-        let got = second.receive(&mut room);
-        assert!(rt;
-            sent == LinkAnswer::Done && got == Received::Got(want.len()) && room.starts_with(want)
-        );
-    }
-    let stranger = UdpSocket::bind(&rt, "127.0.0.1:0")?;
-    stranger.send_to(&[1, 2], ("127.0.0.1", port))?;
-    let sent = [first.send(0, &[1, 2, 3]), second.send(0, &[1])];
-    let got = [first.receive(&mut room), first.receive(&mut room)];
-    assert!(rt; sent == [LinkAnswer::Done; 2] && got == [Received::Got(1), Received::Empty]);
-    assert!(rt; near.strays() == 2);
-    Ok(())
+    let port = bind_both(&mut first, &mut second);
+    let is_carried = port.is_some() && carries(&mut first, &mut second);
+    let is_sent = port.is_some_and(|port| send_as_stranger(rt, port));
+    let is_heard = hears_its_peer(&mut first, &mut second);
+    assert!(rt; is_carried && is_sent && is_heard && near.strays() == 2);
 }
 
 #[test]
 fn counts_milliseconds(rt: HostRuntime) -> Result<(), Fail> {
     let before = Instant::now(&rt)?;
     let mut clock = SystemClock::new(rt);
-    let socket = LinkSocket::new();
-    let gate = SocketGate::new(rt, rt.alloc(), &socket);
     let first = clock.now();
-    for _ in 0..3 {
-        gate.before_turn(0, true);
-    }
+    sleep(&rt, Duration::from_millis(3));
     let last = clock.now();
     let most = before.elapsed(&rt)?.as_millis();
     assert!(rt; first.saturating_add(2) <= last && u128::from(last) <= most);
@@ -82,24 +93,21 @@ fn code_kept(ends: &ChildEnds) -> Option<i32> {
     }
 }
 
-/// Programs, how each ends as the child of rank 3, and the exit status that is kept of it.
-const CHILDREN: [(&str, Finished, Option<i32>); 2] = [
-    ("false", Finished::Ended(1), Some(1)),
-    ("yes", Finished::Failed, None),
-];
+/// Whether the child of rank 3 is started, ends with this status, and writes nothing.
+fn ends_with<S: Spawner>(spawner: &mut S, code: u8, output: &mut Vec<u8>) -> bool {
+    spawner.start(3, 21_000, b"gasnet 1\n") == Started::Started
+        && spawner.finish(3, output) == Finished::Ended(code)
+        && output.is_empty()
+}
 
-// `false` ends whether it was given its input or not; `yes` writes without an end.
+// `false` ends whether it was given its input or not.
 #[test]
 fn tells_how_a_child_ends(rt: HostRuntime) -> Result<(), Fail> {
-    for (program, want, code) in CHILDREN {
-        let ends = ChildEnds::new(rt.alloc());
-        let program = String::from_str(rt.alloc(), program)?;
-        let mut spawner = ProcessSpawner::new(rt, rt.alloc(), program, &ends);
-        let mut output = Vec::new(rt.alloc());
-        let started = spawner.start(3, 21_000, b"gasnet 1\n");
-        let finished = spawner.finish(3, &mut output);
-        assert!(rt; started == Started::Started && finished == want && output.is_empty());
-        assert!(rt; code_kept(&ends) == code);
-    }
+    let program = String::from_str(rt.alloc(), "false")?;
+    let ends = ChildEnds::new(rt.alloc());
+    let mut spawner = ProcessSpawner::new(rt, rt.alloc(), program, &ends);
+    let mut output = Vec::new(rt.alloc());
+    let is_ended = ends_with(&mut spawner, 1, &mut output);
+    assert!(rt; is_ended && code_kept(&ends) == Some(1));
     Ok(())
 }

@@ -3,119 +3,73 @@
 use datagram_grammar::{BarrierNote, Kind, Outgoing, note_args, spell};
 use sealed_link::Hmac;
 
-/// The parts of a message of job 7 with number 1 from node 0 to node 1, in version 1.
-const SENT: Outgoing<'static> = Outgoing {
-    version: 1,
-    kind: Kind::ShortRequest,
-    job: 7,
-    from: 0,
-    to: 1,
-    slot: 0,
-    number: 1,
-    handler: 128,
-    args: &[5],
-    offset: 0,
-    payload: &[],
-};
+/// A Short request of node 0 to node 1, for handler 128 with argument 5.
+const REQUEST: [u8; 44] =
+    *b"\x47\x41\x4d\x31\x00\x80\x01\x00\0\0\0\0\0\0\0\x07\0\0\0\x01\0\0\0\0\0\0\0\0\0\0\0\x01\0\0\0\0\0\0\0\0\0\0\0\x05";
 
-/// The parts of what comes back.
-const BACK: Outgoing<'static> = Outgoing {
-    from: 1,
-    to: 0,
-    ..SENT
-};
+/// Its Ack.
+const ACK: [u8; 40] =
+    *b"\x47\x41\x4d\x31\x06\x00\x00\x00\0\0\0\0\0\0\0\x07\0\x01\0\0\0\0\0\0\0\0\0\0\0\0\0\x01\0\0\0\0\0\0\0\0";
 
-/// Messages of each kind, and their bytes. The last is a barrier note of version 2, from node 64 to
-/// node 65.
-const MESSAGES: [(Outgoing<'static>, &[u8]); 10] = [
-    (
-        SENT,
-        b"\x47\x41\x4d\x31\x00\x80\x01\x00\0\0\0\0\0\0\0\x07\0\0\0\x01\0\0\0\0\0\0\0\0\0\0\0\x01\0\0\0\0\0\0\0\0\0\0\0\x05",
-    ),
-    (
-        Outgoing {
-            kind: Kind::Ack,
-            handler: 0,
-            args: &[],
-            ..BACK
-        },
-        b"\x47\x41\x4d\x31\x06\x00\x00\x00\0\0\0\0\0\0\0\x07\0\x01\0\0\0\0\0\0\0\0\0\0\0\0\0\x01\0\0\0\0\0\0\0\0",
-    ),
-    (
-        Outgoing {
-            kind: Kind::ShortReply,
-            handler: 129,
-            args: &[-2],
-            ..BACK
-        },
-        b"\x47\x41\x4d\x31\x03\x81\x01\x00\0\0\0\0\0\0\0\x07\0\x01\0\0\0\0\0\0\0\0\0\0\0\0\0\x01\0\0\0\0\0\0\0\0\xff\xff\xff\xfe",
-    ),
-    (
-        Outgoing {
-            handler: 65,
-            args: &[0, 0, 4, 0, 100],
-            ..SENT
-        },
-        b"\x47\x41\x4d\x31\x00\x41\x05\x00\0\0\0\0\0\0\0\x07\0\0\0\x01\0\0\0\0\0\0\0\0\0\0\0\x01\0\0\0\0\0\0\0\0\0\0\0\0\0\0\0\0\0\0\0\x04\0\0\0\0\0\0\0\x64",
-    ),
-    (
-        Outgoing {
-            kind: Kind::LongReply,
-            handler: 68,
-            args: &[],
-            offset: 100,
-            payload: &[9; 4],
-            ..BACK
-        },
-        b"\x47\x41\x4d\x31\x05\x44\x00\x00\0\0\0\0\0\0\0\x07\0\x01\0\0\0\0\0\x04\0\0\0\0\0\0\0\x01\0\0\0\0\0\0\0\x64\x09\x09\x09\x09",
-    ),
-    (
-        Outgoing {
-            kind: Kind::MediumRequest,
-            handler: 131,
-            args: &[1],
-            payload: &[10, 11],
-            ..SENT
-        },
-        b"\x47\x41\x4d\x31\x01\x83\x01\x00\0\0\0\0\0\0\0\x07\0\0\0\x01\0\0\0\x02\0\0\0\0\0\0\0\x01\0\0\0\0\0\0\0\0\0\0\0\x01\x0a\x0b",
-    ),
-    (
-        Outgoing {
-            kind: Kind::LongRequest,
-            handler: 131,
-            args: &[],
-            offset: 0x1_0000_0005,
-            payload: &[12],
-            ..SENT
-        },
-        b"\x47\x41\x4d\x31\x02\x83\x00\x00\0\0\0\0\0\0\0\x07\0\0\0\x01\0\0\0\x01\0\0\0\0\0\0\0\x01\0\0\0\x01\0\0\0\x05\x0c",
-    ),
-    (
-        Outgoing {
-            kind: Kind::MediumReply,
-            handler: 130,
-            args: &[],
-            payload: &[13],
-            ..BACK
-        },
-        b"\x47\x41\x4d\x31\x04\x82\x00\x00\0\0\0\0\0\0\0\x07\0\x01\0\0\0\0\0\x01\0\0\0\0\0\0\0\x01\0\0\0\0\0\0\0\0\x0d",
-    ),
-    (
-        Outgoing { version: 2, ..SENT },
-        b"\x47\x41\x4d\x32\x00\x80\x01\x00\0\0\0\0\0\0\0\x07\0\0\0\x01\0\0\0\0\0\0\0\0\0\0\0\x01\0\0\0\0\0\0\0\0\0\0\0\x05",
-    ),
-    (
-        Outgoing {
-            version: 2,
-            from: 64,
-            to: 65,
-            handler: 67,
-            args: &WIDE_ARGS,
-            ..SENT
-        },
-        b"\x47\x41\x4d\x32\x00\x43\x0c\x00\0\0\0\0\0\0\0\x07\0\x40\0\x41\0\0\0\0\0\0\0\0\0\0\0\x01\0\0\0\0\0\0\0\0\0\0\0\0\0\0\0\0\0\0\0\0\0\0\0\0\0\0\0\x01\0\0\0\0\0\0\0\0\0\0\0\0\0\0\0\0\0\0\0\x05\0\0\0\0",
-    ),
-];
+/// A Short reply, for handler 129 with argument -2.
+const REPLY: [u8; 44] =
+    *b"\x47\x41\x4d\x31\x03\x81\x01\x00\0\0\0\0\0\0\0\x07\0\x01\0\0\0\0\0\0\0\0\0\0\0\0\0\x01\0\0\0\0\0\0\0\0\xff\xff\xff\xfe";
+
+/// A get of 4 bytes from byte 0 on, to byte 100.
+const GET: [u8; 60] =
+    *b"\x47\x41\x4d\x31\x00\x41\x05\x00\0\0\0\0\0\0\0\x07\0\0\0\x01\0\0\0\0\0\0\0\0\0\0\0\x01\0\0\0\0\0\0\0\0\0\0\0\0\0\0\0\0\0\0\0\x04\0\0\0\0\0\0\0\x64";
+
+/// Its reply: four bytes of 9.
+const GOT: [u8; 44] =
+    *b"\x47\x41\x4d\x31\x05\x44\x00\x00\0\0\0\0\0\0\0\x07\0\x01\0\0\0\0\0\x04\0\0\0\0\0\0\0\x01\0\0\0\0\0\0\0\x64\x09\x09\x09\x09";
+
+/// A Medium request for handler 131, with argument 1 and two bytes.
+const MEDIUM: [u8; 46] =
+    *b"\x47\x41\x4d\x31\x01\x83\x01\x00\0\0\0\0\0\0\0\x07\0\0\0\x01\0\0\0\x02\0\0\0\0\0\0\0\x01\0\0\0\0\0\0\0\0\0\0\0\x01\x0a\x0b";
+
+/// A Long request for handler 131, with one byte for byte 2 ^ 32 + 5.
+const LONG: [u8; 41] =
+    *b"\x47\x41\x4d\x31\x02\x83\x00\x00\0\0\0\0\0\0\0\x07\0\0\0\x01\0\0\0\x01\0\0\0\0\0\0\0\x01\0\0\0\x01\0\0\0\x05\x0c";
+
+/// A Medium reply for handler 130, with one byte.
+const MEDIUM_REPLY: [u8; 41] =
+    *b"\x47\x41\x4d\x31\x04\x82\x00\x00\0\0\0\0\0\0\0\x07\0\x01\0\0\0\0\0\x01\0\0\0\0\0\0\0\x01\0\0\0\0\0\0\0\0\x0d";
+
+/// The Short request in version 2.
+const SECOND: [u8; 44] =
+    *b"\x47\x41\x4d\x32\x00\x80\x01\x00\0\0\0\0\0\0\0\x07\0\0\0\x01\0\0\0\0\0\0\0\0\0\0\0\x01\0\0\0\0\0\0\0\0\0\0\0\x05";
+
+/// A barrier note of version 2, from node 64 to node 65.
+const NOTE: [u8; 88] =
+    *b"\x47\x41\x4d\x32\x00\x43\x0c\x00\0\0\0\0\0\0\0\x07\0\x40\0\x41\0\0\0\0\0\0\0\0\0\0\0\x01\0\0\0\0\0\0\0\0\0\0\0\0\0\0\0\0\0\0\0\0\0\0\0\0\0\0\0\x01\0\0\0\0\0\0\0\0\0\0\0\0\0\0\0\0\0\0\0\0\0\0\0\x05\0\0\0\0";
+
+/// The parts of a message of job 7 with number 1 in version 1: a request of node 0 to node 1, or
+/// what comes back.
+fn parts<'a>(
+    kind: Kind,
+    handler: u8,
+    args: &'a [i32],
+    offset: u64,
+    payload: &'a [u8],
+) -> Outgoing<'a> {
+    let (from, to) = match kind {
+        Kind::ShortRequest | Kind::MediumRequest | Kind::LongRequest => (0, 1),
+        _ => (1, 0),
+    };
+    Outgoing {
+        version: 1,
+        kind,
+        job: 7,
+        from,
+        to,
+        slot: 0,
+        number: 1,
+        handler,
+        args,
+        offset,
+        payload,
+    }
+}
 
 /// Whether the parts are well formed, and spelled as these bytes.
 fn is_spelled(parts: &Outgoing<'_>, want: &[u8]) -> bool {
@@ -129,7 +83,44 @@ fn is_spelled(parts: &Outgoing<'_>, want: &[u8]) -> bool {
 
 #[test]
 fn spells_each_kind(rt: HostRuntime) {
-    assert!(rt; MESSAGES.iter().all(|(parts, want)| is_spelled(parts, want)));
+    assert!(rt; is_spelled(&parts(Kind::ShortRequest, 128, &[5], 0, &[]), &REQUEST));
+    assert!(rt; is_spelled(&parts(Kind::Ack, 0, &[], 0, &[]), &ACK));
+    assert!(rt; is_spelled(&parts(Kind::ShortReply, 129, &[-2], 0, &[]), &REPLY));
+    assert!(rt;
+        is_spelled(
+            &parts(Kind::ShortRequest, 65, &[0, 0, 4, 0, 100], 0, &[]),
+            &GET
+        )
+    );
+    assert!(rt; is_spelled(&parts(Kind::LongReply, 68, &[], 100, &[9; 4]), &GOT));
+    assert!(rt;
+        is_spelled(
+            &parts(Kind::MediumRequest, 131, &[1], 0, &[10, 11]),
+            &MEDIUM
+        )
+    );
+    assert!(rt;
+        is_spelled(
+            &parts(Kind::LongRequest, 131, &[], 0x1_0000_0005, &[12]),
+            &LONG
+        )
+    );
+    assert!(rt; is_spelled(&parts(Kind::MediumReply, 130, &[], 0, &[13]), &MEDIUM_REPLY));
+}
+
+#[test]
+fn spells_the_second_version(rt: HostRuntime) {
+    let request = Outgoing {
+        version: 2,
+        ..parts(Kind::ShortRequest, 128, &[5], 0, &[])
+    };
+    let note = Outgoing {
+        version: 2,
+        from: 64,
+        to: 65,
+        ..parts(Kind::ShortRequest, 67, &WIDE_ARGS, 0, &[])
+    };
+    assert!(rt; is_spelled(&request, &SECOND) && is_spelled(&note, &NOTE));
 }
 
 /// A note of version 1 with each of its parts.
@@ -207,7 +198,7 @@ const CODES: [(&[u8], &[u8], &[u8]); 7] = [
 
 #[test]
 fn gives_the_codes_of_rfc_4231(rt: HostRuntime) {
-    assert!(rt;
-        CODES.iter().all(|(key, message, want)| Hmac::new(key).code(message).starts_with(want))
-    );
+    for (key, message, want) in &CODES {
+        assert!(rt; Hmac::new(key).code(message).starts_with(want));
+    }
 }
