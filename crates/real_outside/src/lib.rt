@@ -16,7 +16,7 @@
 //!
 //! `ChildEnds` keeps how the children of a spawner ended; nothing is proved of it.
 //!
-//! What each does with the system is tested in `real_tests`.
+//! What each does with the system is tested in `outside_tests`.
 #![tactic(auto)]
 
 mod child_ends;
