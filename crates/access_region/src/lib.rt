@@ -16,18 +16,18 @@ use std::alloc::{AllocError, Global};
 use std::marker::Model;
 
 /// A region that a thread has begun.
-#[derive(Clone, Copy, PartialEq, Eq, Debug)]
+#[derive(Clone, Copy)]
 pub struct Region {
     /// The number of the first operation that joined it; None while it is empty.
     pub name: Option<u64>,
 }
 
 /// The thread has begun a region already: regions don't nest.
-#[derive(Clone, Copy, PartialEq, Eq, Debug)]
+#[derive(Clone, Copy)]
 pub struct Nested;
 
 /// The thread has begun no region.
-#[derive(Clone, Copy, PartialEq, Eq, Debug)]
+#[derive(Clone, Copy, PartialEq, Eq)]
 pub struct NoRegion;
 
 /// The regions of a node's threads. Its value is the list of what each thread has begun.

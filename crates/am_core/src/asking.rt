@@ -5,7 +5,7 @@ ghost use Rattle.am_core.specs.ClientRules.{payload_len};
 ghost use Rattle.am_core.specs.AskedFor.{payload_from};
 
 /// The categories of requests (GASNet 1.8.1, core API, active messages).
-#[derive(Clone, Copy, PartialEq, Eq, Debug)]
+#[derive(Clone, Copy, PartialEq, Eq)]
 pub enum Category {
     /// Arguments alone.
     Short,
@@ -16,7 +16,7 @@ pub enum Category {
 }
 
 /// The payload of a request, at most 8,192 bytes (profile). It is copied at the call.
-#[derive(Clone, Copy, Debug)]
+#[derive(Clone, Copy)]
 pub enum Payload<'a> {
     /// These bytes.
     Lent(&'a [u8]),
@@ -42,7 +42,7 @@ impl Payload<'_> {
 }
 
 /// A request, as a thread asks for it.
-#[derive(Clone, Copy, Debug)]
+#[derive(Clone, Copy)]
 pub struct Asking<'a> {
     /// The thread that asks.
     pub thread: u16,

@@ -8,7 +8,7 @@ use gasnet_trace::{NodeStatus, Output, Trace};
 use std::alloc::{AllocError, Global};
 
 /// A node that ended with a status other than 0 and 1.
-#[derive(Clone, Copy, Debug, PartialEq, Eq)]
+#[derive(Clone, Copy)]
 pub struct Failed {
     /// Its rank.
     pub rank: u16,

@@ -24,7 +24,7 @@ pub struct CheckInput {
 }
 
 /// Why no input was read.
-#[derive(Clone, Copy, Debug, PartialEq, Eq, Drop)]
+#[derive(Clone, Copy, Drop)]
 pub enum InputFault {
     /// The bytes are no job's text with an output of each of its nodes behind it, or too many.
     Bad {

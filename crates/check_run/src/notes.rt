@@ -8,7 +8,7 @@ pub trait Notes {
 }
 
 /// Nobody is told anything.
-#[derive(Clone, Copy, Debug, Drop)]
+#[derive(Clone, Copy, Drop)]
 pub struct NoNotes;
 
 impl Notes for NoNotes {

@@ -17,7 +17,7 @@ use node_runs::ScriptAnswer;
 use node_script::{write_answer, write_vis};
 
 /// Which step's answer it is.
-#[derive(Clone, Copy, Debug)]
+#[derive(Clone, Copy)]
 pub struct StepAt {
     /// The rank of its node.
     pub rank: u16,

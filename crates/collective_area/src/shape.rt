@@ -4,7 +4,7 @@ ghost use Rattle.std.specs.Prelude.{◌≡◌, ◌<◌, ◌^◌};
 ghost use Rattle.collective_area.specs.Shapes.{kind_code, shape_word, is_reduction, has_root, has_result, uses};
 
 /// What is done with the bytes that the nodes give.
-#[derive(Clone, Copy, PartialEq, Eq, Debug)]
+#[derive(Clone, Copy)]
 pub enum CollectiveKind {
     /// Each node gets the root's bytes.
     Broadcast,
@@ -27,7 +27,7 @@ pub enum CollectiveKind {
 }
 
 /// A collective, as each node starts it.
-#[derive(Clone, Copy, PartialEq, Eq, Debug)]
+#[derive(Clone, Copy)]
 pub struct Shape {
     /// What is done.
     pub kind: CollectiveKind,

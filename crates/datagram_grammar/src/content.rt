@@ -12,7 +12,7 @@ use crate::outgoing::Outgoing;
 use crate::writing::write_whole;
 
 /// Where a message goes, and of which request it tells.
-#[derive(Clone, Copy, Debug, PartialEq, Eq)]
+#[derive(Clone, Copy)]
 pub struct Address {
     /// The version of the layout, 1 or 2.
     pub version: u8,

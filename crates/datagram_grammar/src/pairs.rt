@@ -4,7 +4,7 @@ ghost use Rattle.std.specs.Prelude.{◌≡◌};
 ghost use Rattle.datagram_grammar.specs.Parameters.{own_credits};
 
 /// How many credits a node has towards another one.
-#[derive(Clone, Copy, Debug, PartialEq, Eq)]
+#[derive(Clone, Copy, Debug)]
 pub struct PairCredits {
     /// The node that sends requests.
     pub from: u16,

@@ -36,7 +36,7 @@ const NO_PAIR: PairCredits = PairCredits {
 /// | bytes of each node's segment | a multiple of 4,096, from 4,096 to 2^40 |
 /// | last number of a request | at least 1 |
 /// | time after which a request is sent again, in the unit of the calls' `now` | 1 to 1,000,000 |
-#[derive(Clone, Copy, Debug, PartialEq, Eq)]
+#[derive(Clone, Copy, Debug)]
 pub struct Settings {
     version: u8,
     job: u64,

@@ -13,7 +13,7 @@ use node_record::{Asked, Delivered};
 use std::marker::Model;
 
 /// A word by which answers are counted.
-#[derive(Clone, Copy, Debug, PartialEq, Eq)]
+#[derive(Clone, Copy)]
 pub enum Counted {
     /// A request was accepted.
     Accepted,
@@ -125,7 +125,7 @@ fn of_ticked(ticked: &Ticked) -> Option<Counted>
 }
 
 /// How often each of these words was counted.
-#[derive(Debug, Drop)]
+#[derive(Drop)]
 pub struct Counts {
     counts: [u64; WORDS],
 }

@@ -6,7 +6,7 @@ ghost use Rattle.drill_run.specs.Draws.{drawn, next};
 use std::marker::Model;
 
 /// A sequence of numbers, each made from the one before it.
-#[derive(Debug, Drop)]
+#[derive(Drop)]
 pub struct Draws {
     number: u64,
 }

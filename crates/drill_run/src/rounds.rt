@@ -6,7 +6,7 @@ ghost use Rattle.drill_run.specs.Draws.{behind_round, deed_of, round_from};
 use crate::draws::Draws;
 
 /// What a round does.
-#[derive(Clone, Copy, Debug, PartialEq, Eq)]
+#[derive(Clone, Copy)]
 pub enum Deed {
     /// A Short request.
     Short,
@@ -21,7 +21,7 @@ pub enum Deed {
 }
 
 /// What a round draws.
-#[derive(Clone, Copy, Debug, PartialEq, Eq)]
+#[derive(Clone, Copy)]
 pub struct Round {
     /// What it does.
     pub deed: Deed,

@@ -12,7 +12,7 @@ pub use node_record::Ticked;
 use put_get::{Handle, Synced};
 
 /// What a call on the node's own cells or segment is answered.
-#[derive(Clone, Copy, PartialEq, Eq, Debug)]
+#[derive(Clone, Copy, Debug)]
 pub enum Local {
     /// It is done.
     Done,
@@ -34,7 +34,7 @@ pub enum Local {
 }
 
 /// What the beginning of a transfer is answered.
-#[derive(Clone, Copy, PartialEq, Eq, Debug)]
+#[derive(Clone, Copy, Debug)]
 pub enum Begun {
     /// It is under way, under this handle.
     Handle(Handle),
@@ -48,7 +48,7 @@ pub enum Begun {
 }
 
 /// What a call on access regions is answered, and an implicit synchronisation inside a region.
-#[derive(Clone, Copy, PartialEq, Eq, Debug)]
+#[derive(Clone, Copy, Debug)]
 pub enum Region {
     /// The thread has begun a region.
     Begun,
@@ -65,7 +65,7 @@ pub enum Region {
 }
 
 /// What an event of an endpoint is answered.
-#[derive(Clone, Copy, Debug)]
+#[derive(Clone, Copy)]
 pub enum Answer {
     /// To a request.
     Asked(Asked),

@@ -8,7 +8,7 @@ use handler_rules::CallKind;
 use put_get::{Handle, Some3, Transfer};
 
 /// A call of a client, as a thread of a node makes it.
-#[derive(Clone, Copy, Debug)]
+#[derive(Clone, Copy)]
 pub enum Call<'a> {
     /// A Short request for a handler of a node (GASNet 1.8.1, core API, `gasnet_AMRequestShort`).
     Short {
@@ -258,7 +258,7 @@ impl<'a> Call<'a> {
 }
 
 /// What may happen to an endpoint.
-#[derive(Clone, Copy, Debug)]
+#[derive(Clone, Copy)]
 pub enum Event<'a> {
     /// A thread of the node makes a call.
     Call {

@@ -13,7 +13,7 @@ use datagram_grammar::{Settings, high_half, low_half};
 use std::marker::Model;
 
 /// Why there is no such batch.
-#[derive(Clone, Copy, PartialEq, Eq, Debug)]
+#[derive(Clone, Copy, Debug)]
 pub enum BatchFault {
     /// The target is no node of the job.
     Node,

@@ -8,7 +8,7 @@ ghost use Rattle.gas_atomic.specs.BatchRequests.{spelled_op};
 use arrayvec::ArrayVec;
 
 /// What an operation makes of a word.
-#[derive(Clone, Copy, PartialEq, Eq, Debug)]
+#[derive(Clone, Copy)]
 pub enum Op {
     /// The word stays as it is.
     Get,
@@ -33,7 +33,7 @@ pub enum Op {
 }
 
 /// An operation on the word at an offset of a segment.
-#[derive(Clone, Copy, PartialEq, Eq, Debug)]
+#[derive(Clone, Copy)]
 pub struct WordOp {
     /// What it does.
     pub op: Op,

@@ -25,7 +25,7 @@ pub trait Clock {
 }
 
 /// The clock that always says one value.
-#[derive(Debug, Drop)]
+#[derive(Drop)]
 pub struct FixedClock {
     value: u64,
     asked: u64,

@@ -6,7 +6,7 @@ ghost use Rattle.gas_outside.specs.Link.{BoundTold, SentTold, ReceivedTold, Wait
 ghost use Rattle.gas_outside.specs.Link.{IsReceiveFailed};
 
 /// What a link answers to `bind` and `send`.
-#[derive(Clone, Copy, Debug, PartialEq, Eq)]
+#[derive(Clone, Copy, PartialEq, Eq)]
 pub enum LinkAnswer {
     /// It was done.
     Done,
@@ -15,7 +15,7 @@ pub enum LinkAnswer {
 }
 
 /// What a link gave.
-#[derive(Clone, Copy, Debug, PartialEq, Eq)]
+#[derive(Clone, Copy, PartialEq, Eq)]
 pub enum Received {
     /// A datagram of that many bytes, at the front of the buffer.
     Got(usize),

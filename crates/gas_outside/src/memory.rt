@@ -14,7 +14,7 @@ use std::marker::Model;
 /// A source that gives the bytes that it was made of.
 ///
 /// It numbers its reads from 1, up to 2^64 - 1, and fails at exactly those whose numbers it was given.
-#[derive(Debug, Drop)]
+#[derive(Drop)]
 pub struct MemorySource {
     bytes: Vec<u8>,
     given: usize,
@@ -103,7 +103,7 @@ pub(crate) fn copy_front(from: &[u8], buf: &mut [u8]) -> usize
 ///
 /// It numbers its writes from 1, up to 2^64 - 1, and fails at exactly those whose numbers it was given, and where
 /// memory runs out.
-#[derive(Debug, Drop)]
+#[derive(Drop)]
 pub struct MemorySink {
     bytes: Vec<u8>,
     fail: Vec<u64>,

@@ -17,7 +17,7 @@ use std::marker::Model;
 ///
 /// It numbers its calls from 1, whatever their kind, up to 2^64 - 1, and fails at exactly those whose numbers it was
 /// given, and where memory runs out for a datagram that is sent.
-#[derive(Debug, Drop)]
+#[derive(Drop)]
 pub struct MemoryLink {
     alloc: Global,
     bound: Option<(u16, u16, u16)>,

@@ -25,7 +25,7 @@ use std::marker::Model;
 /// rank of a child is its place. A start of a rank past the children, or of one that was started before, is a fault,
 /// and so are want of memory in a start, and a finish of a child that wasn't started, was finished before, or has an
 /// output over `MAX_OUTPUT`.
-#[derive(Debug, Drop)]
+#[derive(Drop)]
 pub struct MemorySpawner {
     alloc: Global,
     children: Vec<(Vec<u8>, u8)>,

@@ -8,7 +8,7 @@ use crate::source::{Got, Source};
 use std::alloc::Global;
 
 /// What reading to the end gave.
-#[derive(Debug, Drop)]
+#[derive(Drop)]
 pub enum ReadAll {
     /// All the bytes.
     Bytes(Vec<u8>),

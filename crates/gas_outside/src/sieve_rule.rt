@@ -1,7 +1,7 @@
 //! The rules of a sieve.
 
 /// What a sieve does with a datagram that is handed to it.
-#[derive(Clone, Copy, PartialEq, Eq)]
+#[derive(Clone, Copy)]
 pub(crate) enum SieveRule {
     /// It is lost.
     Lose,

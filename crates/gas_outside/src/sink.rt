@@ -5,7 +5,7 @@ ghost use Rattle.gas_outside.specs.Faults.{Rose};
 ghost use Rattle.gas_outside.specs.Sink.{Takes, IsFailed, TakesSome};
 
 /// What a write took.
-#[derive(Clone, Copy, Debug, PartialEq, Eq)]
+#[derive(Clone, Copy, PartialEq, Eq)]
 pub enum Put {
     /// That many bytes, from the front.
     Put(usize),

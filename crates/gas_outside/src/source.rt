@@ -5,7 +5,7 @@ ghost use Rattle.gas_outside.specs.Faults.{Rose};
 ghost use Rattle.gas_outside.specs.Source.{Gives, IsFailed, GivesAtMost};
 
 /// What a read gave.
-#[derive(Clone, Copy, Debug, PartialEq, Eq)]
+#[derive(Clone, Copy, PartialEq, Eq)]
 pub enum Got {
     /// That many bytes, at the front of the buffer. None for a buffer that isn't empty means the end.
     Got(usize),

@@ -1,7 +1,7 @@
 //! The calls that a spawner in memory tells.
 
 /// A start or a finish that a spawner in memory tells.
-#[derive(Debug, Drop)]
+#[derive(Drop)]
 pub enum SpawnCall {
     /// The child of a rank was started.
     Start {

@@ -4,7 +4,7 @@ ghost use Rattle.std.specs.Prelude.{◌≡◌, ◌≤◌, ℕ, Option, option_ma
 ghost use Rattle.gas_outside.specs.Faults.{Rose};
 
 /// What a spawner answers to `start`.
-#[derive(Clone, Copy, Debug, PartialEq, Eq)]
+#[derive(Clone, Copy, PartialEq, Eq)]
 pub enum Started {
     /// The child was started.
     Started,
@@ -13,7 +13,7 @@ pub enum Started {
 }
 
 /// What a spawner answers to `finish`.
-#[derive(Clone, Copy, Debug, PartialEq, Eq)]
+#[derive(Clone, Copy, PartialEq, Eq)]
 pub enum Finished {
     /// The child ended with this exit status, and its output was appended.
     Ended(u8),

@@ -8,7 +8,7 @@ ghost use Rattle.gas_outside.specs.Whole.{WritesAll, IsWriteFault};
 use crate::sink::{Put, Sink};
 
 /// What writing a whole piece gave.
-#[derive(Clone, Copy, Debug, PartialEq, Eq)]
+#[derive(Clone, Copy, PartialEq, Eq)]
 pub enum Wrote {
     /// All of it was taken.
     Done,

@@ -17,7 +17,7 @@ pub const CAME: u8 = 1;
 pub const TOLD: u8 = 2;
 
 /// The handlers of every node of the ring.
-#[derive(Clone, Copy, Debug)]
+#[derive(Clone, Copy)]
 pub struct RingHandlers;
 
 /// The first argument, or 0.

@@ -4,7 +4,7 @@ use std::alloc::{AllocError, Global};
 use std::collections::VecDeque;
 
 /// A datagram on its way.
-#[derive(Debug, Drop)]
+#[derive(Drop)]
 pub struct Datagram {
     /// The node that it is for.
     pub to: u16,
@@ -14,7 +14,7 @@ pub struct Datagram {
 
 /// Datagrams on their way, in the order in which they will come. Of those that are handed to it each seventh is lost,
 /// each third comes twice, and each second overtakes the others.
-#[derive(Debug, Drop)]
+#[derive(Drop)]
 pub struct LossyQueue {
     waiting: VecDeque<Datagram>,
     /// How many datagrams were handed in.

@@ -3,7 +3,7 @@
 use handler_rules::Forbidden;
 
 /// Which segment is read, and which is written.
-#[derive(Clone, Copy, PartialEq, Eq, Debug)]
+#[derive(Clone, Copy, Debug)]
 pub enum Way {
     /// Bytes of the own segment are written into the target's.
     Put,
@@ -12,7 +12,7 @@ pub enum Way {
 }
 
 /// A level of a strided transfer: an index from 0 on, and how far it moves both sides.
-#[derive(Clone, Copy, PartialEq, Eq, Debug)]
+#[derive(Clone, Copy, Debug)]
 pub struct Level {
     /// How many values the index has.
     pub count: u64,
@@ -55,7 +55,7 @@ pub struct Indexed<'a> {
 }
 
 /// A piece of a plan: bytes that follow one another on both sides.
-#[derive(Clone, Copy, PartialEq, Eq, Debug)]
+#[derive(Clone, Copy, Debug)]
 pub struct Piece {
     /// The first byte in the target's segment.
     pub remote: u64,
@@ -66,7 +66,7 @@ pub struct Piece {
 }
 
 /// Why a plan isn't made: the first reason of this order that applies. `NoMemory` may come in place of any.
-#[derive(Clone, Copy, PartialEq, Eq, Debug)]
+#[derive(Clone, Copy, Debug)]
 pub enum PlanFault {
     /// The target is no node.
     Node,
@@ -87,7 +87,7 @@ pub enum PlanFault {
 }
 
 /// How the beginning of a plan is answered.
-#[derive(Clone, Copy, PartialEq, Eq, Debug)]
+#[derive(Clone, Copy, Debug)]
 pub enum Vis {
     /// Each piece was begun.
     Whole,

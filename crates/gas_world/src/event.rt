@@ -4,7 +4,7 @@ use endpoint_rules::{Answer, Call};
 
 /// What may happen to a world. A message that is lost is one that is never delivered; a message may
 /// be delivered any number of times, and in any order.
-#[derive(Clone, Copy, Debug)]
+#[derive(Clone, Copy)]
 pub enum WorldEvent<'a> {
     /// A thread of a node makes a call.
     Call {
@@ -41,7 +41,7 @@ pub enum WorldEvent<'a> {
 }
 
 /// What an event of a world is answered.
-#[derive(Clone, Copy, Debug)]
+#[derive(Clone, Copy)]
 pub enum WorldAnswer {
     /// The answer of the endpoint on which it fell.
     Node(Answer),

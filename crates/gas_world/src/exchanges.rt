@@ -10,7 +10,7 @@ use std::marker::Model;
 
 /// A request that was sent. Its message stands in its slot at its node until it is back, and the
 /// reply in the slot of the same number at the other node.
-#[derive(Clone, Copy, Debug, PartialEq, Eq)]
+#[derive(Clone, Copy)]
 pub struct Exchange {
     /// The slot of its pair.
     pub slot: u16,
@@ -21,7 +21,7 @@ pub struct Exchange {
 }
 
 /// The exchanges of an ordered pair of nodes: that of request 1 first.
-#[derive(Debug, Drop)]
+#[derive(Drop)]
 pub struct Exchanges {
     list: Vec<Exchange>,
     // The lowest number of a request that isn't back; where all are back, the number after the last.

@@ -4,7 +4,7 @@ ghost use Rattle.std.specs.Prelude.{◌≡◌};
 ghost use Rattle.hsl_locks.specs.Locks.{is_owner, is_thread};
 
 /// Who takes locks and gives them back.
-#[derive(Clone, Copy, PartialEq, Eq, Debug)]
+#[derive(Clone, Copy)]
 pub enum Owner {
     /// The client's thread with this number.
     Thread(u16),
@@ -31,7 +31,7 @@ impl Owner {
 }
 
 /// A lock that is held, and who holds it.
-#[derive(Clone, Copy, PartialEq, Eq, Debug)]
+#[derive(Clone, Copy)]
 pub struct Held {
     /// The lock, 0 to 63.
     pub lock: u8,

@@ -8,7 +8,7 @@ use std::alloc::{AllocError, AllocFailed};
 use thiserror::Error;
 
 /// The first reason that applies to the first bad line of a job.
-#[derive(Clone, Copy, Debug, PartialEq, Eq)]
+#[derive(Clone, Copy, Debug)]
 pub enum JobWhy {
     /// The text has more than 4,194,304 bytes; told before all others, for line 0.
     Size,
@@ -45,11 +45,11 @@ pub enum JobFault {
 }
 
 /// The bytes are spelled otherwise.
-#[derive(Clone, Copy, Debug, PartialEq, Eq)]
+#[derive(Clone, Copy)]
 pub struct Other;
 
 /// Why bytes weren't read.
-#[derive(Debug, Drop)]
+#[derive(Drop)]
 pub enum Miss {
     /// Memory ran out.
     NoMemory,

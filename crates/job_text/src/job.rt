@@ -16,7 +16,7 @@ use handler_rules::{CallKind, Role};
 use std::marker::Model;
 
 /// A number as an action has it.
-#[derive(Clone, Copy, Debug, PartialEq, Eq)]
+#[derive(Clone, Copy)]
 pub enum Operand {
     /// The number itself.
     Number(i32),
@@ -27,7 +27,7 @@ pub enum Operand {
 }
 
 /// A list of at most 17 operands.
-#[derive(Debug, Drop)]
+#[derive(Drop)]
 pub struct Operands {
     pub(crate) items: Vec<Operand>,
 }
@@ -44,7 +44,7 @@ impl Model for Operands {
 }
 
 /// Bytes of a line, at most 8,193, in an allocation of their own.
-#[derive(Debug, Drop)]
+#[derive(Drop)]
 pub struct Bytes {
     pub(crate) inside: Box<Vec<u8>>,
 }
@@ -59,7 +59,7 @@ impl Model for Bytes {
 }
 
 /// The payload of a message, as an action has it.
-#[derive(Debug, Drop)]
+#[derive(Drop)]
 pub enum Payload {
     /// These bytes.
     Bytes { bytes: Bytes },
@@ -70,7 +70,7 @@ pub enum Payload {
 }
 
 /// A Medium request of a schedule.
-#[derive(Debug, Drop)]
+#[derive(Drop)]
 pub struct MediumText {
     /// The node that it is sent to.
     pub to: u16,
@@ -83,7 +83,7 @@ pub struct MediumText {
 }
 
 /// A Long request of a schedule.
-#[derive(Debug, Drop)]
+#[derive(Drop)]
 pub struct LongText {
     /// The node that it is sent to.
     pub to: u16,
@@ -98,7 +98,7 @@ pub struct LongText {
 }
 
 /// A Medium request in an allocation of its own, so that a line of a schedule stays small.
-#[derive(Debug, Drop)]
+#[derive(Drop)]
 pub struct BoxedMedium {
     pub(crate) inside: Box<MediumText>,
 }
@@ -113,7 +113,7 @@ impl Model for BoxedMedium {
 }
 
 /// A Long request in an allocation of its own, so that a line of a schedule stays small.
-#[derive(Debug, Drop)]
+#[derive(Drop)]
 pub struct BoxedLong {
     pub(crate) inside: Box<LongText>,
 }
@@ -129,7 +129,7 @@ impl Model for BoxedLong {
 
 /// What a transfer of a schedule moves between the own segment and that of the node `to`: `remote` and `local` are
 /// offsets there and here, `len` is how many bytes.
-#[derive(Clone, Copy, Debug)]
+#[derive(Clone, Copy)]
 pub enum TransferText {
     /// Bytes of the own segment are written there.
     Put {
@@ -155,7 +155,7 @@ pub enum TransferText {
 }
 
 /// A transfer in an allocation of its own, so that a line of a schedule stays small.
-#[derive(Debug, Drop)]
+#[derive(Drop)]
 pub struct BoxedTransfer {
     pub(crate) inside: Box<TransferText>,
 }
@@ -170,7 +170,7 @@ impl Model for BoxedTransfer {
 }
 
 /// A batch of remote atomics of a schedule: 1 to 16 operations where the job was read, and the message that asks them.
-#[derive(Debug, Drop)]
+#[derive(Drop)]
 pub struct BatchText {
     pub(crate) to: u16,
     pub(crate) local: u64,
@@ -197,7 +197,7 @@ impl Model for BatchText {
 }
 
 /// A batch in an allocation of its own, so that a line of a schedule stays small.
-#[derive(Debug, Drop)]
+#[derive(Drop)]
 pub struct BoxedBatch {
     pub(crate) inside: Box<BatchText>,
 }
@@ -212,7 +212,7 @@ impl Model for BoxedBatch {
 }
 
 /// A list of at most 16 registers of a thread's handles; of at least one where the job was read.
-#[derive(Debug, Drop)]
+#[derive(Drop)]
 pub struct Registers {
     pub(crate) items: Vec<u8>,
 }
@@ -228,7 +228,7 @@ impl Model for Registers {
 }
 
 /// Of which implicit operations of its thread a synchronisation speaks.
-#[derive(Clone, Copy, Debug, PartialEq, Eq)]
+#[derive(Clone, Copy)]
 pub enum ImplicitKind {
     /// Puts and memsets.
     Puts,
@@ -239,7 +239,7 @@ pub enum ImplicitKind {
 }
 
 /// The locks that a handler lists, each 0 to 63, in rising order.
-#[derive(Debug, Drop)]
+#[derive(Drop)]
 pub struct ListedLocks {
     pub(crate) items: Vec<u8>,
 }
@@ -256,7 +256,7 @@ impl Model for ListedLocks {
 }
 
 /// What a handler's body does; each action in its turn.
-#[derive(Debug, Drop)]
+#[derive(Drop)]
 pub enum Action {
     /// The cell rises by the number, wrapping.
     Add { cell: u8, operand: Operand },
@@ -279,7 +279,7 @@ pub enum Action {
 }
 
 /// A reply of a handler's body.
-#[derive(Debug, Drop)]
+#[derive(Drop)]
 pub enum ReplyAction {
     /// A Short one.
     Short {
@@ -302,7 +302,7 @@ pub enum ReplyAction {
 }
 
 /// A call of a thread in a schedule.
-#[derive(Debug, Drop)]
+#[derive(Drop)]
 pub enum ScheduledCall {
     /// A Short request.
     Short {
@@ -469,7 +469,7 @@ pub struct TimedEvent {
 
 /// A put of a script that waits until all of it was sent: `remote` and `local` are offsets in the segment of the node
 /// `to` and in the own one, `len` is how many bytes.
-#[derive(Clone, Copy, Debug, PartialEq, Eq)]
+#[derive(Clone, Copy)]
 pub struct PutText {
     /// The node that it is sent to.
     pub to: u16,
@@ -482,7 +482,7 @@ pub struct PutText {
 }
 
 /// A step that scripts alone have: it is tried again at each turn of its thread until it ends.
-#[derive(Debug, Drop)]
+#[derive(Drop)]
 pub enum WaitingStep {
     /// Waits until the cell holds the number at least.
     Until { cell: u8, operand: Operand },
@@ -568,7 +568,7 @@ impl Model for NodeScripts {
 }
 
 /// The actions of a handler, at most 64 where the job was read.
-#[derive(Debug, Drop)]
+#[derive(Drop)]
 pub struct Body {
     pub(crate) actions: Vec<Action>,
 }
@@ -583,7 +583,7 @@ impl Model for Body {
 }
 
 /// A handler, as the text names it: index 0 asks for the lowest free one.
-#[derive(Debug, Drop)]
+#[derive(Drop)]
 pub struct HandlerText {
     /// 0, or 128 to 255 where the job was read.
     pub index: u8,
@@ -596,7 +596,7 @@ pub struct HandlerText {
 }
 
 /// The handlers of a job, at most 128 where it was read.
-#[derive(Debug, Drop)]
+#[derive(Drop)]
 pub struct HandlerTexts {
     pub(crate) texts: Vec<HandlerText>,
 }
@@ -626,7 +626,7 @@ impl Model for Schedule {
 }
 
 /// Which datagrams a link's sieve loses, repeats and swaps, each number 0 to 65,535 where the job was read.
-#[derive(Clone, Copy, Debug, PartialEq, Eq)]
+#[derive(Clone, Copy)]
 pub struct SieveRule {
     /// Every so-manyth datagram is lost; none for 0.
     pub lose: u32,

@@ -11,7 +11,7 @@ use crate::numbers::{number_from, number_here};
 use crate::words::spaced;
 
 /// Where a number of an action stands, which decides what it may be.
-#[derive(Clone, Copy, Debug, PartialEq, Eq)]
+#[derive(Clone, Copy)]
 pub enum NumberPlace {
     /// In a schedule or a script.
     Schedule,

@@ -19,7 +19,7 @@ use handler_rules::Role;
 use std::alloc::Global;
 
 /// The first line of a handler.
-#[derive(Debug, Drop)]
+#[derive(Drop)]
 pub struct HandlerHeader {
     /// The index: 0, or one of a client's.
     pub index: u8,
@@ -30,7 +30,7 @@ pub struct HandlerHeader {
 }
 
 /// A line that begins another part of a job's text.
-#[derive(Clone, Copy, Debug, PartialEq, Eq)]
+#[derive(Clone, Copy)]
 pub enum Section {
     /// A script of this thread.
     Script { node: u16, thread: u16 },

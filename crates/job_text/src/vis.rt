@@ -6,7 +6,7 @@ use gas_strided::{Level, Plan, Way};
 use std::marker::Model;
 
 /// The levels of a strided transfer, at most 4.
-#[derive(Debug, Drop)]
+#[derive(Drop)]
 pub struct Levels {
     pub(crate) items: Vec<Level>,
 }
@@ -23,7 +23,7 @@ impl Model for Levels {
 }
 
 /// Ranges of a segment, at most 16, and at least one where the job was read: the first byte of each, and its length.
-#[derive(Debug, Drop)]
+#[derive(Drop)]
 pub struct SegmentRanges {
     pub(crate) items: Vec<(u64, u64)>,
 }
@@ -39,7 +39,7 @@ impl Model for SegmentRanges {
 }
 
 /// Which bytes a transfer of many pieces moves, as a line says it; offsets and lengths are in bytes.
-#[derive(Debug, Drop)]
+#[derive(Drop)]
 pub enum VisShape {
     /// `len` bytes for each vector of indexes below the counts of the levels.
     Strided {
@@ -56,7 +56,7 @@ pub enum VisShape {
 }
 
 /// The words of a line that begins a transfer of many pieces.
-#[derive(Debug, Drop)]
+#[derive(Drop)]
 pub struct VisWords {
     /// The register of its handle.
     pub register: u8,

@@ -1,7 +1,7 @@
 //! Why a launch gave no outputs.
 
 /// Why a launch gave no outputs.
-#[derive(Clone, Copy, Debug, PartialEq, Eq, Drop)]
+#[derive(Clone, Copy, Drop)]
 pub enum LaunchFault {
     /// A child failed: it ended with a status other than 0 and 1, or gave something else than an output of its node
     /// with that status.

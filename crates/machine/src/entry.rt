@@ -5,7 +5,7 @@ ghost use Rattle.std.specs.Prelude.{◌≡◌};
 use std::marker::Model;
 
 /// Bytes that were got, seen as a list.
-#[derive(Debug, Drop)]
+#[derive(Drop)]
 pub struct Bytes {
     bytes: Vec<u8>,
 }
@@ -35,7 +35,7 @@ impl Bytes {
 }
 
 /// A turn of a machine that got or changed something.
-#[derive(Debug, Drop)]
+#[derive(Drop)]
 pub struct Entry {
     /// The thread that took the turn.
     pub thread: u16,
@@ -46,7 +46,7 @@ pub struct Entry {
 }
 
 /// Entries in order, seen as a list.
-#[derive(Debug, Drop)]
+#[derive(Drop)]
 pub struct Journal {
     entries: Vec<Entry>,
 }

@@ -6,7 +6,7 @@ ghost use Rattle.std.specs.Prelude.{option_map, option_copied, slice_get};
 ghost use Rattle.machine.specs.declared.turns.Turned.{Turned};
 
 /// What a turn did.
-#[derive(Clone, Copy, PartialEq, Eq, Debug)]
+#[derive(Clone, Copy)]
 pub struct Turned {
     /// Something was got or sent, or a script step ended, or began without ending.
     pub changed: bool,

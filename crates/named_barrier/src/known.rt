@@ -9,7 +9,7 @@ use crate::mask::{put_in, union, words};
 use datagram_grammar::BarrierNote;
 
 /// What a node notifies of a phase.
-#[derive(Clone, Copy, Debug, Drop, PartialEq, Eq)]
+#[derive(Clone, Copy, Drop)]
 pub struct Notify {
     /// The identifier of the barrier, which counts where the notify is named.
     pub id: i32,
@@ -18,7 +18,7 @@ pub struct Notify {
 }
 
 /// Several notifies, combined.
-#[derive(Clone, Copy, Debug, Drop, PartialEq, Eq)]
+#[derive(Clone, Copy, Drop)]
 pub struct Combination {
     /// One has MISMATCH, or two named identifiers differ.
     pub mismatch: bool,
@@ -27,7 +27,7 @@ pub struct Combination {
 }
 
 /// Nodes, and their notifies combined.
-#[derive(Clone, Copy, Debug, Drop, PartialEq, Eq)]
+#[derive(Clone, Copy, Drop)]
 pub struct Known {
     /// Node 64 m + b is bit b of word m.
     pub mask: [u64; 4],

@@ -40,7 +40,7 @@ pub struct Devices<'g, L, C, G> {
 }
 
 /// How the run of a node ended.
-#[derive(Clone, Copy, Debug, PartialEq, Eq)]
+#[derive(Clone, Copy)]
 pub enum NodeEnd {
     /// As many quiet turns as the job's patience says came in a row, and all scripts are over.
     Over {

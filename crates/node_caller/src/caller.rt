@@ -12,7 +12,7 @@ use endpoint_rules::{Answer, Call};
 use raw_segment::Segment;
 
 /// How a call went.
-#[derive(Clone, Copy, Debug)]
+#[derive(Clone, Copy)]
 pub enum Called {
     /// The node answered it so.
     Answer(Answer),

@@ -8,7 +8,7 @@ ghost use Rattle.node_machine.specs.Turns.{slots_of};
 use am_core::SlotRef;
 
 /// The slots of the messages that a turn sent, in the order in which they go.
-#[derive(Clone, Copy, PartialEq, Eq, Debug)]
+#[derive(Clone, Copy)]
 pub struct Outgoing {
     /// Of the reply to what was got.
     pub reply: Option<SlotRef>,

@@ -58,7 +58,7 @@ fn tick<H: Handlers>(endpoint: &mut Endpoint, handlers: &H, now: u64) -> Option<
 }
 
 /// The slots of the messages that were sent before a try.
-#[derive(Clone, Copy, Debug)]
+#[derive(Clone, Copy)]
 pub struct SentBefore {
     /// Of the reply to what was got.
     pub reply: Option<SlotRef>,

@@ -19,7 +19,7 @@ use node_runs::ScriptAnswer;
 use script_steps::{Trial, Tried, attempt};
 
 /// Which thread takes a turn, and when.
-#[derive(Clone, Copy, Debug)]
+#[derive(Clone, Copy)]
 pub struct ThreadTurn {
     /// The thread.
     pub thread: u16,
@@ -30,7 +30,7 @@ pub struct ThreadTurn {
 }
 
 /// What a turn did.
-#[derive(Clone, Copy, Debug)]
+#[derive(Clone, Copy)]
 pub struct Done {
     /// The messages that it sent.
     pub outgoing: Outgoing,

@@ -4,7 +4,7 @@ use endpoint_rules::Answer;
 use gas_strided::Vis;
 
 /// What a step of a script is answered.
-#[derive(Clone, Copy, Debug)]
+#[derive(Clone, Copy)]
 pub enum ScriptAnswer {
     /// The answer of its call, or what the step makes of that.
     Call(Answer),

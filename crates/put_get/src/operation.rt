@@ -15,7 +15,7 @@ pub struct Handle {
 
 /// A contiguous transfer to or from another node's segment (GASNet 1.8.1 extended API, put, get and memset). Offsets
 /// and lengths are in bytes; `remote` is an offset into the target's segment and `local` one into the own.
-#[derive(Clone, Copy, Debug)]
+#[derive(Clone, Copy)]
 pub enum Transfer {
     /// Bytes of the own segment are written into the target's (gasnet_put).
     Put {
@@ -41,7 +41,7 @@ pub enum Transfer {
 }
 
 /// How an operation is synchronised. Fixed when it begins.
-#[derive(Clone, Copy, Debug, PartialEq, Eq)]
+#[derive(Clone, Copy)]
 pub enum Mode {
     /// By its handle (gasnet_put_nb_bulk and its like).
     Explicit,
@@ -53,7 +53,7 @@ pub enum Mode {
 }
 
 /// Of which implicit operations a sync speaks.
-#[derive(Clone, Copy, Debug, PartialEq, Eq)]
+#[derive(Clone, Copy, Debug)]
 pub enum Some3 {
     /// Puts and memsets (gasnet_try_syncnbi_puts).
     Puts,
@@ -80,11 +80,11 @@ pub enum Synced {
 }
 
 /// No operation can begin: 256 records stand, or number 2^64 - 1 was given.
-#[derive(Clone, Copy, Debug, PartialEq, Eq)]
+#[derive(Clone, Copy, PartialEq, Eq)]
 pub struct TooMany;
 
 /// A chunk that is to be issued next: `len` bytes from `start` on in the ranges of the transfer.
-#[derive(Clone, Copy, Debug)]
+#[derive(Clone, Copy)]
 pub struct Next {
     /// The number of its operation.
     pub number: u64,

@@ -19,7 +19,7 @@ pub struct Trial<'a> {
 }
 
 /// How the try of a step went.
-#[derive(Clone, Copy, Debug)]
+#[derive(Clone, Copy)]
 pub struct Tried {
     /// The slot of the message that its call sent, if it sent one.
     pub sent: Option<SlotRef>,

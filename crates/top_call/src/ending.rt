@@ -10,7 +10,7 @@ use gas_world::World;
 use job_text::JobWhy;
 
 /// How a command ends.
-#[derive(Clone, Copy, Debug)]
+#[derive(Clone, Copy)]
 pub enum End {
     /// The run came to its end, and no node noted a violation; or the job was written with datagrams of version 2.
     Done,

@@ -25,7 +25,7 @@ use std::sync::Wait;
 use std::thread::Threads;
 
 /// Which node is asked for.
-#[derive(Clone, Copy, Debug, PartialEq, Eq)]
+#[derive(Clone, Copy)]
 pub struct AskedNode {
     /// Its number.
     pub rank: u16,

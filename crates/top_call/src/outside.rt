@@ -2,7 +2,7 @@
 
 /// The outside of a call: what it reads, where it writes, what the command `node` runs over, and what the command
 /// `launch` starts nodes by.
-#[derive(Debug, Drop)]
+#[derive(Drop)]
 pub struct Outside<S, K, L, P, C, G> {
     /// What the call reads.
     pub source: S,

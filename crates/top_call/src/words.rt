@@ -11,7 +11,7 @@ const LEAST_PORT: u16 = 1_024;
 const MOST_PORT: u16 = 65_472;
 
 /// A command of the program.
-#[derive(Clone, Copy, Debug)]
+#[derive(Clone, Copy)]
 pub enum Command {
     /// A job is read, and run in a world.
     World,

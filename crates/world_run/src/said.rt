@@ -6,7 +6,7 @@ ghost use Rattle.world_run.specs.LinesWritten.{said_of};
 use gas_outside::Wrote;
 
 /// How far lines were said.
-#[derive(Clone, Copy, Debug, PartialEq, Eq)]
+#[derive(Clone, Copy)]
 pub enum Said {
     /// All of them.
     Done,
