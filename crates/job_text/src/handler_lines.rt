@@ -16,7 +16,7 @@ ghost use Rattle.std.specs.Str.{bytes_eq};
 ghost use Rattle.std.specs.Prelude.{codes};
 
 use crate::bodies::{action_at, action_form};
-use crate::fault::{JobFault, JobWhy, Miss};
+use crate::fault::{JobFault, JobWhy, Miss, Other};
 use crate::job::{Action, Body, HandlerText, HandlerTexts};
 use crate::operands::starts;
 use crate::reasons::reason_of;
@@ -54,8 +54,13 @@ fn action_or_end(alloc: Global, bytes: &[u8]) -> Result<(Option<Action>, &[u8]),
         return Ok((None, rest));
     }
     let (action, rest) = action_at(alloc, bytes)?;
-    let rest = ended(rest)?;
-    Ok((Some(action), rest))
+    match ended(rest) {
+        Ok(rest) => Ok((Some(action), rest)),
+        Err(Other) => {
+            drop(action);
+            Err(Miss::Unlike)
+        }
+    }
 }
 
 /// The action of the next line, or none at the line `end`, and the bytes after it; or why it isn't read.
@@ -96,6 +101,7 @@ fn body_at(alloc: Global, first: u32, bytes: &[u8]) -> Result<(Body, u32, &[u8])
             return Ok((Body { actions }, line + 1, after));
         };
         if actions.len() >= ACTIONS {
+            drop(action);
             let why = JobWhy::Count;
             return Err(JobFault::Bad { line, why });
         }

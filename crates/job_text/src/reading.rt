@@ -71,6 +71,7 @@ fn job_at(alloc: Global, bytes: &[u8]) -> Result<Job, JobFault>
         Err(fault) => return Err(fault),
     };
     if !rest.is_empty() {
+        drop(job);
         let why = JobWhy::After;
         return Err(JobFault::Bad { line, why });
     }
@@ -87,6 +88,7 @@ fn sized_job_at(alloc: Global, bytes: &[u8]) -> Result<(Job, usize), JobFault>
     };
     let size = bytes.len() - rest.len();
     if size > LIMIT {
+        drop(job);
         let (line, why) = (0, JobWhy::Size);
         return Err(JobFault::Bad { line, why });
     }

@@ -12,7 +12,7 @@ ghost use Rattle.job_text.specs.Scopes.{scope_of};
 ghost use Rattle.job_text.specs.declared.job.Job.{Job as JobState};
 
 use crate::events::{timed_at, timed_form};
-use crate::fault::{JobFault, JobWhy, Miss};
+use crate::fault::{JobFault, JobWhy, Miss, Other};
 use crate::handler_lines::is_end;
 use crate::job::{Schedule, ScheduledEvent, TimedEvent};
 use crate::plan_pieces::{are_too_many_pieces, event_pieces};
@@ -47,8 +47,13 @@ fn timed_or_end<'a>(
         return Ok((None, rest));
     }
     let (event, rest) = timed_at(alloc, scope, bytes)?;
-    let rest = ended(rest)?;
-    Ok((Some(event), rest))
+    match ended(rest) {
+        Ok(rest) => Ok((Some(event), rest)),
+        Err(Other) => {
+            drop(event);
+            Err(Miss::Unlike)
+        }
+    }
 }
 
 /// The next line of a schedule, or none at the line `end`, and the bytes after it; or why it isn't read.

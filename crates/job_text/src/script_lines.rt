@@ -44,8 +44,13 @@ fn step_or_end<'a>(
         return Ok((None, rest));
     }
     let (step, rest) = step_at(alloc, scope, bytes)?;
-    let rest = ended(rest)?;
-    Ok((Some(step), rest))
+    match ended(rest) {
+        Ok(rest) => Ok((Some(step), rest)),
+        Err(Other) => {
+            drop(step);
+            Err(Miss::Unlike)
+        }
+    }
 }
 
 /// The step of the next line, or none at the line `end`, and the bytes after it; or why it isn't read.

@@ -216,14 +216,23 @@ fn plan_in(alloc: Global, scope: &Scope, words: VisWords) -> Result<VisText, Mis
     ensures { Reads (λ vis. vis) result (plan_in scope.now words) }
 {
     if !is_second(scope) {
+        drop(words);
         return Err(Miss::Unlike);
     }
     let plan = match plan_of(alloc, &scope.settings, &words) {
         Ok(plan) => plan,
-        Err(PlanFault::NoMemory) => return Err(Miss::NoMemory),
-        Err(_) => return Err(Miss::Unlike),
+        Err(PlanFault::NoMemory) => {
+            drop(words);
+            return Err(Miss::NoMemory);
+        }
+        Err(_) => {
+            drop(words);
+            return Err(Miss::Unlike);
+        }
     };
     if plan.pieces() < usize::from(words.from) {
+        drop(words);
+        drop(plan);
         return Err(Miss::Unlike);
     }
     Ok(VisText { words, plan })

@@ -136,6 +136,7 @@ fn waiting_at<'a>(
     let (name, rest) = name_of(bytes);
     let (step, rest) = named_wait_at(alloc, name, rest)?;
     if !waiting_fits(scope, &step) {
+        drop(step);
         return Err(Miss::Unlike);
     }
     Ok((step, rest))
