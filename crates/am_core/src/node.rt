@@ -12,10 +12,9 @@ ghost use Rattle.node_record.specs.Credits.{greatest_holding};
 ghost use Rattle.node_record.specs.Held.{held};
 ghost use Rattle.node_record.specs.SlotMessages.{message_at, number_at};
 ghost use Rattle.node_record.specs.NodeStep.{Asks, Does, Ticks, OfRequest, OfCall, OfTick};
-ghost use Rattle.am_core.specs.AskedFor.{ask_of, payload_from, work_of};
+ghost use Rattle.am_core.specs.AskedFor.{ask_of, work_of};
 ghost use Rattle.am_core.specs.Library.{WorkFits};
 ghost use Rattle.am_core.specs.Kept.{nothing_done, segment_of};
-ghost use Rattle.am_core.specs.ClientRules.{asks_of, short_asking, medium_asking, long_asking};
 ghost use Rattle.am_core.specs.CoreStep.{judged_at, noting};
 ghost use Rattle.am_core.specs.Sizes.{HasSegment};
 ghost use Rattle.am_core.specs.Stands.{Stands};
@@ -24,7 +23,7 @@ ghost use Rattle.am_core.specs.CoreContracts.{Unlocked, Delivers};
 ghost use Rattle.am_core.specs.CoreContracts.{AsksOwn, ForItsRecord, resends};
 
 use crate::answer::{Asked, Delivered, Side, SlotRef, Why};
-use crate::asking::{Asking, Category, Payload};
+use crate::asking::{Asking, Payload};
 use crate::library::Library;
 use crate::slots::{free_replies, free_requests, slots_of};
 use credit_slots::CreditSlots;
@@ -166,141 +165,6 @@ impl Core {
             self.new }
     {
         self.make(handlers, now, asking)
-    }
-
-    /// A Short request (GASNet 1.8.1, core API, `gasnet_AMRequestShort`), answered as `request` says.
-    pub fn request_short<H: Handlers>(
-        &mut self,
-        handlers: &H,
-        now: u64,
-        thread: u16,
-        to: u16,
-        handler: u8,
-        args: &[i32],
-    ) -> Asked
-        requires { HasSegment self.old }
-        ensures { CoreSteps (H.meaning handlers.now) self.old
-            (record {
-              now = now;
-              event = Asks (asks_of thread to (short_asking handler args.now));
-              answer = OfRequest result;
-            })
-            self.new }
-    {
-        let asking = Asking {
-            thread,
-            to,
-            category: Category::Short,
-            handler,
-            args,
-            payload: Payload::Lent(&[]),
-            offset: 0,
-        };
-        self.request(handlers, now, &asking)
-    }
-
-    /// A Medium request (GASNet 1.8.1, core API, `gasnet_AMRequestMedium`), answered as `request` says: the handler
-    /// sees the payload in a buffer.
-    pub fn request_medium<H: Handlers>(
-        &mut self,
-        handlers: &H,
-        now: u64,
-        thread: u16,
-        to: u16,
-        handler: u8,
-        args: &[i32],
-        payload: Payload<'_>,
-    ) -> Asked
-        requires { HasSegment self.old }
-        ensures { CoreSteps (H.meaning handlers.now) self.old
-            (record {
-              now = now;
-              event = Asks (asks_of thread to
-                  (medium_asking handler args.now (payload_from payload.entry)));
-              answer = OfRequest result;
-            })
-            self.new }
-    {
-        let asking = Asking {
-            thread,
-            to,
-            category: Category::Medium,
-            handler,
-            args,
-            payload,
-            offset: 0,
-        };
-        self.request(handlers, now, &asking)
-    }
-
-    /// A Long request (GASNet 1.8.1, core API, `gasnet_AMRequestLong`), answered as `request` says: the payload goes to
-    /// the target's segment, from the byte `offset` on.
-    pub fn request_long<H: Handlers>(
-        &mut self,
-        handlers: &H,
-        now: u64,
-        thread: u16,
-        to: u16,
-        handler: u8,
-        args: &[i32],
-        payload: Payload<'_>,
-        offset: u64,
-    ) -> Asked
-        requires { HasSegment self.old }
-        ensures { CoreSteps (H.meaning handlers.now) self.old
-            (record {
-              now = now;
-              event = Asks (asks_of thread to
-                  (long_asking handler args.now (payload_from payload.entry) offset));
-              answer = OfRequest result;
-            })
-            self.new }
-    {
-        let asking = Asking {
-            thread,
-            to,
-            category: Category::Long,
-            handler,
-            args,
-            payload,
-            offset,
-        };
-        self.request(handlers, now, &asking)
-    }
-
-    /// A Long request whose payload might be read after the call (GASNet 1.8.1, core API, `gasnet_AMRequestLongAsync`);
-    /// it is copied at the call, as `request_long` does (profile).
-    pub fn request_long_async<H: Handlers>(
-        &mut self,
-        handlers: &H,
-        now: u64,
-        thread: u16,
-        to: u16,
-        handler: u8,
-        args: &[i32],
-        payload: Payload<'_>,
-        offset: u64,
-    ) -> Asked
-        requires { HasSegment self.old }
-        ensures { CoreSteps (H.meaning handlers.now) self.old
-            (record {
-              now = now;
-              event = Asks (asks_of thread to
-                  (long_asking handler args.now (payload_from payload.entry) offset));
-              answer = OfRequest result;
-            })
-            self.new }
-    {
-        let asking = Asking {
-            thread,
-            to,
-            category: Category::Long,
-            handler,
-            args,
-            payload,
-            offset,
-        };
-        self.request(handlers, now, &asking)
     }
 
     /// A request of the library to another node, of the node's own accord (GASNet 1.8.1, extended API): a chunk of a
