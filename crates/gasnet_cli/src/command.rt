@@ -1,11 +1,13 @@
 //! The command that a run is of, and what is kept of the run.
 
 use crate::ports::{FreePorts, free_ports};
+use crate::telling::{tell, tell_filled};
 use crate::watched::Seen;
 use std::alloc::Global;
 use std::io::Eprint;
 use std::net::Net;
 use std::rt::Clock;
+use user_text::fill;
 
 /// A command, and what is kept of its run.
 #[derive(Drop)]
@@ -16,7 +18,8 @@ pub struct Command {
     pub input: Seen,
     /// What was written.
     pub output: Seen,
-    /// Whether each step is told beside its answer. Then all that is written is kept, and else its end alone.
+    /// Whether each step is told beside its answer. Then all that is written is kept, and else its
+    /// end alone.
     pub steps: bool,
     /// What holds the ports that were taken, if any were.
     pub ports: Option<FreePorts>,
@@ -31,8 +34,9 @@ fn lacks_port(words: &[String]) -> bool {
 }
 
 impl Command {
-    /// The command of these words, before its run. A launch without a port gets one that is free, which is told.
-    pub fn new<R: Eprint + Net + Clock>(
+    /// The command of these words, before its run. A launch without a port gets one that is free,
+    /// which is told.
+    pub fn new<R: Eprint + Net + Clock + AllocGlobal>(
         rt: &R,
         alloc: Global,
         words: Vec<String>,
@@ -55,15 +59,16 @@ impl Command {
     }
 
     /// Takes ports that are free, and tells the first.
-    fn take_ports<R: Eprint + Net + Clock>(&mut self, rt: &R, alloc: Global) {
+    fn take_ports<R: Eprint + Net + Clock + AllocGlobal>(&mut self, rt: &R, alloc: Global) {
         let Some(ports) = free_ports(rt) else {
-            let _ = eprintln!(rt;
-                "gasnet_cli: no 257 ports in a row are free; expected launch PORT"
+            tell(
+                rt,
+                "gasnet_cli: no 257 ports in a row are free; expected launch PORT\n",
             );
             return;
         };
-        if let Ok(word) = format!(in alloc; "{}", ports.port) {
-            let _ = eprintln!(rt; "gasnet_cli: launch {word}");
+        if let Ok(word) = fill(alloc, "%", &[], &[u64::from(ports.port)]) {
+            tell_filled(rt, "gasnet_cli: launch @\n", &[word.as_str()], &[]);
             let _ = self.words.push(word);
         }
         self.ports = Some(ports);

@@ -1,8 +1,8 @@
 //! How the nodes of a launch ended, on standard error.
 
+use crate::telling::tell_filled;
 use real_outside::{ChildEnd, ChildEnds};
 use std::io::Eprint;
-use std::process::ExitStatus;
 
 /// How many nodes a job has at most.
 const NODES: u16 = 256;
@@ -49,29 +49,27 @@ fn status_name(code: i32) -> &'static str {
     }
 }
 
-/// Tells how a node ended: its status with the name, or the signal.
-fn tell_status<H: Eprint>(rt: &H, rank: u16, status: ExitStatus) {
-    let _ = match status.code() {
-        Some(code) => eprintln!(rt; "ended {rank} status {code} {}", status_name(code)),
-        None => eprintln!(rt; "ended {rank} {status}"),
+/// Tells how a child ended: its status with the name, or the signal, or why it has none.
+fn tell_end<H: Eprint + AllocGlobal>(rt: &H, rank: u16, end: ChildEnd) {
+    let number = u64::from(rank);
+    let status = match end {
+        ChildEnd::Ended(status) => status,
+        ChildEnd::Unstarted => return tell_filled(rt, "ended % not started\n", &[], &[number]),
+        ChildEnd::Lost => return tell_filled(rt, "ended % output lost\n", &[], &[number]),
     };
-}
-
-/// Tells how a child ended.
-fn tell_end<H: Eprint>(rt: &H, rank: u16, end: ChildEnd) {
-    match end {
-        ChildEnd::Ended(status) => tell_status(rt, rank, status),
-        ChildEnd::Unstarted => {
-            let _ = eprintln!(rt; "ended {rank} not started");
+    match status.code() {
+        Some(code) => {
+            let numbers = [number, u64::try_from(code).unwrap_or(0)];
+            tell_filled(rt, "ended % status % @\n", &[status_name(code)], &numbers);
         }
-        ChildEnd::Lost => {
-            let _ = eprintln!(rt; "ended {rank} output lost");
+        None => {
+            let _ = eprintln!(rt; "ended {rank} {status}");
         }
     }
 }
 
 /// Tells how the children ended for this cause.
-fn tell_cause<H: Eprint>(rt: &H, ends: &ChildEnds, cause: Cause) {
+fn tell_cause<H: Eprint + AllocGlobal>(rt: &H, ends: &ChildEnds, cause: Cause) {
     for rank in 0..NODES {
         if let Some(end) = ends.of(rank) {
             if cause_of(end) == cause {
@@ -81,9 +79,10 @@ fn tell_cause<H: Eprint>(rt: &H, ends: &ChildEnds, cause: Cause) {
     }
 }
 
-/// Tells how the nodes of a launch ended that ended with another status than 0 and 1, a line for each: those that failed
-/// of their own, and then those that got stuck. Of other commands it tells nothing: they start none.
-pub fn tell_ends<H: Eprint>(rt: &H, ends: &ChildEnds) {
+/// Tells how the nodes of a launch ended that ended with another status than 0 and 1, a line for
+/// each: those that failed of their own, and then those that got stuck. Of other commands it tells
+/// nothing: they start none.
+pub fn tell_ends<H: Eprint + AllocGlobal>(rt: &H, ends: &ChildEnds) {
     tell_cause(rt, ends, Cause::Own);
     tell_cause(rt, ends, Cause::Stuck);
 }

@@ -1,22 +1,23 @@
 //! Runs GASNet active messages over lossy datagrams.
 //!
-//! The command `world` reads a job from standard input, runs its schedule over the endpoints of a world, and writes one
-//! line for each line of the schedule, then those of each node, then `status CODE NAME`. The code is the exit status.
-//! The command `drill SEED` does so with a schedule made from a number, and writes a summary of the answers. The
-//! command `node RANK PORT` runs one node of the job over a UDP socket, and writes the trace of what it did;
-//! `launch PORT` runs all nodes of the job so, each as a child of its own, and then goes on as `check` does, which reads
-//! a job with what its nodes wrote, checks whether their traces are one run, and writes that run's lines.
+//! The command `world` reads a job from standard input, runs its schedule over the endpoints of a
+//! world, and writes one line for each line of the schedule, then those of each node, then `status
+//! CODE NAME`. The code is the exit status. The command `drill SEED` does so with a schedule made
+//! from a number, and writes a summary of the answers. The command `node RANK PORT` runs one node
+//! of the job over a UDP socket, and writes the trace of what it did; `launch PORT` runs all nodes
+//! of the job so, each as a child of its own, and then goes on as `check` does, which reads a job
+//! with what its nodes wrote, checks whether their traces are one run, and writes that run's lines.
 //!
-//! The environment sets the hosts of the nodes, the key of the job, and what `launch` starts and keeps ([`settings`]).
-//! Where it sets them wrongly no command runs: the exit status is 2.
+//! The environment sets the hosts of the nodes, the key of the job, and what `launch` starts and
+//! keeps ([`settings`]). Where it sets them wrongly no command runs: the exit status is 2.
 //!
-//! Standard error has what a person is told: why words, a job or the environment are refused, why a link or a launch
-//! failed, which nodes of it failed ([`ends`]), help, each step beside its answer, what a long command is at, and how many
-//! datagrams a node dropped.
+//! Standard error has what a person is told: why words, a job or the environment are refused, why a
+//! link or a launch failed, which nodes of it failed ([`ends`]), help, each step beside its answer,
+//! what a long command is at, and how many datagrams a node dropped.
 //!
-//! What is proved of it stands on `run_streams` of `top_call`, which `run` calls with the words of the command line and
-//! the two streams, whose bytes it looks at as they go by. A launch without a port is made with the words of one that was
-//! free. `main` itself promises nothing.
+//! What is proved of it stands on `run_streams` of `top_call`, which `run` calls with the words of
+//! the command line and the two streams, whose bytes it looks at as they go by. A launch without a
+//! port is made with the words of one that was free. `main` itself promises nothing.
 #![tactic(auto)]
 
 mod command;
@@ -49,11 +50,11 @@ use std::process::ExitCode;
 /// Ends the program before any command, for what the environment sets.
 fn refuse(rt: &HostRuntime, why: Refusal) -> ExitCode {
     let _ = eprintln!(rt; "gasnet_cli: {}", why.text());
-    let (code, name) = match why {
-        Refusal::NoMemory => (8, "no-memory"),
-        _ => (2, "usage"),
+    let (code, line) = match why {
+        Refusal::NoMemory => (8, "status 8 no-memory"),
+        _ => (2, "status 2 usage"),
     };
-    match println!(rt; "status {code} {name}") {
+    match println!(rt; "{line}") {
         Ok(()) => ExitCode::from(code),
         Err(_) => ExitCode::from(5),
     }
@@ -111,13 +112,18 @@ fn main(rt: HostRuntime) -> ExitCode {
         None => run(&rt, &mut command, link, behind, &mut notes),
         Some(key) => match SealedLink::new(rt.alloc(), link, key, &unsealed) {
             Ok(link) => run(&rt, &mut command, link, behind, &mut notes),
-            Err(AllocError) => return refuse(&rt, Refusal::NoMemory),
+            Err(AllocError) => {
+                drop(behind);
+                return refuse(&rt, Refusal::NoMemory);
+            }
         },
     };
     progress.end(&rt);
     tell_dropped(&rt, &socket, &unsealed);
     tell_ends(&rt, &ends);
-    let start = spawner.into_inner().unstarted();
+    let spawner = spawner.into_inner();
+    let start = spawner.unstarted();
+    drop(spawner);
     if !is_help {
         tell_end(&rt, &command, Causes::new(socket.fault(), start));
     }

@@ -7,7 +7,8 @@ use std::time::{SystemTime, UNIX_EPOCH};
 /// The ports of a block: one that is held while a launch runs, and one for each of 256 nodes.
 const BLOCK: u16 = 257;
 
-/// The first port of the first block. The last block ends before the ports that the system gives out by itself.
+/// The first port of the first block. The last block ends before the ports that the system gives
+/// out by itself.
 const FIRST: u16 = 10_023;
 
 /// How many blocks there are.

@@ -1,6 +1,7 @@
 //! What a command is at.
 
-use std::alloc::{AllocError, Global};
+use crate::telling::{tell, tell_filled};
+use std::alloc::AllocError;
 use std::io::Eprint;
 use std::rt::Clock;
 use std::sync::Arc;
@@ -67,24 +68,22 @@ impl Progress {
         self.ended.fetch_add(1, Ordering::SeqCst);
     }
 
-    /// The line that is shown after so many seconds.
-    fn line(&self, alloc: Global, seconds: u64) -> Result<String, AllocError> {
+    /// Shows the line of so many seconds.
+    fn show_line<R: Eprint + AllocGlobal>(&self, rt: &R, seconds: u64) {
         let read = self.read.load(Ordering::SeqCst);
         let lines = self.lines.load(Ordering::SeqCst);
-        let (started, ended) = (
-            self.started.load(Ordering::SeqCst),
-            self.ended.load(Ordering::SeqCst),
-        );
-        let mut text = format!(in alloc;
-            "gasnet_cli: {seconds} s, read {read} bytes, wrote {lines} lines"
-        )?;
-        if started != 0 {
-            write!(text, ", {started} nodes started, {ended} finished")?;
-        }
-        Ok(text)
+        let started = self.started.load(Ordering::SeqCst);
+        let ended = self.ended.load(Ordering::SeqCst);
+        let told = if started == 0 {
+            "\rgasnet_cli: % s, read % bytes, wrote % lines\x1b[K"
+        } else {
+            "\rgasnet_cli: % s, read % bytes, wrote % lines, % nodes started, % finished\x1b[K"
+        };
+        tell_filled(rt, told, &[], &[seconds, read, lines, started, ended]);
     }
 
-    /// Shows on a terminal what the command is at, each second from the second one on, until it is over.
+    /// Shows on a terminal what the command is at, each second from the second one on, until it is
+    /// over.
     pub fn show<R: Eprint + Clock + AllocGlobal>(&self, rt: &R) {
         for look in 1..u64::MAX {
             thread::sleep(rt, Duration::from_millis(LOOK));
@@ -95,9 +94,7 @@ impl Progress {
                 continue;
             }
             self.shown.store(1, Ordering::SeqCst);
-            if let Ok(line) = self.line(rt.alloc(), look / SECOND) {
-                let _ = eprint!(rt; "\r{line}\x1b[K");
-            }
+            self.show_line(rt, look / SECOND);
         }
     }
 
@@ -106,7 +103,7 @@ impl Progress {
         self.over.store(1, Ordering::SeqCst);
         if self.shown.load(Ordering::SeqCst) != 0 {
             thread::sleep(rt, Duration::from_millis(LOOK));
-            let _ = eprint!(rt; "\r\x1b[K");
+            tell(rt, "\r\x1b[K");
         }
     }
 }

@@ -24,7 +24,8 @@ pub struct Behind<'a, P, C, G> {
     pub progress: &'a Progress,
 }
 
-/// Does what the command's words say, over standard input and standard output, and gives the spawner back.
+/// Does what the command's words say, over standard input and standard output, and gives the
+/// spawner back.
 pub fn run<
     H: AllocGlobal + Input + Print + Threads + Wait + Sync,
     L: Link + Send + Drop,

@@ -1,13 +1,14 @@
 //! What is told of a run that went wrong.
 
 use crate::command::Command;
-use crate::watched::Seen;
 use real_outside::{LinkFault, LinkSocket};
 use sealed_link::Dropped;
 use std::alloc::{AllocError, Global};
 use std::io;
 use std::io::Eprint;
-use user_text::{BadLine, help_for, job_fault, lines_told, place_fault, steps_told, usage_fault};
+use user_text::{
+    BadLine, fill, help_for, job_fault, lines_told, place_fault, steps_told, usage_fault,
+};
 
 /// What the system said of a run's link and children.
 #[derive(Clone, Copy)]
@@ -17,7 +18,8 @@ pub struct Causes {
 }
 
 impl Causes {
-    /// Why the link failed, where it did; and which child couldn't be started, with the system's number of the error.
+    /// Why the link failed, where it did; and which child couldn't be started, with the system's
+    /// number of the error.
     pub fn new(link: Option<LinkFault>, start: Option<(u16, i32)>) -> Causes {
         Causes { link, start }
     }
@@ -31,9 +33,9 @@ fn bad_line(status: &str) -> Option<BadLine<'_>> {
     Some(BadLine { line, reason })
 }
 
-/// Why a stream failed.
-fn stream_fault(alloc: Global, what: &str, seen: &Seen) -> Result<String, AllocError> {
-    match seen.fault {
+/// What failed, and why, by the system's number of the error.
+fn caused(alloc: Global, what: &str, code: Option<i32>) -> Result<String, AllocError> {
+    match code {
         Some(code) => {
             let error = io::Error::from_raw_os_error(code);
             format!(in alloc; "{what}: {error}")
@@ -42,92 +44,106 @@ fn stream_fault(alloc: Global, what: &str, seen: &Seen) -> Result<String, AllocE
     }
 }
 
-/// Why the link failed.
-fn link_fault(alloc: Global, fault: LinkFault) -> Result<String, AllocError> {
-    match fault {
-        LinkFault::NoAddress => String::from_str(
-            alloc,
+/// Why the link failed, where it did.
+fn link_fault(alloc: Global, fault: Option<LinkFault>) -> Result<String, AllocError> {
+    let Some(fault) = fault else {
+        return Ok(String::new(alloc));
+    };
+    let (what, code) = match fault {
+        LinkFault::NoAddress => (
             "there aren't as many hosts as nodes, or a node has no port",
+            None,
         ),
-        LinkFault::Unread => String::from_str(alloc, "nobody reads standard output any more"),
+        LinkFault::Unread => ("nobody reads standard output any more", None),
         LinkFault::Bind(address, code) => {
-            let error = io::Error::from_raw_os_error(code);
-            format!(in alloc; "{address} can't be bound: {error}")
+            let what = format!(in alloc; "{address} can't be bound")?;
+            return caused(alloc, what.as_str(), Some(code));
         }
-        LinkFault::Other(code) => {
-            let error = io::Error::from_raw_os_error(code);
-            format!(in alloc; "the socket failed: {error}")
-        }
-    }
+        LinkFault::Other(code) => ("the socket failed", Some(code)),
+    };
+    caused(alloc, what, code)
 }
 
 /// Why a launch failed, where a child couldn't be started.
-fn start_fault(alloc: Global, start: Option<(u16, i32)>) -> Result<Option<String>, AllocError> {
+fn start_fault(alloc: Global, start: Option<(u16, i32)>) -> Result<String, AllocError> {
     let Some((rank, code)) = start else {
-        return Ok(None);
+        return Ok(String::new(alloc));
     };
-    let error = io::Error::from_raw_os_error(code);
-    Ok(Some(format!(in alloc; "node {rank} couldn't be started: {error}")?))
+    let what = fill(alloc, "node % couldn't be started", &[], &[u64::from(rank)])?;
+    caused(alloc, what.as_str(), Some(code))
 }
 
-/// What is told of a wrong use: the words are those of no command, or the job has no place for what they say.
-fn use_fault(alloc: Global, command: &Command) -> Result<Option<String>, AllocError> {
-    match usage_fault(alloc, &command.words)? {
-        Some(text) => Ok(Some(text)),
-        None => place_fault(alloc, &command.words, &command.input.bytes),
+/// What is told of a wrong use: the words are those of no command, or the job has no place for what
+/// they say.
+fn use_fault(alloc: Global, command: &Command) -> Result<String, AllocError> {
+    let text = usage_fault(alloc, &command.words)?;
+    if text.is_empty() {
+        return place_fault(alloc, &command.words, &command.input.bytes);
     }
+    Ok(text)
 }
 
-/// What is told of a run that went wrong, in a line. None where it didn't, or nothing is known.
-fn fault_text(
-    alloc: Global,
-    command: &Command,
-    causes: Causes,
-) -> Result<Option<String>, AllocError> {
+/// What is told of a run that went wrong, in a line. Empty where it didn't, or nothing is known.
+fn fault_text(alloc: Global, command: &Command, causes: Causes) -> Result<String, AllocError> {
     let (input, output) = (&command.input, &command.output);
     if output.failed {
-        let text = stream_fault(alloc, "standard output can't be written", output)?;
-        return Ok(Some(text));
+        return caused(alloc, "standard output can't be written", output.fault);
     }
     let status = output.last_line();
     if let Some(bad) = bad_line(status) {
-        return Ok(Some(job_fault(alloc, &input.bytes, bad)?));
+        return job_fault(alloc, &input.bytes, bad);
     }
-    match status {
-        "status 2 usage" => use_fault(alloc, command),
-        "status 4 read-fault" => {
-            let text = stream_fault(alloc, "standard input can't be read", input)?;
-            Ok(Some(text))
-        }
-        "status 6 link-fault" => match causes.link {
-            Some(fault) => Ok(Some(link_fault(alloc, fault)?)),
-            None => Ok(None),
-        },
-        "status 7 spawn-fault" => start_fault(alloc, causes.start),
-        "status 8 no-memory" => Ok(Some(String::from_str(alloc, "memory ran out")?)),
-        _ => Ok(None),
+    if status == "status 2 usage" {
+        return use_fault(alloc, command);
     }
+    if status == "status 4 read-fault" {
+        return caused(alloc, "standard input can't be read", input.fault);
+    }
+    if status == "status 6 link-fault" {
+        return link_fault(alloc, causes.link);
+    }
+    if status == "status 7 spawn-fault" {
+        return start_fault(alloc, causes.start);
+    }
+    let is_full = status == "status 8 no-memory";
+    String::from_str(alloc, if is_full { "memory ran out" } else { "" })
 }
 
 /// Each step of the nodes beside its answer, or each line of the schedule.
 fn steps_text(alloc: Global, command: &Command) -> Result<String, AllocError> {
     let (input, output) = (&command.input.bytes, &command.output.bytes);
-    match command.name() {
-        "launch" | "check" => steps_told(alloc, input, output),
-        "world" => lines_told(alloc, input, output),
-        _ => Ok(String::new(alloc)),
+    let name = command.name();
+    if name == "launch" || name == "check" {
+        return steps_told(alloc, input, output);
+    }
+    if name == "world" {
+        return lines_told(alloc, input, output);
+    }
+    Ok(String::new(alloc))
+}
+
+/// Tells a text.
+pub fn tell<R: Eprint>(rt: &R, text: &str) {
+    let _ = eprint!(rt; "{text}");
+}
+
+/// Tells a text with these words and numbers in it. Where memory runs out it tells nothing.
+pub fn tell_filled<R: Eprint + AllocGlobal>(rt: &R, text: &str, words: &[&str], numbers: &[u64]) {
+    if let Ok(text) = fill(rt.alloc(), text, words, numbers) {
+        tell(rt, text.as_str());
     }
 }
 
 /// Tells the help that the words ask for. False where they ask for none.
 pub fn tell_help<R: Eprint + AllocGlobal>(rt: &R, words: &[String]) -> bool {
-    match help_for(rt.alloc(), words) {
-        Ok(Some(text)) => {
-            let _ = eprint!(rt; "{text}");
-            true
-        }
-        _ => false,
+    let Ok(text) = help_for(rt.alloc(), words) else {
+        return false;
+    };
+    if text.is_empty() {
+        return false;
     }
+    tell(rt, text.as_str());
+    true
 }
 
 /// Tells the steps of a run, where that is asked for, and why it went wrong, where that is known.
@@ -135,27 +151,37 @@ pub fn tell_end<R: Eprint + AllocGlobal>(rt: &R, command: &Command, causes: Caus
     let alloc = rt.alloc();
     if command.steps {
         if let Ok(text) = steps_text(alloc, command) {
-            let _ = eprint!(rt; "{text}");
+            tell(rt, text.as_str());
         }
     }
-    if let Ok(Some(text)) = fault_text(alloc, command, causes) {
-        let _ = eprintln!(rt; "gasnet_cli: {text}");
+    if let Ok(text) = fault_text(alloc, command, causes) {
+        if !text.is_empty() {
+            tell_filled(rt, "gasnet_cli: @\n", &[text.as_str()], &[]);
+        }
     }
 }
 
 /// Tells how many datagrams were dropped, where there were any.
-pub fn tell_dropped<R: Eprint>(rt: &R, socket: &LinkSocket, unsealed: &Dropped<'_>) {
+pub fn tell_dropped<R: Eprint + AllocGlobal>(rt: &R, socket: &LinkSocket, unsealed: &Dropped<'_>) {
     let Some(address) = socket.address() else {
+        return;
+    };
+    let Ok(address) = format!(in rt.alloc(); "{address}") else {
         return;
     };
     let (strays, others) = (socket.strays(), unsealed.count());
     if strays != 0 {
-        let _ = eprintln!(rt; "gasnet_cli: {address} dropped {strays} datagrams that no peer sent");
+        let told = "gasnet_cli: @ dropped % datagrams that no peer sent\n";
+        tell_filled(rt, told, &[address.as_str()], &[strays]);
     }
     if others != 0 {
-        let _ = eprintln!(rt;
-            "gasnet_cli: {address} dropped {others} datagrams that the key didn't seal, the last by node {}",
-            unsealed.last_sender()
+        let told =
+            "gasnet_cli: @ dropped % datagrams that the key didn't seal, the last by node %\n";
+        tell_filled(
+            rt,
+            told,
+            &[address.as_str()],
+            &[others, unsealed.last_sender()],
         );
     }
 }

@@ -8,13 +8,15 @@ use std::io::{Read, Write};
 /// The most bytes of the input that are kept.
 const MOST_INPUT: usize = 8_388_608;
 
-/// So many bytes of the end of the output are enough, where not all of it is kept. A status line has far fewer.
+/// So many bytes of the end of the output are enough, where not all of it is kept. A status line
+/// has far fewer.
 const END: usize = 4_096;
 
 /// What went by in a stream.
 #[derive(Drop)]
 pub struct Seen {
-    /// The bytes that are kept: the front of what was read, the end of what was written, or all of it.
+    /// The bytes that are kept: the front of what was read, the end of what was written, or all of
+    /// it.
     pub bytes: Vec<u8>,
     /// The system's number of the error by which the stream failed, where it has one.
     pub fault: Option<i32>,

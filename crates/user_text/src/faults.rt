@@ -1,11 +1,55 @@
 //! Why a line of a job's text is refused, for a person.
 
-use crate::forms::{FORMS, Form, Part, kind_of};
-use crate::places::{Place, Reading, call_of, is_call};
+use crate::forms::{FRONT, Form, form_in, names};
+use crate::kinds::{fits, range_text};
+use crate::places::Reading;
+use crate::tables::{as_one, fill, row, word_of};
 use std::alloc::{AllocError, Global};
 
 /// The words before a call in a schedule.
 const BEFORE_CALL: usize = 4;
+
+/// The place of a word that isn't known.
+const NOWHERE: usize = usize::MAX;
+
+/// What was expected: of words that have to fit together, by the first word of their form; of an
+/// entry, by its first word; of one entry too many, by the place; and what an output has, and what
+/// is wrong there.
+static TOLD: &str = "\
+together credits a C for which N(N-1)C is at most 65536
+together segment a multiple of 4096, for all nodes at most 268435456
+together pair two nodes that differ, and at most 65536 credits of all pairs
+together handler locks that rise strictly
+together request two nodes that differ
+together reply two nodes that differ
+together atomic a batch: TO is a node, each OFF and LOCAL a multiple of 8 within the segment
+together put-s a plan: TO is a node, as many bytes there as here, in the segments, none written \
+twice
+together get-s a plan: TO is a node, as many bytes there as here, in the segments, none written \
+twice
+together put-v a plan: TO is a node, as many bytes there as here, in the segments, none written \
+twice
+together get-v a plan: TO is a node, as many bytes there as here, in the segments, none written \
+twice
+together _ other words
+entry pair a pair that no line before has
+entry script a thread that no script before is of
+entry _ an index that no handler before has, and behind atomics neither 252 nor 253
+count body at most 64 actions of a handler
+count steps at most 4096 steps of a script, and 65536 pieces of all plans
+count schedule at most 65536 lines of the schedule and pieces of plans, 4096 rounds, 262144 \
+rounds times nodes
+count pairs at most 64 pairs, and 128 handlers, 126 behind atomics
+count _ at most 128 handlers, 126 behind atomics
+line 0 `trace VERSION`, as the job has it
+line 1 `job J`, as the job has it
+line 2 `rank RANK`
+line _ `turn THREAD NOW GOT`, or `end` and behind it `status 0 ok` or another end of a node
+output early the input ends before this line
+output after bytes stand behind the last output
+output form another line has to stand here
+output _ a word isn't in its range
+";
 
 /// A line that was refused.
 #[derive(Clone, Copy)]
@@ -16,42 +60,47 @@ pub struct BadLine<'a> {
     pub reason: &'a str,
 }
 
-/// What is told of a bad line.
+/// What is told of a line of words.
 #[derive(Drop)]
 struct Told {
-    /// The place of the word that is wrong, from 0, where it is known.
-    word: Option<usize>,
+    /// The place of the word that is wrong, from 0.
+    word: usize,
     /// What is wrong.
     wrong: &'static str,
     /// What was expected there.
     expected: String,
 }
 
-/// The words of a line, and the form that they begin as, with the place of its first word.
+/// The words of a line.
 #[derive(Clone, Copy)]
 struct Words<'a> {
+    /// All of them.
     all: &'a [&'a str],
+    /// The place of the first one of the form.
     first: usize,
-    form: Option<Form>,
+    /// What comes next there, as the forms are looked for.
+    place: &'static str,
+    /// The form that they begin as.
+    form: Form,
 }
 
 /// The first line of bytes without the byte that ends it, and the bytes behind that.
 pub(crate) fn next_line(bytes: &[u8]) -> Option<(&[u8], &[u8])> {
-    let end = bytes.iter().position(|byte| *byte == b'\n')?;
-    let (line, others) = bytes.split_at(end);
-    let (_, rest) = others.split_first()?;
-    Some((line, rest))
+    for (place, byte) in bytes.iter().enumerate() {
+        if *byte == b'\n' {
+            return Some((bytes.get(..place)?, bytes.get(place.saturating_add(1)..)?));
+        }
+    }
+    None
 }
 
 /// The text of a line, where it is text.
 pub(crate) fn text_of(line: &[u8]) -> &str {
-    match std::str::from_utf8(line) {
-        Ok(text) => text,
-        Err(_) => "",
-    }
+    std::str::from_utf8(line).unwrap_or("")
 }
 
-/// What is known before the line of a number, and the bytes from that line on. None where there are not so many lines.
+/// What is known before the line of a number, and the bytes from that line on. None where there are
+/// not so many lines.
 fn before(text: &[u8], line: u32) -> Option<(Reading, &[u8])> {
     let mut reading = Reading::new();
     let mut rest = text;
@@ -63,239 +112,105 @@ fn before(text: &[u8], line: u32) -> Option<(Reading, &[u8])> {
     Some((reading, rest))
 }
 
+/// The words of a form that begins at a place.
+fn own<'a>(all: &'a [&'a str], first: usize) -> &'a [&'a str] {
+    all.get(first..).unwrap_or(&[])
+}
+
 /// The words of a line with their form.
-fn words_of<'a>(reading: &Reading, all: &'a [&'a str]) -> Words<'a> {
-    if reading.place != Place::Schedule || all.first() == Some(&"end") {
-        let form = reading.form_of(all);
-        return Words {
-            all,
-            first: 0,
-            form,
-        };
-    }
-    let first = if all.get(1) == Some(&"call") {
-        BEFORE_CALL
+fn words_of<'a>(reading: &Reading, line: &str, all: &'a [&'a str]) -> Words<'a> {
+    let (first, place) = if reading.place != "schedule" || word_of(line, 0) == "end" {
+        (0, reading.place)
+    } else if word_of(line, 1) == "call" {
+        (BEFORE_CALL, "call")
     } else {
-        1
+        (1, reading.place)
     };
-    let own = match all.get(first..) {
-        Some(own) => own,
-        None => &[],
-    };
-    let form = if first == BEFORE_CALL {
-        call_of(reading, own)
-    } else {
-        reading.form_of(own)
-    };
-    Words { all, first, form }
-}
-
-/// Whether a form may stand where the words of a line look for one.
-fn is_looked_for(reading: &Reading, first: usize, form: &Form) -> bool {
-    match first {
-        0 => reading.has(form),
-        BEFORE_CALL => is_call(reading, form),
-        _ => form.part == Part::Event,
+    let form = form_in(reading, place, true, own(all, first));
+    Words {
+        all,
+        first,
+        place,
+        form,
     }
 }
 
-/// Whether the form before this place has the same name.
-fn comes_again(place: usize, name: &str) -> bool {
-    let Some(before) = place.checked_sub(1) else {
-        return false;
-    };
-    match FORMS.get(before) {
-        Some(form) => form.name() == name,
-        None => false,
-    }
-}
-
-/// The names of the forms that may stand there.
-fn names(alloc: Global, reading: &Reading, first: usize) -> Result<String, AllocError> {
-    let mut text = String::new(alloc);
-    for (place, form) in FORMS.iter().enumerate() {
-        let name = form.name();
-        if is_looked_for(reading, first, form) && !comes_again(place, name) {
-            if !text.is_empty() {
-                text.push_str(", ")?;
-            }
-            text.push_str(name)?;
-        }
-    }
-    if reading.place == Place::Schedule && first == 1 {
-        text.push_str(", call")?;
-    }
-    Ok(text)
-}
-
-/// What is told of a word that no form has that may stand there in this job: some other job may have it.
-fn unknown(reading: &Reading, words: &Words<'_>) -> &'static str {
-    let own = match words.all.get(words.first..) {
-        Some(own) => own,
-        None => &[],
-    };
-    let other = FORMS.iter().find(|form| reading.is_elsewhere(form.part, words.first == BEFORE_CALL)
-        && form.begins(own));
-    match other {
-        Some(form) if form.part == Part::Batch => "this word stands behind the line atomics alone",
-        Some(_) => "this word stands in version 2 alone",
-        None => "no line that may stand here has this word here",
-    }
-}
-
-/// What is told where no form begins as the words do.
+/// What is told where no form begins as the words do. Where some other job may have the word, that
+/// is told.
 fn name_fault(alloc: Global, reading: &Reading, words: &Words<'_>) -> Result<Told, AllocError> {
-    let expected = names(alloc, reading, words.first)?;
-    if words.all.len() <= words.first {
-        return Ok(Told {
-            word: None,
-            wrong: "a word is missing at the end of the line",
-            expected,
-        });
-    }
+    let place = if words.first == 1 {
+        "round"
+    } else {
+        words.place
+    };
+    let expected = names(alloc, reading, place)?;
+    let other = form_in(reading, words.place, false, own(words.all, words.first));
+    let wrong = if words.all.len() <= words.first {
+        "a word is missing at the end of the line"
+    } else if other.part.is_empty() {
+        "no line that may stand here has this word here"
+    } else if other.part == "batch" {
+        "this word stands behind the line atomics alone"
+    } else {
+        "this word stands in version 2 alone"
+    };
     Ok(Told {
-        word: Some(words.first),
-        wrong: unknown(reading, words),
+        word: words.first,
+        wrong,
         expected,
     })
 }
 
 /// What is told of a line that has no form.
 fn form_fault(alloc: Global, reading: &Reading, words: &Words<'_>) -> Result<Told, AllocError> {
-    let Some(form) = words.form else {
+    let form = words.form;
+    if form.part.is_empty() {
         return name_fault(alloc, reading, words);
-    };
-    let expected = format!(in alloc; "the form `{}`", form.text)?;
-    let most = words.first.saturating_add(form.most);
-    if words.all.len() > most {
-        return Ok(Told {
-            word: Some(most),
-            wrong: "this word is one too many",
-            expected,
-        });
     }
-    let wrong = if words.all.len() < words.first.saturating_add(form.least) {
-        "a word is missing at the end of the line"
+    let most = words.first.saturating_add(form.most);
+    let (word, wrong) = if words.all.len() > most {
+        (most, "this word is one too many")
+    } else if words.all.len() < words.first.saturating_add(form.least) {
+        (NOWHERE, "a word is missing at the end of the line")
     } else {
-        "the words aren't of the form"
+        (NOWHERE, "the words aren't of the form")
     };
     Ok(Told {
-        word: None,
+        word,
         wrong,
-        expected,
+        expected: fill(alloc, "the form `@`", &[form.text], &[])?,
     })
-}
-
-/// The form's word for the word at a place of a line.
-fn form_word(words: &Words<'_>, place: usize) -> &'static str {
-    if place < words.first {
-        return match place {
-            0 => "NOW",
-            2 => "I",
-            3 => "T",
-            _ => "",
-        };
-    }
-    match words.form {
-        Some(form) => form.word_at(place - words.first),
-        None => "",
-    }
-}
-
-/// The form by which a word of a line is read.
-fn form_at(words: &Words<'_>, place: usize) -> Option<Form> {
-    if place < words.first {
-        return FORMS.iter().find(|form| form.part == Part::Event).copied();
-    }
-    words.form
 }
 
 /// What is told of a line whose words aren't all in their ranges.
 fn value_fault(alloc: Global, reading: &Reading, words: &Words<'_>) -> Result<Told, AllocError> {
     for (place, word) in words.all.iter().enumerate() {
-        let name = form_word(words, place);
-        let Some(form) = form_at(words, place) else {
-            continue;
+        let (form, within) = match place.checked_sub(words.first) {
+            Some(within) => (words.form, within),
+            None => (FRONT, place),
         };
-        let kind = kind_of(&form, name, reading.limits);
-        if !kind.has(word) {
-            let expected = kind.expected(alloc)?;
-            return Ok(Told {
-                word: Some(place),
-                wrong: "this word isn't in its range",
-                expected: format!(in alloc; "{name}, {expected}")?,
-            });
+        let name = form.word_at(within);
+        let kind = form.kind_of(name);
+        let (kind, expected) = kind.split_once('|').unwrap_or((kind, ""));
+        if kind.is_empty() || fits(word, kind, reading.limits) {
+            continue;
         }
+        let range = range_text(alloc, kind, reading.limits)?;
+        let expected = if expected.is_empty() {
+            range.as_str()
+        } else {
+            expected
+        };
+        return Ok(Told {
+            word: place,
+            wrong: "this word isn't in its range",
+            expected: fill(alloc, "@, @", &as_one(name, expected, "", ""), &[])?,
+        });
     }
-    let expected = match words.form {
-        Some(form) => together(&form),
-        None => "other words",
-    };
     Ok(Told {
-        word: None,
+        word: NOWHERE,
         wrong: "each word is in its range, but not all together",
-        expected: String::from_str(alloc, expected)?,
-    })
-}
-
-/// What the words of a form have to be together.
-fn together(form: &Form) -> &'static str {
-    match form.name() {
-        "credits" => "a C for which N(N-1)C is at most 65536",
-        "segment" => "a multiple of 4096, for all nodes at most 268435456",
-        "pair" => "two nodes that differ, and at most 65536 credits of all pairs",
-        "handler" => "locks that rise strictly",
-        "request" | "reply" => "two nodes that differ",
-        "atomic" => "a batch: TO is a node, each OFF and LOCAL a multiple of 8 within the segment",
-        "put-s" | "get-s" | "put-v" | "get-v" =>
-            "a plan: TO is a node, as many bytes there as here, in the segments, none written twice",
-        _ => "other words",
-    }
-}
-
-/// What is told of an entry that stood before, or is taken.
-fn entry_fault(alloc: Global, words: &Words<'_>) -> Result<Told, AllocError> {
-    let expected = match words.all.first() {
-        Some(&"pair") => "a pair that no line before has",
-        Some(&"script") => "a thread that no script before is of",
-        _ => "an index that no handler before has, and behind atomics neither 252 nor 253",
-    };
-    Ok(Told {
-        word: Some(1),
-        wrong: "the entry that begins with this word is taken",
-        expected: String::from_str(alloc, expected)?,
-    })
-}
-
-/// What is told of one entry too many.
-fn count_fault(alloc: Global, reading: &Reading) -> Result<Told, AllocError> {
-    let expected = match reading.place {
-        Place::Body => "at most 64 actions of a handler",
-        Place::Steps => "at most 4096 steps of a script, and 65536 pieces of all plans",
-        Place::Schedule => {
-            "at most 65536 lines of the schedule and pieces of plans, 4096 rounds, 262144 rounds times nodes"
-        }
-        Place::Pairs => "at most 64 pairs, and 128 handlers, 126 behind atomics",
-        _ => "at most 128 handlers, 126 behind atomics",
-    };
-    Ok(Told {
-        word: None,
-        wrong: "the line is one too many, or has too much",
-        expected: String::from_str(alloc, expected)?,
-    })
-}
-
-/// What is told of a text that ends before its last line.
-fn early_fault(alloc: Global, reading: &Reading) -> Result<Told, AllocError> {
-    let expected = if reading.place == Place::Schedule {
-        String::from_str(alloc, "NOW and an event, or end")?
-    } else {
-        names(alloc, reading, 0)?
-    };
-    Ok(Told {
-        word: None,
-        wrong: "the text ends before this line",
-        expected,
+        expected: String::from_str(alloc, row(TOLD, "together", "", words.form.name))?,
     })
 }
 
@@ -303,28 +218,71 @@ fn early_fault(alloc: Global, reading: &Reading) -> Result<Told, AllocError> {
 fn words_fault(
     alloc: Global,
     reading: &Reading,
-    line: &str,
+    words: &Words<'_>,
     reason: &str,
-) -> Result<(Told, usize), AllocError> {
-    let all: Vec<&str> = line.split(' ').collect(alloc)?;
-    let words = words_of(reading, &all);
-    let told = match reason {
-        "form" => form_fault(alloc, reading, &words)?,
-        "value" => value_fault(alloc, reading, &words)?,
-        "entry" => entry_fault(alloc, &words)?,
-        _ => count_fault(alloc, reading)?,
-    };
-    let mut column: usize = 1;
-    for word in all.iter().take(told.word.unwrap_or(0)) {
-        column = column.saturating_add(word.len()).saturating_add(1);
+) -> Result<Told, AllocError> {
+    if reason == "form" {
+        return form_fault(alloc, reading, words);
     }
-    Ok((told, column))
+    if reason == "value" {
+        return value_fault(alloc, reading, words);
+    }
+    let (word, wrong, expected) = if reason == "entry" {
+        let name = words.all.first().copied().unwrap_or("");
+        let wrong = "the entry that begins with this word is taken";
+        (1, wrong, row(TOLD, "entry", "", name))
+    } else {
+        let wrong = "the line is one too many, or has too much";
+        (NOWHERE, wrong, row(TOLD, "count", "", reading.place))
+    };
+    Ok(Told {
+        word,
+        wrong,
+        expected: String::from_str(alloc, expected)?,
+    })
 }
 
-/// The first byte of a line that may not stand there, and its place from 0.
-fn bad_byte(line: &[u8]) -> Option<(usize, u8)> {
-    let place = line.iter().position(|byte| !matches!(byte, 32..=126))?;
-    Some((place, *line.get(place)?))
+/// What is told of a line of words, in a line.
+fn line_fault(
+    alloc: Global,
+    reading: &Reading,
+    bad: BadLine<'_>,
+    text: &str,
+) -> Result<String, AllocError> {
+    let all: Vec<&str> = text.split(' ').collect(alloc)?;
+    let words = words_of(reading, text, &all);
+    let told = words_fault(alloc, reading, &words, bad.reason)?;
+    let line = u64::from(bad.line);
+    let expected = told.expected.as_str();
+    let mut column: u64 = 1;
+    for (place, word) in all.iter().enumerate() {
+        if place == told.word {
+            return fill(
+                alloc,
+                "line %, column %, `@`: @; expected @",
+                &as_one(word, told.wrong, expected, ""),
+                &[line, column],
+            );
+        }
+        column = column.saturating_add(word.len() as u64).saturating_add(1);
+    }
+    fill(
+        alloc,
+        "line %: @; expected @",
+        &as_one(told.wrong, expected, "", ""),
+        &[line],
+    )
+}
+
+/// The place of the first byte that may not stand in a line, from 0: one that isn't printable. Else
+/// as many as there are.
+fn bad_byte(line: &[u8]) -> usize {
+    for (place, byte) in line.iter().enumerate() {
+        if *byte < 32 || *byte > 126 {
+            return place;
+        }
+    }
+    line.len()
 }
 
 /// The place of the first space that doesn't stand between two words, from 0.
@@ -340,106 +298,87 @@ fn bad_space(line: &[u8]) -> usize {
 }
 
 /// What is told of a line that is none of words.
-fn text_fault(alloc: Global, line: u32, rest: &[u8]) -> Result<String, AllocError> {
-    let (text, ended) = match next_line(rest) {
-        Some((text, _)) => (text, true),
-        None => (rest, false),
+fn text_fault(alloc: Global, line: u64, rest: &[u8]) -> Result<String, AllocError> {
+    let text = match next_line(rest) {
+        Some((text, _)) => text,
+        None => rest,
     };
-    if let Some((place, byte)) = bad_byte(text) {
-        return format!(in alloc;
-            "line {line}, column {}: byte {byte} can't stand in a line; expected printable ASCII",
-            place.saturating_add(1)
-        );
-    }
-    if text.is_empty() {
-        return format!(in alloc; "line {line}: the line is empty; expected words");
+    let place = bad_byte(text);
+    if let Some(byte) = text.get(place) {
+        let told = "line %, column %: byte % can't stand in a line; expected printable ASCII";
+        let column = (place as u64).saturating_add(1);
+        return fill(alloc, told, &[], &[line, column, u64::from(*byte)]);
     }
     let place = bad_space(text);
-    if text.get(place) == Some(&b' ') {
-        return format!(in alloc;
-            "line {line}, column {}: a word is empty; expected one space between two words, and none at the ends",
-            place.saturating_add(1)
-        );
-    }
-    if ended {
-        return format!(in alloc; "line {line}: the line is none of words");
-    }
-    format!(in alloc;
-        "line {line}: byte 10 is missing at the end of the line; expected it behind each line"
-    )
+    let column = (place as u64).saturating_add(1);
+    let told = if text.is_empty() {
+        "line %: the line is empty; expected words"
+    } else if text.get(place) == Some(&b' ') {
+        "line %, column %: a word is empty; expected one space between two words, and none at the \
+        ends"
+    } else if text.len() < rest.len() {
+        "line %: the line is none of words"
+    } else {
+        "line %: byte 10 is missing at the end of the line; expected it behind each line"
+    };
+    fill(alloc, told, &[], &[line, column])
 }
 
 /// What is told of a line of a node's output.
 fn output_fault(alloc: Global, bad: BadLine<'_>, reading: &Reading) -> Result<String, AllocError> {
-    let BadLine { line, reason } = bad;
-    let (rank, own) = (reading.outputs, reading.lines.saturating_add(1));
-    let expected = match reading.lines {
-        0 => "`trace VERSION`, as the job has it",
-        1 => "`job J`, as the job has it",
-        2 => "`rank RANK`",
-        _ => "`turn THREAD NOW GOT`, or `end` and behind it `status 0 ok` or another end of a node",
-    };
-    let wrong = match reason {
-        "early" => "the input ends before this line",
-        "after" => "bytes stand behind the last output",
-        "form" => "another line has to stand here",
-        _ => "a word isn't in its range",
-    };
-    format!(in alloc;
-        "line {line}, line {own} of the output of node {rank}: {wrong}; expected {expected}"
-    )
+    let own = fill(alloc, "%", &[], &[reading.lines])?;
+    let expected = row(TOLD, "line", "", own.as_str());
+    let wrong = row(TOLD, "output", "", bad.reason);
+    let numbers = [
+        u64::from(bad.line),
+        reading.lines.saturating_add(1),
+        reading.outputs,
+    ];
+    let told = "line %, line % of the output of node %: @; expected @";
+    fill(alloc, told, &[wrong, expected], &numbers)
 }
 
-/// What is told of a line of words, in a line.
-fn told_line(
-    alloc: Global,
-    reading: &Reading,
-    bad: BadLine<'_>,
-    text: &str,
-) -> Result<String, AllocError> {
-    let (told, column) = words_fault(alloc, reading, text, bad.reason)?;
-    let (line, wrong, expected) = (bad.line, told.wrong, told.expected.as_str());
-    match told.word.and_then(|place| text.split(' ').nth(place)) {
-        Some(word) => {
-            format!(in alloc;
-                "line {line}, column {column}, `{word}`: {wrong}; expected {expected}"
-            )
-        }
-        None => format!(in alloc; "line {line}: {wrong}; expected {expected}"),
+/// What is told of a text that ends before its last line.
+fn early_fault(alloc: Global, line: u64, reading: &Reading) -> Result<String, AllocError> {
+    let told = "line %: the text ends before this line; expected @";
+    if reading.place == "schedule" {
+        return fill(alloc, told, &["NOW and an event, or end"], &[line]);
     }
+    let names = names(alloc, reading, reading.place)?;
+    fill(alloc, told, &[names.as_str()], &[line])
 }
 
-/// Why a text is no job's, or none of a job with the outputs of its nodes: the line, the column and the word where they
-/// are known, what is wrong, and what was expected there. The text may be the front of what was read.
+/// Why a text is no job's, or none of a job with the outputs of its nodes: the line, the column and
+/// the word where they are known, what is wrong, and what was expected there. The text may be the
+/// front of what was read.
 pub fn job_fault(alloc: Global, text: &[u8], bad: BadLine<'_>) -> Result<String, AllocError> {
-    let BadLine { line, reason } = bad;
+    let (line, reason) = (u64::from(bad.line), bad.reason);
     if line == 0 {
         return String::from_str(
             alloc,
-            "the text is too long; expected a job of at most 4194304 bytes, and for check at most 67108864 in all",
+            "the text is too long; expected a job of at most 4194304 bytes, and for check at most \
+            67108864 in all",
         );
     }
-    let Some((reading, rest)) = before(text, line) else {
-        return format!(in alloc; "line {line}: {reason}");
+    let Some((reading, rest)) = before(text, bad.line) else {
+        return fill(alloc, "line %: @", &[reason], &[line]);
     };
-    if reading.place == Place::Behind && reason == "after" && reading.outputs == 0 {
-        return format!(in alloc;
-            "line {line}: bytes stand behind the line `done`; expected the end of the text"
-        );
+    let is_behind = reading.place == "behind";
+    if is_behind && reason == "after" && reading.outputs == 0 {
+        let told = "line %: bytes stand behind the line `done`; expected the end of the text";
+        return fill(alloc, told, &[], &[line]);
     }
     if reason == "text" {
         return text_fault(alloc, line, rest);
     }
-    if reading.place == Place::Behind {
+    if is_behind {
         return output_fault(alloc, bad, &reading);
     }
-    match (reason, next_line(rest)) {
-        ("early", _) => {
-            let told = early_fault(alloc, &reading)?;
-            let (wrong, expected) = (told.wrong, told.expected.as_str());
-            format!(in alloc; "line {line}: {wrong}; expected {expected}")
-        }
-        (_, Some((bytes, _))) => told_line(alloc, &reading, bad, text_of(bytes)),
-        (_, None) => format!(in alloc; "line {line}: {reason}"),
+    if reason == "early" {
+        return early_fault(alloc, line, &reading);
+    }
+    match next_line(rest) {
+        Some((bytes, _)) => line_fault(alloc, &reading, bad, text_of(bytes)),
+        None => fill(alloc, "line %: @", &[reason], &[line]),
     }
 }

@@ -1,48 +1,172 @@
 //! The forms of a job's lines, as a person is told of them.
 
-use crate::kinds::Kind;
+use crate::kinds::{KINDS, number};
+use crate::places::{Reading, parts_at};
+use crate::tables::{row, word_of};
+use std::alloc::{AllocError, Global};
 
-/// A part of a job's text that has forms of its own.
-#[derive(Clone, Copy, PartialEq, Eq)]
-pub enum Part {
-    /// The line of this place of the head.
-    Head(usize),
-    /// A line of a pair.
-    Pair,
-    /// The line of atomics.
-    Atomics,
-    /// The first line of a handler.
-    Handler,
-    /// The first line of a script.
-    Script,
-    /// The first line of the schedule.
-    Schedule,
-    /// The last line.
-    Done,
-    /// The last line of a handler, a script or the schedule.
-    End,
-    /// An action of a handler's body.
-    Action,
-    /// A step that scripts alone have.
-    Wait,
-    /// One that version 2 alone has.
-    SecondWait,
-    /// A call.
-    Call,
-    /// One that version 2 alone has.
-    SecondCall,
-    /// The call of a batch, which stands behind the line of atomics alone.
-    Batch,
-    /// An event of a schedule other than a call.
-    Event,
-}
+/// All forms. A line has the part of a job's text where the form stands, the least and the greatest
+/// count of its words, and its words; behind `..` the last ones come again.
+///
+/// A part that begins with 2 stands in version 2 alone. The part `also` is of the word before the
+/// calls of a schedule.
+static FORMS: &str = "\
+head0 2 2 gasnet VERSION
+head1 2 2 job J
+head2 2 2 nodes N
+head3 2 2 credits C
+head4 2 2 threads T
+head5 2 2 segment S
+head6 2 2 last L
+head7 2 2 resend R
+head8 2 2 patience P
+head9 4 4 sieve D E F
+pair 4 4 pair I J C
+2atomics 1 1 atomics
+handler 3 4194304 handler INDEX ROLE K ..
+script 3 3 script NODE THREAD
+schedule 1 1 schedule
+done 1 1 done
+end 1 1 end
+action 3 3 add C V
+action 3 3 set-cell C V
+action 2 2 source C
+action 2 2 sum C
+action 2 2 keep OFF
+action 2 2 lock K
+action 2 2 unlock K
+action 2 2 attempt KIND
+action 3 20 reply short H V ..
+action 4 21 reply medium H PAY V ..
+action 5 22 reply long H PAY OFF V ..
+wait 3 3 until C V
+wait 5 5 put TO REMOTE LOCAL LEN
+wait 5 5 get TO REMOTE LOCAL LEN
+wait 5 5 memset TO REMOTE LEN BYTE
+wait 6 6 put-nb R TO REMOTE LOCAL LEN
+wait 5 5 put-nbi TO REMOTE LOCAL LEN
+wait 2 2 wait R
+wait 2 17 wait-all R ..
+wait 2 17 wait-some R ..
+wait 2 2 wait-nbi W
+wait 3 3 barrier-wait ID FLAGS
+2wait 3 3 until-word OFF N
+call 3 20 short TO H V ..
+call 4 21 medium TO H PAY V ..
+call 5 22 long TO H PAY OFF V ..
+call 5 22 async TO H PAY OFF V ..
+call 2 2 lock K
+call 2 2 unlock K
+call 1 1 poll
+call 2 2 attempt KIND
+call 2 2 cell C
+call 3 3 set-cell C V
+call 3 3 show OFF LEN
+call 3 3 set OFF BYTES
+call 4 4 fill OFF LEN BYTE
+call 2 2 word OFF
+call 3 3 set-word OFF N
+call 6 6 put-nb-bulk R TO REMOTE LOCAL LEN
+call 6 6 get-nb R TO REMOTE LOCAL LEN
+call 6 6 memset-nb R TO REMOTE LEN BYTE
+call 5 5 put-nbi-bulk TO REMOTE LOCAL LEN
+call 5 5 get-nbi TO REMOTE LOCAL LEN
+call 5 5 memset-nbi TO REMOTE LEN BYTE
+call 2 2 issued R
+call 2 2 try R
+call 2 17 try-all R ..
+call 2 17 try-some R ..
+call 2 2 try-nbi W
+call 1 1 region-begin
+call 2 2 region-end R
+2call 7 19 put-s R FROM TO REMOTE LOCAL LEN COUNT REMOTE LOCAL ..
+2call 7 19 get-s R FROM TO REMOTE LOCAL LEN COUNT REMOTE LOCAL ..
+2call 9 69 put-v R FROM TO K OFF LEN .. OFF LEN ..
+2call 9 69 get-v R FROM TO K OFF LEN .. OFF LEN ..
+call 3 3 notify ID FLAGS
+call 3 3 try-barrier ID FLAGS
+batch 8 68 atomic TO LOCAL TAG OP OFF A B ..
+event 4 4 request I J K
+event 4 4 reply I J K
+event 2 2 tick I
+event 2 2 settle K
+also 1 1 call
+";
+
+/// What the words of forms have to be. A line has a part or the first word of a form, a word of it,
+/// and its kind: a range or the name of a row of kinds. `_` stands for all others. A word without a
+/// row may be any. The row of `..` has the words that come again, behind their count, where they
+/// are more than the last one.
+static WORDS: &str = "\
+gasnet VERSION :1:2
+job J :0:18446744073709551615
+nodes N :1:NODES
+credits C :1:32
+threads T :1:16
+segment S :4096:67108864
+last L :1:18446744073709551615
+resend R :1:1000000
+patience P :1:1000000
+sieve D :0:65535
+sieve E :0:65535
+sieve F :0:65535
+pair I :0:RANK
+pair J :0:RANK
+pair C :1:32
+handler INDEX index
+handler ROLE role
+handler K :0:63
+script NODE :0:RANK
+script THREAD :0:THREAD
+settle K :1:4096
+event NOW :0:18446744073709551615
+event I :0:RANK
+event J :0:RANK
+event T :0:THREAD
+event K :1:18446744073709551615
+2call K :1:16
+show LEN :0:8192
+action V body-value
+action PAY body-payload
+_ C :0:255
+_ R :0:255
+_ H :0:255
+_ K :0:255
+_ BYTE :0:255
+_ FLAGS :0:255
+_ FROM :0:1024
+_ TO :0:65535
+_ OFF :0:18446744073709551615
+_ LEN :0:18446744073709551615
+_ REMOTE :0:18446744073709551615
+_ LOCAL :0:18446744073709551615
+_ COUNT :0:18446744073709551615
+_ N :0:18446744073709551615
+_ TAG :0:18446744073709551615
+_ A :0:18446744073709551615
+_ B :0:18446744073709551615
+_ ID integer
+_ V value
+_ PAY payload
+_ BYTES bytes
+_ KIND call
+_ W implicit
+_ OP operation
+atomic .. 4 OP OFF A B
+put-s .. 3 COUNT REMOTE LOCAL
+get-s .. 3 COUNT REMOTE LOCAL
+put-v .. 2 OFF LEN
+get-v .. 2 OFF LEN
+";
 
 /// A form of lines.
 #[derive(Clone, Copy)]
 pub struct Form {
-    /// The part where it stands.
-    pub part: Part,
-    /// Its words; behind `..` the last ones come again.
+    /// The part where it stands. Empty of no form.
+    pub part: &'static str,
+    /// Its first word.
+    pub name: &'static str,
+    /// Its words.
     pub text: &'static str,
     /// The least count of its words.
     pub least: usize,
@@ -50,606 +174,107 @@ pub struct Form {
     pub most: usize,
 }
 
-/// All forms.
-pub static FORMS: [Form; 79] = [
-    Form {
-        part: Part::Head(0),
-        text: "gasnet VERSION",
-        least: 2,
-        most: 2,
-    },
-    Form {
-        part: Part::Head(1),
-        text: "job J",
-        least: 2,
-        most: 2,
-    },
-    Form {
-        part: Part::Head(2),
-        text: "nodes N",
-        least: 2,
-        most: 2,
-    },
-    Form {
-        part: Part::Head(3),
-        text: "credits C",
-        least: 2,
-        most: 2,
-    },
-    Form {
-        part: Part::Head(4),
-        text: "threads T",
-        least: 2,
-        most: 2,
-    },
-    Form {
-        part: Part::Head(5),
-        text: "segment S",
-        least: 2,
-        most: 2,
-    },
-    Form {
-        part: Part::Head(6),
-        text: "last L",
-        least: 2,
-        most: 2,
-    },
-    Form {
-        part: Part::Head(7),
-        text: "resend R",
-        least: 2,
-        most: 2,
-    },
-    Form {
-        part: Part::Head(8),
-        text: "patience P",
-        least: 2,
-        most: 2,
-    },
-    Form {
-        part: Part::Head(9),
-        text: "sieve D E F",
-        least: 4,
-        most: 4,
-    },
-    Form {
-        part: Part::Pair,
-        text: "pair I J C",
-        least: 4,
-        most: 4,
-    },
-    Form {
-        part: Part::Atomics,
-        text: "atomics",
-        least: 1,
-        most: 1,
-    },
-    Form {
-        part: Part::Handler,
-        text: "handler INDEX ROLE K ..",
-        least: 3,
-        most: 4194304,
-    },
-    Form {
-        part: Part::Script,
-        text: "script NODE THREAD",
-        least: 3,
-        most: 3,
-    },
-    Form {
-        part: Part::Schedule,
-        text: "schedule",
-        least: 1,
-        most: 1,
-    },
-    Form {
-        part: Part::Done,
-        text: "done",
-        least: 1,
-        most: 1,
-    },
-    Form {
-        part: Part::End,
-        text: "end",
-        least: 1,
-        most: 1,
-    },
-    Form {
-        part: Part::Action,
-        text: "add C V",
-        least: 3,
-        most: 3,
-    },
-    Form {
-        part: Part::Action,
-        text: "set-cell C V",
-        least: 3,
-        most: 3,
-    },
-    Form {
-        part: Part::Action,
-        text: "source C",
-        least: 2,
-        most: 2,
-    },
-    Form {
-        part: Part::Action,
-        text: "sum C",
-        least: 2,
-        most: 2,
-    },
-    Form {
-        part: Part::Action,
-        text: "keep OFF",
-        least: 2,
-        most: 2,
-    },
-    Form {
-        part: Part::Action,
-        text: "lock K",
-        least: 2,
-        most: 2,
-    },
-    Form {
-        part: Part::Action,
-        text: "unlock K",
-        least: 2,
-        most: 2,
-    },
-    Form {
-        part: Part::Action,
-        text: "attempt KIND",
-        least: 2,
-        most: 2,
-    },
-    Form {
-        part: Part::Action,
-        text: "reply short H V ..",
-        least: 3,
-        most: 20,
-    },
-    Form {
-        part: Part::Action,
-        text: "reply medium H PAY V ..",
-        least: 4,
-        most: 21,
-    },
-    Form {
-        part: Part::Action,
-        text: "reply long H PAY OFF V ..",
-        least: 5,
-        most: 22,
-    },
-    Form {
-        part: Part::Wait,
-        text: "until C V",
-        least: 3,
-        most: 3,
-    },
-    Form {
-        part: Part::Wait,
-        text: "put TO REMOTE LOCAL LEN",
-        least: 5,
-        most: 5,
-    },
-    Form {
-        part: Part::Wait,
-        text: "get TO REMOTE LOCAL LEN",
-        least: 5,
-        most: 5,
-    },
-    Form {
-        part: Part::Wait,
-        text: "memset TO REMOTE LEN BYTE",
-        least: 5,
-        most: 5,
-    },
-    Form {
-        part: Part::Wait,
-        text: "put-nb R TO REMOTE LOCAL LEN",
-        least: 6,
-        most: 6,
-    },
-    Form {
-        part: Part::Wait,
-        text: "put-nbi TO REMOTE LOCAL LEN",
-        least: 5,
-        most: 5,
-    },
-    Form {
-        part: Part::Wait,
-        text: "wait R",
-        least: 2,
-        most: 2,
-    },
-    Form {
-        part: Part::Wait,
-        text: "wait-all R ..",
-        least: 2,
-        most: 17,
-    },
-    Form {
-        part: Part::Wait,
-        text: "wait-some R ..",
-        least: 2,
-        most: 17,
-    },
-    Form {
-        part: Part::Wait,
-        text: "wait-nbi W",
-        least: 2,
-        most: 2,
-    },
-    Form {
-        part: Part::Wait,
-        text: "barrier-wait ID FLAGS",
-        least: 3,
-        most: 3,
-    },
-    Form {
-        part: Part::SecondWait,
-        text: "until-word OFF N",
-        least: 3,
-        most: 3,
-    },
-    Form {
-        part: Part::Call,
-        text: "short TO H V ..",
-        least: 3,
-        most: 20,
-    },
-    Form {
-        part: Part::Call,
-        text: "medium TO H PAY V ..",
-        least: 4,
-        most: 21,
-    },
-    Form {
-        part: Part::Call,
-        text: "long TO H PAY OFF V ..",
-        least: 5,
-        most: 22,
-    },
-    Form {
-        part: Part::Call,
-        text: "async TO H PAY OFF V ..",
-        least: 5,
-        most: 22,
-    },
-    Form {
-        part: Part::Call,
-        text: "lock K",
-        least: 2,
-        most: 2,
-    },
-    Form {
-        part: Part::Call,
-        text: "unlock K",
-        least: 2,
-        most: 2,
-    },
-    Form {
-        part: Part::Call,
-        text: "poll",
-        least: 1,
-        most: 1,
-    },
-    Form {
-        part: Part::Call,
-        text: "attempt KIND",
-        least: 2,
-        most: 2,
-    },
-    Form {
-        part: Part::Call,
-        text: "cell C",
-        least: 2,
-        most: 2,
-    },
-    Form {
-        part: Part::Call,
-        text: "set-cell C V",
-        least: 3,
-        most: 3,
-    },
-    Form {
-        part: Part::Call,
-        text: "show OFF LEN",
-        least: 3,
-        most: 3,
-    },
-    Form {
-        part: Part::Call,
-        text: "set OFF BYTES",
-        least: 3,
-        most: 3,
-    },
-    Form {
-        part: Part::Call,
-        text: "fill OFF LEN BYTE",
-        least: 4,
-        most: 4,
-    },
-    Form {
-        part: Part::Call,
-        text: "word OFF",
-        least: 2,
-        most: 2,
-    },
-    Form {
-        part: Part::Call,
-        text: "set-word OFF N",
-        least: 3,
-        most: 3,
-    },
-    Form {
-        part: Part::Call,
-        text: "put-nb-bulk R TO REMOTE LOCAL LEN",
-        least: 6,
-        most: 6,
-    },
-    Form {
-        part: Part::Call,
-        text: "get-nb R TO REMOTE LOCAL LEN",
-        least: 6,
-        most: 6,
-    },
-    Form {
-        part: Part::Call,
-        text: "memset-nb R TO REMOTE LEN BYTE",
-        least: 6,
-        most: 6,
-    },
-    Form {
-        part: Part::Call,
-        text: "put-nbi-bulk TO REMOTE LOCAL LEN",
-        least: 5,
-        most: 5,
-    },
-    Form {
-        part: Part::Call,
-        text: "get-nbi TO REMOTE LOCAL LEN",
-        least: 5,
-        most: 5,
-    },
-    Form {
-        part: Part::Call,
-        text: "memset-nbi TO REMOTE LEN BYTE",
-        least: 5,
-        most: 5,
-    },
-    Form {
-        part: Part::Call,
-        text: "issued R",
-        least: 2,
-        most: 2,
-    },
-    Form {
-        part: Part::Call,
-        text: "try R",
-        least: 2,
-        most: 2,
-    },
-    Form {
-        part: Part::Call,
-        text: "try-all R ..",
-        least: 2,
-        most: 17,
-    },
-    Form {
-        part: Part::Call,
-        text: "try-some R ..",
-        least: 2,
-        most: 17,
-    },
-    Form {
-        part: Part::Call,
-        text: "try-nbi W",
-        least: 2,
-        most: 2,
-    },
-    Form {
-        part: Part::Call,
-        text: "region-begin",
-        least: 1,
-        most: 1,
-    },
-    Form {
-        part: Part::Call,
-        text: "region-end R",
-        least: 2,
-        most: 2,
-    },
-    Form {
-        part: Part::SecondCall,
-        text: "put-s R FROM TO REMOTE LOCAL LEN COUNT REMOTE LOCAL ..",
-        least: 7,
-        most: 19,
-    },
-    Form {
-        part: Part::SecondCall,
-        text: "get-s R FROM TO REMOTE LOCAL LEN COUNT REMOTE LOCAL ..",
-        least: 7,
-        most: 19,
-    },
-    Form {
-        part: Part::SecondCall,
-        text: "put-v R FROM TO K OFF LEN .. OFF LEN ..",
-        least: 9,
-        most: 69,
-    },
-    Form {
-        part: Part::SecondCall,
-        text: "get-v R FROM TO K OFF LEN .. OFF LEN ..",
-        least: 9,
-        most: 69,
-    },
-    Form {
-        part: Part::Call,
-        text: "notify ID FLAGS",
-        least: 3,
-        most: 3,
-    },
-    Form {
-        part: Part::Call,
-        text: "try-barrier ID FLAGS",
-        least: 3,
-        most: 3,
-    },
-    Form {
-        part: Part::Batch,
-        text: "atomic TO LOCAL TAG OP OFF A B ..",
-        least: 8,
-        most: 68,
-    },
-    Form {
-        part: Part::Event,
-        text: "request I J K",
-        least: 4,
-        most: 4,
-    },
-    Form {
-        part: Part::Event,
-        text: "reply I J K",
-        least: 4,
-        most: 4,
-    },
-    Form {
-        part: Part::Event,
-        text: "tick I",
-        least: 2,
-        most: 2,
-    },
-    Form {
-        part: Part::Event,
-        text: "settle K",
-        least: 2,
-        most: 2,
-    },
-];
+/// What stands before the event or the call in a line of the schedule.
+pub const FRONT: Form = Form {
+    part: "event",
+    name: "NOW",
+    text: "NOW call I T",
+    least: 4,
+    most: 4,
+};
+
+/// The form that a line of the table says.
+fn form_of(line: &'static str) -> Form {
+    let mut words = line.splitn(4, ' ');
+    let part = words.next().unwrap_or("");
+    let least = number(words.next().unwrap_or("")) as usize;
+    let most = number(words.next().unwrap_or("")) as usize;
+    let text = words.next().unwrap_or("");
+    Form {
+        part,
+        name: word_of(text, 0),
+        text,
+        least,
+        most,
+    }
+}
+
+/// Whether the words begin as a form does.
+fn begins(form: &Form, words: &[&str]) -> bool {
+    let Some((first, others)) = words.split_first() else {
+        return false;
+    };
+    if *first != form.name {
+        return false;
+    }
+    if form.part != "action" || form.name != "reply" {
+        return true;
+    }
+    match others.first() {
+        Some(second) => *second == word_of(form.text, 1),
+        None => false,
+    }
+}
+
+/// The form that the words begin as, of those that may come at this place in this job, or only in
+/// another.
+pub fn form_in(reading: &Reading, place: &str, here: bool, words: &[&str]) -> Form {
+    let parts = parts_at(place);
+    for line in FORMS.lines() {
+        let form = form_of(line);
+        if reading.has(parts, form.part, here) && begins(&form, words) {
+            return form;
+        }
+    }
+    form_of("")
+}
+
+/// The names of the forms that may come at this place.
+pub fn names(alloc: Global, reading: &Reading, place: &str) -> Result<String, AllocError> {
+    let mut text = String::new(alloc);
+    let mut before = "";
+    let parts = parts_at(place);
+    for line in FORMS.lines() {
+        let form = form_of(line);
+        if reading.has(parts, form.part, true) && form.name != before {
+            if !text.is_empty() {
+                text.push_str(", ")?;
+            }
+            text.push_str(form.name)?;
+        }
+        before = form.name;
+    }
+    Ok(text)
+}
 
 impl Form {
-    /// The first word.
-    pub fn name(&self) -> &'static str {
-        self.text.split(' ').next().unwrap_or("")
-    }
-
-    /// Whether the words begin as the form does.
-    pub fn begins(&self, words: &[&str]) -> bool {
-        let mut own = self.text.split(' ');
-        let first = own.next().unwrap_or("");
-        if words.first() != Some(&first) {
-            return false;
-        }
-        first != "reply" || self.part != Part::Action || words.get(1).copied() == own.next()
-    }
-
-    /// The first place whose word is like the one at this place, where words come again and again.
-    fn first_like(&self, place: usize) -> usize {
-        let (first, count) = match self.name() {
-            "atomic" => (4, 4),
-            "put-s" | "get-s" => (7, 3),
-            "put-v" | "get-v" => (5, 2),
-            _ => return place,
-        };
-        if place < first {
-            place
-        } else {
-            first + (place - first) % count
-        }
-    }
-
     /// The form's word for the word at a place.
     pub fn word_at(&self, place: usize) -> &'static str {
-        let within = self.first_like(place);
-        self.text
-            .split(' ')
-            .filter(|word| *word != "..")
-            .take(within.saturating_add(1))
-            .last()
-            .unwrap_or("")
-    }
-}
-
-/// What the words of the job's head and of its first lines have to be, and what the lines of its handlers need.
-#[derive(Clone, Copy)]
-pub struct Limits {
-    /// The version.
-    pub version: u64,
-    /// The nodes.
-    pub nodes: u64,
-    /// The threads of each node.
-    pub threads: u64,
-}
-
-/// What a word of a line of the head may be.
-fn head_kind(name: &str, limits: Limits) -> Kind {
-    match name {
-        "VERSION" => Kind::Number(1, 2),
-        "J" => Kind::Number(0, u64::MAX),
-        "N" if limits.version == 2 => Kind::Number(1, 256),
-        "N" => Kind::Number(1, 64),
-        "C" => Kind::Number(1, 32),
-        "T" => Kind::Number(1, 16),
-        "S" => Kind::Number(4_096, 67_108_864),
-        "L" => Kind::Number(1, u64::MAX),
-        "R" | "P" => Kind::Number(1, 1_000_000),
-        "D" | "E" | "F" => Kind::Number(0, 65_535),
-        _ => Kind::Literal,
-    }
-}
-
-/// What a word of a line that begins a part may be, and one of an event.
-fn section_kind(part: Part, name: &str, limits: Limits) -> Kind {
-    match name {
-        "I" | "J" | "NODE" => Kind::Number(0, limits.nodes.saturating_sub(1)),
-        "T" | "THREAD" => Kind::Number(0, limits.threads.saturating_sub(1)),
-        "INDEX" => Kind::Index,
-        "ROLE" => Kind::Role,
-        "C" => Kind::Number(1, 32),
-        "NOW" => Kind::Number(0, u64::MAX),
-        "K" if part == Part::Handler => Kind::Number(0, 63),
-        "K" => Kind::Number(1, u64::MAX),
-        _ => Kind::Literal,
-    }
-}
-
-/// What a word of an action, a step or a call may be.
-fn call_kind(form: &Form, name: &str) -> Kind {
-    match name {
-        "C" | "R" | "H" | "BYTE" | "FLAGS" => Kind::Number(0, 255),
-        "K" if form.part == Part::SecondCall => Kind::Number(1, 16),
-        "FROM" => Kind::Number(0, 1_024),
-        "TO" => Kind::Number(0, 65_535),
-        "LEN" if form.name() == "show" => Kind::Number(0, 8_192),
-        "OFF" | "LEN" | "REMOTE" | "LOCAL" | "COUNT" | "N" | "TAG" | "A" | "B" => {
-            Kind::Number(0, u64::MAX)
+        let mut left = place;
+        let mut last = "";
+        for word in self.text.split(' ') {
+            if word == ".." {
+                continue;
+            }
+            if left == 0 {
+                return word;
+            }
+            left = left.saturating_sub(1);
+            last = word;
         }
-        "K" => Kind::Number(0, 255),
-        "ID" => Kind::Integer,
-        "V" if form.part == Part::Action => Kind::BodyValue,
-        "V" => Kind::Value,
-        "PAY" if form.part == Part::Action => Kind::BodyPayload,
-        "PAY" => Kind::Payload,
-        "BYTES" => Kind::Bytes,
-        "KIND" => Kind::Call,
-        "W" => Kind::Implicit,
-        "OP" => Kind::Operation,
-        _ => Kind::Literal,
+        match row(WORDS, self.name, "", "..").split_once(' ') {
+            Some((count, words)) => {
+                let count = number(count) as usize;
+                word_of(words, left.checked_rem(count).unwrap_or(0))
+            }
+            None => last,
+        }
     }
-}
 
-/// What a word of a form may be.
-pub fn kind_of(form: &Form, name: &str, limits: Limits) -> Kind {
-    match form.part {
-        Part::Head(_) => head_kind(name, limits),
-        Part::Event if form.name() == "settle" && name == "K" => Kind::Number(1, 4_096),
-        Part::Action
-        | Part::Wait
-        | Part::SecondWait
-        | Part::Call
-        | Part::SecondCall
-        | Part::Batch => call_kind(form, name),
-        part => section_kind(part, name, limits),
+    /// What may stand for a word of the form. Empty where any word may.
+    pub fn kind_of(&self, word: &str) -> &'static str {
+        let kind = row(WORDS, self.name, self.part, word);
+        let named = row(KINDS, "kind", "", kind);
+        if named.is_empty() { kind } else { named }
     }
 }

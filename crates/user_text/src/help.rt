@@ -1,111 +1,161 @@
-//! Help.
+//! Help, the completion of the shell, and the page of the manual.
 
-use crate::commands::{COMMANDS, CommandText, command_of};
-use crate::pages::{completion, manual};
+use crate::commands::{COMMANDS, CommandText, command_in, command_of};
+use crate::tables::{as_one, fill, padded};
+use crate::usage::{all_names, parameter_of};
 use std::alloc::{AllocError, Global};
 
 /// What is told of the program's version.
-const VERSION: &str = "\
+static VERSION: &str = "\
 gasnet_cli of Yuspelgna: GASNet 1.8.1, core and extended API, PARSYNC, over UDP datagrams
 built by rattle-kit-13b, logic dac8208d650f15bf
-Proved: what each exit status of a command says of the bytes that were read and written, and the laws of the run.
-Trusted: the kit, LLVM, and the system's sockets, clock, input and output. docs/PROVED.md has the whole list.
+Proved: what each exit status of a command says of the bytes that were read and written, and the \
+laws of the run.
+Trusted: the kit, LLVM, and the system's sockets, clock, input and output. docs/PROVED.md has the \
+whole list.
 ";
 
-/// A text that is asked for in place of a command.
-#[derive(Clone, Copy)]
-enum Topic {
-    /// All commands.
-    All,
-    /// One command.
-    One(&'static CommandText),
-    /// The version.
-    Version,
-    /// The completion of bash.
-    Completion,
-    /// The page of the manual.
-    Manual,
-}
+/// What stands behind the commands in their help.
+static HELP_END: &str = "    --version        what was built, and what is proved of it
 
-/// What the words ask for.
-fn asked_topic(words: &[String]) -> Option<Topic> {
-    match words {
-        [word] => match word.as_str() {
-            "help" | "--help" | "-h" => Some(Topic::All),
-            "--version" => Some(Topic::Version),
-            _ => None,
-        },
-        [first, second] => match (first.as_str(), second.as_str()) {
-            ("help", "--bash") => Some(Topic::Completion),
-            ("help", "--man") => Some(Topic::Manual),
-            ("help", name) | (name, "--help" | "-h") => command_of(name).map(Topic::One),
-            _ => None,
-        },
-        _ => None,
-    }
-}
+`gasnet_cli help COMMAND` tells more of one. The last line of standard output is `status CODE NAME`,
+and CODE is the exit status: of help 2, as of all words that no command has. docs/FORMATS.md has \
+the rest.
+";
 
-/// The name of a command and its words, those that may be left out in brackets.
-pub(crate) fn usage_of(alloc: Global, command: &CommandText) -> Result<String, AllocError> {
-    let mut text = String::from_str(alloc, command.name)?;
-    for (place, parameter) in command.parameters.iter().enumerate() {
-        let name = parameter.name();
-        if place >= command.needed {
-            write!(text, " [{name}]")?;
-        } else {
-            write!(text, " {name}")?;
-        }
-    }
-    Ok(text)
+/// The completion of bash: the names of commands, and behind `help` once more.
+static COMPLETION: &str = "# The completion of gasnet_cli for bash, written by tools/help-pages.
+_gasnet_cli() {
+    local names=\"@ \"
+    case $COMP_CWORD in
+        1) COMPREPLY=($(compgen -W \"$names--help --version\" -- \"${COMP_WORDS[1]}\")) ;;
+        2) [ \"${COMP_WORDS[1]}\" = help ] && COMPREPLY=($(compgen -W \"$names\" -- \
+        \"${COMP_WORDS[2]}\")) ;;
+    esac
 }
+complete -o default -F _gasnet_cli gasnet_cli
+";
+
+/// The front of the manual's page.
+static MANUAL: &str = ".\\\" Written by tools/help-pages.
+.TH GASNET_CLI 1
+.SH NAME
+gasnet_cli \\- GASNet active messages over lossy datagrams
+.SH SYNOPSIS
+";
+
+/// Its end.
+static MANUAL_END: &str = ".SH EXIT STATUS
+The code in the last line of standard output, status CODE NAME. It is 2 of help, as of all words \
+that no command has.
+.SH SEE ALSO
+docs/FORMATS.md, docs/JOBS.md and docs/NODES.md of Yuspelgna
+";
 
 /// What is told of one command.
 fn help_of(alloc: Global, command: &CommandText) -> Result<String, AllocError> {
-    let usage = usage_of(alloc, command)?;
-    let mut text = format!(in alloc; "gasnet_cli {usage}: {}\n\n", command.about)?;
-    for parameter in command.parameters {
-        let (name, expected) = (parameter.name(), parameter.expected());
-        write!(text, "    {name:<8} {expected}\n")?;
+    let mut text = fill(
+        alloc,
+        "gasnet_cli @: @\n\n",
+        &[command.usage, command.about],
+        &[],
+    )?;
+    for word in command.usage.split(' ').skip(1) {
+        let (name, kind) = parameter_of(word);
+        let (_, expected) = kind.split_once('|').unwrap_or(("", ""));
+        let name = padded(alloc, name, 8)?;
+        let line = fill(
+            alloc,
+            "    @ @\n",
+            &as_one(name.as_str(), expected, "", ""),
+            &[],
+        )?;
+        text.push_str(line.as_str())?;
     }
-    write!(text, "{}\nExample: {}\n", command.detail, command.example)?;
+    let end = fill(
+        alloc,
+        "@\nExample: @\n",
+        &[command.detail, command.example],
+        &[],
+    )?;
+    text.push_str(end.as_str())?;
     Ok(text)
 }
 
 /// What is told of all commands.
 fn help_of_all(alloc: Global) -> Result<String, AllocError> {
-    let mut text = String::from_str(
-        alloc,
-        "gasnet_cli COMMAND: GASNet active messages over lossy datagrams\n\n",
-    )?;
-    for command in &COMMANDS {
-        let usage = usage_of(alloc, command)?;
-        let (about, example) = (command.about, command.example);
-        write!(
-            text,
-            "    {usage:<16} {about}\n                     {example}\n"
-        )?;
+    let front = "gasnet_cli COMMAND: GASNet active messages over lossy datagrams\n\n";
+    let mut text = String::from_str(alloc, front)?;
+    for line in COMMANDS.lines() {
+        let command = command_in(line);
+        let usage = padded(alloc, command.usage, 16)?;
+        let words = as_one(usage.as_str(), command.about, command.example, "");
+        let line = fill(alloc, "    @ @\n                     @\n", &words, &[])?;
+        text.push_str(line.as_str())?;
     }
-    text.push_str("    --version        what was built, and what is proved of it\n\n")?;
-    text.push_str(
-        "`gasnet_cli help COMMAND` tells more of one. The last line of standard output is `status CODE NAME`,\n",
-    )?;
-    text.push_str(
-        "and CODE is the exit status: of help 2, as of all words that no command has. docs/FORMATS.md has the rest.\n",
-    )?;
+    text.push_str(HELP_END)?;
     Ok(text)
 }
 
-/// The help that the words of the command line ask for. None where they ask for none.
-pub fn help_for(alloc: Global, words: &[String]) -> Result<Option<String>, AllocError> {
-    let Some(topic) = asked_topic(words) else {
-        return Ok(None);
+/// Each command, its words in place of the `@` of a text.
+fn each_command(alloc: Global, text: &mut String, told: &str) -> Result<(), AllocError> {
+    for line in COMMANDS.lines() {
+        let command = command_in(line);
+        let words = [
+            command.usage,
+            command.about,
+            command.detail,
+            command.example,
+        ];
+        let one = fill(alloc, told, &words, &[])?;
+        text.push_str(one.as_str())?;
+    }
+    Ok(())
+}
+
+/// The page of the manual.
+fn manual(alloc: Global) -> Result<String, AllocError> {
+    let mut text = String::from_str(alloc, MANUAL)?;
+    each_command(alloc, &mut text, ".B gasnet_cli\n@\n.br\n")?;
+    text.push_str(".SH COMMANDS\n")?;
+    each_command(alloc, &mut text, ".TP\n.B @\n@.\n@\n.br\nExample:\n.I @\n")?;
+    text.push_str(MANUAL_END)?;
+    Ok(text)
+}
+
+/// The help that these two words ask for. Empty where they ask for none.
+fn help_for_two(alloc: Global, first: &str, second: &str) -> Result<String, AllocError> {
+    let mut name = "";
+    if first == "help" {
+        if second == "--bash" {
+            let names = all_names(alloc, " ")?;
+            return fill(alloc, COMPLETION, &[names.as_str()], &[]);
+        }
+        if second == "--man" {
+            return manual(alloc);
+        }
+        name = second;
+    } else if second == "--help" || second == "-h" {
+        name = first;
+    }
+    let command = command_of(name);
+    if command.usage.is_empty() {
+        return Ok(String::new(alloc));
+    }
+    help_of(alloc, &command)
+}
+
+/// The help that the words of the command line ask for. Empty where they ask for none.
+pub fn help_for(alloc: Global, words: &[String]) -> Result<String, AllocError> {
+    if let [first, second] = words {
+        return help_for_two(alloc, first.as_str(), second.as_str());
+    }
+    let word = match words {
+        [word] => word.as_str(),
+        _ => "",
     };
-    let text = match topic {
-        Topic::All => help_of_all(alloc)?,
-        Topic::One(command) => help_of(alloc, command)?,
-        Topic::Version => String::from_str(alloc, VERSION)?,
-        Topic::Completion => completion(alloc)?,
-        Topic::Manual => manual(alloc)?,
-    };
-    Ok(Some(text))
+    if word == "help" || word == "--help" || word == "-h" {
+        return help_of_all(alloc);
+    }
+    String::from_str(alloc, if word == "--version" { VERSION } else { "" })
 }

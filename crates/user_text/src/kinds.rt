@@ -1,145 +1,117 @@
-//! What the words of a job's lines may be.
+//! What words may be.
 
-use crate::usage::is_number;
+use crate::places::Limits;
+use crate::tables::fill;
+use itoa::Buffer;
 use std::alloc::{AllocError, Global};
 
 /// The most hexadecimal digits of bytes.
 const DIGITS: usize = 16_386;
 
-/// What a word may be.
-#[derive(Clone, Copy)]
-pub enum Kind {
-    /// The form's own word.
-    Literal,
-    /// A number of a range.
-    Number(u64, u64),
-    /// The index of a handler.
-    Index,
-    /// An integer of 32 bits.
-    Integer,
-    /// A number of an action: an integer or a cell.
-    Value,
-    /// The same in a handler's body, or an argument.
-    BodyValue,
-    /// Bytes.
-    Bytes,
-    /// Bytes, or a range of the segment.
-    Payload,
-    /// The same in a handler's body, or the payload of the message.
-    BodyPayload,
-    /// A role of a handler.
-    Role,
-    /// A kind of calls.
-    Call,
-    /// A kind of implicit operations.
-    Implicit,
-    /// An operation of remote atomics.
-    Operation,
+/// What words may be. Behind the name of a kind, or of a word of a command, stand ranges and words,
+/// each of which may stand there, and behind `|` what is told of them.
+///
+/// A range is the letter before the number, its least and its greatest. `bytes` are bytes, and
+/// `range` is one of the segment.
+pub static KINDS: &str = "\
+kind index :0:0 :128:255|0 or a number from 128 to 255
+kind integer :0:2147483647 -:1:2147483648|an integer of 32 bits
+kind value :0:2147483647 -:1:2147483648 c:0:255|an integer of 32 bits, or c and a number from 0 \
+to 255
+kind body-value :0:2147483647 -:1:2147483648 c:0:255 a:0:15|\
+an integer of 32 bits, c and a number from 0 to 255, or a and one from 0 to 15
+kind bytes bytes|x and two of 0-9a-f for each of at most 8193 bytes
+kind payload bytes range|x and two of 0-9a-f for each of at most 8193 bytes, or OFF+LEN
+kind body-payload bytes range p|x and two of 0-9a-f for each of at most 8193 bytes, OFF+LEN or p
+kind role request reply|request or reply
+kind call request reply poll transfer sync region barrier source|\
+request, reply, poll, transfer, sync, region, barrier or source
+kind implicit puts gets all|puts, gets or all
+kind operation get swap cas add sub and or xor min max|get, swap, cas, add, sub, and, or, xor, \
+min or max
+parameter RANK :0:255|a number from 0 to 255
+parameter PORT :1024:65472|a number from 1024 to 65472
+parameter SEED :0:18446744073709551615|a number from 0 to 18446744073709551615
+parameter COMMAND world upgrade check launch node drill help|the name of a command
+";
+
+/// The number that a word is, or 0.
+pub fn number(word: &str) -> u64 {
+    word.parse::<u64>().unwrap_or(0)
 }
 
-const ROLES: [&str; 2] = ["request", "reply"];
-
-const CALLS: [&str; 8] = [
-    "request", "reply", "poll", "transfer", "sync", "region", "barrier", "source",
-];
-
-const IMPLICIT: [&str; 3] = ["puts", "gets", "all"];
-
-const OPERATIONS: [&str; 10] = [
-    "get", "swap", "cas", "add", "sub", "and", "or", "xor", "min", "max",
-];
-
-/// Whether a word is one of these.
-fn is_among(word: &str, names: &[&str]) -> bool {
-    names.iter().any(|name| *name == word)
-}
-
-/// Whether a word is an integer of 32 bits.
-fn is_integer(word: &str) -> bool {
-    match word.strip_prefix('-') {
-        Some(digits) => is_number(digits, 1, 2_147_483_648),
-        None => is_number(word, 0, 2_147_483_647),
-    }
-}
-
-/// Whether a word is an integer or a cell.
-fn is_value(word: &str) -> bool {
-    match word.strip_prefix('c') {
-        Some(cell) => is_number(cell, 0, 255),
-        None => is_integer(word),
-    }
-}
-
-/// Whether a word is an integer, a cell or an argument.
-fn is_body_value(word: &str) -> bool {
-    match word.strip_prefix('a') {
-        Some(place) => is_number(place, 0, 15),
-        None => is_value(word),
-    }
+/// Whether a word is the decimal text of a number of this range, without sign and leading zero.
+pub fn is_number(word: &str, least: u64, most: u64) -> bool {
+    let Ok(number) = word.parse::<u64>() else {
+        return false;
+    };
+    let mut text = Buffer::new();
+    text.format(number) == word && least <= number && number <= most
 }
 
 /// Whether a word is bytes.
 fn is_bytes(word: &str) -> bool {
-    match word.strip_prefix('x') {
-        Some(digits) => {
-            digits.len() % 2 == 0
-                && digits.len() <= DIGITS
-                && digits
-                    .bytes()
-                    .all(|digit| matches!(digit, b'0'..=b'9' | b'a'..=b'f'))
+    let Some(digits) = word.strip_prefix('x') else {
+        return false;
+    };
+    for digit in digits.bytes() {
+        if !matches!(digit, b'0'..=b'9' | b'a'..=b'f') {
+            return false;
         }
+    }
+    digits.len() % 2 == 0 && digits.len() <= DIGITS
+}
+
+/// The number that stands for an end of a range, in a job with these settings.
+fn bound(word: &str, limits: Limits) -> u64 {
+    match word.as_bytes().first() {
+        Some(b'R') => limits.nodes.saturating_sub(1),
+        Some(b'T') => limits.threads.saturating_sub(1),
+        Some(b'N') if limits.version == 2 => 256,
+        Some(b'N') => 64,
+        _ => number(word),
+    }
+}
+
+/// The letter, the least and the greatest number of a range. None of anything else.
+fn range_of(one: &str, limits: Limits) -> Option<(&str, u64, u64)> {
+    let (letter, range) = one.split_once(':')?;
+    let (least, most) = range.split_once(':')?;
+    Some((letter, bound(least, limits), bound(most, limits)))
+}
+
+/// Whether a word is this one, or of this range.
+fn is_of(word: &str, one: &str, limits: Limits) -> bool {
+    if let Some((letter, least, most)) = range_of(one, limits) {
+        return match word.strip_prefix(letter) {
+            Some(digits) => is_number(digits, least, most),
+            None => false,
+        };
+    }
+    if one == "bytes" {
+        return is_bytes(word);
+    }
+    if one != "range" {
+        return word == one;
+    }
+    match word.split_once('+') {
+        Some((offset, len)) => is_number(offset, 0, u64::MAX) && is_number(len, 0, u64::MAX),
         None => false,
     }
 }
 
-/// Whether a word is bytes, or a range of the segment.
-fn is_payload(word: &str) -> bool {
-    match word.split_once('+') {
-        Some((offset, len)) => is_number(offset, 0, u64::MAX) && is_number(len, 0, u64::MAX),
-        None => is_bytes(word),
-    }
-}
-
-impl Kind {
-    /// Whether a word is of this kind.
-    pub fn has(self, word: &str) -> bool {
-        match self {
-            Kind::Literal => true,
-            Kind::Number(least, most) => is_number(word, least, most),
-            Kind::Index => is_number(word, 0, 0) || is_number(word, 128, 255),
-            Kind::Integer => is_integer(word),
-            Kind::Value => is_value(word),
-            Kind::BodyValue => is_body_value(word),
-            Kind::Bytes => is_bytes(word),
-            Kind::Payload => is_payload(word),
-            Kind::BodyPayload => word == "p" || is_payload(word),
-            Kind::Role => is_among(word, &ROLES),
-            Kind::Call => is_among(word, &CALLS),
-            Kind::Implicit => is_among(word, &IMPLICIT),
-            Kind::Operation => is_among(word, &OPERATIONS),
+/// Whether a word is one of these, or of one of these ranges.
+pub fn fits(word: &str, kind: &str, limits: Limits) -> bool {
+    for one in kind.split(' ') {
+        if is_of(word, one, limits) {
+            return true;
         }
     }
+    false
+}
 
-    /// What is expected of such a word.
-    pub fn expected(self, alloc: Global) -> Result<String, AllocError> {
-        let text = match self {
-            Kind::Literal => "another word",
-            Kind::Number(least, most) => {
-                return format!(in alloc; "a number from {least} to {most}");
-            }
-            Kind::Index => "0 or a number from 128 to 255",
-            Kind::Integer => "an integer of 32 bits",
-            Kind::Value => "an integer of 32 bits, or c and a number from 0 to 255",
-            Kind::BodyValue =>
-                "an integer of 32 bits, c and a number from 0 to 255, or a and one from 0 to 15",
-            Kind::Bytes => "x and two of 0-9a-f for each of at most 8193 bytes",
-            Kind::Payload => "x and two of 0-9a-f for each of at most 8193 bytes, or OFF+LEN",
-            Kind::BodyPayload => "x and two of 0-9a-f for each of at most 8193 bytes, OFF+LEN or p",
-            Kind::Role => "request or reply",
-            Kind::Call => "request, reply, poll, transfer, sync, region, barrier or source",
-            Kind::Implicit => "puts, gets or all",
-            Kind::Operation => "get, swap, cas, add, sub, and, or, xor, min or max",
-        };
-        String::from_str(alloc, text)
-    }
+/// What is told of a range.
+pub fn range_text(alloc: Global, kind: &str, limits: Limits) -> Result<String, AllocError> {
+    let (_, least, most) = range_of(kind, limits).unwrap_or(("", 0, 0));
+    fill(alloc, "a number from % to %", &[], &[least, most])
 }

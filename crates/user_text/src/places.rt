@@ -1,38 +1,78 @@
 //! Where a line stands in a job's text.
 
-use crate::forms::{FORMS, Form, Limits, Part};
+use crate::kinds::{fits, number};
+use crate::tables::row;
 
-/// The lines of the head.
-const HEAD: usize = 10;
+/// Which parts may come at a place, and which place comes behind a line: behind the place and the
+/// first word of the line. The places `round` and `call` are within a line of the schedule: before
+/// its event, and before its call.
+static PLACES: &str = "\
+comes head0 head0
+comes head1 head1
+comes head2 head2
+comes head3 head3
+comes head4 head4
+comes head5 head5
+comes head6 head6
+comes head7 head7
+comes head8 head8
+comes head9 head9
+comes pairs pair 2atomics handler script schedule done
+comes handlers handler script schedule done
+comes body action end
+comes scripts script schedule done
+comes steps wait 2wait call 2call batch end
+comes schedule event end
+comes done done
+comes round event also
+comes call call 2call batch
+head0 _ head1
+head1 _ head2
+head2 _ head3
+head3 _ head4
+head4 _ head5
+head5 _ head6
+head6 _ head7
+head7 _ head8
+head8 _ head9
+head9 _ pairs
+body end handlers
+body _ body
+steps end scripts
+steps _ steps
+schedule end done
+schedule _ schedule
+_ pair pairs
+_ atomics handlers
+_ handler body
+_ script steps
+_ schedule schedule
+_ _ behind
+";
 
-/// What comes next in a job's text.
-#[derive(Clone, Copy, PartialEq, Eq)]
-pub enum Place {
-    /// The line of the head with this number, from 0.
-    Head(usize),
-    /// A pair, or what comes behind pairs.
-    Pairs,
-    /// A handler, or what comes behind handlers.
-    Handlers,
-    /// An action.
-    Body,
-    /// A script, or what comes behind scripts.
-    Scripts,
-    /// A step.
-    Steps,
-    /// An event.
-    Schedule,
-    /// The last line.
-    Done,
-    /// What stands behind a job's text.
-    Behind,
+/// The settings that other lines of a job depend on.
+#[derive(Clone, Copy)]
+pub struct Limits {
+    /// The version.
+    pub version: u64,
+    /// The nodes.
+    pub nodes: u64,
+    /// The threads of each node.
+    pub threads: u64,
 }
+
+/// Those before a job's first line.
+pub const NO_LIMITS: Limits = Limits {
+    version: 1,
+    nodes: 1,
+    threads: 1,
+};
 
 /// What is known of a job's text from its lines so far.
 #[derive(Clone, Copy)]
 pub struct Reading {
-    /// What comes next.
-    pub place: Place,
+    /// What comes next: a word of the table.
+    pub place: &'static str,
     /// The settings that other lines depend on.
     pub limits: Limits,
     /// Whether the line of atomics was read.
@@ -43,48 +83,38 @@ pub struct Reading {
     pub lines: u64,
 }
 
-/// The number that a word is, or 0.
-fn number(word: Option<&str>) -> u64 {
-    match word {
-        Some(word) => word.parse::<u64>().unwrap_or(0),
-        None => 0,
-    }
-}
-
 impl Reading {
     /// Before the first line.
     pub fn new() -> Reading {
         Reading {
-            place: Place::Head(0),
-            limits: Limits {
-                version: 1,
-                nodes: 1,
-                threads: 1,
-            },
+            place: "head0",
+            limits: NO_LIMITS,
             atomics: false,
             outputs: 0,
             lines: 0,
         }
     }
 
-    /// Goes on behind a line of the head.
-    fn pass_head(&mut self, line: usize, value: u64) {
-        match line {
-            0 => self.limits.version = value,
-            2 => self.limits.nodes = value,
-            4 => self.limits.threads = value,
+    /// Keeps a number of the head.
+    fn keep(&mut self, word: &str) {
+        match self.place.as_bytes().last() {
+            Some(b'0') => self.limits.version = number(word),
+            Some(b'2') => self.limits.nodes = number(word),
+            Some(b'4') => self.limits.threads = number(word),
             _ => {}
         }
-        self.place = if line >= HEAD - 1 {
-            Place::Pairs
-        } else {
-            Place::Head(line.saturating_add(1))
-        };
     }
 
-    /// Goes on behind a line of an output.
-    fn pass_output(&mut self, name: &str) {
-        if name == "status" {
+    /// Goes on behind a good line.
+    pub fn pass(&mut self, line: &str) {
+        let (name, others) = line.split_once(' ').unwrap_or((line, ""));
+        self.keep(others);
+        if name == "atomics" {
+            self.atomics = true;
+        }
+        if self.place != "behind" {
+            self.place = row(PLACES, self.place, "", name);
+        } else if name == "status" {
             self.outputs = self.outputs.saturating_add(1);
             self.lines = 0;
         } else {
@@ -92,105 +122,19 @@ impl Reading {
         }
     }
 
-    /// Goes on behind a good line.
-    pub fn pass(&mut self, line: &str) {
-        let mut words = line.split(' ');
-        let name = words.next().unwrap_or("");
-        self.place = match (self.place, name) {
-            (Place::Head(place), _) => return self.pass_head(place, number(words.next())),
-            (Place::Behind, _) => return self.pass_output(name),
-            (Place::Body, "end") => Place::Handlers,
-            (Place::Steps, "end") => Place::Scripts,
-            (Place::Schedule, "end") => Place::Done,
-            (Place::Body | Place::Steps | Place::Schedule, _) => self.place,
-            (_, "pair") => Place::Pairs,
-            (_, "atomics") => {
-                self.atomics = true;
-                Place::Handlers
-            }
-            (_, "handler") => Place::Body,
-            (_, "script") => Place::Steps,
-            (_, "schedule") => Place::Schedule,
-            _ => Place::Behind,
-        };
-    }
-
-    /// Whether a line of this part may come next, whatever the job's version is.
-    fn may_come(&self, part: Part) -> bool {
-        match self.place {
-            Place::Head(place) => part == Part::Head(place),
-            Place::Pairs => matches!(
-                part,
-                Part::Pair
-                    | Part::Atomics
-                    | Part::Handler
-                    | Part::Script
-                    | Part::Schedule
-                    | Part::Done
-            ),
-            Place::Handlers => matches!(
-                part,
-                Part::Handler | Part::Script | Part::Schedule | Part::Done
-            ),
-            Place::Scripts => matches!(part, Part::Script | Part::Schedule | Part::Done),
-            Place::Body => matches!(part, Part::Action | Part::End),
-            Place::Steps => matches!(
-                part,
-                Part::Wait
-                    | Part::SecondWait
-                    | Part::Call
-                    | Part::SecondCall
-                    | Part::Batch
-                    | Part::End
-            ),
-            Place::Schedule => matches!(part, Part::Event | Part::End),
-            Place::Done => part == Part::Done,
-            Place::Behind => false,
+    /// Whether a form of this part is one of those that may come, here or else only in another job.
+    pub fn has(&self, parts: &str, part: &str, here: bool) -> bool {
+        if !fits(part, parts, self.limits) {
+            return false;
         }
-    }
-
-    /// Whether a line of this part fits the job's version and its line of atomics.
-    fn fits(&self, part: Part) -> bool {
-        match part {
-            Part::Atomics | Part::SecondWait | Part::SecondCall => self.limits.version == 2,
-            Part::Batch => self.atomics,
-            _ => true,
+        if part == "batch" {
+            return self.atomics == here;
         }
-    }
-
-    /// The form that may come next and that the words begin as.
-    pub fn form_of(&self, words: &[&str]) -> Option<Form> {
-        FORMS
-            .iter()
-            .find(|form| self.may_come(form.part) && self.fits(form.part) && form.begins(words))
-            .copied()
-    }
-
-    /// Whether a line or call of this part may stand there in another job, and can't in this one.
-    pub fn is_elsewhere(&self, part: Part, call: bool) -> bool {
-        let called = call && matches!(part, Part::Batch | Part::SecondCall);
-        !self.fits(part) && (self.may_come(part) || called)
-    }
-
-    /// Whether a form may come next.
-    pub fn has(&self, form: &Form) -> bool {
-        self.may_come(form.part) && self.fits(form.part)
+        here == (!part.starts_with('2') || self.limits.version == 2)
     }
 }
 
-/// The form of the call that the words begin as, in this job.
-pub fn call_of(reading: &Reading, words: &[&str]) -> Option<Form> {
-    FORMS
-        .iter()
-        .find(|form| is_call(reading, form) && form.begins(words))
-        .copied()
-}
-
-/// Whether a form is a call that may stand in this job.
-pub fn is_call(reading: &Reading, form: &Form) -> bool {
-    match form.part {
-        Part::Call => true,
-        Part::SecondCall | Part::Batch => reading.fits(form.part),
-        _ => false,
-    }
+/// The parts that may come at a place.
+pub fn parts_at(place: &str) -> &'static str {
+    row(PLACES, "comes", "", place)
 }

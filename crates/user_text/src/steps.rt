@@ -1,13 +1,14 @@
 //! The steps and lines of a job beside their answers, for a person.
 
 use crate::faults::{next_line, text_of};
-use crate::places::{Place, Reading};
+use crate::places::Reading;
+use crate::tables::{as_one, fill};
 use std::alloc::{AllocError, Global};
 
 /// The steps of a script that weren't told yet.
 #[derive(Clone, Copy)]
 struct Script<'a> {
-    node: &'a str,
+    /// Its node and its thread, as they stand in its line.
     thread: &'a str,
     steps: &'a [u8],
     told: u64,
@@ -39,51 +40,52 @@ fn parts_of(alloc: Global, text: &[u8]) -> Result<Parts<'_>, AllocError> {
         if before == reading.place {
             continue;
         }
-        match reading.place {
-            Place::Steps => {
-                let mut words = line.split(' ').skip(1);
-                let (node, thread) = (words.next().unwrap_or(""), words.next().unwrap_or(""));
-                parts.scripts.push(Script {
-                    node,
-                    thread,
-                    steps: after,
-                    told: 0,
-                })?;
-            }
-            Place::Schedule => parts.schedule = after,
-            Place::Behind => return Ok(parts),
-            _ => {}
+        if reading.place == "steps" {
+            let (_, thread) = line.split_once(' ').unwrap_or(("", ""));
+            parts.scripts.push(Script {
+                thread,
+                steps: after,
+                told: 0,
+            })?;
+        } else if reading.place == "schedule" {
+            parts.schedule = after;
+        } else if reading.place == "behind" {
+            return Ok(parts);
         }
     }
     Ok(parts)
 }
 
 /// Tells the next step of a thread with its answer. False where there is none.
-fn tell_step(
+fn tell_step<'a>(
+    alloc: Global,
     told: &mut String,
-    scripts: &mut [Script<'_>],
-    line: &str,
+    scripts: &mut [Script<'a>],
+    line: &'a str,
 ) -> Result<bool, AllocError> {
     let mut words = line.splitn(3, ' ');
     let (node, thread) = (words.next().unwrap_or(""), words.next().unwrap_or(""));
     let answer = words.next().unwrap_or("");
+    let name = fill(alloc, "@ @", &[node, thread], &[])?;
     for script in scripts.iter_mut() {
-        if script.node == node && script.thread == thread {
-            let Some((step, after)) = next_line(script.steps) else {
-                return Ok(false);
-            };
-            script.steps = after;
-            script.told = script.told.saturating_add(1);
-            let (number, step) = (script.told, text_of(step));
-            write!(told, "step {node} {thread} {number} `{step}`: {answer}\n")?;
-            return Ok(true);
+        if script.thread != name.as_str() {
+            continue;
         }
+        let Some((step, after)) = next_line(script.steps) else {
+            return Ok(false);
+        };
+        script.steps = after;
+        script.told = script.told.saturating_add(1);
+        let words = [script.thread, text_of(step), answer];
+        let text = fill(alloc, "step @ % `@`: @\n", &words, &[script.told])?;
+        told.push_str(text.as_str())?;
+        return Ok(true);
     }
     Ok(false)
 }
 
-/// The steps of a job beside their answers: a line `step RANK THREAD NUMBER` with the step and the answer for each line of
-/// steps with which the output of `check` or `launch` begins.
+/// The steps of a job beside their answers: a line `step RANK THREAD NUMBER` with the step and the
+/// answer for each line of steps with which the output of `check` or `launch` begins.
 pub fn steps_told(alloc: Global, job: &[u8], output: &[u8]) -> Result<String, AllocError> {
     let mut told = String::new(alloc);
     let Parts { mut scripts, .. } = parts_of(alloc, job)?;
@@ -92,7 +94,7 @@ pub fn steps_told(alloc: Global, job: &[u8], output: &[u8]) -> Result<String, Al
         let Some((line, after)) = next_line(rest) else {
             return Ok(told);
         };
-        if !tell_step(&mut told, &mut scripts, text_of(line))? {
+        if !tell_step(alloc, &mut told, &mut scripts, text_of(line))? {
             return Ok(told);
         }
         rest = after;
@@ -100,8 +102,8 @@ pub fn steps_told(alloc: Global, job: &[u8], output: &[u8]) -> Result<String, Al
     Ok(told)
 }
 
-/// The lines of a job's schedule beside their answers: a line `line NUMBER` with the line and the answer for each line of
-/// answers with which the output of `world` begins.
+/// The lines of a job's schedule beside their answers: a line `line NUMBER` with the line and the
+/// answer for each line of answers with which the output of `world` begins.
 pub fn lines_told(alloc: Global, job: &[u8], output: &[u8]) -> Result<String, AllocError> {
     let mut told = String::new(alloc);
     let Parts { scripts, schedule } = parts_of(alloc, job)?;
@@ -117,7 +119,13 @@ pub fn lines_told(alloc: Global, job: &[u8], output: &[u8]) -> Result<String, Al
         if line == "end" || number == "status" {
             return Ok(told);
         }
-        write!(told, "line {number} `{line}`: {words}\n")?;
+        let text = fill(
+            alloc,
+            "line @ `@`: @\n",
+            &as_one(number, line, words, ""),
+            &[],
+        )?;
+        told.push_str(text.as_str())?;
         asked = later;
         answered = after;
     }
