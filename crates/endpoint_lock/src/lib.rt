@@ -29,8 +29,10 @@
 //! - `run_threads` [`Leaves`]: there is a journal, and the machine is its replay; the datagrams; the bytes; the times;
 //!   for each end its causes. `Over` and `Stuck` come only where the quiet entries at the journal's end, and the times
 //!   that the clock was asked without an entry, are at least `patience` together, or the clock's counter stands at its
-//!   last value (`PatienceIsSpent`; that the turns were quiet in a row is `spent` of `Station::turn`); the last entry
-//!   is quiet, or a turn would be empty now; and where every thread polls and the link tells what waits, nothing does.
+//!   last value (`PatienceIsSpent`); the last entry is quiet, or a turn would be empty now; and where every thread
+//!   polls and the link tells what waits, nothing does. That the turns were quiet in a row is said turn by turn, by
+//!   clauses of `Station::turn`: what a turn makes of the count of quiet turns is in `goes`; where the count is
+//!   `patience`, and no end is kept, the turn ends as `Over` or `Stuck` [`spent`].
 //!
 //! Not claimed: that a thread runs, that the threads take turns fairly, which of them took how many, that the gate is
 //! called. That memory ran out where `NoMemory` is told isn't proved.

@@ -16,7 +16,8 @@
 //!
 //! `ChildEnds` keeps how the children of a spawner ended; nothing is proved of it.
 //!
-//! What each does with the system is tested in `outside_tests`.
+//! What the link, the clock and the spawner do with the system is tested in `outside_tests`, and the gate by the nodes
+//! of the program that `tools/rows` runs.
 #![tactic(auto)]
 
 mod child_ends;

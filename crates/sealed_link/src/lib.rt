@@ -6,8 +6,9 @@
 //! - `Hmac` gives the code of a message under a key [`code`], and `Key` the tag of a datagram, and whether a tag is that
 //!   of a datagram.
 //! - What is sealed under a key is opened under it as the same bytes [`seal_law`: `opens`].
-//! - `SealedLink` meets `Link`. The link behind is sent each datagram sealed [`seals`]. Where the link behind tells its
-//!   datagrams, those sent are told without their tags, and those received are the ones that open under the key.
+//! - `SealedLink` meets `Link`. Where the link behind tells what it was sent, a datagram whose sending succeeds is
+//!   there sealed, and one whose sending fails isn't there [`seals`]. Where the link behind tells its datagrams, those
+//!   sent are told without their tags, and those received are the ones that open under the key.
 //!
 //! That nobody makes a tag without the key is no clause.
 #![tactic(auto)]
