@@ -7,7 +7,8 @@ use crate::tables::word_of;
 /// those that may be left out in brackets, what the command does, what it reads and writes, and one
 /// use of it.
 ///
-/// What those words may be is said in the table of kinds, and a new command's name, too.
+/// What those words may be is said in the table of kinds. A new command's name goes there, too, and
+/// into the text below.
 pub static COMMANDS: &str = "\
 world|runs the schedule of a job over all its nodes, in one process|\
 It reads a job from standard input, and writes the answer of each line of its schedule and the \
@@ -35,6 +36,9 @@ help [COMMAND]|tells the commands, or one of them|\
 Help goes to standard error. Standard output has 'status 2 usage', and the exit status is \
 2.|gasnet_cli help launch
 ";
+
+/// The names of all commands.
+pub static NAMES: &str = "world, upgrade, check, launch, node, drill, help";
 
 /// What a person is told of a command.
 #[derive(Clone, Copy)]

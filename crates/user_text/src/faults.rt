@@ -71,11 +71,13 @@ struct Told {
     expected: String,
 }
 
-/// The words of a line.
+/// A line of words.
 #[derive(Clone, Copy)]
 struct Words<'a> {
-    /// All of them.
-    all: &'a [&'a str],
+    /// Its text.
+    line: &'a str,
+    /// How many words it has.
+    count: usize,
     /// The place of the first one of the form.
     first: usize,
     /// What comes next there, as the forms are looked for.
@@ -112,26 +114,32 @@ fn before(text: &[u8], line: u32) -> Option<(Reading, &[u8])> {
     Some((reading, rest))
 }
 
-/// The words of a form that begins at a place.
-fn own<'a>(all: &'a [&'a str], first: usize) -> &'a [&'a str] {
-    all.get(first..).unwrap_or(&[])
+/// The place of the first word of a line's form. Before it stand the round, and what a call has.
+fn first_of(reading: &Reading, line: &str) -> usize {
+    if reading.place != "schedule" || word_of(line, 0) == "end" {
+        return 0;
+    }
+    if word_of(line, 1) == "call" {
+        BEFORE_CALL
+    } else {
+        1
+    }
 }
 
 /// The words of a line with their form.
-fn words_of<'a>(reading: &Reading, line: &str, all: &'a [&'a str]) -> Words<'a> {
-    let (first, place) = if reading.place != "schedule" || word_of(line, 0) == "end" {
-        (0, reading.place)
-    } else if word_of(line, 1) == "call" {
-        (BEFORE_CALL, "call")
+fn words_of<'a>(reading: &Reading, line: &'a str) -> Words<'a> {
+    let first = first_of(reading, line);
+    let place = if first == BEFORE_CALL {
+        "call"
     } else {
-        (1, reading.place)
+        reading.place
     };
-    let form = form_in(reading, place, true, own(all, first));
     Words {
-        all,
+        line,
+        count: line.split(' ').count(),
         first,
         place,
-        form,
+        form: form_in(reading, place, true, line, first),
     }
 }
 
@@ -144,8 +152,8 @@ fn name_fault(alloc: Global, reading: &Reading, words: &Words<'_>) -> Result<Tol
         words.place
     };
     let expected = names(alloc, reading, place)?;
-    let other = form_in(reading, words.place, false, own(words.all, words.first));
-    let wrong = if words.all.len() <= words.first {
+    let other = form_in(reading, words.place, false, words.line, words.first);
+    let wrong = if words.count <= words.first {
         "a word is missing at the end of the line"
     } else if other.part.is_empty() {
         "no line that may stand here has this word here"
@@ -168,9 +176,9 @@ fn form_fault(alloc: Global, reading: &Reading, words: &Words<'_>) -> Result<Tol
         return name_fault(alloc, reading, words);
     }
     let most = words.first.saturating_add(form.most);
-    let (word, wrong) = if words.all.len() > most {
+    let (word, wrong) = if words.count > most {
         (most, "this word is one too many")
-    } else if words.all.len() < words.first.saturating_add(form.least) {
+    } else if words.count < words.first.saturating_add(form.least) {
         (NOWHERE, "a word is missing at the end of the line")
     } else {
         (NOWHERE, "the words aren't of the form")
@@ -184,7 +192,7 @@ fn form_fault(alloc: Global, reading: &Reading, words: &Words<'_>) -> Result<Tol
 
 /// What is told of a line whose words aren't all in their ranges.
 fn value_fault(alloc: Global, reading: &Reading, words: &Words<'_>) -> Result<Told, AllocError> {
-    for (place, word) in words.all.iter().enumerate() {
+    for (place, word) in words.line.split(' ').enumerate() {
         let (form, within) = match place.checked_sub(words.first) {
             Some(within) => (words.form, within),
             None => (FRONT, place),
@@ -228,7 +236,7 @@ fn words_fault(
         return value_fault(alloc, reading, words);
     }
     let (word, wrong, expected) = if reason == "entry" {
-        let name = words.all.first().copied().unwrap_or("");
+        let name = word_of(words.line, 0);
         let wrong = "the entry that begins with this word is taken";
         (1, wrong, row(TOLD, "entry", "", name))
     } else {
@@ -249,13 +257,12 @@ fn line_fault(
     bad: BadLine<'_>,
     text: &str,
 ) -> Result<String, AllocError> {
-    let all: Vec<&str> = text.split(' ').collect(alloc)?;
-    let words = words_of(reading, text, &all);
+    let words = words_of(reading, text);
     let told = words_fault(alloc, reading, &words, bad.reason)?;
     let line = u64::from(bad.line);
     let expected = told.expected.as_str();
     let mut column: u64 = 1;
-    for (place, word) in all.iter().enumerate() {
+    for (place, word) in text.split(' ').enumerate() {
         if place == told.word {
             return fill(
                 alloc,
@@ -313,7 +320,7 @@ fn text_fault(alloc: Global, line: u64, rest: &[u8]) -> Result<String, AllocErro
     let column = (place as u64).saturating_add(1);
     let told = if text.is_empty() {
         "line %: the line is empty; expected words"
-    } else if text.get(place) == Some(&b' ') {
+    } else if let Some(b' ') = text.get(place) {
         "line %, column %: a word is empty; expected one space between two words, and none at the \
         ends"
     } else if text.len() < rest.len() {

@@ -95,8 +95,9 @@ also 1 1 call
 
 /// What the words of forms have to be. A line has a part or the first word of a form, a word of it,
 /// and its kind: a range or the name of a row of kinds. `_` stands for all others. A word without a
-/// row may be any. The row of `..` has the words that come again, behind their count, where they
-/// are more than the last one.
+/// row may be any.
+///
+/// The row of `..` has the words that come again, by the rest that their place leaves by 12.
 static WORDS: &str = "\
 gasnet VERSION :1:2
 job J :0:18446744073709551615
@@ -152,12 +153,22 @@ _ BYTES bytes
 _ KIND call
 _ W implicit
 _ OP operation
-atomic .. 4 OP OFF A B
-put-s .. 3 COUNT REMOTE LOCAL
-get-s .. 3 COUNT REMOTE LOCAL
-put-v .. 2 OFF LEN
-get-v .. 2 OFF LEN
+atomic .. OP OFF A B OP OFF A B OP OFF A B
+put-s .. LOCAL COUNT REMOTE LOCAL COUNT REMOTE LOCAL COUNT REMOTE LOCAL COUNT REMOTE
+get-s .. LOCAL COUNT REMOTE LOCAL COUNT REMOTE LOCAL COUNT REMOTE LOCAL COUNT REMOTE
+put-v .. LEN OFF LEN OFF LEN OFF LEN OFF LEN OFF LEN OFF
+get-v .. LEN OFF LEN OFF LEN OFF LEN OFF LEN OFF LEN OFF
+handler .. K K K K K K K K K K K K
+wait-all .. R R R R R R R R R R R R
+wait-some .. R R R R R R R R R R R R
+try-all .. R R R R R R R R R R R R
+try-some .. R R R R R R R R R R R R
+action .. V V V V V V V V V V V V
+call .. V V V V V V V V V V V V
 ";
+
+/// From this place on the words of a form that has so many are those that come again.
+const AGAIN: usize = 7;
 
 /// A form of lines.
 #[derive(Clone, Copy)]
@@ -199,76 +210,57 @@ fn form_of(line: &'static str) -> Form {
     }
 }
 
-/// Whether the words begin as a form does.
-fn begins(form: &Form, words: &[&str]) -> bool {
-    let Some((first, others)) = words.split_first() else {
-        return false;
-    };
-    if *first != form.name {
+/// Whether a form begins with these two words. The second one counts only in a reply of a handler.
+fn begins(form: &Form, name: &str, second: &str) -> bool {
+    if form.name != name {
         return false;
     }
-    if form.part != "action" || form.name != "reply" {
+    if form.part != "action" || name != "reply" {
         return true;
     }
-    match others.first() {
-        Some(second) => *second == word_of(form.text, 1),
-        None => false,
-    }
+    word_of(form.text, 1) == second
 }
 
-/// The form that the words begin as, of those that may come at this place in this job, or only in
-/// another.
-pub fn form_in(reading: &Reading, place: &str, here: bool, words: &[&str]) -> Form {
+/// The form as which a line begins at a word, of those that may come at this place in this job, or
+/// only in another.
+pub fn form_in(reading: &Reading, place: &str, here: bool, line: &str, first: usize) -> Form {
     let parts = parts_at(place);
-    for line in FORMS.lines() {
-        let form = form_of(line);
-        if reading.has(parts, form.part, here) && begins(&form, words) {
+    let name = word_of(line, first);
+    let second = word_of(line, first.saturating_add(1));
+    for row in FORMS.lines() {
+        let form = form_of(row);
+        if begins(&form, name, second) && reading.has(parts, form.part, here) {
             return form;
         }
     }
     form_of("")
 }
 
-/// The names of the forms that may come at this place.
+/// The names of the forms that may come at this place. Of forms of one name it has the first.
 pub fn names(alloc: Global, reading: &Reading, place: &str) -> Result<String, AllocError> {
-    let mut text = String::new(alloc);
-    let mut before = "";
+    let mut names = String::new(alloc);
     let parts = parts_at(place);
     for line in FORMS.lines() {
         let form = form_of(line);
-        if reading.has(parts, form.part, true) && form.name != before {
-            if !text.is_empty() {
-                text.push_str(", ")?;
-            }
-            text.push_str(form.name)?;
+        if !reading.has(parts, form.part, true) || names.as_str().ends_with(form.name) {
+            continue;
         }
-        before = form.name;
+        if !names.is_empty() {
+            names.push_str(", ")?;
+        }
+        names.push_str(form.name)?;
     }
-    Ok(text)
+    Ok(names)
 }
 
 impl Form {
     /// The form's word for the word at a place.
     pub fn word_at(&self, place: usize) -> &'static str {
-        let mut left = place;
-        let mut last = "";
-        for word in self.text.split(' ') {
-            if word == ".." {
-                continue;
-            }
-            if left == 0 {
-                return word;
-            }
-            left = left.saturating_sub(1);
-            last = word;
+        let word = word_of(self.text, place);
+        if place < AGAIN && word != ".." && !word.is_empty() {
+            return word;
         }
-        match row(WORDS, self.name, "", "..").split_once(' ') {
-            Some((count, words)) => {
-                let count = number(count) as usize;
-                word_of(words, left.checked_rem(count).unwrap_or(0))
-            }
-            None => last,
-        }
+        word_of(row(WORDS, self.name, self.part, ".."), place % 12)
     }
 
     /// What may stand for a word of the form. Empty where any word may.

@@ -2,7 +2,7 @@
 
 use crate::commands::{COMMANDS, CommandText, command_in, command_of};
 use crate::tables::{as_one, fill, padded};
-use crate::usage::{all_names, parameter_of};
+use crate::usage::parameter_of;
 use std::alloc::{AllocError, Global};
 
 /// What is told of the program's version.
@@ -61,8 +61,7 @@ fn help_of(alloc: Global, command: &CommandText) -> Result<String, AllocError> {
         &[],
     )?;
     for word in command.usage.split(' ').skip(1) {
-        let (name, kind) = parameter_of(word);
-        let (_, expected) = kind.split_once('|').unwrap_or(("", ""));
+        let [_, name, expected] = parameter_of(word);
         let name = padded(alloc, name, 8)?;
         let line = fill(
             alloc,
@@ -128,8 +127,8 @@ fn help_for_two(alloc: Global, first: &str, second: &str) -> Result<String, Allo
     let mut name = "";
     if first == "help" {
         if second == "--bash" {
-            let names = all_names(alloc, " ")?;
-            return fill(alloc, COMPLETION, &[names.as_str()], &[]);
+            let [names, _, _] = parameter_of("[COMMAND]");
+            return fill(alloc, COMPLETION, &[names], &[]);
         }
         if second == "--man" {
             return manual(alloc);

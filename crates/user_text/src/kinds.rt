@@ -29,10 +29,11 @@ request, reply, poll, transfer, sync, region, barrier or source
 kind implicit puts gets all|puts, gets or all
 kind operation get swap cas add sub and or xor min max|get, swap, cas, add, sub, and, or, xor, \
 min or max
-parameter RANK :0:255|a number from 0 to 255
-parameter PORT :1024:65472|a number from 1024 to 65472
-parameter SEED :0:18446744073709551615|a number from 0 to 18446744073709551615
-parameter COMMAND world upgrade check launch node drill help|the name of a command
+parameter RANK :0:255|RANK|a number from 0 to 255
+parameter PORT :1024:65472|PORT|a number from 1024 to 65472
+parameter [PORT] :1024:65472|PORT|a number from 1024 to 65472
+parameter SEED :0:18446744073709551615|SEED|a number from 0 to 18446744073709551615
+parameter [COMMAND] world upgrade check launch node drill help|COMMAND|the name of a command
 ";
 
 /// The number that a word is, or 0.
@@ -64,13 +65,16 @@ fn is_bytes(word: &str) -> bool {
 
 /// The number that stands for an end of a range, in a job with these settings.
 fn bound(word: &str, limits: Limits) -> u64 {
-    match word.as_bytes().first() {
-        Some(b'R') => limits.nodes.saturating_sub(1),
-        Some(b'T') => limits.threads.saturating_sub(1),
-        Some(b'N') if limits.version == 2 => 256,
-        Some(b'N') => 64,
-        _ => number(word),
+    if word.starts_with('R') {
+        return limits.nodes.saturating_sub(1);
     }
+    if word.starts_with('T') {
+        return limits.threads.saturating_sub(1);
+    }
+    if word.starts_with('N') {
+        return if limits.version == 2 { 256 } else { 64 };
+    }
+    number(word)
 }
 
 /// The letter, the least and the greatest number of a range. None of anything else.

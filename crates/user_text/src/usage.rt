@@ -1,28 +1,18 @@
 //! Why the words of the command line are those of no command.
 
-use crate::commands::{COMMANDS, CommandText, command_in, command_of};
+use crate::commands::{CommandText, NAMES, command_of};
 use crate::faults::{next_line, text_of};
 use crate::kinds::{KINDS, fits, is_number};
 use crate::places::NO_LIMITS;
 use crate::tables::{as_one, fill, row, word_of};
 use std::alloc::{AllocError, Global};
 
-/// The name of a word of a command, without brackets, and what may stand there.
-pub(crate) fn parameter_of(word: &'static str) -> (&'static str, &'static str) {
-    let name = word.trim_start_matches('[').trim_end_matches(']');
-    (name, row(KINDS, "parameter", "", name))
-}
-
-/// The names of all commands, with this between.
-pub(crate) fn all_names(alloc: Global, between: &str) -> Result<String, AllocError> {
-    let mut names = String::new(alloc);
-    for line in COMMANDS.lines() {
-        if !names.is_empty() {
-            names.push_str(between)?;
-        }
-        names.push_str(command_in(line).name)?;
-    }
-    Ok(names)
+/// What may stand for a word of a command, the word without brackets, and what is told of it.
+pub(crate) fn parameter_of(word: &str) -> [&'static str; 3] {
+    let mut fields = row(KINDS, "parameter", "", word).splitn(3, '|');
+    let kind = fields.next().unwrap_or("");
+    let name = fields.next().unwrap_or("");
+    [kind, name, fields.next().unwrap_or("")]
 }
 
 /// What is wrong with the words behind the name of a command. Empty where nothing is.
@@ -35,8 +25,7 @@ fn words_fault(
     let mut others = words.iter();
     let mut count: u64 = 0;
     for parameter in command.usage.split(' ').skip(1) {
-        let (what, kind) = parameter_of(parameter);
-        let (kind, expected) = kind.split_once('|').unwrap_or((kind, ""));
+        let [kind, what, expected] = parameter_of(parameter);
         let Some(word) = others.next() else {
             if parameter.starts_with('[') {
                 return Ok(String::new(alloc));
@@ -71,20 +60,18 @@ fn words_fault(
 /// What is wrong with the words of the command line, in a line: the word, and what was expected
 /// there. Empty where they are those of a command.
 pub fn usage_fault(alloc: Global, words: &[String]) -> Result<String, AllocError> {
-    let names = all_names(alloc, ", ")?;
-    let names = names.as_str();
     let Some((name, others)) = words.split_first() else {
         return fill(
             alloc,
             "there is no command; expected one of @",
-            &[names],
+            &[NAMES],
             &[],
         );
     };
     let command = command_of(name.as_str());
     if command.usage.is_empty() {
         let told = "`@` is no command; expected one of @";
-        return fill(alloc, told, &[name.as_str(), names], &[]);
+        return fill(alloc, told, &as_one(name.as_str(), NAMES, "", ""), &[]);
     }
     words_fault(alloc, &command, others)
 }
