@@ -1,6 +1,6 @@
 #!/bin/bash
 # Runs the tests of coarrays: tests/caf/run.sh [WORD], those whose name has the word. Each has a time limit, and a log in
-# out/logs/caf. GASNET_TEST_QUICK=1 leaves out the eight images.
+# out/logs/caf. GASNET_TEST_QUICK=1 leaves out two and eight images.
 # Nothing is promised of time, so a test that fails is run once more, with a line that says so; the last line counts those.
 cd "$(dirname "$0")/../.." || exit 2
 word=${1:-}
