@@ -56,6 +56,24 @@ static void tell_counts(const struct gasnetl_job *job) {
             network->sent, job->progress.resent, network->unsent, network->received, network->strays, network->unsealed);
 }
 
+/* Says who ends the others, and which of them is the first that didn't end by itself. */
+static void tell_waiting(const struct gasnetl_job *job) {
+    uint16_t first = 0;
+    while (first == job->me || job->control.has_left[first])
+        first++;
+    fprintf(stderr, "gasnet: node %u called gasnet_exit(0), and ends the others: node %u hadn't called it after %" PRIu64 " s (GASNET_EXIT_TIMEOUT)\n",
+            job->me, first, job->config.exit_timeout / 1000000);
+}
+
+/* Waits for the others, and ends them where they don't end by themselves. */
+static void end_with_others(struct gasnetl_job *job, bool forced) {
+    if (linger(job, forced, forced ? job->config.end_timeout : job->config.exit_timeout) || forced)
+        return;
+    if (!all(job, job->control.has_left))
+        tell_waiting(job);
+    linger(job, true, job->config.end_timeout);
+}
+
 /* Leaves the job. It is done once; whatever is called after it finds the job ended. */
 static void leave(struct gasnetl_job *job, int status, bool forced) {
     if (job->ended || !job->initialised)
@@ -71,8 +89,8 @@ static void leave(struct gasnetl_job *job, int status, bool forced) {
     if (gasnetl_thread.token || interrupts)
         job->attached = false; /* its message is never delivered, or its call never ends: the endpoint gets no further event */
     fflush(NULL);
-    if (job->nodes > 1 && !linger(job, forced, forced ? job->config.end_timeout : job->config.exit_timeout) && !forced)
-        linger(job, true, job->config.end_timeout);
+    if (job->nodes > 1)
+        end_with_others(job, forced);
     if (job->config.tells_counts)
         tell_counts(job);
     job->attached = false;

@@ -119,7 +119,7 @@ for build in out out/sanitized; do
     check "end return 0$kind" 0 "" bin/gasnetrun -n 3 $build/tests/ends return 0
     check "end return 4$kind" 4 "" bin/gasnetrun -n 3 $build/tests/ends return 4
     check "end one 5$kind" 5 "" bin/gasnetrun -n 3 $build/tests/ends one 5
-    check "end one 0$kind" 0 "" env GASNET_EXIT_TIMEOUT=1 bin/gasnetrun -n 3 $build/tests/ends one 0
+    check "end one 0$kind" 0 "ends the others: node . hadn't called it after 1 s" env GASNET_EXIT_TIMEOUT=1 bin/gasnetrun -n 3 $build/tests/ends one 0
     check "end fork$kind" 0 "" bin/gasnetrun -n 3 $build/tests/ends fork 0
     check "end handler 6$kind" 6 "" bin/gasnetrun -n 3 $build/tests/ends handler 6
     # The node that ends the job has 5, those that handle SIGQUIT have 9: the first of them to end decides.
