@@ -46,8 +46,8 @@ use Rattle.node_runs.specs.Turn.{as_tried, context, events_of, first_answer, fir
 use Rattle.node_script.specs.AnswersTold.{HasRange, NamesWhatIs}
 use Rattle.node_script.specs.Bodies.{operand_value, script_meaning}
 use Rattle.node_script.specs.Registration.{handlers_of, registered}
-use Rattle.script_steps.specs.Forms.{as_synced, begun_handle, is_issued, reached, step_form, tried_while}
-use Rattle.script_steps.specs.Forms.{waiting_form, waits_of, word_reached}
+use Rattle.node_machine.specs.Steps.{as_synced, begun_handle, is_issued, reached, step_form, tried_while}
+use Rattle.node_machine.specs.Steps.{waiting_form, waits_of, word_reached}
 use Rattle.world_run.proofs.ToldAnswers.{asked_names, plain_names, show_names}
 use Rattle.endpoint_rules.proofs.PlainAnswers.{answers_plain}
 use Rattle.check_run.specs.Recording.{HasHandles, ScriptedNode}

@@ -13,7 +13,7 @@ use Rattle.node_record.specs.Held.{held}
 use Rattle.node_runs.specs.Actions.{OwnScripts}
 use Rattle.node_runs.specs.Turn.{MachineState}
 use Rattle.node_script.specs.Lines.{Line, spell}
-use Rattle.script_steps.specs.Forms.{begun_handle}
+use Rattle.node_machine.specs.Steps.{begun_handle}
 use Rattle.endpoint_rules.specs.EndpointLocal.{EndpointLocal}
 use Rattle.check_run.specs.StepLines.{after_entry, answer_of_step, lines_of_answer}
 

@@ -14,7 +14,7 @@ use Rattle.node_runs.specs.Merged.{Carries, carried, nodes_from}
 use Rattle.node_runs.specs.Order.{Ranked, job_steps}
 use Rattle.node_runs.specs.WorldRun.{opening_machines}
 use Rattle.node_runs.proofs.WorldRuns.{states_run}
-use Rattle.script_laws.proofs.Bodies.{job_fits}
+use Rattle.script_steps.proofs.Fits.{job_fits}
 use Rattle.script_steps.specs.Forms.{step_form}
 use Rattle.script_steps.specs.Laws.{StepsFit}
 use Rattle.node_machine.specs.Laws.{AreTracesARun, NodesOpen, StatesReplay, opening_node}

@@ -6,4 +6,5 @@ pub mod Openings
 pub mod Scripted
 pub mod Turns
 pub mod Machines
+pub mod Steps
 pub mod Laws

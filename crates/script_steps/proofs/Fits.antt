@@ -17,6 +17,8 @@ use Rattle.node_runs.specs.Actions.{FormMay, OwnScripts, ActionsMay}
 use Rattle.node_runs.specs.Fitting.{KeptFits, CallFits}
 use Rattle.node_runs.specs.Scripts.{ThreadCall, TryContext}
 use Rattle.script_laws.proofs.Calls.{calls_fit}
+-- for those who stand on steps and not on the laws of scripts
+pub use Rattle.script_laws.proofs.Bodies.{job_fits}
 use Rattle.script_steps.specs.Forms.{tried_while, waits_of, waiting_form, step_form, begun_handle, on_transfers}
 use Rattle.script_steps.specs.Forms.{IsJobStep, sync_of}
 use Rattle.script_steps.proofs.BegunPieces.{plan_may}
