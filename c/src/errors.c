@@ -34,7 +34,8 @@ int gasnetl_refuse(int code, const char *format, ...) {
 }
 
 void gasnetl_unsafe(int code, const char *call, const char *file, int line) {
-    gasnetl_stop(GASNETL_MISUSE, "%s:%d: %s is answered %s (%s)", file, line, call, gasnet_ErrorName(code), gasnet_ErrorDesc(code));
+    const int status = code == GASNET_ERR_RESOURCE ? GASNETL_BROKEN : GASNETL_MISUSE;
+    gasnetl_stop(status, "%s:%d: %s is answered %s (%s)", file, line, call, gasnet_ErrorName(code), gasnet_ErrorDesc(code));
 }
 
 static const struct {

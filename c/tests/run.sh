@@ -192,7 +192,7 @@ printf '127.0.0.2\n127.0.0.3\n' >out/hosts
 check "hosts of a file" 0 "" bash -c 'by_hosts GASNET_HOSTS_FILE out/hosts'
 
 # A broken environment is told by one line.
-broken() { check "environment $1" 70 "^gasnet: $2" env "$1" "${@:3}" out/tests/barriers; }
+broken() { check "environment $1" "${status:-70}" "^gasnet: $2" env "$1" "${@:3}" out/tests/barriers; }
 broken GASNET_DROP=101 "GASNET_DROP is '101'"
 broken GASNET_RESEND=soon "GASNET_RESEND is 'soon'"
 broken GASNET_MAX_SEGSIZE=7Q "GASNET_MAX_SEGSIZE is '7Q'"
@@ -207,7 +207,8 @@ broken GASNET_PORT=80 "GASNET_PORT is '80'" GASNET_RANK=0 GASNET_HOSTS=127.0.0.1
 broken GASNET_ADDRESSES=127.0.0.1:5 "GASNET_ADDRESSES is broken: it has fewer" GASNET_NODES=2 GASNET_RANK=0
 broken GASNET_ADDRESSES=here "GASNET_ADDRESSES is broken: an address" GASNET_NODES=1 GASNET_RANK=0
 broken GASNET_ADDRESSES=127.0.0.1:5,127.0.0.1:5 "GASNET_ADDRESSES is broken: two of" GASNET_NODES=2 GASNET_RANK=0
-broken GASNET_ADDRESSES=192.0.2.1:5000,127.0.0.1:5 "node 0 can't have the address 192.0.2.1:5000" GASNET_NODES=2 GASNET_RANK=0
+# What the system refuses is 71.
+status=71 broken GASNET_ADDRESSES=192.0.2.1:5000,127.0.0.1:5 "node 0 can't have the address 192.0.2.1:5000" GASNET_NODES=2 GASNET_RANK=0
 check "gasnetrun usage" 64 "usage" bin/gasnetrun -n 65 out/tests/barriers
 check "gasnetrun of no program" 127 "can't be started" bin/gasnetrun -n 2 out/tests/no-such-program
 
