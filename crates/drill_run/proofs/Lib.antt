@@ -7,3 +7,4 @@ pub mod Drilled
 pub mod BareJob
 pub mod DrillLaws
 pub mod Calm
+pub use Rattle.world_run.proofs.LinesWritten

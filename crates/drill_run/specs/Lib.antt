@@ -4,3 +4,8 @@ pub mod Summary
 pub mod DrillEnds
 pub mod Counting
 pub mod Drilling
+pub use Rattle.world_run.specs.RunEnds
+pub use Rattle.world_run.specs.RunLaws
+pub use Rattle.world_run.specs.RunText
+pub use Rattle.world_run.specs.ScheduleRun
+pub use Rattle.world_run.specs.declared.run.RunEnd

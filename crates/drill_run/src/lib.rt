@@ -26,3 +26,4 @@ mod summary;
 
 pub use draws::Draws;
 pub use drill::run_drill;
+pub use world_run::{RunEnd, run_job};

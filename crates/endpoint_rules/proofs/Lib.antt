@@ -13,3 +13,4 @@ pub mod Works
 pub mod CoreKept
 pub mod Kept
 pub mod Sound
+pub use Rattle.plain_world.proofs.PlainTicks

@@ -10,3 +10,4 @@ pub mod PlainAnswers
 pub mod Sends
 pub mod Tracking
 pub mod EveryCall
+pub use Rattle.plain_world.specs.Sent

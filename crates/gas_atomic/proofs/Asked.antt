@@ -5,7 +5,7 @@ use Rattle.node_caller.specs.declared.caller.Called.TheVariants as called
 use Rattle.node_caller.specs.declared.caller.Caller.{Ghosts}
 use Rattle.node_caller.specs.Making.{MakesOne}
 use Rattle.node_caller.specs.Sites.{ThreadCall, MayLack, answer_at}
-use Rattle.endpoint_rules.specs.declared.answer.Answer.{Answer}
+use Rattle.node_caller.specs.Answer.{Answer}
 use Rattle.gas_atomic.specs.Asking.{answer_of}
 
 -- what the clauses of a call say of it

@@ -3,10 +3,10 @@ use Rattle.std.specs.Prelude.{ℕ, ◌==◌, if◌then◌else◌, Option, None, 
 use Rattle.datagram_grammar.specs.Content.{Content}
 use Rattle.datagram_grammar.specs.Parameters.{Parameters}
 use Rattle.node_record.specs.Behaviour.{Asking, Lent}
-use Rattle.am_core.specs.ClientRules.{medium_asking}
-use Rattle.am_core.specs.HandlerRuns.{shown_payload}
-use Rattle.endpoint_rules.specs.Called.{Requests}
-use Rattle.endpoint_rules.specs.declared.answer.Answer.{Answer}
+use Rattle.node_caller.specs.ClientRules.{medium_asking}
+use Rattle.node_caller.specs.HandlerRuns.{shown_payload}
+use Rattle.node_caller.specs.Called.{Requests}
+use Rattle.node_caller.specs.Answer.{Answer}
 use Rattle.node_caller.specs.Sites.{ThreadCall}
 use Rattle.node_caller.specs.declared.caller.Called.{Called}
 use Rattle.node_caller.specs.declared.caller.Called.TheVariants as called

@@ -2,8 +2,8 @@
 
 ghost use Rattle.std.specs.Prelude.{◌≡◌, ◌<◌, List, ℕ, Some};
 ghost use Rattle.node_record.specs.Behaviour.{Lent};
-ghost use Rattle.am_core.specs.ClientRules.{medium_asking, said_in};
-ghost use Rattle.endpoint_rules.specs.Called.{Requests, meant};
+ghost use Rattle.node_caller.specs.ClientRules.{medium_asking, said_in};
+ghost use Rattle.node_caller.specs.Called.{Requests, meant};
 ghost use Rattle.node_caller.specs.Making.{MakesOne};
 ghost use Rattle.node_caller.specs.Sites.{IsThere};
 ghost use Rattle.gas_atomic.specs.BatchRequests.{batch_handler};
@@ -11,9 +11,7 @@ ghost use Rattle.gas_atomic.specs.Asking.{answer_of, batch_asking, batch_call, b
 
 use crate::batch::Batch;
 use crate::serving::BATCH_HANDLER;
-use am_core::Payload;
-use endpoint_rules::Call;
-use node_caller::{Called, Caller};
+use node_caller::{Call, Called, Caller, Payload};
 
 impl Batch {
     /// A thread of the caller's node asks the batch of its target: a Medium request to handler 252. The batch was made

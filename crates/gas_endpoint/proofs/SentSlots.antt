@@ -20,8 +20,8 @@ use Rattle.node_record.specs.Step.{unless_refused, unless_waiting, judged, taken
 use Rattle.node_record.specs.NodeStep.{Job, site_of}
 use Rattle.node_record.proofs.Answers.{accepted_says}
 use Rattle.node_record.proofs.Runs.{greatest_there, run_at_says, run_at_from}
-use Rattle.plain_world.specs.Sent.{Packet, asking, replying, asked_sends, delivered_sends, ticked_sends}
-use Rattle.plain_world.proofs.PlainTicks.{IsOpenAt, all_dues_open, earliest_has}
+use Rattle.endpoint_rules.specs.Sent.{Packet, asking, replying, asked_sends, delivered_sends, ticked_sends}
+use Rattle.endpoint_rules.proofs.PlainTicks.{IsOpenAt, all_dues_open, earliest_has}
 use Rattle.endpoint_rules.specs.PlainAnswers.{is_plain}
 use Rattle.endpoint_rules.proofs.PlainAnswers.{answers_plain}
 use Rattle.endpoint_rules.specs.EndpointRules.{OtherCall, transition, asked_answer, does_call}

@@ -1,3 +1,16 @@
 pub mod EndpointState
 pub mod Sends
 pub mod Parts
+pub use Rattle.am_core.specs.ClientRules
+pub use Rattle.am_core.specs.HandlerRuns
+pub use Rattle.am_core.specs.Kept
+pub use Rattle.endpoint_rules.specs.Called
+pub use Rattle.endpoint_rules.specs.EndpointLocal
+pub use Rattle.endpoint_rules.specs.EndpointRules
+pub use Rattle.endpoint_rules.specs.TransferCalls
+pub use Rattle.endpoint_rules.specs.declared.answer.Answer
+pub use Rattle.endpoint_rules.specs.declared.answer.Begun
+pub use Rattle.endpoint_rules.specs.declared.answer.Region
+pub use Rattle.endpoint_rules.specs.declared.call.Call
+pub use Rattle.node_record.specs.NodeStep
+pub use Rattle.node_record.specs.Record

@@ -6,7 +6,7 @@ use Rattle.node_record.specs.NodeStep.{Comes, Ticks}
 use Rattle.node_record.specs.Transition.{Transition}
 use Rattle.node_record.specs.declared.answer.SlotRef.{SlotRef}
 use Rattle.handler_rules.specs.Runs.{Meaning}
-use Rattle.plain_world.specs.Sent.{Packet, Asking, Replying, sends as sent_by}
+use Rattle.endpoint_rules.specs.Sent.{Packet, Asking, Replying, sends as sent_by}
 use Rattle.endpoint_rules.specs.Called.{called}
 use Rattle.endpoint_rules.specs.Sends.{sends}
 use Rattle.endpoint_rules.specs.EndpointRules.{RecordEvent, transition}

@@ -30,4 +30,6 @@ mod memory;
 mod ticking;
 mod transfers;
 
+pub use am_core::Payload;
 pub use endpoint::Endpoint;
+pub use endpoint_rules::{Answer, Begun, Call, Event, Region};

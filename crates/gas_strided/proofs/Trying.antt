@@ -7,10 +7,10 @@ use Rattle.std.proofs.lemmas.List.{drop_all, length-drop, map-append, take_all}
 use Rattle.lists.proofs.Cut.{get-drop}
 use Rattle.lists.proofs.Places.{slice_get_there}
 use Rattle.put_get.specs.declared.operation.Transfer.{Transfer}
-use Rattle.endpoint_rules.specs.TransferCalls.{BeginImplicit, RegionBegin, RegionEnd}
+use Rattle.node_caller.specs.TransferCalls.{BeginImplicit, RegionBegin, RegionEnd}
 use Rattle.node_record.specs.Record.{Node}
-use Rattle.endpoint_rules.specs.EndpointLocal.{EndpointLocal}
-use Rattle.endpoint_rules.specs.declared.answer.Answer.{Answer}
+use Rattle.node_caller.specs.EndpointLocal.{EndpointLocal}
+use Rattle.node_caller.specs.Answer.{Answer}
 use Rattle.node_caller.specs.declared.caller.Caller.{Ghosts}
 use Rattle.node_caller.specs.Sites.{Site, ThreadCall, answer_at, node_then, node_in_the_end}
 use Rattle.node_caller.specs.Making.{ForItsNode, Makes, MakesOne}

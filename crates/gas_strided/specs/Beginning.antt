@@ -6,14 +6,14 @@ use Rattle.put_get.specs.declared.operation.Transfer.{Transfer}
 use Rattle.put_get.specs.declared.operation.Transfer.TheVariants as transfers
 use Rattle.node_record.specs.Record.{Node}
 use Rattle.node_record.specs.NodeStep.{Job, node_answer, node_after}
-use Rattle.endpoint_rules.specs.EndpointLocal.{EndpointLocal}
-use Rattle.endpoint_rules.specs.EndpointRules.{OnTransfers, OtherCall, told}
-use Rattle.endpoint_rules.specs.TransferCalls.{TransferCall, BeginImplicit, RegionBegin, RegionEnd}
-use Rattle.endpoint_rules.specs.Called.{Performs}
-use Rattle.endpoint_rules.specs.declared.answer.Answer.{Answer}
-use Rattle.endpoint_rules.specs.declared.answer.Answer.TheVariants as answers
-use Rattle.endpoint_rules.specs.declared.answer.Begun.TheVariants as begun
-use Rattle.endpoint_rules.specs.declared.answer.Region.TheVariants as region
+use Rattle.node_caller.specs.EndpointLocal.{EndpointLocal}
+use Rattle.node_caller.specs.EndpointRules.{OnTransfers, OtherCall, told}
+use Rattle.node_caller.specs.TransferCalls.{TransferCall, BeginImplicit, RegionBegin, RegionEnd}
+use Rattle.node_caller.specs.Called.{Performs}
+use Rattle.node_caller.specs.Answer.{Answer}
+use Rattle.node_caller.specs.Answer.TheVariants as answers
+use Rattle.node_caller.specs.Begun.TheVariants as begun
+use Rattle.node_caller.specs.Region.TheVariants as region
 use Rattle.node_caller.specs.Sites.{Site, ThreadCall, event_of, job_at}
 use Rattle.gas_strided.specs.declared.shapes.Way.TheVariants.{Put, Get}
 use Rattle.gas_strided.specs.declared.shapes.Piece.{Piece}

@@ -1,7 +1,7 @@
 -- The parts of `Plan::begin`: serves the code.
 use Rattle.std.specs.Prelude.{ℕ, ◌≡◌, ◌+◌, ◌-◌, List, [], ◌∷◌, take, drop, Option, None, Some, Result, Ok, Err}
 use Rattle.std.specs.Prelude.{unwrap_or}
-use Rattle.endpoint_rules.specs.TransferCalls.{RegionBegin, RegionEnd}
+use Rattle.node_caller.specs.TransferCalls.{RegionBegin, RegionEnd}
 use Rattle.node_caller.specs.declared.caller.Caller.{Ghosts}
 use Rattle.node_caller.specs.Making.{Makes, ForItsNode, IsAsBefore}
 use Rattle.node_caller.specs.Sites.{answer_at}

@@ -9,8 +9,7 @@ ghost use Rattle.gas_strided.specs.declared.shapes.Vis.{Vis as AVis};
 
 use crate::plan::Plan;
 use crate::shapes::Vis;
-use endpoint_rules::{Answer, Begun, Call, Region};
-use node_caller::{Caller, make_call};
+use node_caller::{Answer, Begun, Call, Caller, Region, make_call};
 
 /// Memory ran out at a call.
 #[derive(Clone, Copy)]

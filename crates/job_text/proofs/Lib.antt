@@ -37,3 +37,4 @@ pub mod Refusing
 pub mod Completeness
 pub mod Meanings
 pub mod Upgrading
+pub use Rattle.gas_atomic.proofs.Lawful

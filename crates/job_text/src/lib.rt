@@ -47,6 +47,8 @@ mod waiting_steps;
 mod words;
 
 pub use fault::{JobFault, JobWhy};
+pub use gas_atomic::{BATCH_HANDLER, BLOCK_HANDLER, entries, serve};
+pub use gas_strided::Vis;
 pub use job::{
     Action, BatchText, Body, BoxedBatch, BoxedLong, BoxedMedium, BoxedTransfer, Bytes, HandlerText,
     HandlerTexts, ImplicitKind, Job, ListedLocks, LongText, MediumText, NodeScript, NodeScripts,

@@ -1,3 +1,11 @@
 pub mod Children
 pub mod Outputs
 pub mod LaunchEnds
+pub use Rattle.check_run.specs.CheckInputs
+pub use Rattle.check_run.specs.Statuses
+pub use Rattle.check_run.specs.StepLines
+pub use Rattle.check_run.specs.Struck
+pub use Rattle.check_run.specs.TracesEnds
+pub use Rattle.check_run.specs.TracesRun
+pub use Rattle.check_run.specs.declared.input.InputFault
+pub use Rattle.check_run.specs.declared.run.TracesEnd

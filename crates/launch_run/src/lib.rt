@@ -20,5 +20,9 @@ mod fault;
 mod launching;
 mod outputs;
 
+pub use check_run::{
+    CheckInput, InputFault, NoNotes, Notes, TracesEnd, first_failed, read_input, run_traces,
+    traces_of,
+};
 pub use fault::LaunchFault;
 pub use launching::launch_nodes;

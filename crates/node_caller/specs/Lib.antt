@@ -1,2 +1,11 @@
 pub mod Sites
 pub mod Making
+pub use Rattle.gas_endpoint.specs.Answer
+pub use Rattle.gas_endpoint.specs.Begun
+pub use Rattle.gas_endpoint.specs.Called
+pub use Rattle.gas_endpoint.specs.ClientRules
+pub use Rattle.gas_endpoint.specs.EndpointLocal
+pub use Rattle.gas_endpoint.specs.EndpointRules
+pub use Rattle.gas_endpoint.specs.HandlerRuns
+pub use Rattle.gas_endpoint.specs.Region
+pub use Rattle.gas_endpoint.specs.TransferCalls

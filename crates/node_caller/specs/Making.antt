@@ -1,8 +1,8 @@
 -- What calls, one after another, make of all that a caller stands for.
 use Rattle.std.specs.Prelude.{◌≡◌, List, [], ◌∷◌, Option, None, Some}
-use Rattle.node_record.specs.Record.{Node}
-use Rattle.endpoint_rules.specs.EndpointLocal.{EndpointLocal}
-use Rattle.endpoint_rules.specs.declared.answer.Answer.{Answer}
+use Rattle.gas_endpoint.specs.Record.{Node}
+use Rattle.gas_endpoint.specs.EndpointLocal.{EndpointLocal}
+use Rattle.gas_endpoint.specs.Answer.{Answer}
 use Rattle.node_caller.specs.Sites.{Site, ThreadCall, MayLack, answer_at}
 use Rattle.node_caller.specs.declared.caller.Caller.{Ghosts}
 

@@ -3,13 +3,13 @@ use Rattle.std.specs.Prelude.{ℕ, ◌≡◌, ◌<◌, Bool, true, List, [], ◌
 use Rattle.datagram_grammar.specs.Parameters.{Parameters}
 use Rattle.handler_rules.specs.declared.table.Entry.{Entry}
 use Rattle.handler_rules.specs.Runs.{Meaning}
-use Rattle.node_record.specs.Record.{Node}
-use Rattle.node_record.specs.NodeStep.{Job, node_answer, node_after}
-use Rattle.endpoint_rules.specs.EndpointLocal.{EndpointLocal}
-use Rattle.endpoint_rules.specs.EndpointRules.{OtherCall, RecordEvent, job_of, told}
-use Rattle.endpoint_rules.specs.Called.{Meant, Requests, Performs, meant, node_event}
-use Rattle.endpoint_rules.specs.declared.call.Call.{Call}
-use Rattle.endpoint_rules.specs.declared.answer.Answer.{Answer}
+use Rattle.gas_endpoint.specs.Record.{Node}
+use Rattle.gas_endpoint.specs.NodeStep.{Job, node_answer, node_after}
+use Rattle.gas_endpoint.specs.EndpointLocal.{EndpointLocal}
+use Rattle.gas_endpoint.specs.EndpointRules.{OtherCall, RecordEvent, job_of, told}
+use Rattle.gas_endpoint.specs.Called.{Meant, Requests, Performs, meant, node_event}
+use Rattle.gas_endpoint.specs.Call.{Call}
+use Rattle.gas_endpoint.specs.Answer.{Answer}
 
 -- the settings, table and handlers of the job, the node, and the time
 pub record Site : Type 0 where

@@ -3,8 +3,7 @@
 ghost use Rattle.std.specs.Prelude.{◌≡◌, refl};
 
 use crate::caller::{Called, Caller};
-use endpoint_rules::{Call, Event};
-use gas_endpoint::Endpoint;
+use gas_endpoint::{Call, Endpoint, Event};
 use handler_rules::Handlers;
 use raw_segment::Segment;
 
@@ -21,8 +20,8 @@ pub struct AtEndpoint<'a, H: Handlers> {
 
 impl<'a, H: Handlers> Caller for AtEndpoint<'a, H> {
     ghost use Rattle.std.specs.Prelude.{false};
-    ghost use Rattle.node_record.specs.Record.{Node};
-    ghost use Rattle.endpoint_rules.specs.EndpointLocal.{EndpointLocal};
+    ghost use Rattle.gas_endpoint.specs.Record.{Node};
+    ghost use Rattle.gas_endpoint.specs.EndpointLocal.{EndpointLocal};
     ghost use Rattle.gas_endpoint.specs.EndpointState.{EndpointStands};
     ghost use Rattle.node_caller.specs.Sites.{node_then};
 

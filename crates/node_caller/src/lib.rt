@@ -20,4 +20,5 @@ mod making;
 
 pub use at_endpoint::AtEndpoint;
 pub use caller::{Called, Caller};
+pub use gas_endpoint::{Answer, Begun, Call, Payload, Region};
 pub use making::make_call;

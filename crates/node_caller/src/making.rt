@@ -5,7 +5,7 @@ ghost use Rattle.node_caller.specs.Sites.{IsThere, called_by};
 ghost use Rattle.gas_endpoint.specs.EndpointState.{MayBeCalled};
 
 use crate::caller::{Called, Caller};
-use endpoint_rules::{Answer, Call};
+use gas_endpoint::{Answer, Call};
 
 /// Makes a call of a thread of the caller's node. `None` where memory ran out; then nothing was changed.
 pub fn make_call<K: Caller>(caller: &mut K, thread: u16, call: &Call<'_>) -> Option<Answer>

@@ -19,8 +19,8 @@ use Rattle.job_text.specs.VisLines.{IsVis, shape_fault, shape_plan, vis_plan}
 use Rattle.job_text.specs.declared.vis.VisShape.{VisShape}
 use Rattle.job_text.specs.declared.vis.VisShape.TheVariants as shapes
 use Rattle.job_text.specs.declared.vis.VisText.{VisText}
-use Rattle.gas_strided.specs.Plans.{PlanState}
-use Rattle.gas_strided.specs.declared.shapes.Way.{Way}
+use Rattle.job_text.specs.Plans.{PlanState}
+use Rattle.job_text.specs.Way.{Way}
 use Rattle.datagram_grammar.specs.Parameters.{Parameters}
 use Rattle.job_text.specs.declared.scope.Scope.{Scope}
 use Rattle.node_script.specs.ScheduledCalls.{IsGiven}

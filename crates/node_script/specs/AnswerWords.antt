@@ -42,8 +42,8 @@ use Rattle.named_barrier.specs.declared.answer.Notified.{Notified}
 use Rattle.named_barrier.specs.declared.answer.Notified.TheVariants as notified
 use Rattle.named_barrier.specs.declared.answer.BarrierAnswer.{BarrierAnswer}
 use Rattle.named_barrier.specs.declared.answer.BarrierAnswer.TheVariants as barrier
-use Rattle.gas_strided.specs.declared.shapes.Vis.{Vis}
-use Rattle.gas_strided.specs.declared.shapes.Vis.TheVariants as vis
+use Rattle.job_text.specs.Vis.{Vis}
+use Rattle.job_text.specs.Vis.TheVariants as vis
 use Rattle.node_script.specs.Lines.{Word, Line}
 
 -- the word of the part of a call that is bad

@@ -20,7 +20,7 @@ use am_core::SlotRef;
 use endpoint_rules::{Answer, Local, Ticked};
 use gas_endpoint::Endpoint;
 use gas_outside::{BufferedSink, Sink, Wrote};
-use gas_strided::Vis;
+use job_text::Vis;
 
 /// The most bytes of a line that shows no bytes of a segment, and more.
 const LINE: usize = 128;

@@ -7,12 +7,12 @@ use Rattle.gas_outside.specs.Buffered.{Outbox, GathersAll}
 use Rattle.gasnet_trace.specs.declared.output.Output.{Output}
 use Rattle.job_text.specs.declared.fault.JobWhy.{JobWhy}
 use Rattle.job_text.specs.declared.job.Job.{Job as JobState}
-use Rattle.check_run.specs.CheckInputs.{InputText, IsUnread, TakesInput, TakesNone, traces_in}
-use Rattle.check_run.specs.Statuses.{AreOver, IsFirstFailed, is_over}
-use Rattle.check_run.specs.Struck.{struck_traces}
-use Rattle.check_run.specs.TracesRun.{AreARun}
-use Rattle.check_run.specs.declared.input.InputFault.{InputFault}
-use Rattle.check_run.specs.declared.input.InputFault.TheVariants as inputs
+use Rattle.launch_run.specs.CheckInputs.{InputText, IsUnread, TakesInput, TakesNone, traces_in}
+use Rattle.launch_run.specs.Statuses.{AreOver, IsFirstFailed, is_over}
+use Rattle.launch_run.specs.Struck.{struck_traces}
+use Rattle.launch_run.specs.TracesRun.{AreARun}
+use Rattle.launch_run.specs.InputFault.{InputFault}
+use Rattle.launch_run.specs.InputFault.TheVariants as inputs
 use Rattle.launch_run.proofs.Ends.{all_at}
 use Rattle.top_call.specs.Outsides.{Call, Input, IsFaultless, Reading, read_in, took_in}
 use Rattle.top_call.specs.CheckCommand.{CheckCompletes, CheckEnds, CheckMeans, ChecksInput, GivesInput, HoldsInput}

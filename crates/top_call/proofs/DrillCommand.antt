@@ -1,8 +1,8 @@
 -- The command `drill`.
 use Rattle.std.proofs.Common.{◌≡◌, ℕ, List, [], ◌∷◌, Bool, true, false, refl, sym, ◌∙◌, lit<}
 use Rattle.std.specs.List.{Contains}
-use Rattle.world_run.specs.RunLaws.{RunLaws}
-use Rattle.world_run.specs.RunText.{is_violated}
+use Rattle.drill_run.specs.RunLaws.{RunLaws}
+use Rattle.drill_run.specs.RunText.{is_violated}
 use Rattle.drill_run.specs.Rounds.{drill_job}
 use Rattle.drill_run.specs.Summary.{drill_lines}
 use Rattle.top_call.specs.Outsides.{Call, took_in}

@@ -6,7 +6,7 @@ use Rattle.gas_outside.specs.Buffered.{Outbox, GathersAll}
 use Rattle.gas_outside.specs.Faults.{Rose}
 use Rattle.gasnet_trace.specs.declared.output.Output.{Output}
 use Rattle.job_text.specs.declared.job.Job.{Job as JobState}
-use Rattle.check_run.specs.CheckInputs.{traces_in}
+use Rattle.launch_run.specs.CheckInputs.{traces_in}
 use Rattle.launch_run.specs.LaunchEnds.{EndsLaunch, GivesOutputs, Launch}
 use Rattle.launch_run.specs.declared.fault.LaunchFault.{LaunchFault}
 use Rattle.launch_run.specs.declared.fault.LaunchFault.TheVariants as launches

@@ -12,9 +12,9 @@ use Rattle.gasnet_trace.specs.declared.output.Output.{Output}
 use Rattle.gasnet_trace.proofs.OutputLaws.{output_again}
 use Rattle.job_text.specs.JobText.{IsJob}
 use Rattle.job_text.specs.declared.job.Job.{Job as JobState}
-use Rattle.check_run.specs.CheckInputs.{traces_in, wanted_of}
-use Rattle.check_run.specs.Struck.{struck_traces}
-use Rattle.check_run.specs.TracesRun.{AreARun}
+use Rattle.launch_run.specs.CheckInputs.{traces_in, wanted_of}
+use Rattle.launch_run.specs.Struck.{struck_traces}
+use Rattle.launch_run.specs.TracesRun.{AreARun}
 use Rattle.launch_run.specs.Children.{all_told}
 use Rattle.launch_run.specs.LaunchEnds.{GivesOutputs, HasEnds, Launch, LosesChild}
 use Rattle.launch_run.specs.Outputs.{AreGiven, GivesOutput, IsFirstFailing}

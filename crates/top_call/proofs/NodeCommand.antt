@@ -16,7 +16,7 @@ use Rattle.node_call.specs.NodeEnds.{EndsAt, EndsCut, EndsOpen, EndsUnmade, Ends
 use Rattle.node_call.specs.NodeEnds.{EndsNode as NodeEndsSo}
 use Rattle.node_call.specs.declared.calling.NodeEnd.{NodeEnd}
 use Rattle.node_call.specs.declared.calling.NodeEnd.TheVariants as nodes
-use Rattle.world_run.proofs.LinesWritten.{one_more}
+use Rattle.drill_run.proofs.LinesWritten.{one_more}
 use Rattle.top_call.specs.Outsides.{Call, Course, Input, course_in, took_in}
 use Rattle.top_call.specs.Commands.{code_of, end_of, status_line}
 use Rattle.top_call.specs.HowEnds.{After, Means, gives, node_given, nothing, said_last, unasked}

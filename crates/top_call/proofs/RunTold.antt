@@ -5,12 +5,12 @@ use Rattle.gas_outside.specs.declared.writing.Wrote.TheVariants as wrote
 use Rattle.gas_outside.proofs.Outboxes.{gathers_first}
 use Rattle.node_script.specs.Lines.{Line, spell, line_text}
 use Rattle.job_text.specs.declared.job.Job.{Job as JobState}
-use Rattle.world_run.specs.RunText.{is_violated}
-use Rattle.world_run.specs.RunEnds.{EndsSaying}
-use Rattle.world_run.specs.RunLaws.{RunLaws}
-use Rattle.world_run.specs.declared.run.RunEnd.{RunEnd}
-use Rattle.world_run.specs.declared.run.RunEnd.TheVariants as runs
-use Rattle.world_run.proofs.LinesWritten.{one_more}
+use Rattle.drill_run.specs.RunText.{is_violated}
+use Rattle.drill_run.specs.RunEnds.{EndsSaying}
+use Rattle.drill_run.specs.RunLaws.{RunLaws}
+use Rattle.drill_run.specs.RunEnd.{RunEnd}
+use Rattle.drill_run.specs.RunEnd.TheVariants as runs
+use Rattle.drill_run.proofs.LinesWritten.{one_more}
 use Rattle.top_call.specs.Commands.{end_of, status_line}
 use Rattle.top_call.specs.HowEnds.{EndsHow, gives, nothing, said_last, unasked, world_given}
 use Rattle.top_call.specs.RunReports.{EndsRun, LeavesRun}

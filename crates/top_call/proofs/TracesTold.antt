@@ -6,12 +6,12 @@ use Rattle.gas_outside.proofs.Outboxes.{gathers_first}
 use Rattle.gasnet_trace.specs.declared.trace.Trace.{Trace}
 use Rattle.job_text.specs.declared.job.Job.{Job as JobState}
 use Rattle.node_script.specs.Lines.{spell, line_text}
-use Rattle.world_run.proofs.LinesWritten.{one_more}
-use Rattle.check_run.specs.StepLines.{is_violated, run_lines}
-use Rattle.check_run.specs.Struck.{struck_traces}
-use Rattle.check_run.specs.TracesEnds.{EndsTraces}
-use Rattle.check_run.specs.declared.run.TracesEnd.{TracesEnd}
-use Rattle.check_run.specs.declared.run.TracesEnd.TheVariants as traces
+use Rattle.drill_run.proofs.LinesWritten.{one_more}
+use Rattle.launch_run.specs.StepLines.{is_violated, run_lines}
+use Rattle.launch_run.specs.Struck.{struck_traces}
+use Rattle.launch_run.specs.TracesEnds.{EndsTraces}
+use Rattle.launch_run.specs.TracesEnd.{TracesEnd}
+use Rattle.launch_run.specs.TracesEnd.TheVariants as traces
 use Rattle.top_call.specs.Commands.{end_of, status_line}
 use Rattle.top_call.specs.HowEnds.{After, gives, nodes_given, nothing, said_last, unasked}
 use Rattle.top_call.specs.TopParts.{EndsBy, Says, SaysTraces}

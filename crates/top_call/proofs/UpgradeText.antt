@@ -15,7 +15,7 @@ use Rattle.job_text.proofs.Upgrading.{schedule_upgraded, scripts_upgraded}
 use Rattle.job_text.specs.JobText.{lines_with_scripts}
 use Rattle.job_text.specs.JobText.{schedule_lines, spell}
 use Rattle.node_script.specs.Lines.{Line as Words}
-use Rattle.world_run.specs.RunText.{is_violated, run_lines}
+use Rattle.drill_run.specs.RunText.{is_violated, run_lines}
 use Rattle.upgrade_law.specs.Upgraded.{in_version}
 use Rattle.upgrade_law.proofs.Lines.{same_run}
 use Rattle.top_call.specs.Commands.{end_of}

@@ -2,8 +2,8 @@
 use Rattle.std.proofs.Common.{ℕ, List, [], ◌∷◌, Bool, true, false, refl, inl, inr, lit<}
 use Rattle.std.specs.List.{Contains}
 use Rattle.job_text.specs.declared.job.Job.{Job as JobState}
-use Rattle.world_run.specs.RunText.{run_lines}
-use Rattle.world_run.specs.RunLaws.{RunLaws}
+use Rattle.drill_run.specs.RunText.{run_lines}
+use Rattle.drill_run.specs.RunLaws.{RunLaws}
 use Rattle.top_call.specs.Outsides.{Call, Reading, read_in, took_in}
 use Rattle.top_call.specs.Commands.{code_of, end_of}
 use Rattle.top_call.specs.HowEnds.{After, Means, gives, unasked}

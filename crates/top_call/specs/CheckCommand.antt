@@ -4,10 +4,10 @@ use Rattle.std.specs.List.{Contains}
 use Rattle.gasnet_trace.specs.declared.output.Output.{Output}
 use Rattle.job_text.specs.declared.fault.JobWhy.{JobWhy}
 use Rattle.job_text.specs.declared.job.Job.{Job as JobState}
-use Rattle.check_run.specs.CheckInputs.{InputText, TakesInput, TakesNone, traces_in}
-use Rattle.check_run.specs.Statuses.{AreOver, IsFirstFailed}
-use Rattle.check_run.specs.Struck.{struck_traces}
-use Rattle.check_run.specs.TracesRun.{AreARun}
+use Rattle.launch_run.specs.CheckInputs.{InputText, TakesInput, TakesNone, traces_in}
+use Rattle.launch_run.specs.Statuses.{AreOver, IsFirstFailed}
+use Rattle.launch_run.specs.Struck.{struck_traces}
+use Rattle.launch_run.specs.TracesRun.{AreARun}
 use Rattle.top_call.specs.Outsides.{Call, Input, IsFaultless, Reading, read_in}
 use Rattle.top_call.specs.HowEnds.{After, EndsHow, SaysAlone}
 use Rattle.top_call.specs.JobReads.{FailsToRead}

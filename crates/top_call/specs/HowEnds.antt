@@ -8,8 +8,8 @@ use Rattle.gas_world.specs.WorldState.{WorldState}
 use Rattle.gasnet_trace.specs.declared.trace.Trace.{Trace}
 use Rattle.node_script.specs.Lines.{Line, spell}
 use Rattle.job_text.specs.declared.job.Job.{Job as JobState}
-use Rattle.world_run.specs.ScheduleRun.{StandsForRun}
-use Rattle.check_run.specs.TracesRun.{AreNodesAfter}
+use Rattle.drill_run.specs.ScheduleRun.{StandsForRun}
+use Rattle.launch_run.specs.TracesRun.{AreNodesAfter}
 use Rattle.top_call.specs.Outsides.{Call, took_in}
 use Rattle.top_call.specs.Commands.{status_line}
 use Rattle.top_call.specs.declared.ending.End.{End}

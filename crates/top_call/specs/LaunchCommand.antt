@@ -6,9 +6,9 @@ use Rattle.gas_outside.specs.Faults.{Rose}
 use Rattle.gas_outside.specs.Spawner.{ChildEnd, SpawnTold}
 use Rattle.gasnet_trace.specs.declared.output.Output.{Output}
 use Rattle.job_text.specs.declared.job.Job.{Job as JobState}
-use Rattle.check_run.specs.CheckInputs.{traces_in}
-use Rattle.check_run.specs.Struck.{struck_traces}
-use Rattle.check_run.specs.TracesRun.{AreARun}
+use Rattle.launch_run.specs.CheckInputs.{traces_in}
+use Rattle.launch_run.specs.Struck.{struck_traces}
+use Rattle.launch_run.specs.TracesRun.{AreARun}
 use Rattle.launch_run.specs.Children.{NoneFinished}
 use Rattle.launch_run.specs.LaunchEnds.{FailsToSpawn, GivesOutputs, Launch, LosesChild, RunsShort}
 use Rattle.launch_run.specs.Outputs.{AreGiven}

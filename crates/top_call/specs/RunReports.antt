@@ -2,8 +2,8 @@
 use Rattle.std.specs.Prelude.{◌≡◌, List, ◌++◌, Bool, ℕ}
 use Rattle.node_script.specs.Lines.{Line}
 use Rattle.job_text.specs.declared.job.Job.{Job as JobState}
-use Rattle.world_run.specs.RunText.{is_violated}
-use Rattle.world_run.specs.RunLaws.{RunLaws}
+use Rattle.drill_run.specs.RunText.{is_violated}
+use Rattle.drill_run.specs.RunLaws.{RunLaws}
 use Rattle.top_call.specs.Commands.{end_of}
 use Rattle.top_call.specs.HowEnds.{After, said_last}
 use Rattle.top_call.specs.declared.ending.End.TheVariants as ends

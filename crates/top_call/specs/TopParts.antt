@@ -5,15 +5,15 @@ use Rattle.gas_outside.specs.declared.writing.Wrote.TheVariants as wrote
 use Rattle.gas_outside.specs.Faults.{Rose}
 use Rattle.node_script.specs.Lines.{Word, line_text}
 use Rattle.job_text.specs.declared.job.Job.{Job as JobState}
-use Rattle.world_run.specs.declared.run.RunEnd.{RunEnd}
-use Rattle.world_run.specs.declared.run.RunEnd.TheVariants as runs
+use Rattle.drill_run.specs.RunEnd.{RunEnd}
+use Rattle.drill_run.specs.RunEnd.TheVariants as runs
 use Rattle.node_call.specs.declared.calling.NodeEnd.{NodeEnd}
 use Rattle.node_call.specs.declared.calling.NodeEnd.TheVariants as nodes
 use Rattle.gas_endpoint.specs.EndpointState.{EndpointState}
-use Rattle.check_run.specs.declared.input.InputFault.{InputFault}
-use Rattle.check_run.specs.declared.input.InputFault.TheVariants as inputs
-use Rattle.check_run.specs.declared.run.TracesEnd.{TracesEnd}
-use Rattle.check_run.specs.declared.run.TracesEnd.TheVariants as traces
+use Rattle.launch_run.specs.InputFault.{InputFault}
+use Rattle.launch_run.specs.InputFault.TheVariants as inputs
+use Rattle.launch_run.specs.TracesEnd.{TracesEnd}
+use Rattle.launch_run.specs.TracesEnd.TheVariants as traces
 use Rattle.launch_run.specs.declared.fault.LaunchFault.{LaunchFault}
 use Rattle.launch_run.specs.declared.fault.LaunchFault.TheVariants as launches
 use Rattle.top_call.specs.Outsides.{Course, Reading, Spawning}

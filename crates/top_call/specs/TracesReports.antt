@@ -4,9 +4,9 @@ use Rattle.std.specs.Prelude.{◌≡◌, ◌⊎◌, List, ◌++◌, Bool, true, 
 use Rattle.gasnet_trace.specs.declared.trace.Trace.{Trace}
 use Rattle.job_text.specs.declared.job.Job.{Job as JobState}
 use Rattle.node_script.specs.Lines.{Line}
-use Rattle.check_run.specs.StepLines.{is_violated, run_lines}
-use Rattle.check_run.specs.Struck.{struck_traces}
-use Rattle.check_run.specs.TracesRun.{AreNoRun, RunOfTraces}
+use Rattle.launch_run.specs.StepLines.{is_violated, run_lines}
+use Rattle.launch_run.specs.Struck.{struck_traces}
+use Rattle.launch_run.specs.TracesRun.{AreNoRun, RunOfTraces}
 use Rattle.top_call.specs.Commands.{end_of}
 use Rattle.top_call.specs.HowEnds.{After, EndsHow, SaysAlone, said_last}
 use Rattle.top_call.specs.declared.ending.End.TheVariants as ends

@@ -3,7 +3,7 @@ use Rattle.std.specs.Prelude.{◌≡◌, List, [], ◌∷◌, ℕ}
 use Rattle.std.specs.List.{Contains}
 use Rattle.job_text.specs.declared.job.Job.{Job as JobState}
 use Rattle.job_text.specs.JobText.{JobText}
-use Rattle.world_run.specs.RunText.{is_violated, run_lines}
+use Rattle.drill_run.specs.RunText.{is_violated, run_lines}
 use Rattle.upgrade_law.specs.Upgraded.{in_version}
 use Rattle.top_call.specs.Outsides.{Call, IsFaultless, Reading, read_in}
 use Rattle.top_call.specs.Commands.{end_of}

@@ -2,7 +2,7 @@
 use Rattle.std.specs.Prelude.{◌⊎◌, List, [], ◌∷◌, Bool, true, false, ℕ}
 use Rattle.std.specs.List.{Contains}
 use Rattle.job_text.specs.declared.job.Job.{Job as JobState}
-use Rattle.world_run.specs.RunText.{run_lines}
+use Rattle.drill_run.specs.RunText.{run_lines}
 use Rattle.top_call.specs.Outsides.{Call, IsFaultless, Reading, read_in}
 use Rattle.top_call.specs.HowEnds.{After, EndsHow, SaysAlone}
 use Rattle.top_call.specs.JobReads.{FailsToRead, GivesJob, HoldsJob, RefusesJob}

@@ -3,7 +3,7 @@
 ghost use Rattle.std.specs.Prelude.{◌≡◌, length};
 ghost use Rattle.gas_outside.specs.Buffered.{outbox};
 ghost use Rattle.job_text.specs.JobText.{IsJob};
-ghost use Rattle.check_run.specs.CheckInputs.{HaveTraces};
+ghost use Rattle.launch_run.specs.CheckInputs.{HaveTraces};
 ghost use Rattle.top_call.specs.CheckCommand.{CheckEnds, GivesInput};
 ghost use Rattle.top_call.specs.Outsides.{Reading, input, reading_of};
 ghost use Rattle.top_call.specs.TopParts.{EndsBy, end_unread};
@@ -11,8 +11,8 @@ ghost use Rattle.top_call.specs.TopParts.{EndsBy, end_unread};
 use crate::ending::{End, Ended, Given};
 use crate::status::say;
 use crate::traces::check_outputs;
-use check_run::{CheckInput, InputFault, Notes, first_failed, read_input};
 use gas_outside::{BufferedSink, Sink, Source};
+use launch_run::{CheckInput, InputFault, Notes, first_failed, read_input};
 use std::alloc::Global;
 
 /// How the command ends where no input was read.

@@ -13,9 +13,8 @@ use crate::ports::has_ports;
 use crate::reading::{JobRead, text_from};
 use crate::status::say;
 use crate::traces::check_outputs;
-use check_run::Notes;
 use gas_outside::{BufferedSink, Sink, Source, Spawner};
-use launch_run::{LaunchFault, launch_nodes};
+use launch_run::{LaunchFault, Notes, launch_nodes};
 use std::alloc::Global;
 
 /// Where a launch has its nodes.

@@ -93,7 +93,7 @@ mod upgrade;
 mod words;
 mod world;
 
-pub use check_run::{NoNotes, Notes};
+pub use launch_run::{NoNotes, Notes};
 pub use outside::Outside;
 pub use standard::{ReaderSource, WriterSink};
 pub use streams::{program, run_streams};

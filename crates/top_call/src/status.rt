@@ -7,11 +7,11 @@ ghost use Rattle.top_call.specs.Commands.{status_line, why_word};
 ghost use Rattle.top_call.specs.TopParts.{Says, SaysRun};
 
 use crate::ending::{End, Ended, Given, why_word};
+use drill_run::RunEnd;
 use gas_outside::{BufferedSink, Sink, Wrote};
 use itoa::Buffer;
 use job_text::JobWhy;
 use node_script::write_line;
-use world_run::RunEnd;
 
 /// Writes a status line of a number and a name.
 fn write_named<K: Sink>(sink: &mut BufferedSink<K>, code: &[u8], name: &[u8]) -> Wrote

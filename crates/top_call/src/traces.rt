@@ -3,16 +3,16 @@
 ghost use Rattle.std.specs.Prelude.{◌≡◌, All, length};
 ghost use Rattle.gas_outside.specs.Buffered.{outbox};
 ghost use Rattle.job_text.specs.JobText.{IsJob};
-ghost use Rattle.check_run.specs.CheckInputs.{HaveTraces, IsTraceOf, traces_in};
+ghost use Rattle.launch_run.specs.CheckInputs.{HaveTraces, IsTraceOf, traces_in};
 ghost use Rattle.top_call.specs.TopParts.{EndsBy, SaysTraces};
 ghost use Rattle.top_call.specs.TracesReports.{TracesEnds};
 
 use crate::ending::{End, Ended, Given};
 use crate::status::say;
-use check_run::{Notes, TracesEnd, run_traces, traces_of};
 use gas_outside::{BufferedSink, Sink};
 use gasnet_trace::{Output, Trace};
 use job_text::Job;
+use launch_run::{Notes, TracesEnd, run_traces, traces_of};
 use node_script::Script;
 use std::alloc::{AllocError, Global};
 

@@ -10,11 +10,11 @@ ghost use Rattle.top_call.specs.WorldCommand.{WorldEnds};
 use crate::ending::{End, Ended, Given};
 use crate::reading::job_from;
 use crate::status::{say, say_run};
+use drill_run::run_job;
 use gas_outside::{BufferedSink, Sink, Source};
 use job_text::Job;
 use node_script::Script;
 use std::alloc::{AllocError, Global};
-use world_run::run_job;
 
 /// Runs a job that was read, and says its lines.
 fn run_read<K: Sink>(alloc: Global, job: Job, sink: &mut BufferedSink<K>) -> Ended

@@ -3,7 +3,7 @@ use Rattle.std.proofs.lemmas.List.{length-map}
 use Rattle.std.proofs.lemmas.List.Elements.{All-map}
 use Rattle.gasnet_trace.specs.declared.output.Output.{Output}
 use Rattle.gasnet_trace.specs.declared.trace.Trace.{Trace}
-use Rattle.check_run.specs.CheckInputs.{IsTraceOf, traces_in}
+use Rattle.launch_run.specs.CheckInputs.{IsTraceOf, traces_in}
 use Rattle.top_call.proofs.TracesTold.{same_told, traces_unknown}
 use Rattle.top_call.proofs.traces.check_outputs.Goals as goal
 

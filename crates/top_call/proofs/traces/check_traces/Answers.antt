@@ -1,7 +1,7 @@
 use Rattle.std.proofs.Common.{All, ap, subst, sym, ◌∙◌}
 use Rattle.job_text.specs.JobText.{IsJob}
 use Rattle.job_text.specs.declared.job.Job.{Job as JobState}
-use Rattle.check_run.specs.CheckInputs.{IsTraceOf}
+use Rattle.launch_run.specs.CheckInputs.{IsTraceOf}
 use Rattle.top_call.proofs.TracesTold.{script_told, traces_unknown}
 use Rattle.top_call.proofs.traces.check_traces.Goals as goal
 

@@ -1,7 +1,7 @@
 use Rattle.std.proofs.Common.{inl, subst, sym}
 use Rattle.job_text.specs.JobText.{IsJob}
 use Rattle.job_text.specs.declared.job.Job.{Job as JobState}
-use Rattle.world_run.specs.RunText.{run_lines}
+use Rattle.drill_run.specs.RunText.{run_lines}
 use Rattle.top_call.specs.JobReads.{GivesJob}
 use Rattle.top_call.specs.declared.ending.End.TheVariants as ends
 use Rattle.top_call.proofs.LastLine.{alone, says_alone}

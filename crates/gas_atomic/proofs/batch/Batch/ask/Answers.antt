@@ -1,7 +1,7 @@
 use Rattle.std.proofs.Common.{◌≡◌, ap, ap₂, ◌∙◌, subst, ℕ, ℤ, List}
 use Rattle.node_record.specs.Behaviour.{Lent}
-use Rattle.am_core.specs.ClientRules.{medium_asking}
-use Rattle.endpoint_rules.specs.Called.{Meant, Requests}
+use Rattle.node_caller.specs.ClientRules.{medium_asking}
+use Rattle.node_caller.specs.Called.{Meant, Requests}
 use Rattle.node_caller.specs.Sites.{ThreadCall, called_by}
 use Rattle.gas_atomic.specs.Asking.{batch_call}
 use Rattle.gas_atomic.specs.BatchRequests.{batch_handler}
