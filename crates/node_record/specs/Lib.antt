@@ -12,6 +12,3 @@ pub mod Under
 pub mod SlotMessages
 pub mod Spelled
 pub mod EveryEvent
-pub use Rattle.handler_rules.specs.declared.message.Which
-pub use Rattle.handler_rules.specs.declared.rules.CallKind
-pub use Rattle.handler_rules.specs.declared.rules.Forbidden

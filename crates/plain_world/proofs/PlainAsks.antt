@@ -13,7 +13,7 @@ use Rattle.lists.specs.Put.{put}
 use Rattle.lists.proofs.Cases.{cases_option, cases_result}
 use Rattle.lists.proofs.Numbered.{numbered_map, numbered_mapped}
 use Rattle.lists.proofs.Put.{put_own}
-use Rattle.node_record.specs.CallKind.TheVariants as call
+use Rattle.handler_rules.specs.declared.rules.CallKind.TheVariants as call
 use Rattle.node_record.specs.declared.answer.Asked.{Asked}
 use Rattle.node_record.specs.declared.answer.Asked.TheVariants as asked
 use Rattle.node_record.specs.Requests.{taken, unreturned, free_slot, next_claim}

@@ -6,8 +6,8 @@ use Rattle.std.specs.Prelude.{Option, None, Some, Ok, Err}
 use Rattle.datagram_grammar.specs.Parameters.{Parameters, credits_of}
 use Rattle.datagram_grammar.specs.Content.{Content}
 use Rattle.datagram_grammar.specs.declared.kind.Kind.TheVariants.{ShortRequest, Ack}
-use Rattle.node_record.specs.Forbidden.TheVariants.{UnderLock}
-use Rattle.node_record.specs.Which.TheVariants as which
+use Rattle.handler_rules.specs.declared.rules.Forbidden.TheVariants.{UnderLock}
+use Rattle.handler_rules.specs.declared.message.Which.TheVariants as which
 use Rattle.node_record.specs.declared.answer.Asked.TheVariants as asked
 use Rattle.node_record.specs.declared.answer.Delivered.TheVariants as delivered
 use Rattle.node_record.specs.declared.answer.Ticked.TheVariants as ticked

@@ -4,7 +4,7 @@ use Rattle.std.specs.Prelude.{ℕ, suc, ◌≡◌, ◌≢◌, ◌<◌, ◌==◌,
 use Rattle.std.specs.Prelude.{Option, None, Some, Ok, Err, length}
 use Rattle.datagram_grammar.specs.Parameters.{Parameters, credits_of}
 use Rattle.datagram_grammar.specs.Content.{Content}
-use Rattle.node_record.specs.CallKind.TheVariants as call
+use Rattle.handler_rules.specs.declared.rules.CallKind.TheVariants as call
 use Rattle.node_record.specs.declared.answer.Asked.{Asked}
 use Rattle.node_record.specs.declared.answer.Asked.TheVariants as asked
 use Rattle.node_record.specs.declared.answer.Delivered.{Delivered}
