@@ -5,8 +5,8 @@ use Rattle.std.specs.List.{fold}
 use Rattle.handler_rules.specs.declared.table.Entry.{Entry}
 use Rattle.handler_rules.specs.declared.table.EntryFault.{EntryFault}
 use Rattle.handler_rules.specs.Registered.{entry_at, index_for, is_for_replies, is_for_requests}
-use Rattle.job_text.specs.BatchRequests.{batch_handler, block_handler}
-use Rattle.job_text.specs.Served.{HasBatches, ServesBatches, batch_entry, block_entry}
+use Rattle.gas_atomic.specs.BatchRequests.{batch_handler, block_handler}
+use Rattle.gas_atomic.specs.Served.{HasBatches, ServesBatches, batch_entry, block_entry}
 use Rattle.job_text.specs.declared.job.HandlerText.{HandlerText}
 use Rattle.node_script.specs.Bodies.{script_meaning}
 use Rattle.node_script.specs.Registration.{JobHandlers, Registry, entries_first, entry_of, in_turn, register, registered}

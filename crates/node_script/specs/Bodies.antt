@@ -9,8 +9,8 @@ use Rattle.raw_segment.specs.Image.{Write, overwritten, written_by}
 use Rattle.datagram_grammar.specs.Content.{Content, short_reply, medium_reply, long_reply}
 use Rattle.handler_rules.specs.Runs.{Arrival, Frame, Start, Outcome, untouched, attempted, took_lock, gave_lock}
 use Rattle.handler_rules.specs.Runs.{writing, replying}
-use Rattle.job_text.specs.BatchRequests.{batch_handler, block_handler}
-use Rattle.job_text.specs.Served.{served}
+use Rattle.gas_atomic.specs.BatchRequests.{batch_handler, block_handler}
+use Rattle.gas_atomic.specs.Served.{served}
 use Rattle.job_text.specs.declared.job.Operand.{Operand}
 use Rattle.job_text.specs.declared.job.Operand.TheVariants as operand
 use Rattle.job_text.specs.declared.job.Payload.{Payload}

@@ -9,8 +9,8 @@ use Rattle.handler_rules.proofs.Lawful.{lawful-attempted, lawful-cells, lawful-g
 use Rattle.handler_rules.proofs.Lawful.{lawful-took_lock, lawful-untouched, lawful-writing, long_reply-content}
 use Rattle.handler_rules.proofs.Lawful.{medium_reply-content, short_reply-content}
 use Rattle.raw_segment.specs.Image.{Write}
-use Rattle.job_text.specs.Served.{served}
-use Rattle.job_text.proofs.Lawful.{lawful-served}
+use Rattle.gas_atomic.specs.Served.{served}
+use Rattle.gas_atomic.proofs.Lawful.{lawful-served}
 use Rattle.job_text.specs.declared.job.Action.{Action}
 use Rattle.job_text.specs.declared.job.Action.TheVariants as action
 use Rattle.job_text.specs.declared.job.ReplyAction.{ReplyAction}

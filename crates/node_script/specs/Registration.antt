@@ -7,7 +7,7 @@ use Rattle.std.specs.List.{filter, fold}
 use Rattle.handler_rules.specs.declared.table.Entry.{Entry}
 use Rattle.handler_rules.specs.declared.table.EntryFault.{EntryFault}
 use Rattle.handler_rules.specs.Registered.{no_entries, index_for, only, registering}
-use Rattle.job_text.specs.Served.{batch_entry, block_entry}
+use Rattle.gas_atomic.specs.Served.{batch_entry, block_entry}
 use Rattle.job_text.specs.Locks.{listed_by}
 use Rattle.job_text.specs.declared.job.Action.{Action}
 use Rattle.job_text.specs.declared.job.HandlerText.{HandlerText}

@@ -9,7 +9,7 @@ use Rattle.endpoint_rules.specs.TransferCalls.{Begin, BeginImplicit, IsIssued, S
 use Rattle.endpoint_rules.specs.TransferCalls.{RegionBegin, RegionEnd}
 use Rattle.endpoint_rules.specs.BarrierCalls.{Notify, TryBarrier}
 use Rattle.endpoint_rules.specs.Called.{Meant, Requests, Performs}
-use Rattle.job_text.specs.Asking.{batch_asking}
+use Rattle.gas_atomic.specs.Asking.{batch_asking}
 use Rattle.put_get.specs.declared.operation.Some3.{Some3}
 use Rattle.put_get.specs.declared.operation.Some3.TheVariants as some
 use Rattle.put_get.specs.declared.operation.Transfer.{Transfer}

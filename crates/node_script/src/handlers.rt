@@ -9,8 +9,9 @@ ghost use Rattle.node_script.specs.Registration.{registered};
 ghost use Rattle.node_script.specs.Places.{ArePlaced, AtRegistering, body_at, place_at, placing, register_turn};
 
 use crate::body::do_all;
+use gas_atomic::{BATCH_HANDLER, BLOCK_HANDLER, entries, serve};
 use handler_rules::{Cells, Desk, Entry, Handlers, Serves, Table};
-use job_text::{Action, BATCH_HANDLER, BLOCK_HANDLER, HandlerText, HandlerTexts, entries, serve};
+use job_text::{Action, HandlerText, HandlerTexts};
 use raw_segment::Segment;
 use std::alloc::{AllocError, Global};
 use std::marker::Model;

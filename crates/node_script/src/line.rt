@@ -3,7 +3,7 @@
 ghost use Rattle.std.specs.Prelude.{◌≡◌, ℤ, List, [], map};
 ghost use Rattle.am_core.specs.AskedFor.{payload_from};
 ghost use Rattle.endpoint_rules.specs.Called.{Requests, meant};
-ghost use Rattle.job_text.specs.Asking.{batch_asking};
+ghost use Rattle.gas_atomic.specs.Asking.{batch_asking};
 ghost use Rattle.node_script.specs.Callable.{IsCallable};
 ghost use Rattle.node_script.specs.Bodies.{operand_value};
 ghost use Rattle.node_script.specs.ScheduledCalls.{IsGiven, IsOnSegment, IsOnTransfers, IsOwn, given_from, meant_by};
@@ -13,10 +13,11 @@ ghost use Rattle.job_text.specs.Payloads.{IsPayload};
 use crate::body_numbers::{value_of, values_of};
 use am_core::Payload;
 use endpoint_rules::Call;
+use gas_atomic::BATCH_HANDLER;
 use handler_rules::Cells;
 use job_text::{
-    BATCH_HANDLER, BatchText, ImplicitKind, LongText, MediumText, Operands, Payload as Given,
-    ScheduledCall, TransferText,
+    BatchText, ImplicitKind, LongText, MediumText, Operands, Payload as Given, ScheduledCall,
+    TransferText,
 };
 use put_get::{Some3, Transfer};
 

@@ -3,7 +3,7 @@ use Rattle.std.specs.Prelude.{if◌then◌else◌}
 use Rattle.handler_rules.specs.Desks.{At, frame_of, stage, start_of}
 use Rattle.handler_rules.specs.Runs.{untouched}
 use Rattle.handler_rules.proofs.Laws.{leaving-untouched}
-use Rattle.job_text.specs.Served.{served}
+use Rattle.gas_atomic.specs.Served.{served}
 use Rattle.node_script.specs.Bodies.{acts}
 use Rattle.node_script.specs.Registration.{body_for}
 use Rattle.node_script.proofs.handlers.ScriptHandlersHandlers.run.Goals as goal
