@@ -1,27 +1,11 @@
 //! Reading the output of a child to its end.
 
-ghost use Rattle.std.specs.Prelude.{◌≤◌, vec_len};
+ghost use Rattle.real_outside.specs.Children.{DrainsAll};
 
+use crate::output::Output;
 use gas_outside::{Got, MAX_OUTPUT, ReadAll, Source, read_all};
 use std::alloc::Global;
 use std::io::Read;
-
-/// All that a child wrote, at most 67,108,864 bytes.
-#[derive(Drop)]
-pub struct Output {
-    bytes: Vec<u8>,
-    ghost within: { vec_len bytes ≤ 67108864 },
-}
-
-impl Output {
-    /// The bytes.
-    pub fn into_bytes(self) -> Vec<u8>
-        ensures { vec_len result ≤ 67108864 }
-    {
-        let Output { bytes } = self;
-        bytes
-    }
-}
 
 /// What reading a child's output to its end gave.
 #[derive(Drop)]
@@ -34,7 +18,7 @@ pub enum Drained {
     NoMemory,
 }
 
-/// The output of a child as a source, which tells nothing.
+/// The output of a child as a source, which tells as left what its pipe tells as remaining.
 #[derive(Drop)]
 struct OutputSource<O> {
     pipe: O,
@@ -42,9 +26,7 @@ struct OutputSource<O> {
 }
 
 impl<O: Read> Source for OutputSource<O> {
-    ghost use Rattle.std.specs.Prelude.{None};
-
-    ghost left = { λ _. None };
+    ghost left = { λ s. O.remaining s.pipe };
 
     ghost faults = { λ s. s.faults };
 
@@ -61,10 +43,12 @@ impl<O: Read> Source for OutputSource<O> {
 }
 
 /// Reads the output of a child to its end, and closes the pipe.
-pub fn drain<O: Read + Drop>(alloc: Global, pipe: O) -> Drained {
+pub fn drain<O: Read + Drop>(alloc: Global, pipe: O) -> Drained
+    ensures { DrainsAll (O.remaining pipe) result }
+{
     let mut source = OutputSource { pipe, faults: 0 };
     match read_all(alloc, &mut source, MAX_OUTPUT) {
-        ReadAll::Bytes(bytes) => Drained::Bytes(Output { bytes }),
+        ReadAll::Bytes(bytes) => Drained::Bytes(Output::new(bytes)),
         ReadAll::NoMemory => Drained::NoMemory,
         ReadAll::TooLong | ReadAll::Fault => Drained::Fault,
     }

@@ -1,10 +1,16 @@
 //! The addresses of a job's nodes.
 
+ghost use Rattle.std.specs.Prelude.{◌≡◌, ◌↔◌, [], IsTrue};
+ghost use Rattle.real_outside.specs.Addresses.{AreFor, FindsPeer, IsAddress};
+
 use std::alloc::{AllocError, Global};
 use std::net::{IpAddr, Ipv4Addr, SocketAddr};
 
 /// The most nodes of a job.
 const MOST: usize = 256;
+
+/// This host.
+const LOCAL: IpAddr = IpAddr::V4(Ipv4Addr::LOCALHOST);
 
 /// The address of each node of a job, by its rank.
 ///
@@ -16,7 +22,9 @@ pub struct Hosts {
 
 impl Hosts {
     /// All nodes on this host, at 127.0.0.1.
-    pub fn local(alloc: Global) -> Hosts {
+    pub fn local(alloc: Global) -> Hosts
+        ensures { result.addresses.items ≡ [] }
+    {
         Hosts {
             addresses: Vec::new(alloc),
         }
@@ -48,22 +56,30 @@ impl Hosts {
     }
 
     /// Whether they are the hosts of a job with so many nodes.
-    pub(crate) fn fits(&self, nodes: u16) -> bool {
+    pub(crate) fn fits(&self, nodes: u16) -> bool
+        ensures { IsTrue result ↔ AreFor self.now.addresses.items nodes }
+    {
         self.addresses.is_empty() || self.addresses.len() == usize::from(nodes)
     }
 
-    /// The address of the node of a rank, where `port` is that of rank 0. None where it has none.
-    pub(crate) fn address(&self, port: u16, rank: u16) -> Option<SocketAddr> {
+    /// The address of the node of a rank, where `port` is that of rank 0. None exactly where it has no host, or its port
+    /// would be past 65,535.
+    pub(crate) fn address(&self, port: u16, rank: u16) -> Option<SocketAddr>
+        ensures { IsAddress self.now.addresses.items port rank result }
+    {
         let own = port.checked_add(rank)?;
         if self.addresses.is_empty() {
-            return Some(SocketAddr::new(IpAddr::V4(Ipv4Addr::LOCALHOST), own));
+            return Some(SocketAddr::new(LOCAL, own));
         }
         let ip = self.addresses.get(usize::from(rank))?;
         Some(SocketAddr::new(*ip, own))
     }
 
-    /// The rank of the node of the job that has this address. None where no node other than that of `rank` has it.
-    pub(crate) fn peer(&self, from: SocketAddr, rank: u16, nodes: u16, port: u16) -> Option<u16> {
+    /// The rank of the node of the job that has this address. None exactly where no node other than that of `rank` has
+    /// it.
+    pub(crate) fn peer(&self, from: SocketAddr, rank: u16, nodes: u16, port: u16) -> Option<u16>
+        ensures { FindsPeer self.now.addresses.items port nodes rank from result }
+    {
         let peer = from.port().checked_sub(port)?;
         if peer >= nodes || peer == rank {
             return None;

@@ -20,11 +20,14 @@
 //! of the program that `tools/rows` runs.
 #![tactic(auto)]
 
+mod child_command;
 mod child_ends;
 mod drain;
+mod feed;
 mod hosts;
 mod link_fault;
 mod link_socket;
+mod output;
 mod process_spawner;
 mod socket_gate;
 mod system_clock;

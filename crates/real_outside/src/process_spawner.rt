@@ -1,15 +1,19 @@
 //! A spawner of processes.
 
-ghost use Rattle.std.specs.Prelude.{◌≡◌, ◌≤◌, ◌<◌, IfSome, vec_len};
+ghost use Rattle.std.specs.Prelude.{◌≡◌, ◌≤◌, ◌<◌, IfSome, slice_get, vec_len};
+ghost use Rattle.std.specs.Process.{child_status};
 ghost use Rattle.gas_outside.specs.Faults.{Rose};
 ghost use Rattle.gas_outside.specs.Spawner.{AppendsOutput};
+ghost use Rattle.real_outside.specs.Children.{EndedWith, HandsOn};
 
+use crate::child_command::child_command;
 use crate::child_ends::{ChildEnd, ChildEnds};
 use crate::drain::{Drained, drain};
+use crate::feed::feed;
 use gas_outside::{Finished, Spawner, Started};
 use std::alloc::Global;
-use std::io::{ErrorKind, Write};
-use std::process::{Child, Command, ExitStatus, OpenProcess, Processes, Stdio, SystemProcess};
+use std::io::ErrorKind;
+use std::process::{Child, ExitStatus, OpenProcess, Processes, SystemProcess};
 use std::rt::Files;
 use std::thread::{JoinHandle, Threads};
 use std::{env, fs, io, thread};
@@ -99,22 +103,18 @@ impl<'a, R: Processes> ProcessSpawner<'a, R> {
 
     /// The place of the child of a rank.
     fn place(&self, rank: u16) -> Option<usize>
-        ensures { IfSome result (λ place. place < vec_len self.now.children) }
+        ensures within { IfSome result (λ place. place < vec_len self.now.children) }
+        ensures of_rank { IfSome result (λ place. IfSome
+            (slice_get self.now.children.items place) (λ child. child.rank ≡ rank)) }
     {
         self.children
             .iter()
             .position(|running| running.rank == rank)
     }
 
-    /// Starts the program, with pipes at its input and its output.
+    /// Starts the program.
     fn spawn(&self, rank: u16, port: u16) -> io::Result<Child<R::Started>> {
-        let mut command = Command::new(self.alloc, self.program.as_str())?;
-        command.arg("node")?;
-        command.arg(format!(in self.alloc; "{rank}")?.as_str())?;
-        command.arg(format!(in self.alloc; "{port}")?.as_str())?;
-        command.stdin(Stdio::piped());
-        command.stdout(Stdio::piped());
-        command.spawn(&self.rt)
+        child_command(self.alloc, self.program.as_str(), rank, port)?.spawn(&self.rt)
     }
 }
 
@@ -150,24 +150,13 @@ impl<R: Processes<Started = SystemProcess> + Threads> ProcessSpawner<'_, R> {
         child: &mut Child<R::Started>,
         input: &[u8],
     ) -> io::Result<JoinHandle<Drained>> {
-        let Some(pipe) = child.stdout.take() else {
+        let (Some(mut into), Some(from)) = (child.stdin.take(), child.stdout.take()) else {
             return Err(io::Error::from(ErrorKind::BrokenPipe));
         };
         let alloc = self.alloc;
-        let output = thread::spawn(&self.rt, move || drain(alloc, pipe))?;
-        feed(child, input)?;
+        let output = thread::spawn(&self.rt, move || drain(alloc, from))?;
+        feed(&mut into, input)?;
         Ok(output)
-    }
-}
-
-/// Gives a child all its input, unless it ends before.
-fn feed<P: OpenProcess>(child: &mut Child<P>, input: &[u8]) -> io::Result<()> {
-    let Some(mut pipe) = child.stdin.take() else {
-        return Err(io::Error::from(ErrorKind::BrokenPipe));
-    };
-    match pipe.write_all(input) {
-        Err(error) if error.kind() != ErrorKind::BrokenPipe => Err(error),
-        _ => Ok(()),
     }
 }
 
@@ -188,20 +177,35 @@ impl<R: Processes<Started = SystemProcess> + Files + Threads> ProcessSpawner<'_,
             mut child,
             output,
         } = running;
-        let output = match output.join(&self.rt) {
+        self.hand_on(rank, &mut child, output.join(&self.rt), into)
+    }
+
+    /// Hands on what a child gave: appends its output, and answers its exit status, for which it waits.
+    fn hand_on(
+        &self,
+        rank: u16,
+        child: &mut Child<R::Started>,
+        drained: Drained,
+        into: &mut Vec<u8>,
+    ) -> Finished
+        ensures hands_on { HandsOn drained (child_status child.new) result
+            into.old.items into.new.items }
+        ensures within { AppendsOutput result into.old.items into.new.items }
+    {
+        let output = match drained {
             Drained::Bytes(output) => output.into_bytes(),
             Drained::NoMemory => {
                 self.ends.keep(rank, ChildEnd::Lost);
-                stop(&mut child);
+                stop(child);
                 return Finished::NoMemory;
             }
             Drained::Fault => {
                 self.ends.keep(rank, ChildEnd::Lost);
-                stop(&mut child);
+                stop(child);
                 return Finished::Failed;
             }
         };
-        let Some(status) = self.status_of(rank, &mut child, &output) else {
+        let Some(status) = self.status_of(rank, child, &output) else {
             return Finished::Failed;
         };
         if into.extend_from_slice(&output).is_err() {
@@ -212,7 +216,9 @@ impl<R: Processes<Started = SystemProcess> + Files + Threads> ProcessSpawner<'_,
 
     /// Waits for a child's exit status, and keeps it, with its files. None where the status can't be had, or a signal ended the
     /// child.
-    fn status_of(&self, rank: u16, child: &mut Child<R::Started>, output: &[u8]) -> Option<u8> {
+    fn status_of(&self, rank: u16, child: &mut Child<R::Started>, output: &[u8]) -> Option<u8>
+        ensures { IfSome result (EndedWith (child_status child.new)) }
+    {
         let status = child.wait().ok()?;
         self.ends.keep(rank, ChildEnd::Ended(status));
         if let Some(folder) = &self.folder {

@@ -1,8 +1,10 @@
 //! A link over a UDP socket.
 
-ghost use Rattle.std.specs.Prelude.{◌≡◌, ◌≤◌};
+ghost use Rattle.std.specs.Prelude.{◌≡◌, ◌≤◌, ◌↔◌, IfOk, IsTrue, OnOk};
 ghost use Rattle.std.specs.Io.{ReadsAtMost};
 ghost use Rattle.gas_outside.specs.Faults.{Rose};
+ghost use Rattle.real_outside.specs.Addresses.{HasPlace, IsAt};
+ghost use Rattle.real_outside.specs.Losses.{IsLoss};
 
 use crate::hosts::Hosts;
 use crate::link_fault::LinkFault;
@@ -55,8 +57,10 @@ impl<'a, R: Net> UdpLink<'a, R> {
         }
     }
 
-    /// Opens the socket of a rank.
-    fn open(&self, rank: u16, nodes: u16, port: u16) -> io::Result<()> {
+    /// Opens the socket of a rank that has its place among so many nodes.
+    fn open(&self, rank: u16, nodes: u16, port: u16) -> io::Result<()>
+        ensures { OnOk result (HasPlace self.now.hosts.now.addresses.items port nodes rank) }
+    {
         if rank >= nodes || port.checked_add(nodes - 1).is_none() || !self.hosts.fits(nodes) {
             return Err(io::Error::from(ErrorKind::InvalidInput));
         }
@@ -70,7 +74,9 @@ impl<'a, R: Net> UdpLink<'a, R> {
     }
 
     /// The address of the node of a rank, where `port` is that of rank 0.
-    fn address(&self, port: u16, rank: u16) -> io::Result<SocketAddr> {
+    fn address(&self, port: u16, rank: u16) -> io::Result<SocketAddr>
+        ensures { IfOk result (IsAt self.now.hosts.now.addresses.items port rank) }
+    {
         match self.hosts.address(port, rank) {
             Some(own) => Ok(own),
             None => Err(io::Error::from(ErrorKind::InvalidInput)),
@@ -129,7 +135,9 @@ fn widen(socket: &UdpSocket) {
 
 /// Whether an error says that a datagram was lost, or that none is there: the socket can't do it now, or a peer's port
 /// isn't open.
-fn is_loss(error: &io::Error) -> bool {
+fn is_loss(error: &io::Error) -> bool
+    ensures { IsTrue result ↔ IsLoss error.now }
+{
     matches!(
         error.kind(),
         ErrorKind::WouldBlock | ErrorKind::ConnectionRefused

@@ -1,0 +1,3 @@
+pub mod Addresses
+pub mod Children
+pub mod Losses
