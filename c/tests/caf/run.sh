@@ -73,13 +73,10 @@ for build in out out/sanitized; do
 done
 
 # Images that wait in a short collective see that one stops, or fails.
-for build in out out/sanitized; do
-    kind=${build#out}
-    for which in sum words broadcast; do
-        for how in stops fails; do
-            check "left_waiting $which $how${kind:+ sanitized}" 0 "left_waiting: done" env GASNET_DROP=20 GASNET_TWICE=20 GASNET_SWAP=20 GASNET_SEED=3 \
-                bin/cafrun -n 3 "$build/tests/caf/left_waiting" "$which" "$how"
-        done
+for which in sum words broadcast; do
+    for how in stops fails; do
+        check "left_waiting $which $how sanitized" 0 "left_waiting: done" env GASNET_DROP=20 GASNET_TWICE=20 GASNET_SWAP=20 GASNET_SEED=3 \
+            bin/cafrun -n 3 out/sanitized/tests/caf/left_waiting "$which" "$how"
     done
 done
 
