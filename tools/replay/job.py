@@ -2,6 +2,8 @@
 from contextlib import contextmanager
 from dataclasses import dataclass, field
 
+from .atomics import BATCH, BLOCK
+
 HEAD = ("gasnet", "job", "nodes", "credits", "threads", "segment", "last", "resend", "patience", "sieve")
 FIRST_CLIENT_INDEX = 128
 
@@ -40,6 +42,7 @@ class Job:
     segment: int
     last: int
     resend: int
+    atomics: bool = False
     pairs: dict = field(default_factory=dict)
     handlers: dict = field(default_factory=dict)
     scripts: dict = field(default_factory=dict)
@@ -103,9 +106,14 @@ def read_head(lines):
     return Job(**{name: head[names.get(name, name)][0] for name in settings})
 
 
-def read_handlers(lines):
+def batch_handlers():
+    """Those of remote atomics, whose bodies no job has."""
+    return {BATCH: Handler("request", set(), []), BLOCK: Handler("reply", set(), [])}
+
+
+def read_handlers(lines, atomics):
     """The handlers by index: those with 0 get the lowest indexes that are left, once the others have theirs."""
-    handlers, later = {}, []
+    handlers, later = batch_handlers() if atomics else {}, []
     while lines.peek()[0] == "handler":
         index, role, *locks = lines.take("handler")
         handler = Handler(role, set(numbers(locks)), lines.until_end())
@@ -131,7 +139,10 @@ def read_parts(lines):
     while lines.peek()[0] == "pair":
         source, target, credit = numbers(lines.take("pair"))
         job.pairs[source, target] = credit
-    job.handlers = read_handlers(lines)
+    job.atomics = lines.peek() == ["atomics"]
+    if job.atomics:
+        lines.take("atomics")
+    job.handlers = read_handlers(lines, job.atomics)
     while lines.peek()[0] == "script":
         node, thread = numbers(lines.take("script"))
         job.scripts[node, thread] = lines.until_end()

@@ -1,9 +1,11 @@
 """A node of a job: what it does with calls, deliveries and ticks."""
 from dataclasses import dataclass
 
+from .atomics import BATCH, batch_request, serve
 from .barrier import Barrier, is_note, note_said
 from .client import KINDS, Client, HandlerRun, acknowledged, library_fault, payload_in, run_library
 from .datagram import ACK, MOST_ARGS, MOST_BYTES, NOTE, Message, signed
+from .plans import PLANS, read_plan
 from .transfers import Transfer, Transfers, chunk
 
 FIRST_CLIENT_INDEX = 128
@@ -181,6 +183,8 @@ class Node:
         self.client.land(message)
         if message.handler < FIRST_CLIENT_INDEX:
             return acknowledged(run_library(self, message))
+        if message.handler == BATCH and self.job.atomics:
+            return acknowledged(serve(self.client, message))
         return acknowledged(HandlerRun(self.client, message, "request").run())
 
     def take(self, message):
@@ -224,6 +228,8 @@ class Node:
 
     def call(self, now, thread, words):
         """A call of a thread, by its words."""
+        if words[0] == "atomic":
+            words = batch_request(*words[1:])
         if words[0] in KINDS:
             return self.did(self.ask(now, thread, words))
         return self.did(Did(self.local_call(thread, words)))
@@ -254,6 +260,8 @@ class Node:
         name, numbers = words[0], words[1:]
         if name in BEGINNINGS:
             return self.begin(thread, BEGINNINGS[name], list(map(int, numbers)))
+        if name in PLANS:
+            return self.client.forbidden(thread, "region") or self.begin_plan(thread, read_plan(name, numbers))
         if name in ("region-begin", "region-end"):
             return self.client.forbidden(thread, "region") or self.region(thread, name, *map(int, numbers))
         return self.client.forbidden(thread, "sync") or self.sync(thread, name, numbers)
@@ -279,6 +287,23 @@ class Node:
         implicit = "region" if thread in self.transfers.regions else "implicit"
         number = self.transfers.begin(thread, transfer, implicit if mode == "implicit" else "explicit")
         return "too-many" if number is None else f"{'started' if mode == 'implicit' else 'handle'} {number}"
+
+    def begin_plan(self, thread, plan):
+        """The beginning of the pieces of a plan, in a region of their own."""
+        if self.region(thread, "region-begin") == "nested":
+            return "nested"
+        following = self.begin_pieces(thread, plan)
+        self.region(thread, "region-end", plan.register)
+        if following == len(plan.pieces):
+            return "whole"
+        return "too-many" if following == plan.start else f"part {following}"
+
+    def begin_pieces(self, thread, plan):
+        """The first piece that wasn't begun, for want of room."""
+        for number in range(plan.start, len(plan.pieces)):
+            if self.begin_transfer(thread, plan.transfer(number), "implicit") == "too-many":
+                return number
+        return len(plan.pieces)
 
     def transfer_here(self, transfer):
         client, length = self.client, transfer.length

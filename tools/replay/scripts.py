@@ -47,6 +47,9 @@ class Script:
         if name == "until":
             reached = self.node.client.cells[int(step[1])] >= self.node.client.value(step[2])
             return Tried("ok" if reached else None)
+        if name == "until-word":
+            found = self.node.client.word(int(step[1]))
+            return Tried("ok" if found == f"word {step[2]}" else None if found.startswith("word") else found)
         if name in BLOCKING:
             return self.attempt_transfer(now, step)
         if name in PUTS:
@@ -83,7 +86,7 @@ def number_of(answer):
 
 def waits(name, answer):
     """A step of this name isn't over with this answer of its call."""
-    if name in KINDS:
+    if name in KINDS or name == "atomic":
         return answer == "not-yet" or answer.startswith("lock-busy")
     if name == "lock":
         return answer == "held"

@@ -7,7 +7,8 @@ BEGINNING = "done bad-arg too-many forbidden"
 SYNC = "ok bad-handle not-yours worn-out in-region forbidden not-ready"
 FIRST_WORDS = {  # with which words the answer to a step may begin, by the words with which the step begins
     "until set-cell": "ok",
-    "short medium long async": REQUEST,
+    "until-word": "ok outside unaligned",
+    "short medium long async atomic": REQUEST,
     "lock": "taken lock-fault",
     "unlock": "freed lock-fault",
     "poll": "ok forbidden",
@@ -22,6 +23,7 @@ FIRST_WORDS = {  # with which words the answer to a step may begin, by the words
     "put-nbi put-nbi-bulk get-nbi memset-nbi": f"started {BEGINNING}",
     "issued": "issued not-ready bad-handle forbidden",
     "try try-all try-some try-nbi wait wait-all wait-some wait-nbi": SYNC,
+    "put-s get-s put-v get-v": "whole part too-many nested forbidden",
     "region-begin": "ok nested forbidden",
     "region-end": "done handle no-region forbidden",
     "notify": "ok bad-flags twice worn-out forbidden",

@@ -1,8 +1,10 @@
-/* Collectives of the current team. What is combined goes by messages between pairs, log2 of the members times; each result is
- * the same at all members, bit by bit: the lower member's part always comes first. */
+/* Collectives of the current team. Short reductions of all images are the endpoint's, where the images are few. Else what is
+ * combined goes by messages between pairs, log2 of the members times. Each result is the same at all members, bit by bit: the
+ * lower member's part always comes first. */
 #include <stdlib.h>
 #include <string.h>
 
+#include "all_images.h"
 #include "combine.h"
 #include "errors.h"
 #include "far.h"
@@ -432,6 +434,18 @@ static bool has_two_kinds(const struct caf_type *type) {
     return (type->type == CAF_REAL && type->size == 16) || (type->type == CAF_COMPLEX && type->size == 32);
 }
 
+static void reduce_part(struct caf_operation *operation, const struct caf_combiner *combiner, const struct part *part) {
+    size_t size = combiner->type.size, most = block_of(size);
+    if (operation->code || !part->length)
+        return;
+    if (caf_all_images_take(operation->team, part->length)) {
+        caf_all_images_reduce(operation, combiner, part->bytes, part->count);
+        return;
+    }
+    for (size_t done = 0; done < part->count && !operation->code; done += most, operation->block++)
+        reduce_block(operation, combiner, part->bytes + done * size, part->count - done < most ? part->count - done : most);
+}
+
 static void reduce(struct caf_combiner *combiner, struct caf_descriptor *array, int result_image, const struct caf_report *report, const char *call) {
     if (!is_image(report, call, result_image, 0))
         return;
@@ -443,8 +457,7 @@ static void reduce(struct caf_combiner *combiner, struct caf_descriptor *array, 
         combiner->type.kind = kind_of(&part);
     caf_combiner_start(combiner);
     operation.code = caf_team_absence(operation.team, operation.sequence);
-    for (size_t done = 0, most = block_of(combiner->type.size); part.length && done < part.count && !operation.code; done += most, operation.block++)
-        reduce_block(&operation, combiner, part.bytes + done * combiner->type.size, part.count - done < most ? part.count - done : most);
+    reduce_part(&operation, combiner, &part);
     part_end(&part, !operation.code && has_result);
     caf_report_code(report, operation.code, call);
 }

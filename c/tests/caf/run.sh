@@ -72,6 +72,14 @@ for build in out out/sanitized; do
     done
 done
 
+# Images that wait in a short collective see that one stops, or fails.
+for which in sum words broadcast; do
+    for how in stops fails; do
+        check "left_waiting $which $how sanitized" 0 "left_waiting: done" env GASNET_DROP=20 GASNET_TWICE=20 GASNET_SWAP=20 GASNET_SEED=3 \
+            bin/cafrun -n 3 out/sanitized/tests/caf/left_waiting "$which" "$how"
+    done
+done
+
 # Reductions of long arrays where images have no memory to work in: all of them, or one.
 for n in 3 4; do
     check "collectives n=$n without memory" 0 "collectives: done" env GASNET_MAX_SEGSIZE=64K bin/cafrun -n "$n" out/tests/caf/collectives
