@@ -1,7 +1,7 @@
 -- The text of a job is read as that job.
 use Rattle.std.proofs.Common.{◌≡◌, ◌≢◌, inl, inr, ℕ, suc, ◌+◌, ◌*◌, ◌-◌, ◌%◌, ◌<◌, ◌≤◌, ◌^◌, ◌⊎◌, ◌||◌, ◌&&◌, Bool}
 use Rattle.std.proofs.Common.{true, false, not, eqb, leb, cond, List, [], ◌∷◌, ◌++◌, length, map, take, Option, Some}
-use Rattle.std.proofs.Common.{None, Ok, refl, sym, ap, subst, ◌∙◌, arith, append_assoc, append-nil, length-append}
+use Rattle.std.proofs.Common.{None, Ok, refl, sym, ap, subst, ◌∙◌, arith, codes, append_assoc, append-nil, length-append}
 use Rattle.std.specs.List.{AllByRecursion, flat_map}
 use Rattle.std.proofs.lemmas.Bool.{eqb-true, le-leb, lt-leb, lt-ltb, le-ltb, and_from, ne_eqb, eq-eqb}
 use Rattle.std.proofs.lemmas.List.{map-append}
@@ -21,7 +21,6 @@ use Rattle.job_text.specs.Places.{AtAtomics, atomics_text, AtSchedule, AtDone, O
 use Rattle.job_text.specs.Scopes.{scope_of}
 use Rattle.job_text.specs.declared.scope.Scope.{Scope}
 use Rattle.job_text.specs.Places.{Named, Other, Item, item_text, IsItem, least, greatest, setting_fits, in_place}
-use Rattle.job_text.specs.Places.{pair_fits}
 use Rattle.job_text.specs.JobReading.{State, least_job, start, with_number, behind_setting, with_body, with_handler}
 use Rattle.job_text.specs.JobReading.{with_steps, with_script, total_rounds, next, has_index, has_pair, has_thread}
 use Rattle.job_text.specs.JobReading.{rounds_of, is_full, is_reserved, most_handlers, with_atomics, front_with, read}
@@ -33,6 +32,8 @@ use Rattle.job_text.specs.JobText.{Line, spell, setting_line, sieve_line, pair_l
 use Rattle.job_text.specs.JobText.{script_lines, schedule_lines, head_lines, lines_with_pairs, lines_with_handlers}
 use Rattle.job_text.specs.JobText.{job_lines, job_text, IsHandler, IsNodeScript, AreThreads, IsScheduleOrNone}
 use Rattle.job_text.specs.JobText.{AreUnreserved, atomics_lines, lines_with_atomics, with_first_pairs, IsJob}
+use Rattle.job_text.specs.JobText.{number_of, all_settings, header_line, script_line, IsSchedule}
+use Rattle.job_text.specs.Refusals.{so_far}
 use Rattle.job_text.specs.declared.job.Action.{Action}
 use Rattle.job_text.specs.declared.job.HandlerText.{HandlerText}
 use Rattle.job_text.specs.declared.job.Job.{Job}
@@ -64,7 +65,7 @@ abbrev pub Reaches : State → List Line → State → Type 0
 Reaches state [] end = state ≡ end
 Reaches state (line ∷ lines) end = Leads (λ to. Reaches to lines end) state line
 
-reach_join : (a b c : State) (xs ys : List Line) → Reaches a xs b → Reaches b ys c → Reaches a (xs ++ ys) c
+pub reach_join : (a b c : State) (xs ys : List Line) → Reaches a xs b → Reaches b ys c → Reaches a (xs ++ ys) c
 reach_join a b c [] ys h k = subst (λ (s : State). Reaches s ys c) (sym h) k
 reach_join a b c (x ∷ xs) ys h k = record {
   item = h.item;
@@ -79,15 +80,21 @@ reach_join a b c (x ∷ xs) ys h k = record {
 parts_reach : {A : Type 0} (state : List A → State) (lines : A → List Line) (May : (front rest : List A) → Type 0)
     → ((front : List A) (part : A) (rest : List A) → May front (part ∷ rest)
     → Reaches (state front) (lines part) (state (front ++ part ∷ [])) × May (front ++ part ∷ []) rest)
-    → (front rest : List A) → May front rest → Reaches (state front) (flat_map lines rest) (state (front ++ rest))
-parts_reach state lines May one front [] may = ap state (sym (append-nil front))
-parts_reach {A} state lines May one front (part ∷ rest) may =
-    let first = one front part rest may in
-    let others = parts_reach state lines May one (front ++ part ∷ []) rest first.1 in
-    reach_join (state front) (state (front ++ part ∷ [])) (state (front ++ part ∷ rest)) (lines part)
-    (flat_map lines rest) first.0
-    (subst (λ (all : List A). Reaches (state (front ++ part ∷ [])) (flat_map lines rest) (state all))
-    (append_assoc front (part ∷ []) rest) others)
+    → (front parts rest : List A) → May front (parts ++ rest)
+    → Reaches (state front) (flat_map lines parts) (state (front ++ parts)) × May (front ++ parts) rest
+parts_reach {A} state lines May one front [] rest may =
+    let same = sym (append-nil front) in
+    (ap state same, subst (λ (all : List A). May all rest) same may)
+parts_reach {A} state lines May one front (part ∷ parts) rest may =
+    let first = one front part (parts ++ rest) may in
+    let others = parts_reach state lines May one (front ++ part ∷ []) parts rest first.1 in
+    let same = append_assoc front (part ∷ []) parts in (
+      reach_join (state front) (state (front ++ part ∷ [])) (state (front ++ part ∷ parts)) (lines part)
+          (flat_map lines parts) first.0
+          (subst (λ (all : List A). Reaches (state (front ++ part ∷ [])) (flat_map lines parts) (state all)) same
+          others.0),
+      subst (λ (all : List A). May all rest) same others.1,
+    )
 
 -- they are read so
 pub reach_read : (lines : List Line) (state end : State) (line : ℕ) (more : List ℕ) → Reaches state lines end
@@ -218,30 +225,102 @@ setting_lead setting job number lines end low high fits on = record {
   behind = on;
 }
 
-head_reach : (job : Job) → IsJob job → Reaches start (head_lines job) (record { place = AtPairs; job = of_head job [] })
+-- what was read of the settings up to one
+abbrev pub version_said : Job → Job
+version_said job = with_number Version job.settings.version least_job
+
+abbrev pub job_said : Job → Job
+job_said job = with_number places.Job job.settings.job (version_said job)
+
+abbrev pub nodes_said : Job → Job
+nodes_said job = with_number Nodes job.settings.nodes (job_said job)
+
+abbrev pub credits_said : Job → Job
+credits_said job = with_number Credits job.settings.credits (nodes_said job)
+
+abbrev pub threads_said : Job → Job
+threads_said job = with_number Threads job.settings.threads (credits_said job)
+
+abbrev pub segment_said : Job → Job
+segment_said job = with_number Segment job.settings.segment (threads_said job)
+
+abbrev pub last_said : Job → Job
+last_said job = with_number Last job.settings.last (segment_said job)
+
+abbrev pub resend_said : Job → Job
+resend_said job = with_number Resend job.settings.resend (last_said job)
+
+abbrev pub patience_said : Job → Job
+patience_said job = with_number Patience job.patience (resend_said job)
+
+-- the lines of a job before a place of its head lead there
+abbrev pub HeadLeads : Place → (Job → Job) → Type 0
+HeadLeads place known =
+    (job : Job) → IsJob job → Reaches start (so_far place job) (record { place = place; job = known job })
+
+setting_reach : (setting : Setting) (job known : Job) (lines : List Line) → least setting ≤ number_of setting job
+    → number_of setting job ≤ greatest setting
+    → setting_fits setting known.settings (number_of setting job) ≡ true
+    → Reaches start lines (record { place = AtSetting setting; job = known })
+    → Reaches start (lines ++ setting_line job setting ∷ [])
+    (record { place = behind_setting setting; job = with_number setting (number_of setting job) known })
+setting_reach setting job known lines low high fits before =
+    let end : State = record {
+      place = behind_setting setting;
+      job = with_number setting (number_of setting job) known;
+    } in
+    reach_join start (record { place = AtSetting setting; job = known }) end lines (setting_line job setting ∷ []) before
+    (setting_lead setting known (number_of setting job) [] end low high fits refl)
+
+pub to_job : HeadLeads (AtSetting places.Job) version_said
+to_job job is =
+    let number = job_numbers job is Version in
+    setting_reach Version job least_job [] number.low number.high refl refl
+
+pub to_nodes : HeadLeads (AtSetting Nodes) job_said
+to_nodes job is =
+    let number = job_numbers job is places.Job in
+    setting_reach places.Job job (version_said job) (so_far (AtSetting places.Job) job) number.low number.high refl (to_job job is)
+
+pub to_credits : HeadLeads (AtSetting Credits) nodes_said
+to_credits job is =
+    let number = job_numbers job is Nodes in
+    setting_reach Nodes job (job_said job) (so_far (AtSetting Nodes) job) number.low number.high number.fits (to_nodes job is)
+
+pub to_threads : HeadLeads (AtSetting Threads) credits_said
+to_threads job is =
+    let number = job_numbers job is Credits in
+    setting_reach Credits job (nodes_said job) (so_far (AtSetting Credits) job) number.low number.high number.fits (to_credits job is)
+
+pub to_segment : HeadLeads (AtSetting Segment) threads_said
+to_segment job is =
+    let number = job_numbers job is Threads in
+    setting_reach Threads job (credits_said job) (so_far (AtSetting Threads) job) number.low number.high refl (to_threads job is)
+
+pub to_last : HeadLeads (AtSetting Last) segment_said
+to_last job is =
+    let number = job_numbers job is Segment in
+    setting_reach Segment job (threads_said job) (so_far (AtSetting Segment) job) number.low number.high number.fits (to_segment job is)
+
+pub to_resend : HeadLeads (AtSetting Resend) last_said
+to_resend job is =
+    let number = job_numbers job is Last in
+    setting_reach Last job (segment_said job) (so_far (AtSetting Last) job) number.low number.high refl (to_last job is)
+
+pub to_patience : HeadLeads (AtSetting Patience) resend_said
+to_patience job is =
+    let number = job_numbers job is Resend in
+    setting_reach Resend job (last_said job) (so_far (AtSetting Resend) job) number.low number.high refl (to_resend job is)
+
+pub to_sieve : HeadLeads AtSieve patience_said
+to_sieve job is =
+    let number = job_numbers job is Patience in
+    setting_reach Patience job (resend_said job) (so_far (AtSetting Patience) job) number.low number.high refl (to_patience job is)
+
+pub head_reach : (job : Job) → IsJob job → Reaches start (head_lines job) (record { place = AtPairs; job = of_head job [] })
 head_reach job is =
-    let all = job_numbers job is in
-    let s = job.settings in
-    let j1 : Job = with_number Version s.version least_job in
-    let j2 : Job = with_number places.Job s.job j1 in
-    let j3 : Job = with_number Nodes s.nodes j2 in
-    let j4 : Job = with_number Credits s.credits j3 in
-    let j5 : Job = with_number Threads s.threads j4 in
-    let j6 : Job = with_number Segment s.segment j5 in
-    let j7 : Job = with_number Last s.last j6 in
-    let j8 : Job = with_number Resend s.resend j7 in
-    let j9 : Job = with_number Patience job.patience j8 in
     let end : State = record { place = AtPairs; job = of_head job [] } in
-    let l10 : List Line = sieve_line job.sieve ∷ [] in
-    let l9 = setting_line job Patience ∷ l10 in
-    let l8 = setting_line job Resend ∷ l9 in
-    let l7 = setting_line job Last ∷ l8 in
-    let l6 = setting_line job Segment ∷ l7 in
-    let l5 = setting_line job Threads ∷ l6 in
-    let l4 = setting_line job Credits ∷ l5 in
-    let l3 = setting_line job Nodes ∷ l4 in
-    let l2 = setting_line job places.Job ∷ l3 in
-    let sieve : Reaches (record { place = AtSieve; job = j9 }) l10 end = record {
+    let sieve : Reaches (record { place = AtSieve; job = patience_said job }) (sieve_line job.sieve ∷ []) end = record {
       item = job.sieve;
       to = end;
       text = refl;
@@ -258,15 +337,8 @@ head_reach job is =
       goes = refl;
       behind = refl;
     } in
-    setting_lead Version least_job s.version l2 end (all Version).low (all Version).high refl
-    (setting_lead places.Job j1 s.job l3 end (all places.Job).low (all places.Job).high refl
-    (setting_lead Nodes j2 s.nodes l4 end (all Nodes).low (all Nodes).high (all Nodes).fits
-    (setting_lead Credits j3 s.credits l5 end (all Credits).low (all Credits).high (all Credits).fits
-    (setting_lead Threads j4 s.threads l6 end (all Threads).low (all Threads).high refl
-    (setting_lead Segment j5 s.segment l7 end (all Segment).low (all Segment).high (all Segment).fits
-    (setting_lead Last j6 s.last l8 end (all Last).low (all Last).high refl
-    (setting_lead Resend j7 s.resend l9 end (all Resend).low (all Resend).high refl
-    (setting_lead Patience j8 job.patience l10 end (all Patience).low (all Patience).high refl sieve))))))))
+    reach_join start (record { place = AtSieve; job = patience_said job }) end (map (setting_line job) all_settings)
+    (sieve_line job.sieve ∷ []) (to_sieve job is) sieve
 
 -- ---- pairs
 
@@ -373,7 +445,7 @@ next_pair job is front pair rest e =
       few = omega (arith, all, many);
     }
 
-pairs_reach : (job : Job) → IsJob job → (front rest : List PairCredits) → front ++ rest ≡ job.settings.pairs
+pub pairs_reach : (job : Job) → IsJob job → (front rest : List PairCredits) → front ++ rest ≡ job.settings.pairs
     → Reaches (record { place = AtPairs; job = of_head job front }) (map pair_line rest)
     (record { place = AtPairs; job = of_head job (front ++ rest) })
 pairs_reach job is front [] e = ap (λ (ps : List PairCredits). record { place = AtPairs; job = of_head job ps }) (sym
@@ -399,19 +471,12 @@ pairs_reach job is front (pair ∷ rest) e =
 
 body_reach : (handler : HandlerText) (front rest : List Action) (job : Job) → AllByRecursion IsAction rest → length
     (front ++ rest) ≤ 64
-    → Reaches (record { place = AtBody (with_body front handler); job = job }) (map action_text rest ++ end_line ∷ [])
-    (record { place = AtHandlers; job = with_handler (with_body (front ++ rest) handler) job })
-body_reach handler front [] job all few = record {
-  item = None;
-  to = record { place = AtHandlers; job = with_handler (with_body front handler) job };
-  text = refl;
-  is = tt;
-  goes = refl;
-  behind = ap (λ (body : List Action). record {
-    place = AtHandlers;
-    job = with_handler (with_body body handler) job;
-  }) (sym (append-nil front));
-}
+    → Reaches (record { place = AtBody (with_body front handler); job = job }) (map action_text rest)
+    (record { place = AtBody (with_body (front ++ rest) handler); job = job })
+body_reach handler front [] job all few = ap (λ (body : List Action). record {
+  place = AtBody (with_body body handler);
+  job = job;
+}) (sym (append-nil front))
 body_reach handler front (action ∷ rest) job all few =
     let many : length (front ++ action ∷ rest) ≡ length front + suc (length rest) = simp length-append in
     record {
@@ -423,13 +488,23 @@ body_reach handler front (action ∷ rest) job all few =
       behind = subst (λ (body : List Action). Reaches (record {
         place = AtBody (with_body (front ++ action ∷ []) handler);
         job = job;
-      }) (map action_text rest ++ end_line ∷ []) (record {
-        place = AtHandlers;
-        job = with_handler (with_body body handler) job;
-      })) (append_assoc front (action ∷ []) rest)
+      }) (map action_text rest) (record { place = AtBody (with_body body handler); job = job }))
+          (append_assoc front (action ∷ []) rest)
           (body_reach handler (front ++ action ∷ []) rest job all.1 (subst (λ (body : List Action). length body ≤ 64)
           (sym (append_assoc front (action ∷ []) rest)) few));
     }
+
+-- the line that ends a handler
+body_end : (h : HandlerText) (job : Job) → Reaches (record { place = AtBody h; job = job }) (end_line ∷ [])
+    (record { place = AtHandlers; job = with_handler h job })
+body_end h job = record {
+  item = None;
+  to = record { place = AtHandlers; job = with_handler h job };
+  text = refl;
+  is = tt;
+  goes = refl;
+  behind = refl;
+}
 
 -- the test of an index
 index_test : (index : ℕ) → (index ≡ 0) ⊎ ((128 ≤ index) × (index < 256)) → (eqb index 0 || leb 128 index) ≡ true
@@ -445,10 +520,12 @@ locks_said : (locks : List ℕ) → AreLocks locks → AllByRecursion (IsSaid U8
 locks_said [] are = tt
 locks_said (lock ∷ locks) are = let high = are.0 in ((omega arith, omega arith, omega arith), locks_said locks are.1)
 
-handler_reach : (h : HandlerText) (job : Job) → IsHandler h → has_index job.handlers h.index ≡ false
-    → is_reserved job.atomics h.index ≡ false → length job.handlers < most_handlers job.atomics → Reaches (record { place = AtHandlers; job = job }) (handler_lines h)
-    (record { place = AtHandlers; job = with_handler h job })
-handler_reach h job is new free few =
+-- a handler up to its end
+pub handler_begins : (h : HandlerText) (job : Job) → IsHandler h → has_index job.handlers h.index ≡ false
+    → is_reserved job.atomics h.index ≡ false → length job.handlers < most_handlers job.atomics
+    → Reaches (record { place = AtHandlers; job = job }) (header_line h ∷ map action_text h.body)
+    (record { place = AtBody h; job = job })
+handler_begins h job is new free few =
     let high = index_high h.index is.index in
     record {
       item = Named (record { index = h.index; role = h.role; locks = h.locks });
@@ -466,34 +543,46 @@ abbrev pub with_handlers : Job → List HandlerText → Job
 with_handlers job handlers = record job { handlers = handlers }
 
 -- handlers of which the first ones stand
-abbrev MayFollow : (atomics : Bool) → (front rest : List HandlerText) → Type 0
+abbrev pub MayFollow : (atomics : Bool) → (front rest : List HandlerText) → Type 0
 MayFollow atomics front rest = AllByRecursion IsHandler rest
     × AreFresh (map (λ (x : HandlerText). x.index) front) rest × (length (front ++ rest) ≤ most_handlers atomics)
     × AreUnreserved atomics rest
 
-abbrev behind_front : Job → List HandlerText → State
+abbrev pub behind_front : Job → List HandlerText → State
 behind_front job front = record { place = AtHandlers; job = with_handlers job front }
+
+-- a handler behind others
+pub handler_opens : (job : Job) (front : List HandlerText) (h : HandlerText) (rest : List HandlerText)
+    → MayFollow job.atomics front (h ∷ rest)
+    → Reaches (behind_front job front) (header_line h ∷ map action_text h.body)
+    (record { place = AtBody h; job = with_handlers job front })
+handler_opens job front h rest may =
+    let many : length (front ++ h ∷ rest) ≡ length front + suc (length rest) = simp length-append in
+    let few = may.2 in
+    handler_begins h (with_handlers job front) may.0.0 (fresh_to front h.index may.1.0) may.3.0
+    (omega (arith, many, few))
 
 next_handler : (job : Job) (front : List HandlerText) (h : HandlerText) (rest : List HandlerText)
     → MayFollow job.atomics front (h ∷ rest)
     → Reaches (behind_front job front) (handler_lines h) (behind_front job (front ++ h ∷ []))
     × MayFollow job.atomics (front ++ h ∷ []) rest
 next_handler job front h rest may =
-    let many : length (front ++ h ∷ rest) ≡ length front + suc (length rest) = simp length-append in
-    let few = may.2 in
-    let one = handler_reach h (with_handlers job front) may.0.0 (fresh_to front h.index may.1.0) may.3.0
-    (omega (arith, many, few)) in
+    let begun : State = record { place = AtBody h; job = with_handlers job front } in
+    let one = reach_join (behind_front job front) begun (behind_front job (front ++ h ∷ []))
+    (header_line h ∷ map action_text h.body) (end_line ∷ []) (handler_opens job front h rest may)
+    (body_end h (with_handlers job front)) in
     let indexes : map (λ (x : HandlerText). x.index) (front ++ h ∷ []) ≡ map (λ (x : HandlerText). x.index) front
     ++ h.index ∷ [] = map-append (λ (x : HandlerText). x.index) front (h ∷ []) in
     let fresh = subst (λ (t : List ℕ). AreFresh t rest) (sym indexes) may.1.1 in
     let room = subst (λ (hs : List HandlerText). length hs ≤ most_handlers job.atomics)
-    (sym (append_assoc front (h ∷ []) rest)) few in
+    (sym (append_assoc front (h ∷ []) rest)) may.2 in
     (one, (may.0.1, fresh, room, may.3.1))
 
-handlers_reach : (job : Job) (front rest : List HandlerText) → MayFollow job.atomics front rest
-    → Reaches (behind_front job front) (flat_map handler_lines rest) (behind_front job (front ++ rest))
-handlers_reach job front rest may =
-    parts_reach (behind_front job) handler_lines (MayFollow job.atomics) (next_handler job) front rest may
+handlers_reach : (job : Job) (front hs rest : List HandlerText) → MayFollow job.atomics front (hs ++ rest)
+    → Reaches (behind_front job front) (flat_map handler_lines hs) (behind_front job (front ++ hs))
+    × MayFollow job.atomics (front ++ hs) rest
+handlers_reach job front hs rest may =
+    parts_reach (behind_front job) handler_lines (MayFollow job.atomics) (next_handler job) front hs rest may
 
 -- ---- atomics
 
@@ -541,14 +630,14 @@ with_flag job atomics = record job { atomics = atomics }
 
 -- lines behind pairs, with the line of atomics before them or not
 atomics_then : (job : Job) (atomics : Bool) (lines : List Line) (end : State) → (atomics ≡ true
-    → job.settings.version ≡ 2) → job.atomics ≡ false → (lines ≡ [] → ⊥)
+    → job.settings.version ≡ 2) → job.atomics ≡ false → (atomics ≡ false → lines ≡ [] → ⊥)
     → Reaches (record { place = AtHandlers; job = with_flag job atomics }) lines end
     → Reaches (record { place = AtPairs; job = job }) (atomics_lines atomics ++ lines) end
 atomics_then job true lines end second none some h =
     behind_pairs job (atomics_text tt) lines end
     (reach_join (record { place = AtAtomics; job = job }) (record { place = AtHandlers; job = with_atomics job }) end
     (atomics_text tt ∷ []) lines (atomics_reach job (second refl)) h)
-atomics_then job false [] end second none some h = absurd (some refl)
+atomics_then job false [] end second none some h = absurd (some refl refl)
 atomics_then job false (line ∷ lines) end second none some h =
     let same : with_flag job false ≡ job = ap (with_flag job) (sym none) in
     behind_pairs job line lines end (behind_atomics job line lines end
@@ -564,19 +653,12 @@ steps_free pieces steps s a b = rw (lt-leb 4096 steps a, le-ltb 65536 (pieces + 
 steps_reach : (script : NodeScript) (front rest : List ScriptStep) (job : Job)
     → AllByRecursion (IsStep (scope_of job)) rest → length (front ++ rest) ≤ 4096
     → scripts_pieces job.scripts + steps_pieces (front ++ rest) ≤ most_pieces
-    → Reaches (record { place = AtSteps (with_steps front script); job = job }) (map step_text rest ++ end_line ∷ [])
-    (record { place = AtScripts; job = with_script (with_steps (front ++ rest) script) job })
-steps_reach script front [] job all few room = record {
-  item = None;
-  to = record { place = AtScripts; job = with_script (with_steps front script) job };
-  text = refl;
-  is = tt;
-  goes = refl;
-  behind = ap (λ (steps : List ScriptStep). record {
-    place = AtScripts;
-    job = with_script (with_steps steps script) job;
-  }) (sym (append-nil front));
-}
+    → Reaches (record { place = AtSteps (with_steps front script); job = job }) (map step_text rest)
+    (record { place = AtSteps (with_steps (front ++ rest) script); job = job })
+steps_reach script front [] job all few room = ap (λ (steps : List ScriptStep). record {
+  place = AtSteps (with_steps steps script);
+  job = job;
+}) (sym (append-nil front))
 steps_reach script front (s ∷ rest) job all few room =
     let many : length (front ++ s ∷ rest) ≡ length front + suc (length rest) = simp length-append in
     let pieces = steps_join front (s ∷ rest) in
@@ -591,22 +673,33 @@ steps_reach script front (s ∷ rest) job all few room =
       behind = subst (λ (steps : List ScriptStep). Reaches (record {
         place = AtSteps (with_steps (front ++ s ∷ []) script);
         job = job;
-      }) (map step_text rest ++ end_line ∷ []) (record {
-        place = AtScripts;
-        job = with_script (with_steps steps script) job;
-      })) (append_assoc front (s ∷ []) rest)
+      }) (map step_text rest) (record { place = AtSteps (with_steps steps script); job = job }))
+          (append_assoc front (s ∷ []) rest)
           (steps_reach script (front ++ s ∷ []) rest job all.1
           (subst (λ (steps : List ScriptStep). length steps ≤ 4096) same few)
           (subst (λ (steps : List ScriptStep). scripts_pieces job.scripts + steps_pieces steps ≤ most_pieces) same
           room));
     }
 
-script_reach : (s : NodeScript) (job : Job) → IsNodeScript (scope_of job) s
+-- the line that ends a script
+steps_end : (s : NodeScript) (job : Job) → Reaches (record { place = AtSteps s; job = job }) (end_line ∷ [])
+    (record { place = AtScripts; job = with_script s job })
+steps_end s job = record {
+  item = None;
+  to = record { place = AtScripts; job = with_script s job };
+  text = refl;
+  is = tt;
+  goes = refl;
+  behind = refl;
+}
+
+-- a script up to its end
+script_begins : (s : NodeScript) (job : Job) → IsNodeScript (scope_of job) s
     → job.settings.nodes ≤ 256 → job.settings.threads ≤ 16 → has_thread job.scripts s.node s.thread ≡ false
     → scripts_pieces job.scripts + steps_pieces s.steps ≤ most_pieces
-    → Reaches (record { place = AtScripts; job = job }) (script_lines s)
-    (record { place = AtScripts; job = with_script s job })
-script_reach s job is nodes threads new room =
+    → Reaches (record { place = AtScripts; job = job }) (script_line s ∷ map step_text s.steps)
+    (record { place = AtSteps s; job = job })
+script_begins s job is nodes threads new room =
     let node = is.node in
     let thread = is.thread in
     record {
@@ -628,13 +721,23 @@ abbrev pub with_scripts : Job → List NodeScript → Job
 with_scripts job scripts = record job { scripts = scripts }
 
 -- scripts of which the first ones stand
-abbrev MayGoOn : Job → (front rest : List NodeScript) → Type 0
+abbrev pub MayGoOn : Job → (front rest : List NodeScript) → Type 0
 MayGoOn job front rest =
     AllByRecursion (IsNodeScript (scope_of job)) rest × AreThreads (front ++ rest)
     × (scripts_pieces (front ++ rest) ≤ most_pieces)
 
-abbrev behind_scripts_of : Job → List NodeScript → State
+abbrev pub behind_scripts_of : Job → List NodeScript → State
 behind_scripts_of job front = record { place = AtScripts; job = with_scripts job front }
+
+-- a script behind others
+pub script_opens : (job : Job) → job.settings.nodes ≤ 256 → job.settings.threads ≤ 16 → (front : List NodeScript)
+    (s : NodeScript) (rest : List NodeScript) → MayGoOn job front (s ∷ rest)
+    → Reaches (behind_scripts_of job front) (script_line s ∷ map step_text s.steps)
+    (record { place = AtSteps s; job = with_scripts job front })
+script_opens job nodes threads front s rest may =
+    let pieces = scripts_join front (s ∷ rest) in
+    let room : scripts_pieces front + steps_pieces s.steps ≤ most_pieces = omega (arith, pieces, may.2) in
+    script_begins s (with_scripts job front) may.0.0 nodes threads (threads_new front rest s may.1) room
 
 next_script : (job : Job) → job.settings.nodes ≤ 256 → job.settings.threads ≤ 16 → (front : List NodeScript)
     (s : NodeScript) (rest : List NodeScript) → MayGoOn job front (s ∷ rest)
@@ -642,9 +745,10 @@ next_script : (job : Job) → job.settings.nodes ≤ 256 → job.settings.thread
     × MayGoOn job (front ++ s ∷ []) rest
 next_script job nodes threads front s rest may =
     let same = sym (append_assoc front (s ∷ []) rest) in
-    let pieces = scripts_join front (s ∷ rest) in
-    let room : scripts_pieces front + steps_pieces s.steps ≤ most_pieces = omega (arith, pieces, may.2) in
-    let one = script_reach s (with_scripts job front) may.0.0 nodes threads (threads_new front rest s may.1) room in (
+    let begun : State = record { place = AtSteps s; job = with_scripts job front } in
+    let one = reach_join (behind_scripts_of job front) begun (behind_scripts_of job (front ++ s ∷ []))
+    (script_line s ∷ map step_text s.steps) (end_line ∷ []) (script_opens job nodes threads front s rest may)
+    (steps_end s (with_scripts job front)) in (
       one,
       (
         may.0.1,
@@ -653,11 +757,12 @@ next_script job nodes threads front s rest may =
       ),
     )
 
-scripts_reach : (job : Job) (front rest : List NodeScript) → job.settings.nodes ≤ 256 → job.settings.threads ≤ 16
-    → MayGoOn job front rest
-    → Reaches (behind_scripts_of job front) (flat_map script_lines rest) (behind_scripts_of job (front ++ rest))
-scripts_reach job front rest nodes threads may =
-    parts_reach (behind_scripts_of job) script_lines (MayGoOn job) (next_script job nodes threads) front rest may
+scripts_reach : (job : Job) (front ss rest : List NodeScript) → job.settings.nodes ≤ 256 → job.settings.threads ≤ 16
+    → MayGoOn job front (ss ++ rest)
+    → Reaches (behind_scripts_of job front) (flat_map script_lines ss) (behind_scripts_of job (front ++ ss))
+    × MayGoOn job (front ++ ss) rest
+scripts_reach job front ss rest nodes threads may =
+    parts_reach (behind_scripts_of job) script_lines (MayGoOn job) (next_script job nodes threads) front ss rest may
 
 -- what may come behind scripts may come behind handlers
 behind_handlers : (job : Job) (line : Line) (lines : List Line) (end : State) → Reaches
@@ -699,17 +804,12 @@ schedule_reach : (job : Job) (front rest : List TimedEvent) → AllByRecursion
     (IsTimed (scope_of job)) rest → length (front ++ rest) ≤ 65536 → total_rounds (front
     ++ rest) ≤ 4096 → total_rounds (front ++ rest) * job.settings.nodes ≤ 262144
     → scripts_pieces job.scripts + schedule_pieces (front ++ rest) ≤ most_pieces
-    → Reaches (record { place = AtSchedule; job = with_schedule job front }) (timed_lines job.settings rest
-    ++ end_line ∷ []) (record { place = AtDone; job = with_schedule job (front ++ rest) })
-schedule_reach job front [] all a b c d = record {
-  item = None;
-  to = record { place = AtDone; job = with_schedule job front };
-  text = refl;
-  is = tt;
-  goes = refl;
-  behind = ap (λ (lines : List TimedEvent). record { place = AtDone; job = with_schedule job lines }) (sym
-      (append-nil front));
-}
+    → Reaches (record { place = AtSchedule; job = with_schedule job front }) (timed_lines job.settings rest)
+    (record { place = AtSchedule; job = with_schedule job (front ++ rest) })
+schedule_reach job front [] all a b c d = ap (λ (lines : List TimedEvent). record {
+  place = AtSchedule;
+  job = with_schedule job lines;
+}) (sym (append-nil front))
 schedule_reach job front (t ∷ rest) all a b c d =
     let many : length (front ++ t ∷ rest) ≡ length front + suc (length rest) = simp length-append in
     let sum = rounds_join front (t ∷ rest) in
@@ -729,14 +829,26 @@ schedule_reach job front (t ∷ rest) all a b c d =
         place = AtSchedule;
         job = with_schedule job
             (front ++ t ∷ []);
-      }) (timed_lines job.settings rest ++ end_line ∷ [])
-          (record { place = AtDone; job = with_schedule job lines })) (append_assoc front (t ∷ []) rest)
+      }) (timed_lines job.settings rest) (record { place = AtSchedule; job = with_schedule job lines }))
+          (append_assoc front (t ∷ []) rest)
           (schedule_reach job (front ++ t ∷ []) rest all.1
           (subst (λ (lines : List TimedEvent). length lines ≤ 65536) same a)
           (subst (λ (lines : List TimedEvent). total_rounds lines ≤ 4096) same b)
           (subst (λ (lines : List TimedEvent). total_rounds lines * job.settings.nodes ≤ 262144) same c)
           (subst (λ (lines : List TimedEvent). before + schedule_pieces lines ≤ most_pieces) same d));
     }
+
+-- the line that ends a schedule
+schedule_ends : (job : Job) → Reaches (record { place = AtSchedule; job = job }) (end_line ∷ [])
+    (record { place = AtDone; job = job })
+schedule_ends job = record {
+  item = None;
+  to = record { place = AtDone; job = job };
+  text = refl;
+  is = tt;
+  goes = refl;
+  behind = refl;
+}
 
 -- ---- the whole text
 
@@ -751,6 +863,30 @@ done_reach job = record {
   behind = refl;
 }
 
+-- a schedule up to its end
+pub schedule_begins : (job : Job) (lines : List TimedEvent) → IsSchedule (scope_of job) lines
+    → scripts_pieces job.scripts + schedule_pieces lines ≤ most_pieces
+    → Reaches (record { place = AtScripts; job = job }) (codes "schedule" ∷ timed_lines job.settings lines)
+    (record { place = AtSchedule; job = with_schedule job lines })
+schedule_begins job lines is room = record {
+  item = section.Schedule;
+  to = record { place = AtSchedule; job = with_schedule job [] };
+  text = refl;
+  is = (tt, refl);
+  goes = refl;
+  behind = schedule_reach job [] lines is.events_are is.count is.rounds is.rounds_of_nodes room;
+}
+
+-- a whole schedule
+pub schedule_whole : (job : Job) (lines : List TimedEvent) → IsSchedule (scope_of job) lines
+    → scripts_pieces job.scripts + schedule_pieces lines ≤ most_pieces
+    → Reaches (record { place = AtScripts; job = job }) (schedule_lines job.settings (Some lines))
+    (record { place = AtDone; job = with_schedule job lines })
+schedule_whole job lines is room =
+    reach_join (record { place = AtScripts; job = job }) (record { place = AtSchedule; job = with_schedule job lines })
+    (record { place = AtDone; job = with_schedule job lines }) (codes "schedule" ∷ timed_lines job.settings lines)
+    (end_line ∷ []) (schedule_begins job lines is room) (schedule_ends (with_schedule job lines))
+
 tail_reach : (job : Job) (schedule : Option (List TimedEvent)) → job.schedule ≡ None
     → IsScheduleOrNone (scope_of job) schedule
     → scripts_pieces job.scripts + schedule_pieces (lines_of schedule) ≤ most_pieces
@@ -764,19 +900,10 @@ tail_reach job None e is room = record {
   goes = refl;
   behind = ap (λ (s : Option (List TimedEvent)). record { place = Over; job = record job { schedule = s } }) e;
 }
-tail_reach job (Some lines) e is room = record {
-  item = section.Schedule;
-  to = record { place = AtSchedule; job = with_schedule job [] };
-  text = refl;
-  is = (tt, refl);
-  goes = refl;
-  behind = reach_join (record { place = AtSchedule; job = with_schedule job [] })
-      (record { place = AtDone; job = with_schedule job lines })
-      (record { place = Over; job = with_schedule job lines }) (timed_lines job.settings lines ++ end_line ∷ [])
-      (done_line ∷ [])
-      (schedule_reach job [] lines is.events_are is.count is.rounds is.rounds_of_nodes room) (done_reach
-      (with_schedule job lines));
-}
+tail_reach job (Some lines) e is room =
+    reach_join (record { place = AtScripts; job = job }) (record { place = AtDone; job = with_schedule job lines })
+    (record { place = Over; job = with_schedule job lines }) (schedule_lines job.settings (Some lines))
+    (done_line ∷ []) (schedule_whole job lines is room) (done_reach (with_schedule job lines))
 
 -- some lines
 some_lines : (a b : List Line) (last : Line) → a ++ (b ++ last ∷ []) ≡ [] → ⊥
@@ -785,7 +912,7 @@ some_lines [] (x ∷ b) last h = cc
 some_lines (x ∷ a) b last h = cc
 
 -- nor where some come last
-some_behind : (a lines : List Line) → (lines ≡ [] → ⊥) → a ++ lines ≡ [] → ⊥
+pub some_behind : (a lines : List Line) → (lines ≡ [] → ⊥) → a ++ lines ≡ [] → ⊥
 some_behind [] lines some h = some h
 some_behind (x ∷ a) lines some h = absurd (cc)
 
@@ -797,44 +924,70 @@ handlers_then job (line ∷ lines) end some h = behind_handlers job line lines e
 fresh_all : (hs : List HandlerText) → AreNew [] hs
 fresh_all hs k h e n = refl
 
-pub whole_reach : (job : Job) → IsJob job → Reaches start (job_lines job) (record { place = Over; job = job })
-whole_reach job is =
+-- what was read before the handlers of a job, and before its scripts
+abbrev pub before_handlers : Job → Job
+before_handlers job = with_flag (of_head job job.settings.pairs) job.atomics
+
+abbrev pub before_scripts : Job → Job
+before_scripts job = with_handlers (before_handlers job) job.handlers
+
+-- lines that come behind the first handlers of a job, where these and those are some, or the line of atomics is there
+pub handlers_lead : (job : Job) → IsJob job → (hs rest : List HandlerText) → job.handlers ≡ hs ++ rest
+    → (lines : List Line) (end : State)
+    → (job.atomics ≡ false → flat_map handler_lines hs ++ lines ≡ [] → ⊥)
+    → (MayFollow job.atomics hs rest → Reaches (behind_front (before_handlers job) hs) lines end)
+    → Reaches start (lines_with_atomics job ++ (flat_map handler_lines hs ++ lines)) end
+handlers_lead job is hs rest all lines end some on =
     let begun = of_head job job.settings.pairs in
-    let first = with_flag begun job.atomics in
-    let last = schedule_lines job.settings job.schedule ++ done_line ∷ [] in
-    let over : State = record { place = Over; job = job } in
-    let handlers = handlers_reach first [] job.handlers (
+    let may : MayFollow job.atomics [] job.handlers = (
       is.handlers,
-      apart_fresh [] job.handlers is.apart
-          (fresh_all job.handlers),
+      apart_fresh [] job.handlers is.apart (fresh_all job.handlers),
       is.few_handlers,
       is.unreserved,
     ) in
-    let second = with_handlers first job.handlers in
-    let handler_part = flat_map handler_lines job.handlers in
-    let script_part = flat_map script_lines job.scripts in
-    let pieces = is.pieces in
-    let few : scripts_pieces job.scripts ≤ most_pieces = omega (arith, pieces) in
-    let scripts = scripts_reach second [] job.scripts is.settings.nodes is.settings.threads
-    (is.scripts, is.threads, few) in
-    let tail = tail_reach (with_scripts second job.scripts) job.schedule refl is.schedule pieces in
-    let some = some_lines script_part (schedule_lines job.settings job.schedule) done_line in
-    let scripted = handlers_then second (script_part ++ last) over some
-    (reach_join (record { place = AtScripts; job = second })
-    (record { place = AtScripts; job = with_scripts second job.scripts }) over script_part last scripts tail) in
-    let later = reach_join (record { place = AtHandlers; job = first })
-    (record { place = AtHandlers; job = second }) over handler_part (script_part ++ last) handlers scripted in
-    let behind_head = handler_part ++ (script_part ++ last) in
-    let behind = atomics_then begun job.atomics behind_head over is.atomics refl
-    (some_behind handler_part (script_part ++ last) some) later in
+    let part = flat_map handler_lines hs in
+    let first = handlers_reach (before_handlers job) [] hs rest
+    (subst (λ (all : List HandlerText). MayFollow job.atomics [] all) all may) in
+    let later = reach_join (behind_front (before_handlers job) []) (behind_front (before_handlers job) hs) end part lines
+    first.0 (on first.1) in
+    let behind = atomics_then begun job.atomics (part ++ lines) end is.atomics refl some later in
     let head = reach_join start (record { place = AtPairs; job = of_head job [] })
     (record { place = AtPairs; job = begun }) (head_lines job) (map pair_line job.settings.pairs)
     (head_reach job is) (pairs_reach job is [] job.settings.pairs refl) in
-    subst (λ (ls : List Line). Reaches start ls over) (sym (append_assoc (lines_with_handlers job) script_part last
-    ∙ append_assoc (lines_with_atomics job) handler_part (script_part ++ last)
-    ∙ append_assoc (lines_with_pairs job) (atomics_lines job.atomics) behind_head))
-    (reach_join start (record { place = AtPairs; job = begun }) over (lines_with_pairs job)
-    (atomics_lines job.atomics ++ behind_head) head behind)
+    subst (λ (ls : List Line). Reaches start ls end)
+    (sym (append_assoc (lines_with_pairs job) (atomics_lines job.atomics) (part ++ lines)))
+    (reach_join start (record { place = AtPairs; job = begun }) end (lines_with_pairs job)
+    (atomics_lines job.atomics ++ (part ++ lines)) head behind)
+
+-- lines that come behind the first scripts of a job, where these and those are some
+pub scripts_lead : (job : Job) → IsJob job → (ss rest : List NodeScript) → job.scripts ≡ ss ++ rest
+    → (lines : List Line) (end : State) → (flat_map script_lines ss ++ lines ≡ [] → ⊥)
+    → (MayGoOn (before_scripts job) ss rest → Reaches (behind_scripts_of (before_scripts job) ss) lines end)
+    → Reaches start (lines_with_handlers job ++ (flat_map script_lines ss ++ lines)) end
+scripts_lead job is ss rest all lines end some on =
+    let pieces = is.pieces in
+    let few : scripts_pieces job.scripts ≤ most_pieces = omega (arith, pieces) in
+    let part = flat_map script_lines ss in
+    let hs = flat_map handler_lines job.handlers in
+    let first = scripts_reach (before_scripts job) [] ss rest is.settings.nodes is.settings.threads
+    (subst (λ (all : List NodeScript). MayGoOn (before_scripts job) [] all) all (is.scripts, is.threads, few)) in
+    let later = handlers_then (before_scripts job) (part ++ lines) end some
+    (reach_join (behind_scripts_of (before_scripts job) []) (behind_scripts_of (before_scripts job) ss) end part lines
+    first.0 (on first.1)) in
+    subst (λ (ls : List Line). Reaches start ls end)
+    (sym (append_assoc (lines_with_atomics job) hs (part ++ lines)))
+    (handlers_lead job is job.handlers [] (sym (append-nil job.handlers)) (part ++ lines) end
+    (λ none. some_behind hs (part ++ lines) some) (λ may. later))
+
+pub whole_reach : (job : Job) → IsJob job → Reaches start (job_lines job) (record { place = Over; job = job })
+whole_reach job is =
+    let last = schedule_lines job.settings job.schedule ++ done_line ∷ [] in
+    let scripts = flat_map script_lines job.scripts in
+    subst (λ (ls : List Line). Reaches start ls (record { place = Over; job = job }))
+    (sym (append_assoc (lines_with_handlers job) scripts last))
+    (scripts_lead job is job.scripts [] (sym (append-nil job.scripts)) last (record { place = Over; job = job })
+    (some_lines scripts (schedule_lines job.settings job.schedule) done_line) (λ may.
+    tail_reach (with_scripts (before_scripts job) job.scripts) job.schedule refl is.schedule is.pieces))
 
 -- bytes that begin with the text of a job are read as that job, and those behind it are left
 pub job_read : (job : Job) → IsJob job → (rest : List ℕ) → read start 1 (job_text job ++ rest)

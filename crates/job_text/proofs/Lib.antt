@@ -33,8 +33,10 @@ pub mod StateLaws
 pub mod JobLaws
 pub mod States
 pub mod Walks
+pub mod Standing
 pub mod Refusing
 pub mod Completeness
+pub mod Reaching
 pub mod Meanings
+pub mod OneReason
 pub mod Upgrading
-pub use Rattle.gas_atomic.proofs.Lawful

@@ -1,8 +1,8 @@
 -- What a refusal means.
-use Rattle.std.proofs.Common.{◌≡◌, inl, inr, ℕ, zero, suc, ◌+◌, ◌-◌, ◌≤◌, ◌⊎◌, List, [], ◌∷◌, ◌++◌, length, Option}
+use Rattle.std.proofs.Common.{◌≡◌, ◌≢◌, inl, inr, ℕ, zero, suc, ◌+◌, ◌-◌, ◌≤◌, ◌⊎◌, List, [], ◌∷◌, ◌++◌, length, Option}
 use Rattle.std.proofs.Common.{Some, None, Result, Ok, Err, Bool, eqb, cond, not, ◌&&◌, ◌||◌, ltb, leb, false, true, refl}
 use Rattle.std.proofs.Common.{sym, ap, subst, ◌∙◌, arith, append_assoc, append-nil, length-append}
-use Rattle.std.proofs.lemmas.Bool.{eqb-true, eqb-false, leb-true, ltb-true, le-ltb, ne_eqb, and_parts}
+use Rattle.std.proofs.lemmas.Bool.{eqb-true, eqb-false, leb-true, ltb-true, ltb-false, le-ltb, ne_eqb, and_parts}
 use Rattle.std.specs.Prelude.{IfOk, IfErr}
 use Rattle.datagram_grammar.specs.declared.pairs.PairCredits.{PairCredits}
 use Rattle.job_text.specs.Reasons.{is_text, is_plain, goes_on_as_text, reason}
@@ -20,9 +20,9 @@ use Rattle.job_text.specs.StepPieces.{steps_pieces}
 use Rattle.job_text.specs.JobReading.{front_of, served, is_reserved, most_handlers}
 use Rattle.job_text.specs.JobText.{spell, job_lines, job_text, IsJob, JobText, BeginsWith}
 use Rattle.job_text.specs.Reading.{GivesAt}
-use Rattle.job_text.specs.Refusals.{first_lines, after_lines, IsNoFront, EndsEarly, HasNoText, IsWrong, Means}
-use Rattle.job_text.specs.Refusals.{Says, IsTaken, IsFull, IsAtFault, IsMeant, IsNoMemory, IsTooLong, FrontMeans}
-use Rattle.job_text.specs.Refusals.{IsFrontMeant}
+use Rattle.job_text.specs.Refusals.{first_lines, after_lines, IsNoFront, Before, so_far, completed, IsWrong, Means}
+use Rattle.job_text.specs.Refusals.{Says, IsTaken, IsFull, HasNoText, HasNoForm, HasBadValue, IsRepeated, IsTooMany}
+use Rattle.job_text.specs.Refusals.{IsAtFault, NoneGoesOn, IsMeant, IsNoMemory, IsTooLong, FrontMeans, IsFrontMeant}
 use Rattle.job_text.specs.declared.fault.JobFault.{JobFault}
 use Rattle.job_text.specs.declared.fault.JobFault.TheVariants as faults
 use Rattle.job_text.specs.declared.fault.JobWhy.{JobWhy}
@@ -37,10 +37,12 @@ use Rattle.job_text.proofs.FormLaws.{IsFlat}
 use Rattle.job_text.proofs.JobRuns.{is_sized}
 use Rattle.job_text.proofs.PlaceLaws.{place_exact}
 use Rattle.job_text.proofs.LineRuns.{IsOpen, line_takes, line_again, read_on, over_read}
-use Rattle.job_text.proofs.States.{IsState}
+use Rattle.job_text.proofs.JobLaws.{sound_job}
+use Rattle.job_text.proofs.States.{IsState, unread, sound_completed}
 use Rattle.job_text.proofs.Walks.{step_of, step_keeps, Walks, EndsAs, Ends, Fails, IsOver, read_outcome}
 use Rattle.job_text.proofs.Refusing.{first_flat, first_none, first_spelled, after_spelled, IsWalk, walk_of, walk_front}
-use Rattle.job_text.proofs.Refusing.{front_same, read_text, rest_size}
+use Rattle.job_text.proofs.Refusing.{front_same, read_text, rest_size, walk_lines}
+use Rattle.job_text.proofs.Standing.{not_over, walk_reached}
 use Rattle.job_text.proofs.Completeness.{job_read}
 
 -- ---- a walk is read
@@ -64,7 +66,7 @@ pub record IsWhole (rest : List ℕ) : Type 0 where
   pub text : rest ≡ line ++ 10 ∷ more
 
 pub data Kind (place : Place) (job : Job) (rest : List ℕ) (why : JobWhy) : Type 0 where
-  IsText : is_text rest ≡ false → why ≡ Text → Kind place job rest why
+  IsText : HasNoText place job rest → why ≡ Text → Kind place job rest why
   IsLine : IsWhole rest → (why ≡ Form) ⊎ ((why ≡ BadValue) ⊎ ((why ≡ Entry) ⊎ (why ≡ Count)))
       → IsAtFault why place job rest → Kind place job rest why
 
@@ -105,37 +107,57 @@ says_none place job rest none item says =
     none_some none (ap (line_at place (scope_of job)) says.1.1 ∙ line_again place (scope_of job) item says.1.0 says.0)
 
 -- the reason of a line that isn't empty
-reason_by : (place : Place) (job : Job) (form text : Bool) (b : ℕ) (rest : List ℕ) (why : JobWhy)
+reason_by : (place : Place) (job : Job) (form text : Bool) (b : ℕ) (rest : List ℕ) (why : JobWhy) → place ≢ Over
     → item_form place (scope_of job) (b ∷ rest) ≡ form → is_text (b ∷ rest) ≡ text
     → line_at place (scope_of job) (b ∷ rest) ≡ None → cond text (cond form BadValue Form) Text ≡ why → Kind place job
     (b ∷ rest) why
-reason_by place job true true b rest why f e none h =
-    IsLine (text_whole (b ∷ rest) e) (inr (inl (sym h)))
-    (subst (λ (w : JobWhy). IsAtFault w place job (b ∷ rest)) h (f, says_none place job (b ∷ rest) none))
-reason_by place job false true b rest why f e none h =
-    IsLine (text_whole (b ∷ rest) e) (inl (sym h)) (subst (λ (w : JobWhy). IsAtFault w place job (b ∷ rest)) h f)
-reason_by place job form false b rest why f e none h = IsText e (sym h)
+reason_by place job true true b rest why open_ f e none h =
+    let bad : HasBadValue place job (b ∷ rest) = record {
+      to_come = open_;
+      text = e;
+      form = f;
+      says_nothing = says_none place job (b ∷ rest) none;
+    } in
+    IsLine (text_whole (b ∷ rest) e) (inr (inl (sym h))) (subst (λ (w : JobWhy). IsAtFault w place job (b ∷ rest)) h bad)
+reason_by place job false true b rest why open_ f e none h =
+    let bad : HasNoForm place job (b ∷ rest) = record {
+      to_come = open_;
+      text = e;
+      no_form = f;
+      says_nothing = says_none place job (b ∷ rest) none;
+    } in
+    IsLine (text_whole (b ∷ rest) e) (inl (sym h)) (subst (λ (w : JobWhy). IsAtFault w place job (b ∷ rest)) h bad)
+reason_by place job form false b rest why open_ f e none h =
+    let bad : HasNoText place job (b ∷ rest) = record {
+      to_come = open_;
+      some = λ empty. cc;
+      no_text = e;
+      says_nothing = says_none place job (b ∷ rest) none;
+    } in
+    IsText bad (sym h)
 
-reason_kind : (place : Place) (job : Job) (rest : List ℕ) (why : JobWhy) → (rest ≡ [] → ⊥)
+reason_kind : (place : Place) (job : Job) (rest : List ℕ) (why : JobWhy) → place ≢ Over → (rest ≡ [] → ⊥)
     → line_at place (scope_of job) rest ≡ None → reason (item_form place (scope_of job)) rest ≡ why
     → Kind place job rest why
-reason_kind place job [] why some none h = absurd (some refl)
-reason_kind place job (b ∷ rest) why some none h =
-    reason_by place job (item_form place (scope_of job) (b ∷ rest)) (is_text (b ∷ rest)) b rest why refl refl none
+reason_kind place job [] why open_ some none h = absurd (some refl)
+reason_kind place job (b ∷ rest) why open_ some none h =
+    reason_by place job (item_form place (scope_of job) (b ∷ rest)) (is_text (b ∷ rest)) b rest why open_ refl refl none
     (sym (cond_no (eqb (length (b ∷ rest)) 0) Early _ (ne_eqb (length (b ∷ rest)) 0 (λ e. omega arith))) ∙ h)
 
 -- a line that may not stand there
 abbrev pub IsCounted : (place : Place) → Job → Item place → JobWhy → Type 0
-IsCounted place job item why = ((why ≡ Entry) × IsTaken place job item) ⊎ ((why ≡ Count) × IsFull place job item)
+IsCounted place job item why =
+    ((why ≡ Entry) × IsTaken place job item)
+    ⊎ ((why ≡ Count) × (IsTaken place job item → ⊥) × IsFull place job item)
 
 unless_err : (o : Option JobWhy) (state : State) (why : JobWhy) → unless o state ≡ Err why → o ≡ Some why
 unless_err None state why h = absurd (cc)
 unless_err (Some w) state why h = cc
 
 two_by : (t u : Bool) (why : JobWhy) → cond t (Some Entry) (cond u (Some Count) None) ≡ Some why
-    → ((why ≡ Entry) × (t ≡ true)) ⊎ ((why ≡ Count) × (u ≡ true))
+    → ((why ≡ Entry) × (t ≡ true)) ⊎ ((why ≡ Count) × (t ≡ true → ⊥) × (u ≡ true))
 two_by true u why h = inl (cc, refl)
-two_by false true why h = inr (cc, refl)
+two_by false true why h = inr (cc, λ t. cc, refl)
 two_by false false why h = absurd (cc)
 
 one_by : (t : Bool) (why : JobWhy) → cond t (Some Count) None ≡ Some why → (why ≡ Count) × (t ≡ true)
@@ -162,7 +184,7 @@ opened_kind job section.Done why h = absurd (cc)
 from_scripts : (job : Job) (s : Section) (why : JobWhy) → IsCounted AtScripts job s why
     → IsCounted AtHandlers job (Other s) why
 from_scripts job s why (inl taken) = inl taken
-from_scripts job s why (inr full) = absurd full.1
+from_scripts job s why (inr full) = absurd full.2
 
 headed_kind : (job : Job) (item : NamedOr HandlerHeader Section) (why : JobWhy) → headed job item ≡ Err why
     → IsCounted AtHandlers job item why
@@ -170,7 +192,7 @@ headed_kind job (Named header) why h =
     let most = most_handlers job.atomics in
     either (two_by (has_index job.handlers header.index || is_reserved job.atomics header.index)
     (leb most (length job.handlers)) why (unless_err (handler_why job.atomics job.handlers header.index) _ why h))
-    (λ t. t) (λ u. (u.0, leb-true most (length job.handlers) u.1))
+    (λ t. t) (λ u. (u.0, u.1, leb-true most (length job.handlers) u.2))
 headed_kind job (Other s) why h = from_scripts job s why (opened_kind job s why h)
 
 served_kind : (job : Job) (item : NamedOr (Unit {0}) (NamedOr HandlerHeader Section)) (why : JobWhy)
@@ -183,7 +205,7 @@ paired_kind : (job : Job) (item : NamedOr PairCredits (NamedOr (Unit {0}) (Named
 paired_kind job (Named pair) why h =
     either (two_by (has_pair job.settings.pairs pair) (leb 64 (length job.settings.pairs)) why
     (unless_err (pair_why job.settings.pairs pair) _ why h)) (λ t. t) (λ u.
-    (u.0, leb-true 64 (length job.settings.pairs) u.1))
+    (u.0, u.1, leb-true 64 (length job.settings.pairs) u.2))
 paired_kind job (Other item) why h = served_kind job item why h
 
 next_kind : (place : Place) (job : Job) (item : Item place) (why : JobWhy) → next place job item ≡ Err why
@@ -196,38 +218,42 @@ next_kind AtHandlers job item why h = headed_kind job item why h
 next_kind (AtBody handler) job None why h = absurd (cc)
 next_kind (AtBody handler) job (Some a) why h =
     let o = one_by (leb 64 (length handler.body)) why (unless_err (action_why handler.body) _ why h) in
-    inr (o.0, leb-true 64 (length handler.body) o.1)
+    inr (o.0, λ taken. absurd taken, leb-true 64 (length handler.body) o.1)
 next_kind AtScripts job s why h = opened_kind job s why h
 next_kind (AtSteps script) job None why h = absurd (cc)
 next_kind (AtSteps script) job (Some s) why h =
     let before = scripts_pieces job.scripts in
-    inr (one_by (is_full_script (before + steps_pieces script.steps) (length script.steps) s) why
-    (unless_err (step_why before script.steps s) _ why h))
+    let o = one_by (is_full_script (before + steps_pieces script.steps) (length script.steps) s) why
+    (unless_err (step_why before script.steps s) _ why h) in
+    inr (o.0, λ taken. absurd taken, o.1)
 next_kind AtSchedule job None why h = absurd (cc)
 next_kind AtSchedule job (Some t) why h =
     let before = scripts_pieces job.scripts in
-    inr (one_by (is_full job.settings.nodes (amounts_of before (lines_of job.schedule)) t.event) why
-    (unless_err (line_why job.settings.nodes before (lines_of job.schedule) t) _ why h))
+    let o = one_by (is_full job.settings.nodes (amounts_of before (lines_of job.schedule)) t.event) why
+    (unless_err (line_why job.settings.nodes before (lines_of job.schedule) t) _ why h) in
+    inr (o.0, λ taken. absurd taken, o.1)
 next_kind AtDone job item why h = absurd (cc)
 next_kind Over job item why h = absurd item
 
 counted_line : (place : Place) (job : Job) (rest : List ℕ) (why : JobWhy) (item : Item place) → IsWhole rest
     → Says place (scope_of job) rest item → IsCounted place job item why → Kind place job rest why
 counted_line place job rest why item w says (inl e) =
-    IsLine w (inr (inr (inl e.0))) (subst (λ (x : JobWhy). IsAtFault x place job rest) (sym e.0) (item, (says, e.1)))
+    let bad : IsRepeated place job rest = record { item = item; says = says; taken = e.1 } in
+    IsLine w (inr (inr (inl e.0))) (subst (λ (x : JobWhy). IsAtFault x place job rest) (sym e.0) bad)
 counted_line place job rest why item w says (inr e) =
-    IsLine w (inr (inr (inr e.0))) (subst (λ (x : JobWhy). IsAtFault x place job rest) (sym e.0) (item, (says, e.1)))
+    let bad : IsTooMany place job rest = record { item = item; says = says; is_new = e.1; full = e.2 } in
+    IsLine w (inr (inr (inr e.0))) (subst (λ (x : JobWhy). IsAtFault x place job rest) (sym e.0) bad)
 
 onward_err : (rest : List ℕ) (r : Result State JobWhy) (why : JobWhy) → onward rest r ≡ Err why → r ≡ Err why
 onward_err rest (Ok state) why h = absurd (cc)
 onward_err rest (Err w) why h = cc
 
 kind_by : (state : State) (rest : List ℕ) (why : JobWhy) (o : Option (Item state.place × List ℕ))
-    → line_at state.place (scope_of state.job) rest ≡ o → (rest ≡ [] → ⊥)
+    → line_at state.place (scope_of state.job) rest ≡ o → state.place ≢ Over → (rest ≡ [] → ⊥)
     → stepped state.place state.job (why_at state.place (scope_of state.job) rest) o ≡ Err why
     → Kind state.place state.job rest why
-kind_by state rest why None e some h = reason_kind state.place state.job rest why some e (cc)
-kind_by state rest why (Some y) e some h =
+kind_by state rest why None e open_ some h = reason_kind state.place state.job rest why open_ some e (cc)
+kind_by state rest why (Some y) e open_ some h =
     let said = (line_takes state.place (scope_of state.job) rest).so y e in
     let whole : IsWhole rest = record {
       line = item_text state.place (scope_of state.job) y.0;
@@ -238,10 +264,11 @@ kind_by state rest why (Some y) e some h =
     counted_line state.place state.job rest why y.0 whole (said.1, (y.1, said.0))
     (next_kind state.place state.job y.0 why (onward_err y.1 (next state.place state.job y.0) why h))
 
-fail_kind : (state : State) (rest : List ℕ) (why : JobWhy) → (rest ≡ [] → ⊥) → step state rest ≡ Err why
-    → Kind state.place state.job rest why
+fail_kind : (state : State) (rest : List ℕ) (why : JobWhy) → state.place ≢ Over → (rest ≡ [] → ⊥)
+    → step state rest ≡ Err why → Kind state.place state.job rest why
 unfolding step
-fail_kind state rest why some h = kind_by state rest why (line_at state.place (scope_of state.job) rest) refl some h
+fail_kind state rest why open_ some h =
+    kind_by state rest why (line_at state.place (scope_of state.job) rest) refl open_ some h
 
 -- ---- no job's text goes on with that line
 
@@ -351,72 +378,72 @@ after_of count line bytes end rest w e =
     ap (λ (n : ℕ). after_lines n bytes) (omega (arith, e, k.many)) ∙ ap (after_lines (length k.between)) k.text
     ∙ after_spelled k.between rest k.flat
 
-wrong : (count line : ℕ) (bytes : List ℕ) (end : State) (rest : List ℕ) (why : JobWhy) → IsWalk count bytes end rest
-    → line ≡ 1 + count → IsNoFront (first_lines (count + 1) bytes) → IsAtFault why end.place end.job rest
-    → IsWrong bytes line why
-wrong count line bytes end rest why w e none fault = record {
-  front = walk_front count bytes end rest w (first_lines (line - 1) bytes) (ap (λ (n : ℕ). first_lines n bytes)
-      (omega (arith, e)));
-  none = subst (λ (n : ℕ). IsNoFront (first_lines n bytes)) (omega (arith, e)) none;
-  place = end.place;
-  before = end.job;
-  came = refl;
-  fault = subst (λ (r : List ℕ). IsAtFault why end.place end.job r) (sym
-      (after_of count line bytes end rest w e)) fault;
-}
+-- what came before the line
+before_of : (count line : ℕ) (bytes : List ℕ) (end : State) (rest : List ℕ) → IsWalk count bytes end rest
+    → Walks count start bytes end rest → line ≡ 1 + count → Before bytes line
+before_of count line bytes end rest w walks e =
+    let k = w.walked in
+    let many : length (so_far end.place end.job) ≡ count = ap length k.lines ∙ k.many in
+    record {
+      place = end.place;
+      job = end.job;
+      is = sound_job (completed end.place end.job) (sound_completed end.place end.job k.is);
+      unread = unread end.place end.job k.is;
+      reached = walk_reached count start bytes end rest tt walks;
+      count = omega (arith, e, many);
+      lines = ap (λ (n : ℕ). first_lines n bytes) (omega (arith, e)) ∙ walk_lines count bytes end rest w
+          ∙ ap spell (sym k.lines);
+    }
+
+-- the line behind a walk is wrong
+wrong : (count line : ℕ) (bytes : List ℕ) (end : State) (rest : List ℕ) (why : JobWhy)
+    → Walks count start bytes end rest → line ≡ 1 + count → NoneGoesOn why (first_lines (count + 1) bytes)
+    → IsAtFault why end.place end.job rest → IsWrong bytes line why
+unfolding before_of
+wrong count line bytes end rest why walks e none fault =
+    let w = walk_of count bytes end rest walks in
+    record {
+      before = before_of count line bytes end rest w walks e;
+      fault = subst (λ (r : List ℕ). IsAtFault why end.place end.job r) (sym
+          (after_of count line bytes end rest w e)) fault;
+      front = walk_front count bytes end rest w (first_lines (line - 1) bytes) (ap (λ (n : ℕ). first_lines n bytes)
+          (omega (arith, e)));
+      none = subst (λ (n : ℕ). NoneGoesOn why (first_lines n bytes)) (omega (arith, e)) none;
+    }
 
 -- a whole line that isn't read
 wrong_found : (found : JobWhy) (count line : ℕ) (bytes : List ℕ) (end : State) (rest : List ℕ) (why : JobWhy)
-    → IsWalk count bytes end rest → line ≡ 1 + count → IsOpen end.place → step end rest ≡ Err why → IsWhole rest
-    → why ≡ found → IsAtFault why end.place end.job rest → IsWrong bytes line found
-wrong_found found count line bytes end rest why w e open_ f whole is fault =
-    wrong count line bytes end rest found w e (no_front_line count bytes end rest w why open_ f whole)
+    → Walks count start bytes end rest → line ≡ 1 + count → IsOpen end.place → step end rest ≡ Err why → IsWhole rest
+    → why ≡ found → (IsNoFront (first_lines (count + 1) bytes) → NoneGoesOn found (first_lines (count + 1) bytes))
+    → IsAtFault why end.place end.job rest → IsWrong bytes line found
+wrong_found found count line bytes end rest why walks e open_ f whole is none fault =
+    wrong count line bytes end rest found walks e
+    (none (no_front_line count bytes end rest (walk_of count bytes end rest walks) why open_ f whole))
     (subst (λ (x : JobWhy). IsAtFault x end.place end.job rest) is fault)
 
--- what a refusal means, whether bytes may follow a job's text or not
-abbrev pub BothMean : List ℕ → (line : ℕ) → JobWhy → Type 0
-BothMean bytes line why = Means bytes line why × FrontMeans bytes line why
+-- what a refusal within a job's lines means
+abbrev pub IsLineWrong : List ℕ → (line : ℕ) → JobWhy → Type 0
+IsLineWrong bytes line Size = ⊥
+IsLineWrong bytes line After = ⊥
+IsLineWrong bytes line why = IsWrong bytes line why
 
-means_by : (count line : ℕ) (bytes : List ℕ) (end : State) (rest : List ℕ) (why : JobWhy) → IsWalk count bytes end rest
-    → line ≡ 1 + count → IsOpen end.place → (rest ≡ [] → ⊥) → step end rest ≡ Err why
-    → Kind end.place end.job rest why → BothMean bytes line why
-means_by count line bytes end rest why w e open_ some f (IsText bad is) =
-    let after = after_of count line bytes end rest w e in
-    let found : HasNoText bytes line = record {
-      front = walk_front count bytes end rest w (first_lines (line - 1) bytes) (ap (λ (n : ℕ). first_lines n bytes)
-          (omega (arith, e)));
-      some = λ none. some (sym after ∙ none);
-      no_text = ap is_text after ∙ bad;
-    } in
-    subst (BothMean bytes line) (sym is) (found, found)
-means_by count line bytes end rest why w e open_ some f (IsLine whole (inl is) fault) =
-    let m = wrong_found Form count line bytes end rest why w e open_ f whole is fault in
-    subst (BothMean bytes line) (sym is) (m, m)
-means_by count line bytes end rest why w e open_ some f (IsLine whole (inr (inl is)) fault) =
-    let m = wrong_found BadValue count line bytes end rest why w e open_ f whole is fault in
-    subst (BothMean bytes line) (sym is) (m, m)
-means_by count line bytes end rest why w e open_ some f (IsLine whole (inr (inr (inl is))) fault) =
-    let m = wrong_found Entry count line bytes end rest why w e open_ f whole is fault in
-    subst (BothMean bytes line) (sym is) (m, m)
-means_by count line bytes end rest why w e open_ some f (IsLine whole (inr (inr (inr is))) fault) =
-    let m = wrong_found Count count line bytes end rest why w e open_ f whole is fault in
-    subst (BothMean bytes line) (sym is) (m, m)
-
--- ---- the text ends too early
-
-early : (count line : ℕ) (bytes : List ℕ) (end : State) (rest : List ℕ) → IsWalk count bytes end rest → line
-    ≡ 1 + count → rest ≡ [] → IsOpen end.place → EndsEarly bytes line
-early count line bytes end rest w e none open_ =
-    let k = w.walked in
-    let all : bytes ≡ first_lines count bytes =
-    k.text ∙ ap (λ (r : List ℕ). spell k.between ++ r) (none ∙ sym (first_none rest)) ∙ sym
-    (first_spelled k.between rest 0 k.flat) ∙ ap (λ (n : ℕ). first_lines n (spell k.between ++ rest)) (omega
-    (arith, k.many)) ∙ ap (first_lines count) (sym k.text) in
-    record {
-      all = all ∙ ap (λ (n : ℕ). first_lines n bytes) (omega (arith, e));
-      front = walk_front count bytes end rest w bytes all;
-      proper = w.part.some open_;
-    }
+means_by : (count line : ℕ) (bytes : List ℕ) (end : State) (rest : List ℕ) (why : JobWhy)
+    → Walks count start bytes end rest → line ≡ 1 + count → IsOpen end.place → step end rest ≡ Err why
+    → Kind end.place end.job rest why → IsLineWrong bytes line why
+means_by count line bytes end rest why w e open_ f (IsText bad is) =
+    subst (IsLineWrong bytes line) (sym is) (wrong count line bytes end rest Text w e tt bad)
+means_by count line bytes end rest why w e open_ f (IsLine whole (inl is) fault) =
+    subst (IsLineWrong bytes line) (sym is)
+    (wrong_found Form count line bytes end rest why w e open_ f whole is (λ n. n) fault)
+means_by count line bytes end rest why w e open_ f (IsLine whole (inr (inl is)) fault) =
+    subst (IsLineWrong bytes line) (sym is)
+    (wrong_found BadValue count line bytes end rest why w e open_ f whole is (λ n. n) fault)
+means_by count line bytes end rest why w e open_ f (IsLine whole (inr (inr (inl is))) fault) =
+    subst (IsLineWrong bytes line) (sym is)
+    (wrong_found Entry count line bytes end rest why w e open_ f whole is (λ n. n) fault)
+means_by count line bytes end rest why w e open_ f (IsLine whole (inr (inr (inr is))) fault) =
+    subst (IsLineWrong bytes line) (sym is)
+    (wrong_found Count count line bytes end rest why w e open_ f whole is (λ n. n) fault)
 
 -- ---- what is told of lines
 
@@ -425,20 +452,43 @@ bad_same h = cc
 
 ends_mean : (bytes : List ℕ) (found : BadLine) (count : ℕ) (end : State) (rest : List ℕ)
     (result : Result Front BadLine) → Walks count start bytes end rest → EndsAs end rest (1 + count) result → result
-    ≡ Err found → BothMean bytes found.line found.why
+    ≡ Err found → IsLineWrong bytes found.line found.why
 ends_mean bytes found count end rest result w (Ends open_ none r) h =
-    let m = early count (1 + count) bytes end rest (walk_of count bytes end rest w) refl none open_ in
-    subst (λ (b : BadLine). BothMean bytes b.line b.why) (bad_same (sym r ∙ h)) (m, m)
+    subst (λ (b : BadLine). IsLineWrong bytes b.line b.why) (bad_same (sym r ∙ h))
+    (wrong count (1 + count) bytes end rest Early w refl tt (not_over end.place open_, none))
 ends_mean bytes found count end rest result w (Fails why open_ some f r) h =
-    subst (λ (b : BadLine). BothMean bytes b.line b.why) (bad_same (sym r ∙ h))
-    (means_by count (1 + count) bytes end rest why (walk_of count bytes end rest w) refl open_ some f
-    (fail_kind end rest why some f))
+    subst (λ (b : BadLine). IsLineWrong bytes b.line b.why) (bad_same (sym r ∙ h))
+    (means_by count (1 + count) bytes end rest why w refl open_ f
+    (fail_kind end rest why (not_over end.place open_) some f))
 ends_mean bytes found count end rest result w (IsOver over r) h = absurd (err_ok h r)
 
-read_means : (bytes : List ℕ) (found : BadLine) → read start 1 bytes ≡ Err found → BothMean bytes found.line found.why
+read_means : (bytes : List ℕ) (found : BadLine) → read start 1 bytes ≡ Err found
+    → IsLineWrong bytes found.line found.why
 read_means bytes found h =
     let o = read_outcome start 1 bytes in
     ends_mean bytes found o.count o.end o.rest (read start 1 bytes) o.walks o.ends h
+
+-- of a text that isn't too long, and of one behind which bytes may follow
+line_means : (bytes : List ℕ) (line : ℕ) (why : JobWhy) → length bytes ≤ limit → IsLineWrong bytes line why
+    → Means bytes line why
+line_means bytes line Size few h = absurd h
+line_means bytes line Early few h = (h, few)
+line_means bytes line Text few h = (h, few)
+line_means bytes line Form few h = (h, few)
+line_means bytes line BadValue few h = (h, few)
+line_means bytes line Entry few h = (h, few)
+line_means bytes line Count few h = (h, few)
+line_means bytes line After few h = absurd h
+
+line_front_means : (bytes : List ℕ) (line : ℕ) (why : JobWhy) → IsLineWrong bytes line why → FrontMeans bytes line why
+line_front_means bytes line Size h = absurd h
+line_front_means bytes line Early h = h
+line_front_means bytes line Text h = h
+line_front_means bytes line Form h = h
+line_front_means bytes line BadValue h = h
+line_front_means bytes line Entry h = h
+line_front_means bytes line Count h = h
+line_front_means bytes line After h = absurd h
 
 -- ---- bytes behind a job
 
@@ -449,27 +499,29 @@ ends_after bytes front count end rest result w (Ends open_ none r) h some = absu
 ends_after bytes front count end rest result w (Fails why open_ s f r) h some = absurd (err_ok r h)
 ends_after bytes front count end rest result w (IsOver over r) h some =
     let same : front_with end.job (1 + count) rest ≡ front = front_same (sym r ∙ h) in
-    let walk = walk_of count bytes end rest w in
     let bytes_behind : rest ≡ [] → ⊥ = λ e. some (ap (λ (f : Front). length f.rest) (sym same) ∙ ap length e) in
     subst (λ (f : Front). IsWrong bytes f.line After) same
-    (wrong count (1 + count) bytes end rest After walk refl (no_front_over count bytes end rest walk over
-    bytes_behind) tt)
+    (wrong count (1 + count) bytes end rest After w refl
+    (no_front_over count bytes end rest (walk_of count bytes end rest w) over bytes_behind) (over, bytes_behind))
 
 after_by : (bytes : List ℕ) (front : Front) (found : BadLine) (t : Bool) → eqb (length front.rest) 0 ≡ t
     → read start 1 bytes ≡ Ok front → ◌≡◌ {A = Result Job BadLine}
     (cond t (Ok front.job) (Err (record { line = front.line; why = After }))) (Err found)
-    → Means bytes found.line found.why
-after_by bytes front found true e r h = absurd (err_ok h refl)
-after_by bytes front found false e r h =
+    → length bytes ≤ limit → Means bytes found.line found.why
+after_by bytes front found true e r h few = absurd (err_ok h refl)
+after_by bytes front found false e r h few =
     let o = read_outcome start 1 bytes in
-    subst (λ (b : BadLine). Means bytes b.line b.why) (bad_same h)
-    (ends_after bytes front o.count o.end o.rest (read start 1 bytes) o.walks o.ends r (eqb-false
-    (length front.rest) 0 e))
+    subst (λ (b : BadLine). Means bytes b.line b.why) (bad_same h) (
+      ends_after bytes front o.count o.end o.rest (read start 1 bytes) o.walks o.ends r (eqb-false
+          (length front.rest) 0 e),
+      few,
+    )
 
 alone_means : (bytes : List ℕ) (found : BadLine) (r : Result Front BadLine) → read start 1 bytes ≡ r
-    → of_front alone r ≡ Err found → Means bytes found.line found.why
-alone_means bytes found (Err bad) e h = (read_means bytes found (e ∙ ap (λ (b : BadLine). Err b) (bad_same h))).0
-alone_means bytes found (Ok front) e h = after_by bytes front found (eqb (length front.rest) 0) refl e h
+    → of_front alone r ≡ Err found → length bytes ≤ limit → Means bytes found.line found.why
+alone_means bytes found (Err bad) e h few =
+    line_means bytes found.line found.why few (read_means bytes found (e ∙ ap (λ (b : BadLine). Err b) (bad_same h)))
+alone_means bytes found (Ok front) e h few = after_by bytes front found (eqb (length front.rest) 0) refl e h few
 
 means_of : (bytes : List ℕ) (found : BadLine) (t : Bool) → ltb limit (length bytes) ≡ t → job_of bytes ≡ Err found
     → Means bytes found.line found.why
@@ -478,7 +530,7 @@ means_of bytes found true e h =
     subst (λ (b : BadLine). Means bytes b.line b.why) (bad_same {A = Job} (sym (cond_yes _ _ _ e) ∙ h))
     (refl, ltb-true limit (length bytes) e)
 means_of bytes found false e h =
-    alone_means bytes found (read start 1 bytes) refl (sym (cond_no _ _ _ e) ∙ h)
+    alone_means bytes found (read start 1 bytes) refl (sym (cond_no _ _ _ e) ∙ h) (ltb-false limit (length bytes) e)
 
 -- the one job of a text
 text_read : (bytes : List ℕ) (job : Job) → JobText job bytes → job_of bytes ≡ Ok job
@@ -532,7 +584,9 @@ long_by bytes front found x false e r h = absurd (err_ok h refl)
 
 sized_means : (bytes : List ℕ) (found : BadLine) (r : Result Front BadLine) → read start 1 bytes ≡ r
     → of_front (sized (length bytes)) r ≡ Err found → FrontMeans bytes found.line found.why
-sized_means bytes found (Err bad) e h = (read_means bytes found (e ∙ ap (λ (b : BadLine). Err b) (bad_same h))).1
+sized_means bytes found (Err bad) e h =
+    line_front_means bytes found.line found.why
+    (read_means bytes found (e ∙ ap (λ (b : BadLine). Err b) (bad_same h)))
 sized_means bytes found (Ok front) e h =
     long_by bytes front found _ (ltb limit (length bytes - length front.rest)) refl e h
 

@@ -22,8 +22,8 @@ use Rattle.job_text.specs.declared.fault.JobFault.{JobFault}
 use Rattle.job_text.specs.declared.job.Job.{Job}
 use Rattle.job_text.proofs.Fronts.{cond_yes, cond_no}
 use Rattle.job_text.proofs.FormLaws.{IsFlat}
-use Rattle.job_text.specs.Refusals.{completed}
-use Rattle.job_text.proofs.StateLaws.{so_far, from_on, IsUnread, done_line, end_line, handler_more, script_more}
+use Rattle.job_text.specs.Refusals.{completed, so_far, IsUnread}
+use Rattle.job_text.proofs.StateLaws.{from_on, done_line, end_line, handler_more, script_more}
 use Rattle.job_text.proofs.StateLaws.{end_schedule}
 use Rattle.job_text.proofs.JobLaws.{sound_job}
 use Rattle.job_text.proofs.States.{unread, start_is, sound_completed}
@@ -218,20 +218,26 @@ text_of count bytes end rest w =
     ap spell w.part.all ∙ flat_map-append (λ (line : Line). line ++ 10 ∷ []) (so_far end.place end.job) w.part.others
     ∙ ap (λ (ls : List Line). spell ls ++ spell w.part.others) w.walked.lines
 
+-- the lines that were read
+pub walk_lines : (count : ℕ) (bytes : List ℕ) (end : State) (rest : List ℕ) (w : IsWalk count bytes end rest)
+    → first_lines count bytes ≡ spell w.walked.between
+walk_lines count bytes end rest w =
+    let k = w.walked in
+    ap (first_lines count) k.text ∙ ap (λ (n : ℕ). first_lines n (spell k.between ++ rest)) (sym k.many ∙ omega arith)
+    ∙ first_spelled k.between rest 0 k.flat ∙ ap (λ (r : List ℕ). spell k.between ++ r) (first_none rest)
+    ∙ append-nil (spell k.between)
+
 -- what was read is the front of a job's text
 abbrev pub walk_front : (count : ℕ) (bytes : List ℕ) (end : State) (rest : List ℕ) → IsWalk count bytes end rest →
     (front : List ℕ) → front ≡ first_lines count bytes → IsFront front
 walk_front count bytes end rest w front e =
     let k = w.walked in
-    let first : first_lines count bytes ≡ spell k.between =
-    ap (first_lines count) k.text ∙ ap (λ (n : ℕ). first_lines n (spell k.between ++ rest)) (sym k.many ∙ omega arith)
-    ∙ first_spelled k.between rest 0 k.flat ∙ ap (λ (r : List ℕ). spell k.between ++ r) (first_none rest)
-    ∙ append-nil (spell k.between) in
     record {
       job = completed end.place end.job;
       more = spell w.part.others;
       is = sound_job (completed end.place end.job) (sound_completed end.place end.job k.is);
-      text = text_of count bytes end rest w ∙ ap (λ (b : List ℕ). b ++ spell w.part.others) (sym (e ∙ first));
+      text = text_of count bytes end rest w
+          ∙ ap (λ (b : List ℕ). b ++ spell w.part.others) (sym (e ∙ walk_lines count bytes end rest w));
     }
 
 -- ---- a job that was read

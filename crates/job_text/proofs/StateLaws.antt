@@ -15,16 +15,17 @@ use Rattle.job_text.specs.Places.{AtAtomics, atomics_text}
 use Rattle.job_text.specs.Scopes.{scope_of}
 use Rattle.job_text.specs.Places.{Place, AtSetting, AtSieve, AtPairs, AtHandlers, AtBody, AtScripts, AtSteps}
 use Rattle.job_text.specs.Places.{AtSchedule, AtDone, Over}
-use Rattle.job_text.specs.Places.{NamedOr, Named, Other, Item, item_text, IsItem}
+use Rattle.job_text.specs.Places.{NamedOr, Named, Other, Item, item_text}
 use Rattle.job_text.specs.JobReading.{State, with_number, behind_setting, lines_of, unless, next}
 use Rattle.job_text.specs.JobReading.{served, with_atomics}
 use Rattle.job_text.specs.JobReading.{opened, headed, paired, acted, scripted, scheduled, pair_why, handler_why}
 use Rattle.job_text.specs.JobReading.{section_why, action_why, step_why, line_why}
 use Rattle.job_text.specs.PlanPieces.{scripts_pieces}
-use Rattle.job_text.specs.JobText.{Line, setting_line, all_settings, sieve_line, pair_line, header_line}
+use Rattle.job_text.specs.JobText.{Line, all_settings, pair_line, header_line}
 use Rattle.job_text.specs.JobText.{handler_lines, timed_lines, schedule_lines, head_lines, lines_with_pairs}
 use Rattle.job_text.specs.JobText.{atomics_lines, lines_with_atomics}
-use Rattle.job_text.specs.JobText.{script_line, script_lines, lines_with_handlers, lines_with_scripts, job_lines}
+use Rattle.job_text.specs.JobText.{script_line, script_lines, lines_with_handlers, lines_with_scripts}
+use Rattle.job_text.specs.Refusals.{so_far, IsUnread}
 use Rattle.job_text.specs.declared.fault.JobWhy.{JobWhy}
 use Rattle.job_text.specs.declared.job.Action.{Action}
 use Rattle.job_text.specs.declared.job.HandlerText.{HandlerText}
@@ -36,20 +37,9 @@ use Rattle.job_text.specs.declared.sections.HandlerHeader.{HandlerHeader}
 use Rattle.job_text.specs.declared.sections.Section.{Section}
 use Rattle.job_text.specs.declared.sections.Section.TheVariants as section
 
--- ---- the lines so far, and those that are left
+-- ---- lines that are left
 
--- the settings before one, and from it on
-abbrev pub before : Setting → List Setting
-before Version = []
-before places.Job = Version ∷ []
-before Nodes = Version ∷ places.Job ∷ []
-before Credits = Version ∷ places.Job ∷ Nodes ∷ []
-before Threads = Version ∷ places.Job ∷ Nodes ∷ Credits ∷ []
-before Segment = Version ∷ places.Job ∷ Nodes ∷ Credits ∷ Threads ∷ []
-before Last = Version ∷ places.Job ∷ Nodes ∷ Credits ∷ Threads ∷ Segment ∷ []
-before Resend = Version ∷ places.Job ∷ Nodes ∷ Credits ∷ Threads ∷ Segment ∷ Last ∷ []
-before Patience = Version ∷ places.Job ∷ Nodes ∷ Credits ∷ Threads ∷ Segment ∷ Last ∷ Resend ∷ []
-
+-- the settings from one on
 abbrev pub from_on : Setting → List Setting
 from_on Version = all_settings
 from_on places.Job = places.Job ∷ Nodes ∷ Credits ∷ Threads ∷ Segment ∷ Last ∷ Resend ∷ Patience ∷ []
@@ -67,46 +57,6 @@ end_line = codes "end"
 
 abbrev pub done_line : Line
 done_line = codes "done"
-
--- the lines that were read
-abbrev pub so_far : Place → Job → List Line
-so_far (AtSetting setting) job = map (setting_line job) (before setting)
-so_far AtSieve job = map (setting_line job) all_settings
-so_far AtPairs job = lines_with_pairs job
-so_far AtAtomics job = lines_with_pairs job
-so_far AtHandlers job = lines_with_handlers job
-so_far (AtBody handler) job = lines_with_handlers job ++ (header_line handler ∷ map action_text handler.body)
-so_far AtScripts job = lines_with_scripts job
-so_far (AtSteps script) job = lines_with_scripts job ++ (script_line script ∷ map step_text script.steps)
-so_far AtSchedule job = lines_with_scripts job ++ (codes "schedule" ∷ timed_lines job.settings (lines_of job.schedule))
-so_far AtDone job = lines_with_scripts job ++ schedule_lines job.settings job.schedule
-so_far Over job = job_lines job
-
--- what is left of its lines
-abbrev pub left : Place → Job → List Line
-left (AtSetting setting) job = map (setting_line job) (from_on setting) ++ (sieve_line job.sieve ∷ done_line ∷ [])
-left AtSieve job = sieve_line job.sieve ∷ done_line ∷ []
-left (AtBody handler) job = end_line ∷ done_line ∷ []
-left (AtSteps script) job = end_line ∷ done_line ∷ []
-left AtSchedule job = end_line ∷ done_line ∷ []
-left Over job = []
-left place job = done_line ∷ []
-
--- what isn't read yet stands as it began
-abbrev pub IsUnread : Place → Job → Type 0
-IsUnread (AtSetting setting) job =
-    (job.settings.pairs ≡ []) × (job.atomics ≡ false) × (job.handlers ≡ []) × (job.scripts ≡ []) × (job.schedule ≡ None)
-IsUnread AtSieve job =
-    (job.settings.pairs ≡ []) × (job.atomics ≡ false) × (job.handlers ≡ []) × (job.scripts ≡ []) × (job.schedule ≡ None)
-IsUnread AtPairs job = (job.atomics ≡ false) × (job.handlers ≡ []) × (job.scripts ≡ []) × (job.schedule ≡ None)
-IsUnread AtAtomics job = (job.atomics ≡ false) × (job.handlers ≡ []) × (job.scripts ≡ []) × (job.schedule ≡ None)
-IsUnread AtHandlers job = (job.scripts ≡ []) × (job.schedule ≡ None)
-IsUnread (AtBody handler) job = (job.scripts ≡ []) × (job.schedule ≡ None)
-IsUnread AtScripts job = job.schedule ≡ None
-IsUnread (AtSteps script) job = job.schedule ≡ None
-IsUnread AtSchedule job = (lines : List TimedEvent) × (job.schedule ≡ Some lines)
-IsUnread AtDone job = (lines : List TimedEvent) × (job.schedule ≡ Some lines)
-IsUnread Over job = Unit {0}
 
 -- ---- one line more
 

@@ -37,8 +37,8 @@ use Rattle.job_text.proofs.PlanPieces.{steps_more}
 use Rattle.job_text.proofs.Ranges.{IsNumber, AreNumbers}
 use Rattle.job_text.proofs.JobLaws.{AreLeast, numbers_more, IsHead, head_sound, IsSound, pair_sound, pair_free_by}
 use Rattle.job_text.proofs.JobLaws.{atomics_sound, handler_sound, script_sound, all_more, empty_sound, line_sound}
-use Rattle.job_text.specs.Refusals.{completed}
-use Rattle.job_text.proofs.StateLaws.{IsUnread, unless_ok, ok_same}
+use Rattle.job_text.specs.Refusals.{completed, IsUnread}
+use Rattle.job_text.proofs.StateLaws.{unless_ok, ok_same}
 
 -- a handler so far
 pub record IsBegun (handler : HandlerText) (job : Job) : Type 0 where

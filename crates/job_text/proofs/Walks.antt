@@ -7,12 +7,13 @@ use Rattle.job_text.specs.Places.{Place, Over, Item, item_text}
 use Rattle.job_text.specs.JobReading.{State, BadLine, Front, line_at, why_at, next, onward, stepped, step}
 use Rattle.job_text.specs.JobReading.{from_lines, front_with, over_or, after_step, run, read}
 use Rattle.job_text.specs.JobText.{Line, spell}
+use Rattle.job_text.specs.Refusals.{so_far}
 use Rattle.job_text.specs.declared.fault.JobWhy.{JobWhy}
 use Rattle.job_text.specs.declared.fault.JobWhy.TheVariants.{Early}
 use Rattle.job_text.proofs.FormLaws.{IsFlat}
 use Rattle.job_text.proofs.PlaceLaws.{place_exact}
 use Rattle.job_text.proofs.LineRuns.{IsOpen, goes_on, open_or_over, line_takes, line_again, lines_after}
-use Rattle.job_text.proofs.StateLaws.{so_far, says_more}
+use Rattle.job_text.proofs.StateLaws.{says_more}
 use Rattle.job_text.proofs.States.{IsState, unread, state_more}
 
 -- ---- a step

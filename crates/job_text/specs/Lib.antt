@@ -20,9 +20,6 @@ pub mod JobReading
 pub mod HeadReading
 pub mod JobText
 pub mod Refusals
-pub use Rattle.gas_atomic.specs.Asking
-pub use Rattle.gas_atomic.specs.BatchRequests
-pub use Rattle.gas_atomic.specs.Served
 pub use Rattle.gas_strided.specs.Plans
 pub use Rattle.gas_strided.specs.declared.shapes.Vis
 pub use Rattle.gas_strided.specs.declared.shapes.Way

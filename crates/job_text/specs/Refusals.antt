@@ -1,11 +1,15 @@
 -- What a refusal means, apart from the reader.
-use Rattle.std.specs.Prelude.{◌≡◌, ℕ, zero, suc, ◌+◌, ◌-◌, ◌<◌, ◌≤◌, List, [], ◌∷◌, ◌++◌, length, Some, true, false, ◌==◌, ◌||◌}
-use Rattle.std.specs.Prelude.{if◌then◌else◌, Err}
+use Rattle.std.specs.Prelude.{◌≡◌, ◌≢◌, ◌⊎◌, ℕ, zero, suc, ◌+◌, ◌-◌, ◌<◌, ◌≤◌, List, [], ◌∷◌, ◌++◌, length, map, codes}
+use Rattle.std.specs.Prelude.{Some, None, true, false, ◌==◌, ◌||◌, if◌then◌else◌, Result, Ok, Err}
 use Rattle.job_text.specs.Reasons.{is_text}
 use Rattle.job_text.specs.Scopes.{scope_of}
 use Rattle.job_text.specs.declared.scope.Scope.{Scope}
-use Rattle.job_text.specs.Places.{Place, AtPairs, AtAtomics, AtHandlers, AtBody, AtScripts, AtSteps, AtSchedule}
-use Rattle.job_text.specs.Places.{NamedOr, Named, Other, Item, item_form, item_text, IsItem}
+use Rattle.job_text.specs.Bodies.{action_text}
+use Rattle.job_text.specs.Scripts.{step_text}
+use Rattle.job_text.specs.Places as places
+use Rattle.job_text.specs.Places.{Setting, Version, Nodes, Credits, Threads, Segment, Last, Resend, Patience}
+use Rattle.job_text.specs.Places.{Place, AtSetting, AtSieve, AtPairs, AtAtomics, AtHandlers, AtBody, AtScripts, AtSteps}
+use Rattle.job_text.specs.Places.{AtSchedule, AtDone, Over, NamedOr, Named, Other, Item, item_form, item_text, IsItem}
 use Rattle.job_text.specs.JobReading.{limit, job_of, front_of, with_handler, with_script, lines_of, amounts_of}
 use Rattle.job_text.specs.PlanPieces.{scripts_pieces}
 use Rattle.job_text.specs.StepPieces.{steps_pieces}
@@ -14,13 +18,16 @@ use Rattle.job_text.specs.JobReading.{has_pair, has_thread, is_full, is_full_scr
 use Rattle.job_text.specs.declared.sections.HandlerHeader.{HandlerHeader}
 use Rattle.job_text.specs.declared.sections.Section.{Section}
 use Rattle.job_text.specs.declared.sections.Section.TheVariants as section
-use Rattle.job_text.specs.JobText.{IsJob, job_text}
+use Rattle.job_text.specs.JobText.{Line, spell, setting_line, all_settings, header_line, script_line, timed_lines}
+use Rattle.job_text.specs.JobText.{schedule_lines, lines_with_pairs, lines_with_handlers, lines_with_scripts}
+use Rattle.job_text.specs.JobText.{job_lines, IsJob, job_text}
 use Rattle.job_text.specs.declared.fault.JobFault.{JobFault}
 use Rattle.job_text.specs.declared.fault.JobFault.TheVariants as faults
 use Rattle.job_text.specs.declared.fault.JobWhy.{JobWhy}
 use Rattle.job_text.specs.declared.fault.JobWhy.TheVariants.{Size, Early, Text, Form, Value as BadValue, Entry, Count}
 use Rattle.job_text.specs.declared.fault.JobWhy.TheVariants.{After}
 use Rattle.job_text.specs.declared.job.Job.{Job}
+use Rattle.job_text.specs.declared.job.TimedEvent.{TimedEvent}
 
 -- the first so many lines, each with its ending byte, which the last one may lack
 abbrev pub first_lines : (count : ℕ) → List ℕ → List ℕ
@@ -45,18 +52,6 @@ pub record IsFront (bytes : List ℕ) : Type 0 where
 abbrev pub IsNoFront : List ℕ → Type 0
 IsNoFront bytes = (job : Job) (more : List ℕ) → IsJob job → job_text job ≡ bytes ++ more → ⊥
 
--- the text has all lines before this one, and the next one is missing
-pub record EndsEarly (bytes : List ℕ) (line : ℕ) : Type 0 where
-  pub all : bytes ≡ first_lines (line - 1) bytes
-  pub front : IsFront bytes
-  pub proper : front.more ≡ [] → ⊥
-
--- the line isn't one of words, behind the front of a job's text
-pub record HasNoText (bytes : List ℕ) (line : ℕ) : Type 0 where
-  pub front : IsFront (first_lines (line - 1) bytes)
-  pub some : after_lines (line - 1) bytes ≡ [] → ⊥
-  pub no_text : is_text (after_lines (line - 1) bytes) ≡ false
-
 -- ---- a line, and what came before it
 
 -- the job that the lines so far are of, with the handler or the script that they end with
@@ -64,6 +59,66 @@ abbrev pub completed : Place → Job → Job
 completed (AtBody handler) job = with_handler handler job
 completed (AtSteps script) job = with_script script job
 completed place job = job
+
+-- the settings before one
+abbrev pub settings_before : Setting → List Setting
+settings_before Version = []
+settings_before places.Job = Version ∷ []
+settings_before Nodes = Version ∷ places.Job ∷ []
+settings_before Credits = Version ∷ places.Job ∷ Nodes ∷ []
+settings_before Threads = Version ∷ places.Job ∷ Nodes ∷ Credits ∷ []
+settings_before Segment = Version ∷ places.Job ∷ Nodes ∷ Credits ∷ Threads ∷ []
+settings_before Last = Version ∷ places.Job ∷ Nodes ∷ Credits ∷ Threads ∷ Segment ∷ []
+settings_before Resend = Version ∷ places.Job ∷ Nodes ∷ Credits ∷ Threads ∷ Segment ∷ Last ∷ []
+settings_before Patience = Version ∷ places.Job ∷ Nodes ∷ Credits ∷ Threads ∷ Segment ∷ Last ∷ Resend ∷ []
+
+-- the lines before a place, of a job of which these were read
+abbrev pub so_far : Place → Job → List Line
+so_far (AtSetting setting) job = map (setting_line job) (settings_before setting)
+so_far AtSieve job = map (setting_line job) all_settings
+so_far AtPairs job = lines_with_pairs job
+so_far AtAtomics job = lines_with_pairs job
+so_far AtHandlers job = lines_with_handlers job
+so_far (AtBody handler) job = lines_with_handlers job ++ (header_line handler ∷ map action_text handler.body)
+so_far AtScripts job = lines_with_scripts job
+so_far (AtSteps script) job = lines_with_scripts job ++ (script_line script ∷ map step_text script.steps)
+so_far AtSchedule job = lines_with_scripts job ++ (codes "schedule" ∷ timed_lines job.settings (lines_of job.schedule))
+so_far AtDone job = lines_with_scripts job ++ schedule_lines job.settings job.schedule
+so_far Over job = job_lines job
+
+-- what no line has said yet isn't there
+abbrev pub IsUnread : Place → Job → Type 0
+IsUnread (AtSetting setting) job =
+    (job.settings.pairs ≡ []) × (job.atomics ≡ false) × (job.handlers ≡ []) × (job.scripts ≡ []) × (job.schedule ≡ None)
+IsUnread AtSieve job =
+    (job.settings.pairs ≡ []) × (job.atomics ≡ false) × (job.handlers ≡ []) × (job.scripts ≡ []) × (job.schedule ≡ None)
+IsUnread AtPairs job = (job.atomics ≡ false) × (job.handlers ≡ []) × (job.scripts ≡ []) × (job.schedule ≡ None)
+IsUnread AtAtomics job = (job.atomics ≡ false) × (job.handlers ≡ []) × (job.scripts ≡ []) × (job.schedule ≡ None)
+IsUnread AtHandlers job = (job.scripts ≡ []) × (job.schedule ≡ None)
+IsUnread (AtBody handler) job = (job.scripts ≡ []) × (job.schedule ≡ None)
+IsUnread AtScripts job = job.schedule ≡ None
+IsUnread (AtSteps script) job = job.schedule ≡ None
+IsUnread AtSchedule job = (lines : List TimedEvent) × (job.schedule ≡ Some lines)
+IsUnread AtDone job = (lines : List TimedEvent) × (job.schedule ≡ Some lines)
+IsUnread Over job = Unit {0}
+
+-- lines lead there: behind the pairs, before a handler or another part, the line of atomics came, or a handler; before
+-- a script or another part a script came
+abbrev pub IsReached : Place → Job → Type 0
+IsReached AtAtomics job = ⊥
+IsReached AtHandlers job = (job.atomics ≡ true) ⊎ (job.handlers ≢ [])
+IsReached AtScripts job = job.scripts ≢ []
+IsReached place job = Unit {0}
+
+-- what came before a line: the place behind the lines before it, and the job that they say
+pub record Before (bytes : List ℕ) (line : ℕ) : Type 0 where
+  pub place : Place
+  pub job : Job
+  pub is : IsJob (completed place job)
+  pub unread : IsUnread place job
+  pub reached : IsReached place job
+  pub count : line ≡ length (so_far place job) + 1
+  pub lines : first_lines (line - 1) bytes ≡ spell (so_far place job)
 
 -- the first line says this
 abbrev pub Says : (place : Place) → Scope → List ℕ → Item place → Type 0
@@ -106,37 +161,80 @@ IsFull AtPairs job (Named pair) = 64 ≤ length job.settings.pairs
 IsFull AtPairs job (Other item) = IsFullLater job item
 IsFull AtAtomics job item = IsFullLater job item
 IsFull AtHandlers job item = IsFullOfHandlers job item
-IsFull (AtBody handler) job item = 64 ≤ length handler.body
+IsFull (AtBody handler) job (Some action) = 64 ≤ length handler.body
 IsFull (AtSteps script) job (Some step) =
     is_full_script (scripts_pieces job.scripts + steps_pieces script.steps) (length script.steps) step ≡ true
 IsFull AtSchedule job (Some timed) =
     is_full job.settings.nodes (amounts_of (scripts_pieces job.scripts) (lines_of job.schedule)) timed.event ≡ true
 IsFull place job item = ⊥
 
--- what is wrong with a line, where this was read before it
-abbrev pub IsAtFault : JobWhy → Place → Job → List ℕ → Type 0
-IsAtFault Form place job rest = item_form place (scope_of job) rest ≡ false
-IsAtFault BadValue place job rest =
-    (item_form place (scope_of job) rest ≡ true) × ((item : Item place) → Says place (scope_of job) rest item → ⊥)
-IsAtFault Entry place job rest = (item : Item place) × (Says place (scope_of job) rest item × IsTaken place job item)
-IsAtFault Count place job rest = (item : Item place) × (Says place (scope_of job) rest item × IsFull place job item)
-IsAtFault why place job rest = Unit {0}
+-- the first line says nothing that can be said there
+abbrev pub SaysNothing : (place : Place) → Job → List ℕ → Type 0
+SaysNothing place job rest = (item : Item place) → Says place (scope_of job) rest item → ⊥
 
--- the lines before this one begin some job's text, those with it begin none, and this is wrong with it
+-- the line isn't one of words
+pub record HasNoText (place : Place) (job : Job) (rest : List ℕ) : Type 0 where
+  pub to_come : place ≢ Over
+  pub some : rest ≢ []
+  pub no_text : is_text rest ≡ false
+  pub says_nothing : SaysNothing place job rest
+
+-- it is one of words, which have no form that may stand there
+pub record HasNoForm (place : Place) (job : Job) (rest : List ℕ) : Type 0 where
+  pub to_come : place ≢ Over
+  pub text : is_text rest ≡ true
+  pub no_form : item_form place (scope_of job) rest ≡ false
+  pub says_nothing : SaysNothing place job rest
+
+-- its words have such a form, and one of them isn't in its set or range
+pub record HasBadValue (place : Place) (job : Job) (rest : List ℕ) : Type 0 where
+  pub to_come : place ≢ Over
+  pub text : is_text rest ≡ true
+  pub form : item_form place (scope_of job) rest ≡ true
+  pub says_nothing : SaysNothing place job rest
+
+-- it says what stood in a line before
+pub record IsRepeated (place : Place) (job : Job) (rest : List ℕ) : Type 0 where
+  pub item : Item place
+  pub says : Says place (scope_of job) rest item
+  pub taken : IsTaken place job item
+
+-- it says something new, for which there is no room
+pub record IsTooMany (place : Place) (job : Job) (rest : List ℕ) : Type 0 where
+  pub item : Item place
+  pub says : Says place (scope_of job) rest item
+  pub is_new : IsTaken place job item → ⊥
+  pub full : IsFull place job item
+
+-- what is wrong with the bytes from a line on, where this was read before them
+abbrev pub IsAtFault : JobWhy → Place → Job → List ℕ → Type 0
+IsAtFault Early place job rest = (place ≢ Over) × (rest ≡ [])
+IsAtFault Text place job rest = HasNoText place job rest
+IsAtFault Form place job rest = HasNoForm place job rest
+IsAtFault BadValue place job rest = HasBadValue place job rest
+IsAtFault Entry place job rest = IsRepeated place job rest
+IsAtFault Count place job rest = IsTooMany place job rest
+IsAtFault After place job rest = (place ≡ Over) × (rest ≢ [])
+IsAtFault Size place job rest = ⊥
+
+-- no job's text begins with the lines up to this one; where the next line is missing, or is none of words, more bytes
+-- could mend it
+abbrev pub NoneGoesOn : JobWhy → List ℕ → Type 0
+NoneGoesOn Early lines = Unit {0}
+NoneGoesOn Text lines = Unit {0}
+NoneGoesOn why lines = IsNoFront lines
+
+-- the lines before this one begin some job's text, those with it begin none, and by what they say this is wrong with it
 pub record IsWrong (bytes : List ℕ) (line : ℕ) (why : JobWhy) : Type 0 where
+  pub before : Before bytes line
+  pub fault : IsAtFault why before.place before.job (after_lines (line - 1) bytes)
   pub front : IsFront (first_lines (line - 1) bytes)
-  pub none : IsNoFront (first_lines line bytes)
-  pub place : Place
-  pub before : Job
-  pub came : front.job ≡ completed place before
-  pub fault : IsAtFault why place before (after_lines (line - 1) bytes)
+  pub none : NoneGoesOn why (first_lines line bytes)
 
 -- what a refusal at a line means
 abbrev pub Means : List ℕ → (line : ℕ) → JobWhy → Type 0
 Means bytes line Size = (line ≡ 0) × (limit < length bytes)
-Means bytes line Early = EndsEarly bytes line
-Means bytes line Text = HasNoText bytes line
-Means bytes line why = IsWrong bytes line why
+Means bytes line why = IsWrong bytes line why × (length bytes ≤ limit)
 
 -- a refusal means that, unless memory ran out
 abbrev pub IsMeant : List ℕ → JobFault → Type 0
@@ -147,6 +245,11 @@ IsMeant bytes (faults.Bad line why) = Means bytes line why
 abbrev pub IsNoMemory : JobFault → Type 0
 IsNoMemory faults.NoMemory = Unit {0}
 IsNoMemory (faults.Bad line why) = ⊥
+
+-- this line and this reason are told, unless memory ran out
+abbrev pub IsTold : {A : Type 0} → Result A JobFault → (line : ℕ) → JobWhy → Type 0
+IsTold (Ok read) line why = ⊥
+IsTold (Err fault) line why = IsNoMemory fault ⊎ (fault ≡ faults.Bad line why)
 
 -- the fault names the first bad line of the bytes, and the first reason that applies to it
 abbrev pub IsBadLine : List ℕ → JobFault → Type 0
@@ -167,7 +270,7 @@ pub record IsTooLong (bytes : List ℕ) : Type 0 where
 abbrev pub FrontMeans : List ℕ → (line : ℕ) → JobWhy → Type 0
 FrontMeans bytes line Size = (line ≡ 0) × IsTooLong bytes
 FrontMeans bytes line After = ⊥
-FrontMeans bytes line why = Means bytes line why
+FrontMeans bytes line why = IsWrong bytes line why
 
 -- a refusal means that, unless memory ran out
 abbrev pub IsFrontMeant : List ℕ → JobFault → Type 0

@@ -1,17 +1,20 @@
 //! The text of a job: its values, the forms of its lines as tables, and reading it.
 //!
-//! What is proved of `read_job` [`found`, `one`, `bad`, `meant`, `none`]: a job that is read has the bytes as its text
-//! (`JobText`: the printing of the job's value, and the ranges), and is the one job that has them; else the fault names
-//! the first bad line and the first reason that applies to it, as the reading function on lines says (`job_of`), and no
-//! job has the bytes as its text; or memory ran out. What a refusal means apart from that function [`meant`: `Means`]:
-//! some job's text, its size apart, begins with the lines before the bad one, and none begins with these and the bad
-//! one, in which its reason is wrong by the line and what came before it (`IsAtFault`); or the bytes end too early, the
-//! line is none of words, or there are too many bytes.
+//! What is proved of `read_job` [`found`, `one`, `bad`, `meant`, `told`, `none`]: a job that is read has the bytes as its
+//! text (`JobText`: the printing of the job's value, and the ranges), and is the one job that has them; else the fault
+//! names the first bad line and the first reason that applies to it, as the reading function on lines says (`job_of`),
+//! and no job has the bytes as its text; or memory ran out.
+//!
+//! What a refusal means apart from that function [`meant`: `Means`]: some job's text, its size apart, begins with the
+//! lines before the bad one. They say at which place of a text the line stands, and what the job is so far (`Before`).
+//! By these and the line, its reason is the first that applies (`IsAtFault`): the line is missing, or none of words, or
+//! no job's text begins with the lines up to it. Or there are too many bytes. What is so meant is told [`told`], unless
+//! memory ran out: so no text has two bad lines, and no line two reasons.
 //!
 //! `read_job_front` is the same reader where any bytes may stand behind a job's text [`found`, `one`, `bad`, `meant`,
-//! `none`]: it tells the one job with whose text the bytes begin, and the size of that text (`BeginsWith`); else the
-//! first bad line of the front (`front_of`), with what that means (`FrontMeans`), or that the text at the front is too
-//! long.
+//! `told`, `none`]: it tells the one job with whose text the bytes begin, and the size of that text (`BeginsWith`); else
+//! the first bad line of the front (`front_of`), with what that means (`FrontMeans`), or that the text at the front is
+//! too long.
 #![tactic(auto)]
 
 mod atomics_line;
@@ -47,7 +50,6 @@ mod waiting_steps;
 mod words;
 
 pub use fault::{JobFault, JobWhy};
-pub use gas_atomic::{BATCH_HANDLER, BLOCK_HANDLER, entries, serve};
 pub use gas_strided::Vis;
 pub use job::{
     Action, BatchText, Body, BoxedBatch, BoxedLong, BoxedMedium, BoxedTransfer, Bytes, HandlerText,

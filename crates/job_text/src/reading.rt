@@ -2,7 +2,9 @@
 
 ghost use Rattle.std.specs.Prelude.{◌≡◌, ◌⊎◌, ℕ, IfOk, IfErr};
 ghost use Rattle.job_text.specs.JobText.{BeginsWith, JobText};
-ghost use Rattle.job_text.specs.Refusals.{IsNoMemory, IsBadFront, IsBadLine, IsFrontMeant, IsMeant};
+ghost use Rattle.job_text.specs.Refusals.{FrontMeans, IsBadFront, IsBadLine, IsFrontMeant, IsMeant};
+ghost use Rattle.job_text.specs.Refusals.{IsNoMemory, IsTold, Means};
+ghost use Rattle.job_text.specs.declared.fault.JobWhy.{JobWhy as Why};
 ghost use Rattle.job_text.specs.declared.job.Job.{Job as JobState};
 ghost use Rattle.job_text.specs.JobReading.{front_of, front_with, job_of, read, start};
 ghost use Rattle.job_text.specs.Reading.{GivesAt};
@@ -110,6 +112,8 @@ pub fn read_job(alloc: Global, bytes: &[u8]) -> Result<Job, JobFault>
     ensures bad { IfErr result (λ fault. IsNoMemory fault ⊎ IsBadLine bytes.now fault) }
     // What that means, apart from the reader.
     ensures meant { IfErr result (λ fault. IsMeant bytes.now fault) }
+    // What is so meant of a line is told: no text has two bad lines, and no line two reasons.
+    ensures told { (line : ℕ) (why : Why) → Means bytes.now line why → IsTold result line why }
     // Where no job is read, no job has these bytes as its text, unless memory ran out.
     ensures none { IfErr result (λ fault.
         IsNoMemory fault ⊎ ((job : JobState) → JobText job bytes.now → ⊥)) }
@@ -134,6 +138,8 @@ pub fn read_job_front(alloc: Global, bytes: &[u8]) -> Result<(Job, usize), JobFa
     ensures bad { IfErr result (λ fault. IsNoMemory fault ⊎ IsBadFront bytes.now fault) }
     // What that means, apart from the reader.
     ensures meant { IfErr result (λ fault. IsFrontMeant bytes.now fault) }
+    // What is so meant of a line is told: no front has two bad lines, and no line two reasons.
+    ensures told { (line : ℕ) (why : Why) → FrontMeans bytes.now line why → IsTold result line why }
     // Where no job is read, the bytes begin with no job's text, unless memory ran out.
     ensures none { IfErr result (λ fault. IsNoMemory fault ⊎
         ((job : JobState) (size : ℕ) → BeginsWith job size bytes.now → ⊥)) }

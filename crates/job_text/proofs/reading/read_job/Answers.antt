@@ -1,5 +1,6 @@
 use Rattle.job_text.proofs.Refusing.{gives_found}
 use Rattle.job_text.proofs.Meanings.{gives_one, gives_meant, gives_none}
+use Rattle.job_text.proofs.OneReason.{gives_told}
 use Rattle.job_text.proofs.reading.read_job.Goals as goal
 
 pub returns-clause-found : goal.returns-clause-found
@@ -13,3 +14,6 @@ returns-clause-meant c = gives_meant c.job_at.result c.args.bytes.now c.job_at.e
 
 pub returns-clause-none : goal.returns-clause-none
 returns-clause-none c = gives_none c.job_at.result c.args.bytes.now c.job_at.ensures
+
+pub returns-clause-told : goal.returns-clause-told
+returns-clause-told c = gives_told c.job_at.result c.args.bytes.now c.job_at.ensures

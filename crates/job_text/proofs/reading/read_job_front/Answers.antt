@@ -1,5 +1,6 @@
 use Rattle.job_text.proofs.Refusing.{gives_front_found}
 use Rattle.job_text.proofs.Meanings.{gives_front_one, gives_front_meant, gives_front_none}
+use Rattle.job_text.proofs.OneReason.{gives_front_told}
 use Rattle.job_text.proofs.reading.read_job_front.Goals as goal
 
 pub returns-clause-found : goal.returns-clause-found
@@ -13,3 +14,6 @@ returns-clause-meant c = gives_front_meant c.sized_job_at.result c.args.bytes.no
 
 pub returns-clause-none : goal.returns-clause-none
 returns-clause-none c = gives_front_none c.sized_job_at.result c.args.bytes.now c.sized_job_at.ensures
+
+pub returns-clause-told : goal.returns-clause-told
+returns-clause-told c = gives_front_told c.sized_job_at.result c.args.bytes.now c.sized_job_at.ensures
