@@ -104,6 +104,14 @@ pub among_here : (due : ℕ → Option BarrierNote) (can : ℕ → Bool) (node m
     → note_among due can node (suc many) ≡ Some (record { to = node; note = note })
 among_here due can node many note asked here = rw (asked, here) refl
 
+-- nothing is due to the node
+pub among_undue : (due : ℕ → Option BarrierNote) (can : ℕ → Bool) (node many : ℕ) → due node ≡ None
+    → note_among due can node (suc many) ≡ note_among due can (node + 1) many
+among_undue due can node many none = elim (cases_Bool (can node)) [
+  | inl asked ↦ among_none due can node many asked none
+  | inr unasked ↦ among_unasked due can node many unasked
+]
+
 -- nothing is due
 pub among_quiet : (due : ℕ → Option BarrierNote) (can : ℕ → Bool) (node many : ℕ)
     → ((to : ℕ) → due to ≡ None) → note_among due can node many ≡ None

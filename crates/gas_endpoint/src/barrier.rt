@@ -67,8 +67,8 @@ impl Extended {
             return None;
         }
         for to in 0..self.nodes {
-            if core.can_ask(to) {
-                if let Some(note) = self.barrier.note_to(to) {
+            if let Some(note) = self.barrier.note_to(to) {
+                if core.can_ask(to) {
                     return Some((to, note));
                 }
             }

@@ -15,6 +15,9 @@ use Rattle.named_barrier.specs.Record.{own_part, heard_part, known, hear}
 use Rattle.named_barrier.specs.Record.{was_sent, due, due_before, or_else, note_to, send, notify_answer}
 use Rattle.named_barrier.specs.Record.{Stage, Try, stage, notify_after, own_try, try_answer, try_after, routed}
 use Rattle.named_barrier.specs.BarrierState.{BarrierState, last_due, now_due, note_at}
+use Rattle.datagram_grammar.specs.Notes.{mask_number}
+use Rattle.named_barrier.specs.declared.barrier.Barrier.TheInside.{Inside}
+use Rattle.named_barrier.specs.Views.{fields_view, IsBarrier}
 use Rattle.named_barrier.specs.Stands.{sent_mask, before, given, Stands}
 use Rattle.named_barrier.proofs.Runs.{slice_get_push, routed_note}
 use Rattle.named_barrier.proofs.Standing.{join_assoc, none_join, heard_part_push, heard_part_none, sent_mask_push}
@@ -467,3 +470,42 @@ sends_now nodes me state kept to stood none some = by_notes (last_due state to) 
     by_notes (Some other) second is second_is fails holds = absurd (true≢false fails)
     by_notes None (Some note) is second_is fails holds = stands_sent_now nodes me state kept to note stood is second_is
     by_notes None None is second_is fails holds = absurd (search rules)
+
+-- ---- where nothing is owed
+
+unowed_now : (inside : Inside) (to : ℕ) → IsBarrier inside
+    → (has (mask_number inside.goes_now) to ≡ true → has (mask_number inside.sent_now) to ≡ true)
+    → now_due (fields_view inside) to ≡ None
+unowed_now inside to kept sent = elim (cases_Bool (has (mask_number inside.sent_now) to)) [
+  | inl was ↦ rw was refl
+  | inr isnt ↦ elim (cases_Bool (has (mask_number inside.goes_now) to)) [
+    | inl goes ↦ absurd (true≢false (sym (sent goes) ∙ isnt))
+    | inr stays ↦ rw (isnt, sym (kept.now to) ∙ stays) refl
+  ]
+]
+
+unowed_last : (inside : Inside) (to : ℕ) → IsBarrier inside
+    → ((inside.phase ≡ 0 → ⊥) → has (mask_number inside.goes_last) to ≡ true
+    → has (mask_number inside.sent_last) to ≡ true)
+    → last_due (fields_view inside) to ≡ None
+unowed_last inside to kept sent = elim (cases_Bool (inside.phase == 0)) [
+  | inl first ↦ rw first refl
+  | inr later ↦
+      let some : inside.phase ≡ 0 → ⊥ = λ is. true≢false (sym (ap (λ phase. phase == 0) is) ∙ later) in
+      elim (cases_Bool (has (mask_number inside.sent_last) to)) [
+        | inl was ↦ rw (later, was) refl
+        | inr isnt ↦ elim (cases_Bool (has (mask_number inside.goes_last) to)) [
+          | inl goes ↦ absurd (true≢false (sym (sent some goes) ∙ isnt))
+          | inr stays ↦ rw (later, isnt, sym (kept.last some to) ∙ stays) refl
+        ]
+      ]
+]
+
+pub unowed : (inside : Inside) (to : ℕ) → IsBarrier inside
+    → (has (mask_number inside.goes_now) to ≡ true → has (mask_number inside.sent_now) to ≡ true)
+    → ((inside.phase ≡ 0 → ⊥) → has (mask_number inside.goes_last) to ≡ true
+    → has (mask_number inside.sent_last) to ≡ true)
+    → note_at (fields_view inside) to ≡ None
+unowed inside to kept now last =
+    ap (λ note. or_else note (now_due (fields_view inside) to)) (unowed_last inside to kept last)
+    ∙ unowed_now inside to kept now

@@ -1,15 +1,15 @@
 -- Masks word by word, and as numbers.
-use Rattle.std.proofs.Common.{◌≡◌, ℕ, zero, suc, ◌+◌, ◌*◌, ◌^◌, ◌<◌, List, [], ◌∷◌, length}
-use Rattle.std.proofs.Common.{sym, ap, ◌∙◌, arith, slice_index_or}
-use Rattle.std.specs.Prelude.{bit_or, slice_set}
-use Rattle.std.specs.Int.{bit_at}
+use Rattle.std.proofs.Common.{◌≡◌, ℕ, zero, suc, ◌+◌, ◌-◌, ◌*◌, ◌^◌, ◌<◌, List, [], ◌∷◌, length, true, nat_eq}
+use Rattle.std.proofs.Common.{sym, ap, ◌∙◌, arith, slice_index_or, min, eqb-true}
+use Rattle.std.specs.Prelude.{bit_and, bit_or, slice_set}
+use Rattle.std.specs.Int.{bit_at, w64}
 use Rattle.std.proofs.lemmas.Nat.{or_block, pow-add}
-use Rattle.std.proofs.lemmas.Nat.Bits.{bit_at_cat_low, bit_at_cat_high}
+use Rattle.std.proofs.lemmas.Nat.Bits.{bit_at_cat_low, bit_at_cat_high, bit_at_and, bit_at_not, bit_at-lt}
 use Rattle.std.specs.Int.Bits.{or_zero_r}
 use Rattle.std.proofs.Math.Pow.{pow-lt}
 use Rattle.datagram_grammar.specs.Notes.{mask_number}
 use Rattle.datagram_grammar.proofs.Masks.{four}
-use Rattle.named_barrier.specs.Masks.{mask_words, low_word, higher}
+use Rattle.named_barrier.specs.Masks.{has, mask_words, low_word, higher}
 
 abbrev pub AreWords : List ℕ → Type 0
 AreWords words = (index : ℕ) → index < length words → slice_index_or words index 0 < 2 ^ 64
@@ -105,3 +105,22 @@ set_bit (word ∷ words) (suc which) bit low inside fits =
     ap (λ rest. rest * 2 ^ 64 + word) later
     ∙ sym (ap (bit_or (mask_number words * 2 ^ 64 + word)) (sym up)
     ∙ (block ∙ ap (λ number. bit_or (mask_number words) (2 ^ (which * 64 + bit)) * 2 ^ 64 + number) none))
+
+-- ---- a bit of one mask that isn't left is in the other one
+
+only_one : (bit other : ℕ) → min bit (1 - other) ≡ 0 → bit ≡ 1 → other < 2 → other ≡ 1
+only_one bit zero none one low = absurd (let same : min bit 1 ≡ min 1 1 = ap (λ n. min n 1) one in
+    let zero_one : 1 ≡ 0 = sym same ∙ none in omega (arith, zero_one))
+only_one bit (suc other) none one low = omega (arith, low)
+
+pub covered : (mask other : List ℕ) (place bit : ℕ) → bit < 64
+    → place < length mask → place < length other → AreWords mask → AreWords other
+    → bit_at (bit_and (slice_index_or mask place 0) (18446744073709551615 - slice_index_or other place 0)) bit ≡ 0
+    → has (mask_number mask) (place * 64 + bit) ≡ true → has (mask_number other) (place * 64 + bit) ≡ true
+covered mask other place bit low inside among fits fitted none there =
+    let one = sym (bit_of mask place bit low inside fits) ∙ eqb-true (bit_at (mask_number mask) (place * 64 + bit)) 1 there in
+    let left = sym (bit_at_and (slice_index_or mask place 0) (18446744073709551615 - slice_index_or other place 0) bit
+    ∙ ap (min (bit_at (slice_index_or mask place 0) bit))
+    (bit_at_not w64 (slice_index_or other place 0) bit (fitted place among) low)) ∙ none in
+    ap (λ n. nat_eq n 1) (bit_of other place bit low among fitted
+    ∙ only_one _ _ left one (bit_at-lt (slice_index_or other place 0) bit))

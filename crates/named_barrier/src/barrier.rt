@@ -8,7 +8,7 @@ ghost use Rattle.named_barrier.specs.Stands.{Stands};
 
 use crate::answer::{BarrierAnswer, Notified};
 use crate::known::{Known, Notify, is_other, join, no_part, note_of, own_part, part_of};
-use crate::mask::{has_all, is_in, put_in};
+use crate::mask::{first_without, has_all, is_in, put_in};
 use crate::rounds::{Place, targets};
 use datagram_grammar::BarrierNote;
 use std::alloc::AllocError;
@@ -207,6 +207,19 @@ impl Barrier {
             Some(note) => Some(note),
             None => self.now_due(to),
         }
+    }
+
+    /// A node below which no note must go to any node. It looks at whole words of masks, so a search for the node to
+    /// which a note goes begins there.
+    pub fn first_owed(&self) -> u16
+        ensures { (nodes me : ℕ) (kept : BarrierRecord) → Stands nodes me self.now kept
+            → (to : ℕ) → to < result → note_to nodes me kept to ≡ None }
+    {
+        let now = first_without(&self.goes_now, &self.sent_now);
+        if self.phase == 0 {
+            return now;
+        }
+        now.min(first_without(&self.goes_last, &self.sent_last))
     }
 
     /// Whether this node has notified nothing so far: then no note must go to any node. A node whose job has no barrier

@@ -1,6 +1,6 @@
 //! Masks of up to 256 nodes in four words, the lowest first.
 
-ghost use Rattle.std.specs.Prelude.{◌≡◌, ◌<◌, ◌≤◌, ◌^◌, bit_or};
+ghost use Rattle.std.specs.Prelude.{◌≡◌, ◌<◌, ◌≤◌, ◌^◌, ℕ, true, bit_or};
 ghost use Rattle.datagram_grammar.specs.Notes.{mask_number};
 ghost use Rattle.named_barrier.specs.Masks.{has, has_all, mask_words};
 
@@ -37,6 +37,21 @@ pub(crate) fn put_in(mask: &mut [u64; 4], node: u16)
     ensures { mask_number mask.new ≡ bit_or (mask_number mask.old) (2 ^ node) }
 {
     mask[(node / 64) as usize] |= 1 << (node % 64);
+}
+
+/// A node below which each node of the first mask is in the other one too; 256 where that is so of all of them. It looks
+/// at each word at once.
+pub(crate) fn first_without(mask: &[u64; 4], other: &[u64; 4]) -> u16
+    ensures { (node : ℕ) → node < result → has (mask_number mask.now) node ≡ true
+        → has (mask_number other.now) node ≡ true }
+{
+    for place in 0..4usize {
+        let left = mask[place] & !other[place];
+        if left != 0 {
+            return place as u16 * 64 + left.trailing_zeros() as u16;
+        }
+    }
+    256
 }
 
 /// Whether each node is in the mask.

@@ -1,7 +1,8 @@
 //! Which chunk is out in which slot of which node.
 
-ghost use Rattle.std.specs.Prelude.{◌≡◌, ◌<◌, None, IfOk, ℕ};
+ghost use Rattle.std.specs.Prelude.{◌≡◌, ◌<◌, ◌≤◌, None, IfOk, ℕ, length, slice_get, vec_capacity};
 ghost use Rattle.put_get.specs.SlotsState.{entry_at, HasSet};
+ghost use Rattle.put_get.specs.Table.{flat};
 
 use std::alloc::{AllocError, Global};
 use std::marker::Model;
@@ -13,7 +14,8 @@ pub(crate) struct Waiting {
     pub place: usize,
 }
 
-/// An entry for each slot of each node.
+/// An entry for each slot of each node. The memory of all of them is reserved, and that of an entry is touched once a
+/// chunk went in its slot, or in a later one: there is none behind those in the list.
 #[derive(Drop)]
 pub(crate) struct Slots {
     nodes: usize,
@@ -22,7 +24,7 @@ pub(crate) struct Slots {
 }
 
 impl Model for Slots {
-    ghost use Rattle.std.specs.Prelude.{◌≡◌, ◌*◌, length};
+    ghost use Rattle.std.specs.Prelude.{◌≤◌, ◌*◌, vec_capacity};
     ghost use Rattle.put_get.specs.SlotsState.{SlotsState};
 
     ghost Value = { SlotsState };
@@ -30,7 +32,33 @@ impl Model for Slots {
     ghost view = { λ s.
         record { nodes = s.nodes; credits = s.credits; entries = s.entries.items } };
 
-    ghost invariant = { λ s. length s.entries.items ≡ s.nodes * s.credits };
+    ghost invariant = { λ s. s.nodes * s.credits ≤ vec_capacity s.entries };
+}
+
+/// The entry at a place; there is none behind the last.
+fn entry_in(entries: &[Option<Waiting>], place: usize) -> Option<Waiting>
+    ensures { result ≡ flat (slice_get entries.now place) }
+{
+    match entries.get(place) {
+        Some(entry) => *entry,
+        None => None,
+    }
+}
+
+/// The list goes up to that place, for which memory is reserved.
+fn reach(entries: &mut Vec<Option<Waiting>>, place: usize)
+    requires { place < vec_capacity entries.old }
+    ensures inside { place < length entries.new.items }
+    ensures room { vec_capacity entries.old ≤ vec_capacity entries.new }
+    ensures same { (other : ℕ) → flat (slice_get entries.new.items other)
+        ≡ flat (slice_get entries.old.items other) }
+{
+    if place < entries.len() {
+        return;
+    }
+    if entries.resize(place + 1, None).is_err() {
+        unreachable!();
+    }
 }
 
 impl Slots {
@@ -44,7 +72,7 @@ impl Slots {
         Ok(Slots {
             nodes,
             credits,
-            entries: vec![in alloc; None; nodes * credits]?,
+            entries: Vec::with_capacity(alloc, nodes * credits)?,
         })
     }
 
@@ -55,7 +83,7 @@ impl Slots {
         let to = usize::from(to);
         let slot = usize::from(slot);
         if to < self.nodes && slot < self.credits {
-            self.entries[to * self.credits + slot]
+            entry_in(&self.entries, to * self.credits + slot)
         } else {
             None
         }
@@ -68,6 +96,7 @@ impl Slots {
         ensures { HasSet self.old to slot entry self.new }
     {
         let place = usize::from(to) * self.credits + usize::from(slot);
+        reach(&mut self.entries, place);
         self.entries[place] = entry;
     }
 }

@@ -129,16 +129,15 @@ pub(crate) fn flag_at(flags: &[bool], place: usize) -> bool
     }
 }
 
-/// Whether a flag is set.
+/// Whether a flag is set. It looks at all of them, many at a time, and stops at none.
 fn has_flag(flags: &[bool]) -> bool
     ensures { result ≡ list_any (λ (flag : Bool). flag) flags.now }
 {
+    let mut any = false;
     for flag in flags {
-        if *flag {
-            return true;
-        }
+        any = either(any, *flag);
     }
-    false
+    any
 }
 
 /// One or the other.

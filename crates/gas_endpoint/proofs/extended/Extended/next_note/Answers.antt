@@ -8,9 +8,9 @@ use Rattle.am_core.specs.ClientRules.{rules}
 use Rattle.endpoint_rules.specs.EndpointLocal.{core_of}
 use Rattle.gas_endpoint.specs.EndpointState.{job_here}
 use Rattle.gas_endpoint.specs.Parts.{endpoint_of}
-use Rattle.gas_endpoint.proofs.Barriers.{among_here, among_none, among_unasked, among_quiet}
+use Rattle.gas_endpoint.proofs.Barriers.{among_here, among_undue, among_unasked, among_quiet}
 use Rattle.gas_endpoint.proofs.extended.Extended.next_note.Goals as goal
-use Rattle.gas_endpoint.proofs.extended.Extended.next_note.Goals.{then-can_ask+in_default, else-can_ask}
+use Rattle.gas_endpoint.proofs.extended.Extended.next_note.Goals.{in_default, in-Some+else-can_ask}
 
 pub returns-then-is_quiet-clause-next : goal.returns-then-is_quiet-clause-next
 returns-then-is_quiet-clause-next c meaning node S =
@@ -20,8 +20,8 @@ returns-then-is_quiet-clause-next c meaning node S =
     (can_ask (site_of (job_here meaning (endpoint_of core c.args.self.now)) core.me) node) 0 core.settings.nodes
     (c.is_quiet.ensures.none c.if-is_quiet.true core.settings.nodes core.me node.local.barrier S.barrier)))
 
-pub returns-in-Some-clause-next : goal.returns-in-Some-clause-next
-returns-in-Some-clause-next c meaning node S =
+pub returns-then-can_ask-clause-next : goal.returns-then-can_ask-clause-next
+returns-then-can_ask-clause-next c meaning node S =
     let core = c.args.core.now in
     let at = c.loop-to.to in
     let rest = core.settings.nodes - at - 1 in
@@ -44,16 +44,14 @@ loop-to-preserved c meaning node S rest e =
     let core = c.args.core.now in
     let at = c.loop-to.to in
     c.loop-to.invariant meaning node S (suc rest) (omega (arith, e))
-    ∙ (elim c.if-can_ask.branch [
-      | then-can_ask+in_default w ↦
-          among_none (note_to core.settings.nodes core.me node.local.barrier)
+    ∙ (elim c.match-note_to.branch [
+      | in_default w ↦
+          among_undue (note_to core.settings.nodes core.me node.local.barrier)
           (can_ask (site_of (job_here meaning (endpoint_of core c.args.self.now)) core.me) node) at rest
-          (sym (c.can_ask.ensures (rules core.settings core.table meaning) (under core_of node) S.core)
-          ∙ w.if-can_ask.true)
-          (sym (w.note_to.ensures.note core.settings.nodes core.me node.local.barrier S.barrier) ∙ w.in_default.is)
-      | else-can_ask w ↦
+          (sym (c.note_to.ensures.note core.settings.nodes core.me node.local.barrier S.barrier) ∙ w.in_default.is)
+      | in-Some+else-can_ask w ↦
           among_unasked (note_to core.settings.nodes core.me node.local.barrier)
           (can_ask (site_of (job_here meaning (endpoint_of core c.args.self.now)) core.me) node) at rest
-          (sym (c.can_ask.ensures (rules core.settings core.table meaning) (under core_of node) S.core)
+          (sym (w.can_ask.ensures (rules core.settings core.table meaning) (under core_of node) S.core)
           ∙ w.if-can_ask.false)
     ])
