@@ -1,7 +1,7 @@
 -- The calls on the barrier are those of the record.
 use Rattle.std.proofs.lemmas.Bool.{cases_Bool}
 use Rattle.std.proofs.Common.{add-one, zero, inl, inr, ◌≡◌, ℕ, suc, ◌+◌, ℤ, Bool, true, false, Option, None, Some, refl}
-use Rattle.std.proofs.Common.{ap, ◌∙◌, subst}
+use Rattle.std.proofs.Common.{ap, ap₂, ◌∙◌, subst, ◌<◌, ◌-◌, arith}
 use Rattle.datagram_grammar.specs.declared.note.BarrierNote.{BarrierNote}
 use Rattle.named_barrier.specs.BarrierState.{BarrierState}
 use Rattle.named_barrier.specs.Record.{BarrierRecord, notify_answer, notify_after, try_answer, try_after}
@@ -111,6 +111,24 @@ among_undue due can node many none = elim (cases_Bool (can node)) [
   | inl asked ↦ among_none due can node many asked none
   | inr unasked ↦ among_unasked due can node many unasked
 ]
+
+-- nothing is due to the first so many nodes
+pub among_skip : (due : ℕ → Option BarrierNote) (can : ℕ → Bool) (node many skip : ℕ)
+    → ((to : ℕ) → to < node + skip → due to ≡ None)
+    → note_among due can node many ≡ note_among due can (node + skip) (many - skip)
+among_skip due can node many zero none =
+    let from : node ≡ node + 0 = omega arith in
+    let rest : many ≡ many - 0 = omega arith in
+    ap₂ (note_among due can) from rest
+among_skip due can node zero (suc skip) none =
+    let rest : 0 ≡ 0 - suc skip = omega arith in
+    ap (note_among due can (node + suc skip)) rest
+among_skip due can node (suc many) (suc skip) none =
+    let from : node + 1 + skip ≡ node + suc skip = omega arith in
+    let rest : many - skip ≡ suc many - suc skip = omega arith in
+    among_undue due can node many (none node (omega arith))
+    ∙ (among_skip due can (node + 1) many skip (λ to below. none to (omega (arith, below)))
+    ∙ ap₂ (note_among due can) from rest)
 
 -- nothing is due
 pub among_quiet : (due : ℕ → Option BarrierNote) (can : ℕ → Bool) (node many : ℕ)

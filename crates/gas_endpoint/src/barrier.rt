@@ -66,7 +66,7 @@ impl Extended {
         if self.barrier.is_quiet() {
             return None;
         }
-        for to in 0..self.nodes {
+        for to in self.barrier.first_owed()..self.nodes {
             if let Some(note) = self.barrier.note_to(to) {
                 if core.can_ask(to) {
                     return Some((to, note));

@@ -1,4 +1,4 @@
-use Rattle.std.proofs.Common.{◌≡◌, ℕ, ◌+◌}
+use Rattle.std.proofs.Common.{◌≡◌, ◌-◌}
 use Rattle.handler_rules.specs.Runs.{Meaning}
 use Rattle.node_record.specs.Record.{Node}
 use Rattle.node_record.specs.Step.{can_ask}
@@ -13,8 +13,8 @@ use Rattle.gas_endpoint.proofs.extended.Extended.next_note.Given as goal
 abbrev pub invariant-loop-to : goal.invariant-loop-to
 invariant-loop-to l =
     (meaning : Meaning) (node : Node EndpointLocal) → EndpointStands (endpoint_of l.core l.self) node
-    → (rest : ℕ) → l.to + rest ≡ l.core.settings.nodes
     → note_among (note_to l.core.settings.nodes l.core.me node.local.barrier)
     (can_ask (site_of (job_here meaning (endpoint_of l.core l.self)) l.core.me) node) 0 l.core.settings.nodes
     ≡ note_among (note_to l.core.settings.nodes l.core.me node.local.barrier)
-    (can_ask (site_of (job_here meaning (endpoint_of l.core l.self)) l.core.me) node) l.to rest
+    (can_ask (site_of (job_here meaning (endpoint_of l.core l.self)) l.core.me) node) l.to
+    (l.core.settings.nodes - l.to)
