@@ -57,16 +57,20 @@ class Drill:
         self.mixes = [name for name in MIXES if mix in (name, "all")]
         self.calls = [call for name in self.mixes for call in MIXES[name]]
         self.pieces = 0  # of the plans so far
-        version = 2 if {"plans", "atomics"} & set(self.mixes) else 1
-        self.head = (
-            f"gasnet {version}\njob 7\nnodes {nodes}\ncredits {credits}\nthreads 2\nsegment {SEGMENT}\nlast 1000000\n"
-            f"resend {RESEND}\npatience 1\nsieve 0 0 0\n"
-            + ("atomics\n" if "atomics" in self.mixes else "") + HANDLERS
-        )
+        self.head = self.settings(nodes, credits) + HANDLERS
         self.world = World(read_job(self.head + "done\n")[0])
         self.lines, self.ways = [], []
         self.notified = [False] * nodes
         self.held = [None] * nodes
+
+    def settings(self, nodes, credits):
+        """The lines before the handlers. Plans and atomics stand in version 2 alone."""
+        version = 2 if {"plans", "atomics"} & set(self.mixes) else 1
+        atomics = "atomics\n" if "atomics" in self.mixes else ""
+        return (
+            f"gasnet {version}\njob 7\nnodes {nodes}\ncredits {credits}\nthreads 2\nsegment {SEGMENT}\nlast 1000000\n"
+            f"resend {RESEND}\npatience 1\nsieve 0 0 0\n{atomics}"
+        )
 
     # ---- what happens
 

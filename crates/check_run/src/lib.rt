@@ -18,6 +18,7 @@
 //!   of transfers and of the barrier), and the endpoints that are given stand for the records that this run leaves its
 //!   nodes [`nodes_of_run`]. By the law of `struck_laws` these are the records that each node's trace leaves as it was
 //!   read [`nodes_after`: `AreNodesAfter`].
+//! - `plans_law` [`PlansHold`]: the law of plans holds in every run of a job, and so in that of its traces.
 //!
 //! Each node's trace is replayed once, in the merge, where entries of all nodes go as they can: its machine records the
 //! lines of its steps (`Recorder`), which are written once the traces are known to be a run.
@@ -26,6 +27,7 @@
 mod checks;
 mod ending;
 mod input;
+mod laws;
 mod machines;
 mod notes;
 mod recorder;
@@ -35,5 +37,6 @@ mod striking;
 
 pub use checks::{Failed, first_failed, traces_of};
 pub use input::{CheckInput, InputFault, read_input};
+pub use laws::plans_law;
 pub use notes::{NoNotes, Notes};
 pub use run::{TracesEnd, run_traces};
