@@ -20,6 +20,7 @@
 //! port is made with the words of one that was free. `main` itself promises nothing.
 #![tactic(auto)]
 
+mod again;
 mod command;
 mod counted;
 mod ends;
@@ -32,6 +33,7 @@ mod telling;
 mod watched;
 mod words;
 
+use crate::again::is_file;
 use crate::command::Command;
 use crate::counted::CountedSpawner;
 use crate::ends::tell_ends;
@@ -94,6 +96,7 @@ fn main(rt: HostRuntime) -> ExitCode {
         steps,
     } = settings;
     let mut command = Command::new(&rt, rt.alloc(), words, steps);
+    command.input.keeps = !is_file(&rt);
     let Ok(progress) = shown_progress(&rt, !command.is_node() && rt.stderr().is_terminal()) else {
         return refuse(&rt, Refusal::NoMemory);
     };
@@ -125,7 +128,7 @@ fn main(rt: HostRuntime) -> ExitCode {
     let start = spawner.unstarted();
     drop(spawner);
     if !is_help {
-        tell_end(&rt, &command, Causes::new(socket.fault(), start));
+        tell_end(&rt, &mut command, Causes::new(socket.fault(), start));
     }
     status
 }

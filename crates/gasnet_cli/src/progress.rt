@@ -22,6 +22,7 @@ const SECOND: u64 = 10;
 /// What a command read and wrote so far.
 #[derive(Drop)]
 pub struct Progress {
+    is_shown: bool,
     read: AtomicU64,
     lines: AtomicU64,
     started: AtomicU64,
@@ -31,9 +32,10 @@ pub struct Progress {
 }
 
 impl Progress {
-    /// Nothing yet.
-    pub fn new() -> Progress {
+    /// Nothing yet. Lines are counted only where it is shown.
+    pub fn new(is_shown: bool) -> Progress {
         Progress {
+            is_shown,
             read: AtomicU64::new(0),
             lines: AtomicU64::new(0),
             started: AtomicU64::new(0),
@@ -52,6 +54,9 @@ impl Progress {
 
     /// These bytes were written.
     pub fn count_written(&self, bytes: &[u8]) {
+        if !self.is_shown {
+            return;
+        }
         let lines = bytes.iter().filter(|byte| **byte == b'\n').count();
         if let Ok(lines) = u64::try_from(lines) {
             self.lines.fetch_add(lines, Ordering::SeqCst);
@@ -113,7 +118,7 @@ pub fn shown_progress<R: Threads + Eprint + Clock + AllocGlobal + Clone + Send +
     rt: &R,
     is_terminal: bool,
 ) -> Result<Arc<Progress>, AllocError> {
-    let progress = Arc::new(rt.alloc(), Progress::new())?;
+    let progress = Arc::new(rt.alloc(), Progress::new(is_terminal))?;
     if !is_terminal {
         return Ok(progress);
     }

@@ -6,7 +6,7 @@ use std::io;
 use std::io::{Read, Write};
 
 /// The most bytes of the input that are kept.
-const MOST_INPUT: usize = 8_388_608;
+pub const MOST_INPUT: usize = 8_388_608;
 
 /// So many bytes of the end of the output are enough, where not all of it is kept. A status line
 /// has far fewer.
@@ -18,6 +18,8 @@ pub struct Seen {
     /// The bytes that are kept: the front of what was read, the end of what was written, or all of
     /// it.
     pub bytes: Vec<u8>,
+    /// Whether what is read is kept; it isn't where it can be read again.
+    pub keeps: bool,
     /// The system's number of the error by which the stream failed, where it has one.
     pub fault: Option<i32>,
     /// Whether the stream failed.
@@ -29,6 +31,7 @@ impl Seen {
     pub fn new(alloc: Global) -> Seen {
         Seen {
             bytes: Vec::new(alloc),
+            keeps: true,
             fault: None,
             failed: false,
         }
@@ -45,6 +48,9 @@ impl Seen {
 
     /// Keeps bytes at the front, unless there are too many of them, or memory runs out: then none.
     fn keep_front(&mut self, bytes: &[u8]) {
+        if !self.keeps {
+            return;
+        }
         if self.bytes.len() < MOST_INPUT && self.bytes.extend_from_slice(bytes).is_err() {
             self.bytes.clear();
         }
