@@ -4,15 +4,20 @@
 //! `Hosts` has the addresses of a job's nodes. A link receives what comes from these addresses alone.
 //!
 //! Each holds the handle by which it asks the system, so that the traits' calls need none. What the system does is its
-//! own: nothing tells what was sent, received, waits, or what a child gave. So what is proved is little:
+//! own: nothing tells what was sent, received, waits, or what a child gave. What is proved, by the names of clauses:
 //!
 //! - `UdpLink` meets `Link` [`bound`, `later`, `cause`]: it tells what it was bound to; its count of faults never
-//!   falls, and a call fails only where that count rose, or stands at its last value.
+//!   falls, and a call fails only where that count rose, or stands at its last value. Which errors are losses is exact
+//!   (`IsLoss`).
+//! - `Hosts`: the address of the node of a rank (`IsAddress`), and which node is the peer at an address (`FindsPeer`).
 //! - `SystemClock` meets `Clock` [`asked`, `said`]: it counts how often it was asked, and tells what it said last.
 //! - `SocketGate` meets `Gate`, which promises nothing.
 //! - `ProcessSpawner` meets `Spawner` [`output`, `later`, `cause`]: where a child ended, bytes within the limit were
 //!   appended; after another answer nothing was; its count of faults never falls, and `Failed` comes only where that
 //!   count rose, or stands at its last value.
+//! - Of a child: `child_command` [`program`, `words`] is the program with the words `node RANK PORT`; `feed` wrote all the
+//!   input, unless the reader was gone (`Feeds`); `drain` read all that the pipe tells (`DrainsAll`); what was drained is
+//!   appended, with the exit status that the system told (`HandsOn`).
 //!
 //! `ChildEnds` keeps how the children of a spawner ended; nothing is proved of it.
 //!
