@@ -21,7 +21,8 @@ use Rattle.world_run.specs.RunText.{lines_of_node, violations}
 use Rattle.check_run.specs.Merging.{AreReports, IsReportOf, texts_of}
 use Rattle.check_run.specs.Statuses.{AreOver, is_over}
 use Rattle.check_run.specs.StepLines.{end_lines, ends_from, is_violated, is_violated_from, step_lines, steps_from}
-use Rattle.check_run.specs.TracesRun.{AreNodesAfter, AreRanked, IsNodeAfter, first_machine, last_record}
+use Rattle.check_run.specs.Machines.{first_machine, last_record}
+use Rattle.check_run.specs.TracesRun.{AreNodesAfter, AreRanked, IsNodeAfter}
 use Rattle.check_run.specs.declared.recorder.NodeReport.{NodeReport}
 use Rattle.check_run.proofs.Fronts.{some_from}
 

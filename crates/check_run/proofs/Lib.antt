@@ -1,4 +1,9 @@
 pub mod Struck
+pub mod CallsMade
+pub mod StepsTold
+pub mod LinesTold
+pub mod Regions
+pub mod StepLaws
 pub mod Names
 pub mod Fronts
 pub mod Replays

@@ -33,6 +33,7 @@ use Rattle.check_run.specs.Recording.{record_steps}
 use Rattle.check_run.specs.TracesRun.{AreNoRun, AreNodesAfter, IsNodeAfter, RunOfTraces, entries_of, first_nodes}
 use Rattle.check_run.specs.declared.machines.RunReport.{RunReport}
 use Rattle.check_run.specs.declared.recorder.NodeReport.{NodeReport}
+use Rattle.check_run.proofs.StepLaws.{lines_tell}
 use Rattle.check_run.proofs.Fronts.{full_at, is_first_left, is_run_back, is_stuck, node_in, nodes_in, reaches, some_same}
 use Rattle.check_run.proofs.Replays.{last_state, replays_first}
 
@@ -169,7 +170,14 @@ order_run law job traces front placed is few order =
     reached in
     let count = length-map traces (λ (trace : Trace). trace.entries) in
     let run = law job (entries_of traces) order.nodes is (omega (arith, count)) own in
-    record { ranks = order.nodes; reached = own; turns = run.0; run = run.1; own = run.2 }
+    record {
+      ranks = order.nodes;
+      reached = own;
+      turns = run.0;
+      run = run.1;
+      own = run.2;
+      lines = lines_tell job traces order.nodes run.0 run.1 run.2;
+    }
 
 -- what the recorder of a rank stands for, by its trace
 stands_after : (job : JobState) (traces : List Trace) (then_ : List RecorderKept) (rank : ℕ) (kept : RecorderKept)

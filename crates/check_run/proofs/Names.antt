@@ -53,7 +53,7 @@ use Rattle.endpoint_rules.proofs.PlainAnswers.{answers_plain}
 use Rattle.check_run.specs.Recording.{HasHandles, ScriptedNode}
 use Rattle.check_run.specs.StepLines.{after_entry, answer_of_step}
 use Rattle.check_run.specs.StepsWritten.{NamesWhatIsThere}
-use Rattle.check_run.specs.TracesRun.{first_machine}
+use Rattle.check_run.specs.Machines.{first_machine}
 
 -- ---- the answer of a call
 

@@ -10,7 +10,7 @@ use Rattle.node_runs.specs.Order.{replay}
 use Rattle.node_script.specs.Lines.{Line}
 use Rattle.check_run.specs.Recording.{RecordedState, ScriptedNode, entry_lines, opening_record, record_steps}
 use Rattle.check_run.specs.StepLines.{after_entry, most_held, step_lines}
-use Rattle.check_run.specs.TracesRun.{first_machine}
+use Rattle.check_run.specs.Machines.{first_machine}
 
 -- the node of this rank of the job, where its machine is this
 abbrev pub node_state : JobState → (rank : ℕ) → ScriptedNode → NodeState

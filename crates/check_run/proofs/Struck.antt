@@ -47,7 +47,8 @@ use Rattle.check_run.specs.Recording.{RecorderKept, RecorderStands, opening_reco
 use Rattle.check_run.specs.Struck.{IsEndpointAt, is_refusal, refused_turns, refuses_at, refuses_got}
 use Rattle.check_run.specs.Struck.{struck_entries, struck_from}
 use Rattle.check_run.specs.Struck.{struck_trace, struck_traces}
-use Rattle.check_run.specs.TracesRun.{AreNodesAfter, IsNodeAfter, first_machine, last_record}
+use Rattle.check_run.specs.Machines.{first_machine, last_record}
+use Rattle.check_run.specs.TracesRun.{AreNodesAfter, IsNodeAfter}
 use Rattle.struck_laws.proofs.Striking.{replay_same}
 
 -- ---- a message that isn't refused is answered otherwise

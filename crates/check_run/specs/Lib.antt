@@ -6,5 +6,7 @@ pub mod StepLines
 pub mod Recording
 pub mod StepsWritten
 pub mod Merging
+pub mod StepsTold
+pub mod Machines
 pub mod TracesEnds
 pub mod JobLaws

@@ -13,7 +13,8 @@ use Rattle.node_script.specs.Lines.{spell}
 use Rattle.node_script.specs.Registration.{handlers_of, registered}
 use Rattle.check_run.specs.Recording.{RecorderKept, RecorderStands, opening_record}
 use Rattle.check_run.specs.StepLines.{most_held, step_lines}
-use Rattle.check_run.specs.TracesRun.{AreNodesAfter, AreNoRun, AreRanked, RunOfTraces, first_machine}
+use Rattle.check_run.specs.Machines.{first_machine}
+use Rattle.check_run.specs.TracesRun.{AreNodesAfter, AreNoRun, AreRanked, RunOfTraces}
 use Rattle.check_run.specs.declared.machines.RunReport.{RunReport}
 use Rattle.check_run.specs.declared.recorder.NodeReport.{NodeReport}
 

@@ -16,7 +16,7 @@ use Rattle.node_runs.specs.declared.script_answer.ScriptAnswer.TheVariants as sa
 use Rattle.node_script.specs.AnswerWords.{Sight, answer_words, sight_of, vis_words}
 use Rattle.node_script.specs.Lines.{Line}
 use Rattle.world_run.specs.RunText.{lines_of_node, violations}
-use Rattle.check_run.specs.TracesRun.{first_machine, last_record}
+use Rattle.check_run.specs.Machines.{first_machine, last_record}
 
 -- ---- steps
 

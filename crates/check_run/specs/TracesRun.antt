@@ -6,20 +6,17 @@ use Rattle.gas_endpoint.specs.EndpointState.{EndpointState, EndpointStands, IsNo
 use Rattle.gasnet_trace.specs.Merged.{IsFirstLeft}
 use Rattle.gasnet_trace.specs.declared.trace.Trace.{Trace}
 use Rattle.job_text.specs.declared.job.Job.{Job as JobState}
-use Rattle.job_text.specs.declared.job.ScriptStep.{ScriptStep}
 use Rattle.machine.specs.declared.entry.Entry.{Entry}
 use Rattle.machine.specs.Fronts.{Node, IsRun, IsStuck, Reaches, full}
 use Rattle.node_machine.specs.Laws.{IsRunOf, nodes_of, order_by}
-use Rattle.node_machine.specs.NodeState.{NodeState, script_job, scripts_at, state_steps}
-use Rattle.node_record.specs.Record.{Node as Record}
-use Rattle.node_runs.specs.Actions.{OwnScripts}
-use Rattle.node_runs.specs.Order.{own_entries, replay}
-use Rattle.node_runs.specs.Turn.{MachineState}
-use Rattle.node_runs.specs.WorldRun.{opening_machines}
+use Rattle.node_machine.specs.NodeState.{NodeState, state_steps}
+use Rattle.node_runs.specs.Order.{own_entries}
+use Rattle.node_runs.specs.WorldRun.{joined}
 use Rattle.node_script.specs.Registration.{handlers_of, registered}
-use Rattle.endpoint_rules.specs.EndpointLocal.{EndpointLocal}
 use Rattle.endpoint_rules.specs.EndpointRules.{OtherCall}
 use Rattle.plain_world.specs.World.{Timed}
+use Rattle.check_run.specs.Machines.{last_record}
+use Rattle.check_run.specs.StepsTold.{LinesTell}
 
 -- the entries of each trace
 abbrev pub entries_of : List Trace → List (List Entry)
@@ -44,7 +41,7 @@ pub record AreNoRun (job : JobState) (traces : List Trace) (node entry : ℕ) : 
 
 -- they are one: the entries, in the order of these ranks, are a run of the job's world, with all that holds of every
 -- run of it (`IsWorldRun` of `node_runs`): the headline, the laws of transfers and of the barrier. The entries of each
--- node in it are its trace
+-- node in it are its trace. Each line of its steps tells how its step ended in the run
 pub record RunOfTraces (job : JobState) (traces : List Trace) : Type 0 where
   pub ranks : List ℕ
   pub reached : Reaches state_steps (first_nodes job traces) ranks (full (first_nodes job traces))
@@ -52,16 +49,9 @@ pub record RunOfTraces (job : JobState) (traces : List Trace) : Type 0 where
   pub run : IsRunOf job (order_by job (entries_of traces) ranks) turns
   pub own : (rank : ℕ) (entries : List Entry) → slice_get (entries_of traces) rank ≡ Some entries
       → own_entries rank (order_by job (entries_of traces) ranks) ≡ entries
+  pub lines : LinesTell job traces (joined turns)
 
 -- ---- its nodes
-
--- the node of this rank before all turns, with its scripts
-abbrev pub first_machine : JobState → (rank : ℕ) → MachineState EndpointLocal (OwnScripts ScriptStep)
-first_machine job rank = opening_machines job.settings (scripts_at job) rank
-
--- its record after the entries of its trace, which is the one that the run leaves it
-abbrev pub last_record : JobState → (rank : ℕ) → List Entry → Record EndpointLocal
-last_record job rank entries = (replay (script_job job) rank (first_machine job rank) entries).node
 
 -- the endpoint is that node, after its trace
 pub record IsNodeAfter (job : JobState) (rank : ℕ) (trace : Trace) (endpoint : EndpointState) : Type 0 where

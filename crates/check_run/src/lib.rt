@@ -17,7 +17,9 @@
 //!   traces are a run of the world (`RunOfTraces`, with all that `IsWorldRun` of `node_runs` says: the headline, the laws
 //!   of transfers and of the barrier), and the endpoints that are given stand for the records that this run leaves its
 //!   nodes [`nodes_of_run`]. By the law of `struck_laws` these are the records that each node's trace leaves as it was
-//!   read [`nodes_after`: `AreNodesAfter`].
+//!   read [`nodes_after`: `AreNodesAfter`]. Each line of a step tells which step of which thread ended, by which calls of
+//!   the run and with what answers (`LinesTell`): so an `ok` of a sync, of a blocking transfer and of the barrier is one
+//!   of which the laws speak.
 //! - `plans_law` [`PlansHold`]: the law of plans holds in every run of a job, and so in that of its traces.
 //!
 //! Each node's trace is replayed once, in the merge, where entries of all nodes go as they can: its machine records the

@@ -27,7 +27,8 @@
 //!   - `check` (`CheckMeans`): with 0 and 1 the bytes read are the text of a job with an output of each of its nodes
 //!     behind it (`InputText`), and of no others, each node ended with 0 or 1, their traces, without the bytes that
 //!     their nodes refuse (`struck_traces` of `check_run`), are a run of the world (`RunOfTraces`: the headline, the
-//!     laws of transfers and of the barrier hold of it), the bytes written are its text (`run_lines` of `check_run`)
+//!     laws of transfers and of the barrier hold of it, and each line of its steps tells how its step ended in it:
+//!     `LinesTell`), the bytes written are its text (`run_lines` of `check_run`)
 //!     and the status line, and the nodes that the call returns stand for its end, which is what the traces leave as
 //!     they were read. It is 1 exactly where one of them noted a violation; with 11 each node ended with 0 or 1, and
 //!     their struck traces are no run (`AreNoRun`); 12 names the smallest rank of a node that ended otherwise, and the

@@ -1,0 +1,372 @@
+-- The lines of the steps of a run of traces, line by line.
+use Rattle.std.proofs.Common.{◌≡◌, ◌⊎◌, inl, inr, ℕ, zero, suc, ◌+◌, ◌&&◌, Bool, true, false, cond, eqb, List, [], ◌∷◌, ◌++◌}
+use Rattle.std.proofs.Common.{take, drop, Option, Some, None, refl, sym, ap, subst, ◌∙◌, arith, slice_get, eq-eqb, ne_eqb}
+use Rattle.std.specs.Prelude.{is_some, is_none}
+use Rattle.std.specs.Option.{option_map}
+use Rattle.std.proofs.lemmas.Bool.{cases_eq}
+use Rattle.std.proofs.lemmas.Option.{same_Some, slice_get-map}
+use Rattle.gasnet_trace.specs.declared.trace.Trace.{Trace}
+use Rattle.machine.specs.declared.entry.Entry.{Entry}
+use Rattle.endpoint_rules.specs.EndpointLocal.{EndpointLocal}
+use Rattle.endpoint_rules.specs.EndpointRules.{OtherCall}
+use Rattle.endpoint_rules.specs.declared.answer.Answer.{Answer}
+use Rattle.job_text.specs.declared.job.Job.{Job as JobState}
+use Rattle.job_text.specs.declared.job.ScriptStep.{ScriptStep}
+use Rattle.node_machine.specs.Laws.{IsRunOf, order_by}
+use Rattle.node_machine.specs.NodeState.{script_job, scripts_at, steps_of_thread}
+use Rattle.node_record.specs.Record.{Node}
+use Rattle.node_runs.specs.Actions.{Form, Progress, begins, progress_after}
+use Rattle.node_runs.specs.Order.{NodeEntry, own_entries, after_all, replay}
+use Rattle.node_runs.specs.WorldRun.{joined, opening_machines}
+use Rattle.node_runs.specs.declared.script_answer.ScriptAnswer.{ScriptAnswer}
+use Rattle.node_runs.proofs.Fronting.{after_own}
+use Rattle.node_script.specs.Lines.{Line}
+use Rattle.plain_world.specs.World.{Timed}
+use Rattle.check_run.specs.StepLines.{StepAt, after_entry, answer_of_step, lines_of_answer, step_line, step_lines, steps_from}
+use Rattle.check_run.specs.StepsTold.{IsStepTold, ended_in}
+use Rattle.check_run.specs.Machines.{first_machine}
+use Rattle.check_run.specs.TracesRun.{entries_of}
+use Rattle.check_run.proofs.StepsTold.{EndsInRun, Machine, Stands, at_entry, before_of, given_then, items_end}
+use Rattle.check_run.proofs.StepsTold.{scripts_apart, scripts_here, own_then, tried_at, tried_then}
+use Rattle.script_steps.specs.Forms.{step_form}
+
+-- ---- where the entries of a node stand among all
+
+-- the entry at a place of a node's own ones
+record OwnAt (items : List NodeEntry) (rank place : ℕ) (entry : Entry) : Type 0 where
+  pub at : ℕ
+  pub there : slice_get items at ≡ Some (record { node = rank; entry = entry })
+  pub before : own_entries rank (take at items) ≡ take place (own_entries rank items)
+
+-- behind one that is the node's, or another's
+abbrev own_by : (mine : Bool) → Entry → List Entry → List Entry
+own_by mine entry entries = cond mine (entry ∷ entries) entries
+
+item_is : (item : NodeEntry) (rank : ℕ) (entry : Entry) → item.node ≡ rank → item.entry ≡ entry
+    → ◌≡◌ {A = NodeEntry} item (record { node = rank; entry = entry })
+item_is item rank entry same is =
+    ap (λ (n : ℕ). record { node = n; entry = item.entry }) same
+    ∙ ap (λ (e : Entry). record { node = rank; entry = e }) is
+
+abbrev OwnOf : List NodeEntry → (rank : ℕ) → (entry : Entry) → Type 0
+OwnOf items rank entry = (place : ℕ) → slice_get (own_entries rank items) place ≡ Some entry → OwnAt items rank place entry
+
+-- behind an item of the node
+own_here : (item : NodeEntry) (items : List NodeEntry) (rank place : ℕ) (entry : Entry)
+    → eqb item.node rank ≡ true → item.node ≡ rank → OwnOf items rank entry
+    → slice_get (item.entry ∷ own_entries rank items) place ≡ Some entry → OwnAt (item ∷ items) rank place entry
+own_here item items rank zero entry is same later found = record {
+  at = 0;
+  there = ap (λ (one : NodeEntry). Some one) (item_is item rank entry same (same_Some item.entry entry found));
+  before = ap (λ (b : Bool). take 0 (own_by b item.entry (own_entries rank items))) (sym is);
+}
+own_here item items rank (suc place) entry is same later found =
+    let it = later place found in
+    record {
+      at = suc it.at;
+      there = it.there;
+      before = ap (λ (b : Bool). own_by b item.entry (own_entries rank (take it.at items))) is
+          ∙ ap (λ (es : List Entry). item.entry ∷ es) it.before
+          ∙ ap (λ (b : Bool). take (suc place) (own_by b item.entry (own_entries rank items))) (sym is);
+    }
+
+-- behind one of another node
+own_later : (item : NodeEntry) (items : List NodeEntry) (rank place : ℕ) (entry : Entry)
+    → eqb item.node rank ≡ false → OwnAt items rank place entry → OwnAt (item ∷ items) rank place entry
+own_later item items rank place entry is it = record {
+  at = suc it.at;
+  there = it.there;
+  before = ap (λ (b : Bool). own_by b item.entry (own_entries rank (take it.at items))) is
+      ∙ it.before
+      ∙ ap (λ (b : Bool). take place (own_by b item.entry (own_entries rank items))) (sym is);
+}
+
+own_at : (items : List NodeEntry) (rank place : ℕ) (entry : Entry)
+    → slice_get (own_entries rank items) place ≡ Some entry → OwnAt items rank place entry
+own_at [] rank place entry there = absurd (cc)
+own_at (item ∷ items) rank place entry there = elim (cases_eq item.node rank) [
+  | inl same ↦ (let is = eq-eqb item.node rank same in
+      own_here item items rank place entry is same (λ p found. own_at items rank p entry found)
+      (ap (λ (b : Bool). slice_get (own_by b item.entry (own_entries rank items)) place) (sym is) ∙ there))
+  | inr apart ↦ (let is = ne_eqb item.node rank apart in
+      own_later item items rank place entry is (own_at items rank place entry
+      (ap (λ (b : Bool). slice_get (own_by b item.entry (own_entries rank items)) place) (sym is) ∙ there)))
+]
+
+-- ---- what is left of a script
+
+-- a turn takes the first step off where it ended one, and else nothing
+after_try : (form : Form EndpointLocal) (one : ScriptStep) (rest : List ScriptStep) (began given : Option Answer)
+    (ended : Option ScriptAnswer)
+    → (progress_after form one rest began ended given).left ≡ cond (is_some ended) rest (one ∷ rest)
+after_try form one rest began given (Some answer) = refl
+after_try form one rest began given None = by_begin (begins form && is_none began)
+  where
+    by_begin : (b : Bool) → (cond {A = Progress ScriptStep} b (record { left = one ∷ rest; began = given })
+        (record { left = one ∷ rest; began = began })).left ≡ one ∷ rest
+    by_begin true = refl
+    by_begin false = refl
+
+left_by : (job : JobState) (rank : ℕ) (machine : Machine) (entry : Entry) (left : List ScriptStep)
+    → (machine.own entry.thread).left ≡ left
+    → (tried_then job (at_entry rank entry) machine entry left).left.left
+    ≡ cond (is_some (tried_then job (at_entry rank entry) machine entry left).ended) (drop 1 left) left
+left_by job rank machine entry [] same = refl
+left_by job rank machine entry (one ∷ rest) same =
+    let at = at_entry rank entry in
+    after_try (step_form one (tried_at job at entry.now) (before_of job rank machine entry)) one rest
+    (machine.own entry.thread).began (given_then job at machine entry (one ∷ rest)) _
+
+left_then : (job : JobState) (at : StepAt) (machine : Machine) (entry : Entry)
+    → (own_then job at.rank machine entry at.thread).left
+    ≡ cond (eqb entry.thread at.thread && is_some (answer_of_step job at.rank machine entry))
+    (drop 1 (machine.own at.thread).left) (machine.own at.thread).left
+left_then job at machine entry = elim (cases_eq at.thread entry.thread) [
+  | inl same ↦
+      ap (λ (p : Progress ScriptStep). p.left) (scripts_here job at.rank at.thread machine entry same)
+      ∙ left_by job at.rank machine entry (machine.own entry.thread).left refl
+      ∙ ap (λ (t : ℕ). cond (is_some (answer_of_step job at.rank machine entry)) (drop 1 (machine.own t).left)
+      (machine.own t).left) (sym same)
+      ∙ ap (λ (b : Bool). cond (b && is_some (answer_of_step job at.rank machine entry))
+      (drop 1 (machine.own at.thread).left) (machine.own at.thread).left)
+      (sym (eq-eqb entry.thread at.thread (sym same)))
+  | inr apart ↦
+      ap (λ (p : Progress ScriptStep). p.left) (scripts_apart job at.rank at.thread machine entry apart)
+      ∙ ap (λ (b : Bool). cond (b && is_some (answer_of_step job at.rank machine entry))
+      (drop 1 (machine.own at.thread).left) (machine.own at.thread).left)
+      (sym (ne_eqb entry.thread at.thread (λ same. apart (sym same))))
+]
+
+drop_none : (count : ℕ) → ◌≡◌ {A = List ScriptStep} (drop count []) []
+drop_none zero = refl
+drop_none (suc count) = refl
+
+drop_more : (count : ℕ) (left : List ScriptStep) → drop count (drop 1 left) ≡ drop (suc count) left
+drop_more count [] = drop_none count
+drop_more count (one ∷ left) = ap (drop count) (drop_zero left)
+  where
+    drop_zero : (rest : List ScriptStep) → drop 0 rest ≡ rest
+    drop_zero [] = refl
+    drop_zero (x ∷ rest) = refl
+
+drop_by : (b : Bool) (count : ℕ) (left : List ScriptStep)
+    → drop count (cond b (drop 1 left) left) ≡ drop (cond b (suc count) count) left
+drop_by true count left = drop_more count left
+drop_by false count left = refl
+
+drop_first : (left : List ScriptStep) → left ≡ drop 0 left
+drop_first [] = refl
+drop_first (one ∷ left) = refl
+
+left_after : (job : JobState) (at : StepAt) (entries : List Entry) (machine : Machine)
+    → ((replay (script_job job) at.rank machine entries).own at.thread).left
+    ≡ drop (ended_in job at machine entries) (machine.own at.thread).left
+left_after job at [] machine = drop_first (machine.own at.thread).left
+left_after job at (entry ∷ entries) machine =
+    let next = after_entry job at.rank machine entry in
+    left_after job at entries next
+    ∙ ap (drop (ended_in job at next entries)) (left_then job at machine entry)
+    ∙ drop_by (eqb entry.thread at.thread && is_some (answer_of_step job at.rank machine entry))
+    (ended_in job at next entries) (machine.own at.thread).left
+
+dropped_at : (count : ℕ) (steps : List ScriptStep) (one : ScriptStep) (rest : List ScriptStep)
+    → drop count steps ≡ one ∷ rest → slice_get steps count ≡ Some one
+dropped_at zero [] one rest same = absurd (cc)
+dropped_at zero (first ∷ steps) one rest same = ap (λ (s : ScriptStep). Some s) (cc)
+dropped_at (suc count) [] one rest same = absurd (cc)
+dropped_at (suc count) (first ∷ steps) one rest same = dropped_at count steps one rest same
+
+-- ---- the lines of one node
+
+-- the line at a place of the lines of its steps
+record LineOf (job : JobState) (rank : ℕ) (machine : Machine) (entries : List Entry) (words : Line) : Type 0 where
+  pub place : ℕ
+  pub entry : Entry
+  pub entry_is : slice_get entries place ≡ Some entry
+  pub answer : ScriptAnswer
+  pub ended : answer_of_step job rank (replay (script_job job) rank machine (take place entries)) entry ≡ Some answer
+  pub words_are : words ≡ step_line job (at_entry rank entry)
+      (after_entry job rank (replay (script_job job) rank machine (take place entries)) entry).node answer
+
+lines_split : (first second : List Line) (place : ℕ) (words : Line) → slice_get (first ++ second) place ≡ Some words
+    → (slice_get first place ≡ Some words) ⊎ ((other : ℕ) × (slice_get second other ≡ Some words))
+lines_split [] second place words there = inr (place, there)
+lines_split (one ∷ first) second zero words there = inl there
+lines_split (one ∷ first) second (suc place) words there = lines_split first second place words there
+
+abbrev LinesOf : JobState → (rank : ℕ) → Machine → List Entry → Line → Type 0
+LinesOf job rank machine entries words =
+    (place : ℕ) → slice_get (step_lines job rank machine entries) place ≡ Some words
+    → LineOf job rank machine entries words
+
+-- behind the turn of an entry
+line_later : (job : JobState) (rank : ℕ) (machine : Machine) (entry : Entry) (entries : List Entry) (words : Line)
+    → LineOf job rank (after_entry job rank machine entry) entries words
+    → LineOf job rank machine (entry ∷ entries) words
+line_later job rank machine entry entries words it = record {
+  place = suc it.place;
+  entry = it.entry;
+  entry_is = it.entry_is;
+  answer = it.answer;
+  ended = it.ended;
+  words_are = it.words_are;
+}
+
+-- at an entry whose turn ended a step
+line_here : (job : JobState) (rank : ℕ) (machine : Machine) (entry : Entry) (entries : List Entry) (words : Line)
+    (answer : ScriptAnswer) (place : ℕ) → answer_of_step job rank machine entry ≡ Some answer
+    → LinesOf job rank (after_entry job rank machine entry) entries words
+    → slice_get (step_line job (at_entry rank entry) (after_entry job rank machine entry).node answer
+    ∷ step_lines job rank (after_entry job rank machine entry) entries) place ≡ Some words
+    → LineOf job rank machine (entry ∷ entries) words
+line_here job rank machine entry entries words answer zero ended later found = record {
+  place = 0;
+  entry = entry;
+  entry_is = refl;
+  answer = answer;
+  ended = ended;
+  words_are = sym (same_Some (step_line job (at_entry rank entry) (after_entry job rank machine entry).node answer) words
+      found);
+}
+line_here job rank machine entry entries words answer (suc place) ended later found =
+    line_later job rank machine entry entries words (later place found)
+
+line_by : (job : JobState) (rank : ℕ) (machine : Machine) (entry : Entry) (entries : List Entry) (words : Line)
+    (ended : Option ScriptAnswer) (place : ℕ) → answer_of_step job rank machine entry ≡ ended
+    → LinesOf job rank (after_entry job rank machine entry) entries words
+    → slice_get (lines_of_answer job (at_entry rank entry) (after_entry job rank machine entry).node ended
+    ++ step_lines job rank (after_entry job rank machine entry) entries) place ≡ Some words
+    → LineOf job rank machine (entry ∷ entries) words
+line_by job rank machine entry entries words None place is later found =
+    line_later job rank machine entry entries words (later place found)
+line_by job rank machine entry entries words (Some answer) place is later found =
+    line_here job rank machine entry entries words answer place is later found
+
+line_of : (job : JobState) (rank : ℕ) (entries : List Entry) (machine : Machine) (words : Line)
+    → LinesOf job rank machine entries words
+line_of job rank [] machine words place there = absurd (cc)
+line_of job rank (entry ∷ entries) machine words place there =
+    line_by job rank machine entry entries words (answer_of_step job rank machine entry) place refl
+    (line_of job rank entries (after_entry job rank machine entry) words) there
+
+-- ---- the lines of all nodes
+
+record LineAmong (job : JobState) (rank : ℕ) (traces : List Trace) (words : Line) : Type 0 where
+  pub at : ℕ
+  pub trace : Trace
+  pub there : slice_get traces at ≡ Some trace
+  pub line : LineOf job (rank + at) (first_machine job (rank + at)) trace.entries words
+
+line_among : (job : JobState) (traces : List Trace) (rank place : ℕ) (words : Line)
+    → slice_get (steps_from job rank traces) place ≡ Some words → LineAmong job rank traces words
+line_among job [] rank place words there = absurd (cc)
+line_among job (trace ∷ traces) rank place words there = elim
+    (lines_split (step_lines job rank (first_machine job rank) trace.entries) (steps_from job (rank + 1) traces) place
+    words there) [
+      | inl here ↦ (let same : rank ≡ rank + 0 = omega arith in record {
+        at = 0;
+        trace = trace;
+        there = refl;
+        line = subst (λ (n : ℕ). LineOf job n (first_machine job n) trace.entries words) same
+            (line_of job rank trace.entries (first_machine job rank) words place here);
+      })
+      | inr later ↦ (let it = line_among job traces (rank + 1) later.0 words later.1 in
+          let same : rank + 1 + it.at ≡ rank + suc it.at = omega arith in record {
+            at = suc it.at;
+            trace = it.trace;
+            there = it.there;
+            line = subst (λ (n : ℕ). LineOf job n (first_machine job n) it.trace.entries words) same it.line;
+          })
+    ]
+
+-- ---- what a line tells
+
+opening_stands : (job : JobState) → Stands job [] (opening_machines job.settings (scripts_at job))
+opening_stands job = record {
+  nodes = λ rank. refl;
+  pending = λ rank thread first is. absurd (none_began first is);
+}
+  where
+    none_began : (first : Answer) → None ≡ Some first → ⊥
+    none_began first is = cc
+
+-- a run of traces: its turns, and that the entries of each node in it are its trace
+abbrev pub IsRunBy : JobState → List Trace → (ranks : List ℕ) → (turns : List (List (Timed OtherCall))) → Type 0
+IsRunBy job traces ranks turns = IsRunOf job (order_by job (entries_of traces) ranks) turns
+
+abbrev pub HaveOwn : JobState → List Trace → (ranks : List ℕ) → Type 0
+HaveOwn job traces ranks =
+    (rank : ℕ) (entries : List Entry) → slice_get (entries_of traces) rank ≡ Some entries
+    → own_entries rank (order_by job (entries_of traces) ranks) ≡ entries
+
+-- how the step of a line ended
+line_ends : (job : JobState) (traces : List Trace) (ranks : List ℕ) (turns : List (List (Timed OtherCall)))
+    → IsRunBy job traces ranks turns → HaveOwn job traces ranks → (rank : ℕ) (trace : Trace) (words : Line)
+    → slice_get traces rank ≡ Some trace → (line : LineOf job rank (first_machine job rank) trace.entries words)
+    → EndsInRun job (joined turns) rank
+    (replay (script_job job) rank (first_machine job rank) (take line.place trace.entries)) line.entry line.answer
+line_ends job traces ranks turns run has rank trace words there line =
+    let items = order_by job (entries_of traces) ranks in
+    let machines = opening_machines job.settings (scripts_at job) in
+    let listed : slice_get (entries_of traces) rank ≡ Some trace.entries =
+    slice_get-map (λ (one : Trace). one.entries) traces rank
+    ∙ ap (option_map (λ (one : Trace). one.entries)) there in
+    let own = has rank trace.entries listed in
+    let at = own_at items rank line.place line.entry
+    (ap (λ (es : List Entry). slice_get es line.place) own ∙ line.entry_is) in
+    let before : own_entries rank (take at.at items) ≡ take line.place trace.entries =
+    at.before ∙ ap (take line.place) own in
+    let machine : after_all (script_job job) machines (take at.at items) rank
+    ≡ replay (script_job job) rank (first_machine job rank) (take line.place trace.entries) =
+    after_own (script_job job) (take at.at items) machines rank
+    ∙ ap (replay (script_job job) rank (first_machine job rank)) before in
+    subst (λ (m : Machine). EndsInRun job (joined turns) rank m line.entry line.answer) machine
+    (items_end job items turns [] machines run.turns_are (opening_stands job) at.at
+    (record { node = rank; entry = line.entry }) at.there line.answer
+    (ap (λ (m : Machine). answer_of_step job rank m line.entry) machine ∙ line.ended))
+
+line_told : (job : JobState) (traces : List Trace) (run : List (Timed OtherCall)) (rank : ℕ) (trace : Trace)
+    (words : Line) → slice_get traces rank ≡ Some trace
+    → (line : LineOf job rank (first_machine job rank) trace.entries words)
+    → EndsInRun job run rank
+    (replay (script_job job) rank (first_machine job rank) (take line.place trace.entries)) line.entry line.answer
+    → IsStepTold job traces run words
+line_told job traces run rank trace words there line ends =
+    let step_at = at_entry rank line.entry in
+    let before = take line.place trace.entries in
+    let left : drop (ended_in job step_at (first_machine job rank) before)
+    (steps_of_thread job.scripts rank line.entry.thread) ≡ ends.ends.step ∷ ends.ends.rest =
+    sym (left_after job step_at before (first_machine job rank)) ∙ ends.ends.left_is in
+    record {
+      at = step_at;
+      trace = trace;
+      trace_is = there;
+      place = line.place;
+      entry = line.entry;
+      entry_is = line.entry_is;
+      thread_is = refl;
+      number = ended_in job step_at (first_machine job rank) before;
+      number_is = refl;
+      step = ends.ends.step;
+      step_is = dropped_at (ended_in job step_at (first_machine job rank) before)
+          (steps_of_thread job.scripts rank line.entry.thread) ends.ends.step ends.ends.rest left;
+      answer = line.answer;
+      context = ends.ends.context;
+      tried = ends.ends.tried;
+      ends = ends.ends.ends;
+      over = ends.over;
+      later = ends.later;
+      run_is = ends.run_is;
+      words_are = line.words_are
+          ∙ ap (λ (node : Node EndpointLocal). step_line job step_at node line.answer) (sym ends.node_is);
+    }
+
+pub lines_told : (job : JobState) (traces : List Trace) (ranks : List ℕ) (turns : List (List (Timed OtherCall)))
+    → IsRunBy job traces ranks turns → HaveOwn job traces ranks → (line : ℕ) (words : Line)
+    → slice_get (steps_from job 0 traces) line ≡ Some words → IsStepTold job traces (joined turns) words
+lines_told job traces ranks turns run own line words there =
+    let among = line_among job traces 0 line words there in
+    let same : 0 + among.at ≡ among.at = omega arith in
+    let its = subst (λ (n : ℕ). LineOf job n (first_machine job n) among.trace.entries words) same among.line in
+    line_told job traces (joined turns) among.at among.trace words among.there its
+    (line_ends job traces ranks turns run own among.at among.trace words among.there its)

@@ -1,0 +1,224 @@
+-- What the lines of the steps of a run of traces tell: which step of which thread ended, by which calls of the run, and
+-- how these were answered there.
+-- Origin: this project's profile. What an `ok` of a transfer and of the barrier means is that of GASNet 1.8.1.
+use Rattle.std.specs.Prelude.{◌≡◌, ◌⊎◌, ℕ, ℤ, suc, ◌==◌, ◌&&◌, if◌then◌else◌, List, [], ◌∷◌, ◌++◌, Option, Some, None}
+use Rattle.std.specs.Prelude.{is_some, slice_get, take}
+use Rattle.gasnet_trace.specs.declared.trace.Trace.{Trace}
+use Rattle.machine.specs.declared.entry.Entry.{Entry}
+use Rattle.barrier_laws.specs.BarrierLaws.{EndsPhase, TellsOutcome}
+use Rattle.endpoint_rules.specs.BarrierCalls.{TryBarrier}
+use Rattle.endpoint_rules.specs.Called.{Requests, Performs, event_at}
+use Rattle.endpoint_rules.specs.EndpointLocal.{EndpointLocal}
+use Rattle.endpoint_rules.specs.EndpointRules.{OtherCall, OnBarrier, OnTransfers, Records, asked_answer, at_the_opening}
+use Rattle.endpoint_rules.specs.EndpointRules.{job_of, timed}
+use Rattle.endpoint_rules.specs.TransferCalls.{TransferCall, Begin, Sync, SyncAll, SyncHandle, SyncImplicit, SyncSome}
+use Rattle.endpoint_rules.specs.declared.answer.Begun.TheVariants as begun
+use Rattle.endpoint_rules.specs.declared.answer.Answer.{Answer}
+use Rattle.endpoint_rules.specs.declared.answer.Answer.TheVariants as answers
+use Rattle.job_text.specs.declared.job.Job.{Job as JobState}
+use Rattle.job_text.specs.declared.job.ScriptStep.{ScriptStep}
+use Rattle.job_text.specs.declared.job.ScriptStep.TheVariants as step
+use Rattle.job_text.specs.declared.job.TransferText.{TransferText}
+use Rattle.job_text.specs.declared.job.WaitingStep.{WaitingStep}
+use Rattle.job_text.specs.declared.job.WaitingStep.TheVariants as waiting
+use Rattle.named_barrier.specs.declared.answer.BarrierAnswer.{BarrierAnswer}
+use Rattle.node_machine.specs.NodeState.{steps_of_thread}
+use Rattle.node_record.specs.NodeStep.{OfCall, OfRequest}
+use Rattle.node_record.specs.Record.{Node as Record}
+use Rattle.node_record.specs.declared.answer.Asked.{Asked}
+use Rattle.node_runs.specs.Actions.{Form, Once, Again, Until, Twice, Looks, Several, OwnScripts, unless}
+use Rattle.node_runs.specs.Scripts.{ThreadCall, TryContext}
+use Rattle.node_runs.specs.Turn.{MachineState}
+use Rattle.node_runs.specs.declared.script_answer.ScriptAnswer.{ScriptAnswer}
+use Rattle.node_runs.specs.declared.script_answer.ScriptAnswer.TheVariants as said
+use Rattle.node_script.specs.Bodies.{script_meaning}
+use Rattle.node_script.specs.Lines.{Line}
+use Rattle.node_script.specs.Registration.{handlers_of, registered}
+use Rattle.node_script.specs.ScheduledCalls.{some_of, transfer_of}
+use Rattle.plain_world.specs.World.{Timed, WorldAnswer, OfNode, run, world_answer}
+use Rattle.put_get.specs.declared.operation.Handle.{Handle}
+use Rattle.put_get.specs.declared.operation.Synced.TheVariants as synced
+use Rattle.put_get.specs.declared.operation.Transfer.{Transfer}
+use Rattle.script_steps.specs.Forms.{step_form}
+use Rattle.transfer_laws.specs.Chunks.{EndpointJob}
+use Rattle.transfer_laws.specs.TransferLaws.{Beginning, IsDoneSince, Synchronises, called}
+use Rattle.check_run.specs.StepLines.{StepAt, after_entry, answer_of_step, step_line, steps_from}
+use Rattle.check_run.specs.Machines.{first_machine}
+
+-- ---- calls of a run
+
+-- the rules of the job, as the laws of its runs have them
+abbrev pub rules_of : JobState → EndpointJob
+rules_of job = job_of job.settings (registered (handlers_of job)).table (script_meaning (handlers_of job))
+
+-- the records of its nodes after these events from the opening on
+abbrev pub records_after : JobState → List (Timed OtherCall) → Records
+records_after job events = run (rules_of job) events (at_the_opening job.settings)
+
+-- the world's answer to a call is this one
+abbrev pub IsReply : ThreadCall → Answer → WorldAnswer Answer → Type 0
+IsReply (Requests to asking) answer reply =
+    (asked : Asked) × (reply ≡ OfNode (OfRequest asked)) × (answer ≡ asked_answer asked)
+IsReply (Performs call) answer reply = reply ≡ OfNode (OfCall answer)
+
+-- the event of a call of a thread at this time
+abbrev pub call_event : StepAt → (now : ℕ) → ThreadCall → Timed OtherCall
+call_event at now call = timed now (event_at at.rank at.thread call)
+
+-- an event of the run is that the thread makes this call, and there it is answered so
+pub record IsMade (job : JobState) (run : List (Timed OtherCall)) (at : StepAt) (call : ThreadCall) (answer : Answer)
+    : Type 0 where
+  pub before : List (Timed OtherCall)
+  pub now : ℕ
+  pub later : List (Timed OtherCall)
+  pub run_is : run ≡ before ++ call_event at now call ∷ later
+  pub answered : IsReply call answer (world_answer (rules_of job) (records_after job before) (call_event at now call))
+
+-- ---- how a step ended
+
+-- one call was made, and its answer ended the step
+pub record EndsAtCall (job : JobState) (run : List (Timed OtherCall)) (at : StepAt) (call : ThreadCall)
+    (ends : Answer → Option ScriptAnswer) (answer : ScriptAnswer) : Type 0 where
+  pub told : Answer
+  pub made : IsMade job run at call told
+  pub ended : ends told ≡ Some answer
+
+-- a call began something, in an event before that of the call which ended the step; what that call is the answer of the
+-- first one says
+pub record EndsLater (job : JobState) (run : List (Timed OtherCall)) (at : StepAt) (begin : ThreadCall)
+    (next : Answer → Option ThreadCall) (ends : Answer → Option ScriptAnswer) (answer : ScriptAnswer) : Type 0 where
+  pub first : Answer
+  pub call : ThreadCall
+  pub next_is : next first ≡ Some call
+  pub told : Answer
+  pub made : IsMade job run at call told
+  pub begun : IsMade job made.before at begin first
+  pub ended : ends told ≡ Some answer
+
+-- a call began something, and its answer is the step's
+pub record EndsAsBegun (job : JobState) (run : List (Timed OtherCall)) (at : StepAt) (begin : ThreadCall)
+    (answer : ScriptAnswer) : Type 0 where
+  pub first : Answer
+  pub begun : IsMade job run at begin first
+  pub ended : answer ≡ said.Call first
+
+-- these calls were made, and the step's answer is this one
+pub record EndsAfterAll (job : JobState) (run : List (Timed OtherCall)) (at : StepAt) (calls : List ThreadCall)
+    (says answer : ScriptAnswer) : Type 0 where
+  pub each : (place : ℕ) (call : ThreadCall) → slice_get calls place ≡ Some call
+      → (told : Answer) × IsMade job run at call told
+  pub ended : answer ≡ says
+
+-- so it is of a step that is tried in this form
+abbrev pub EndsAs : JobState → List (Timed OtherCall) → StepAt → Form EndpointLocal → ScriptAnswer → Type 0
+EndsAs job run at (Once call) answer = EndsAtCall job run at call (λ told. Some (said.Call told)) answer
+EndsAs job run at (Again waits call) answer = EndsAtCall job run at call (λ told. unless (waits told) told) answer
+EndsAs job run at (Until call ends) answer = EndsAtCall job run at call ends answer
+EndsAs job run at (Twice begin next waits says) answer =
+    EndsAtCall job run at begin (λ told. unless (is_some (next told)) (says told)) answer
+    ⊎ EndsLater job run at begin next (λ told. unless (waits told) (says told)) answer
+EndsAs job run at (Looks begin ready) answer = EndsAsBegun job run at begin answer
+EndsAs job run at (Several calls says) answer = EndsAfterAll job run at calls says answer
+
+-- ---- which step it is
+
+-- how many steps of a thread end in the turns of these entries of its node
+abbrev pub ended_in : JobState → StepAt → MachineState EndpointLocal (OwnScripts ScriptStep) → List Entry → ℕ
+ended_in job at machine [] = 0
+ended_in job at machine (entry ∷ entries) =
+    if (entry.thread == at.thread) && is_some (answer_of_step job at.rank machine entry)
+    then suc (ended_in job at (after_entry job at.rank machine entry) entries)
+    else ended_in job at (after_entry job at.rank machine entry) entries
+
+-- what a line tells of the run of these traces: the step of this number of the thread's script, counted from 0, ended
+-- so; and the words are the thread's and those of the answer, by what the node's record is after some of the events
+pub record IsStepTold (job : JobState) (traces : List Trace) (run : List (Timed OtherCall)) (words : Line)
+    : Type 0 where
+  pub at : StepAt
+  pub trace : Trace
+  pub trace_is : slice_get traces at.rank ≡ Some trace
+  pub place : ℕ
+  pub entry : Entry
+  pub entry_is : slice_get trace.entries place ≡ Some entry
+  pub thread_is : entry.thread ≡ at.thread
+  pub number : ℕ
+  pub number_is : number ≡ ended_in job at (first_machine job at.rank) (take place trace.entries)
+  pub step : ScriptStep
+  pub step_is : slice_get (steps_of_thread job.scripts at.rank at.thread) number ≡ Some step
+  pub answer : ScriptAnswer
+  pub context : TryContext
+  pub tried : Record EndpointLocal
+  pub ends : EndsAs job run at (step_form step context tried) answer
+  pub over : List (Timed OtherCall)
+  pub later : List (Timed OtherCall)
+  pub run_is : run ≡ over ++ later
+  pub words_are : words ≡ step_line job at (records_after job over at.rank) answer
+
+-- ---- what an answer of a sync and of the barrier says
+
+-- a call on transfers, and one on the barrier
+abbrev pub on_transfers : TransferCall → ThreadCall
+on_transfers call = Performs (OnTransfers call)
+
+abbrev pub tries_barrier : ℤ → (flags : ℕ) → ThreadCall
+tries_barrier id flags = Performs (OnBarrier (TryBarrier id flags))
+
+-- where a sync was answered Ok, each transfer that began before and that it synchronises was done in between
+pub record SyncIsMade (job : JobState) (run : List (Timed OtherCall)) (at : StepAt) (call : TransferCall)
+    : Type 0 where
+  pub made : IsMade job run at (on_transfers call) (answers.Synced synced.Ok)
+  pub done : (beginning : Beginning (rules_of job)) (events : List (Timed OtherCall))
+      → made.before ≡ beginning.before ++ called beginning.now beginning.node beginning.thread beginning.call ∷ events
+      → Synchronises (rules_of job) (records_after job made.before) (call_event at made.now (on_transfers call))
+      beginning.node beginning.number
+      → IsDoneSince (rules_of job) beginning events
+
+-- a transfer was begun by the thread, a later sync of its handle was answered Ok, and in between the transfer was done
+pub record TransferIsMade (job : JobState) (run : List (Timed OtherCall)) (at : StepAt) (transfer : Transfer)
+    : Type 0 where
+  pub handle : Handle
+  pub sync : SyncIsMade job run at (SyncHandle handle)
+  pub beginning : Beginning (rules_of job)
+  pub node_is : beginning.node ≡ at.rank
+  pub thread_is : beginning.thread ≡ at.thread
+  pub call_is : beginning.call ≡ Begin None transfer
+  pub transfer_is : beginning.transfer ≡ transfer
+  pub events : List (Timed OtherCall)
+  pub before_is : sync.made.before
+      ≡ beginning.before ++ called beginning.now beginning.node beginning.thread beginning.call ∷ events
+  pub done : IsDoneSince (rules_of job) beginning events
+
+-- a try of the barrier was answered so, which tells the outcome of the notifies of all nodes
+pub record BarrierIsTried (job : JobState) (run : List (Timed OtherCall)) (at : StepAt) (id : ℤ) (flags : ℕ)
+    (answer : BarrierAnswer) : Type 0 where
+  pub made : IsMade job run at (tries_barrier id flags) (answers.Barrier answer)
+  pub tells : TellsOutcome job.settings (records_after job made.before)
+      (record { now = made.now; node = at.rank; thread = at.thread; id = id; flags = flags }) answer
+
+-- the synchronisation at which a step waits
+abbrev pub sync_waited : WaitingStep → Option TransferCall
+sync_waited (waiting.Wait register) = Some (Sync register)
+sync_waited (waiting.WaitAll registers) = Some (SyncAll registers)
+sync_waited (waiting.WaitSome registers) = Some (SyncSome registers)
+sync_waited (waiting.WaitImplicit which) = Some (SyncImplicit (some_of which))
+sync_waited other = None
+
+-- ---- all lines
+
+-- each line of the steps of a run of these traces tells how its step ended. So an `ok` of a step that waits for
+-- transfers, of a blocking transfer, and an `ok` or a `mismatch` of one that waits at the barrier, is what the laws of
+-- transfers and of the barrier speak of
+pub record LinesTell (job : JobState) (traces : List Trace) (run : List (Timed OtherCall)) : Type 0 where
+  pub each : (line : ℕ) (words : Line) → slice_get (steps_from job 0 traces) line ≡ Some words
+      → IsStepTold job traces run words
+  pub syncs : (words : Line) (told : IsStepTold job traces run words) (wait : WaitingStep) (call : TransferCall)
+      → told.step ≡ step.Waiting wait → sync_waited wait ≡ Some call
+      → told.answer ≡ said.Call (answers.Synced synced.Ok) → SyncIsMade job run told.at call
+  pub transfers : (words : Line) (told : IsStepTold job traces run words) (text : TransferText)
+      → told.step ≡ step.Waiting (waiting.Transfer text) → told.answer ≡ said.Call (answers.Synced synced.Ok)
+      → IsMade job run told.at (on_transfers (Begin None (transfer_of text))) (answers.Begun begun.Done)
+      ⊎ TransferIsMade job run told.at (transfer_of text)
+  pub barriers : (words : Line) (told : IsStepTold job traces run words) (id : ℤ) (flags : ℕ)
+      (answer : BarrierAnswer) → told.step ≡ step.Waiting (waiting.BarrierWait id flags)
+      → told.answer ≡ said.Call (answers.Barrier answer) → EndsPhase answer
+      → BarrierIsTried job run told.at id flags answer
