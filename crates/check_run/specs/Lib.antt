@@ -7,3 +7,4 @@ pub mod Recording
 pub mod StepsWritten
 pub mod Merging
 pub mod TracesEnds
+pub mod NodeReplays
