@@ -17,7 +17,7 @@ use Rattle.trace_replay.specs.Sending.{sent_from}
 use Rattle.trace_replay.specs.declared.replaying.Replayed.{Replayed}
 use Rattle.check_run.specs.Recording.{RecordedState, RecorderKept, RecorderStands, opening_record, record_steps}
 use Rattle.check_run.specs.Struck.{refused_turns, struck_entries, struck_trace}
-use Rattle.check_run.specs.declared.replays.NodeReplay.{NodeReplay}
+use Rattle.check_run.specs.declared.node_replay.NodeReplay.{NodeReplay}
 
 -- ---- requests
 
@@ -59,7 +59,7 @@ pub record ReplaysOutput (job : JobState) (rank : ℕ) (output : Output) (found 
   pub node_is : found.node ≡ kept.node.endpoint
   pub steps_are : found.steps.taken ≡ kept.text
   pub over_is : found.over ≡ are_done kept.node.scripts
-  pub open_is : ForItsRecord found.node (λ node. found.open ≡ open_requests found.node.core.settings found.node.core.me node)
+  pub open_is : ForItsRecord found.node (λ node. found.unreturned ≡ open_requests found.node.core.settings found.node.core.me node)
   pub sent_is : turns.sent.items
       ≡ sent_from record_steps (opening_record job rank) 1
       (take turns.turns (struck_entries job rank output.trace.entries))

@@ -3,7 +3,7 @@
 ghost use Rattle.job_text.specs.JobText.{IsJob};
 
 use crate::input::{CheckInput, InputFault, LIMIT, input_of, wanted_of};
-use crate::replays::{NodeReplay, replay_output};
+use crate::node_replay::{NodeReplay, replay_output};
 use gasnet_trace::{Output, TraceFault, read_output};
 use job_text::{Job, JobFault, read_job};
 use node_script::Script;

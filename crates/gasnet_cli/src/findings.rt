@@ -99,8 +99,8 @@ fn tell_counts<H: Eprint + AllocGlobal>(rt: &H, nodes: &[NodeReplay], ending: En
             let turns = u64::try_from(node.refused).unwrap_or(u64::MAX);
             tell_filled(rt, told, &[], &[rank, turns]);
         }
-        if node.open != 0 {
-            let open = u64::try_from(node.open).unwrap_or(u64::MAX);
+        if node.unreturned != 0 {
+            let open = u64::try_from(node.unreturned).unwrap_or(u64::MAX);
             tell_filled(rt, "open % %\n", &[], &[rank, open]);
         }
     }

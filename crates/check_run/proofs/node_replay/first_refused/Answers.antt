@@ -3,7 +3,7 @@ use Rattle.std.proofs.Common.{◌≡◌, true, length, Some, refl, sym, ap, subs
 use Rattle.std.specs.Prelude.{IsSomeAnd, is_some}
 use Rattle.std.proofs.lemmas.Option.{slice_get_read}
 use Rattle.check_run.specs.Struck.{refuses_got}
-use Rattle.check_run.proofs.replays.first_refused.Goals as goal
+use Rattle.check_run.proofs.node_replay.first_refused.Goals as goal
 
 pub returns-in-Some : goal.returns-in-Some
 returns-in-Some c = λ job rank at.

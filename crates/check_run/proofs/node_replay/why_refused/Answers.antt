@@ -1,7 +1,7 @@
 -- Whether a delivery of the bytes is refused.
 use Rattle.std.proofs.Common.{◌∙◌, arith}
 use Rattle.check_run.proofs.Struck.{refuses_told}
-use Rattle.check_run.proofs.replays.why_refused.Goals as goal
+use Rattle.check_run.proofs.node_replay.why_refused.Goals as goal
 
 pub returns : goal.returns
 returns c = λ job rank at.

@@ -43,7 +43,7 @@ pub struct NodeReplay {
     /// Whether no script has a step left after it.
     pub over: bool,
     /// How many requests of the node aren't back after it.
-    pub open: usize,
+    pub unreturned: usize,
     /// The node after it.
     pub node: Endpoint,
 }
@@ -125,7 +125,7 @@ pub fn replay_output(
         first_refused,
         steps: report.text,
         over,
-        open: open_requests(&node),
+        unreturned: open_requests(&node),
         node,
     };
     Ok((found, replayed))
