@@ -14,3 +14,4 @@ pub mod Inputs
 pub mod Turning
 pub mod Ends
 pub mod RunLines
+pub mod OpenCounts

@@ -10,3 +10,4 @@ pub mod StepsTold
 pub mod Machines
 pub mod TracesEnds
 pub mod JobLaws
+pub mod NodeReplays

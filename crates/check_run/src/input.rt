@@ -12,7 +12,7 @@ use job_text::{Job, JobFault, JobWhy, read_job_front};
 use std::alloc::Global;
 
 /// The most bytes of an input.
-const LIMIT: usize = 67_108_864;
+pub const LIMIT: usize = 67_108_864;
 
 /// A job, and what each of its nodes wrote.
 #[derive(Drop)]
@@ -75,7 +75,7 @@ fn fault_behind(before: &[u8], fault: TraceFault) -> InputFault
 }
 
 /// The node of this rank of the job, as that whose output is wanted.
-fn wanted_of(job: &Job, rank: u16) -> Wanted
+pub fn wanted_of(job: &Job, rank: u16) -> Wanted
     ensures { result ≡ wanted_of job.now rank }
 {
     Wanted {
@@ -114,7 +114,7 @@ fn outputs_from(
 }
 
 /// The input that the bytes are.
-fn input_of(alloc: Global, bytes: &[u8]) -> Result<CheckInput, InputFault>
+pub fn input_of(alloc: Global, bytes: &[u8]) -> Result<CheckInput, InputFault>
     requires { length bytes.now ≤ 67108864 }
     ensures { MatchResult result (λ input. IsInput bytes.now input.job input.outputs.items)
         (IsRefused bytes.now) }

@@ -21,6 +21,10 @@
 //!   the run and with what answers (`LinesTell`): so an `ok` of a sync, of a blocking transfer and of the barrier is one
 //!   of which the laws speak.
 //! - `plans_law` [`PlansHold`]: the law of plans holds in every run of a job, and so in that of its traces.
+//! - `replay_output` [`ReplaysOutput`]: what the output of a node tells by itself, also where the traces are no run: its
+//!   record after the turns that can be taken, with the lines of the steps that ended in them, whether its scripts are
+//!   over, how many of its requests are open, and what it sent. No clause speaks of which outputs `replay_input` and
+//!   `replay_given` give it.
 //!
 //! Each node's trace is replayed once, in the merge, where entries of all nodes go as they can: its machine records the
 //! lines of its steps (`Recorder`), which are written once the traces are known to be a run.
@@ -31,8 +35,11 @@ mod ending;
 mod input;
 mod laws;
 mod machines;
+mod node_replay;
 mod notes;
+mod outputs;
 mod recorder;
+mod requests;
 mod run;
 mod steps;
 mod striking;
@@ -40,5 +47,7 @@ mod striking;
 pub use checks::{Failed, first_failed, traces_of};
 pub use input::{CheckInput, InputFault, read_input};
 pub use laws::plans_law;
+pub use node_replay::{NodeReplay, Refusal, replay_output};
 pub use notes::{NoNotes, Notes};
+pub use outputs::{GivenOutput, NodeReplays, replay_given, replay_input};
 pub use run::{TracesEnd, run_traces};

@@ -41,7 +41,7 @@ fn refuses_got(endpoint: &Endpoint, item: &Entry) -> bool
 }
 
 /// How many of the entries got what the node refuses.
-fn refused_turns(endpoint: &Endpoint, entries: &[Entry]) -> usize
+pub fn refused_turns(endpoint: &Endpoint, entries: &[Entry]) -> usize
     ensures { OfItsNode endpoint.now (λ job rank. result ≡ refused_turns job rank entries.now) }
 {
     let mut turns = 0;
@@ -101,7 +101,7 @@ fn struck_entries(
 
 /// The trace of the node without the bytes that it refuses: itself, where there are none. How many turns got such bytes
 /// is told.
-fn struck_trace<N: Notes>(
+pub fn struck_trace<N: Notes>(
     alloc: Global,
     endpoint: &Endpoint,
     trace: Trace,

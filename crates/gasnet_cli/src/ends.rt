@@ -49,6 +49,12 @@ fn status_name(code: i32) -> &'static str {
     }
 }
 
+/// Tells the status with which a node ended, with its name.
+pub fn tell_status<H: Eprint + AllocGlobal>(rt: &H, rank: u16, code: i32) {
+    let numbers = [u64::from(rank), u64::try_from(code).unwrap_or(0)];
+    tell_filled(rt, "ended % status % @\n", &[status_name(code)], &numbers);
+}
+
 /// Tells how a child ended: its status with the name, or the signal, or why it has none.
 fn tell_end<H: Eprint + AllocGlobal>(rt: &H, rank: u16, end: ChildEnd) {
     let number = u64::from(rank);
@@ -58,10 +64,7 @@ fn tell_end<H: Eprint + AllocGlobal>(rt: &H, rank: u16, end: ChildEnd) {
         ChildEnd::Lost => return tell_filled(rt, "ended % output lost\n", &[], &[number]),
     };
     match status.code() {
-        Some(code) => {
-            let numbers = [number, u64::try_from(code).unwrap_or(0)];
-            tell_filled(rt, "ended % status % @\n", &[status_name(code)], &numbers);
-        }
+        Some(code) => tell_status(rt, rank, code),
         None => {
             let _ = eprintln!(rt; "ended {rank} {status}");
         }

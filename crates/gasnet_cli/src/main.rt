@@ -12,8 +12,9 @@
 //! keeps ([`settings`]). Where it sets them wrongly no command runs: the exit status is 2.
 //!
 //! Standard error has what a person is told: why words, a job or the environment are refused, why a
-//! link or a launch failed, which nodes of it failed ([`ends`]), help, each step beside its answer,
-//! what a long command is at, and how many datagrams a node dropped.
+//! link or a launch failed, which nodes of it failed ([`ends`]) and what their threads wait for
+//! ([`findings`]), help, each step beside its answer, what a long command is at, and how many
+//! datagrams a node dropped.
 //!
 //! What is proved of it stands on `run_streams` of `top_call`, which `run` calls with the words of
 //! the command line and the two streams, whose bytes it looks at as they go by. A launch without a
@@ -24,12 +25,14 @@ mod again;
 mod command;
 mod counted;
 mod ends;
+mod findings;
 mod notes;
 mod ports;
 mod progress;
 mod run;
 mod settings;
 mod telling;
+mod unsent;
 mod watched;
 mod words;
 
@@ -37,6 +40,7 @@ use crate::again::is_file;
 use crate::command::Command;
 use crate::counted::CountedSpawner;
 use crate::ends::tell_ends;
+use crate::findings::tell_findings;
 use crate::notes::StandardNotes;
 use crate::progress::shown_progress;
 use crate::run::{Behind, run};
@@ -105,7 +109,7 @@ fn main(rt: HostRuntime) -> ExitCode {
     let link = UdpLink::new(rt, &socket, &hosts);
     let ends = ChildEnds::new(rt.alloc());
     let behind = Behind {
-        spawner: CountedSpawner::new(spawner(rt, agent, folder, &ends), &progress),
+        spawner: CountedSpawner::new(rt.alloc(), spawner(rt, agent, folder, &ends), &progress),
         clock: SystemClock::new(rt),
         gate: SocketGate::new(rt, rt.alloc(), &socket),
         progress: &progress,
@@ -123,8 +127,9 @@ fn main(rt: HostRuntime) -> ExitCode {
     };
     progress.end(&rt);
     tell_dropped(&rt, &socket, &unsealed);
+    let (spawner, kept) = spawner.into_parts();
+    tell_findings(&rt, &command, &kept);
     tell_ends(&rt, &ends);
-    let spawner = spawner.into_inner();
     let start = spawner.unstarted();
     drop(spawner);
     if !is_help {

@@ -86,6 +86,16 @@ fn use_fault(alloc: Global, command: &Command) -> Result<String, AllocError> {
     Ok(text)
 }
 
+/// What is told of a status line by itself. Empty where that is nothing.
+fn sentence(status: &str) -> &'static str {
+    match status {
+        "status 8 no-memory" => "memory ran out",
+        "status 9 stuck" => "a script still waits, after so many quiet turns as the job's patience",
+        "status 10 journal-full" => "there were more turns than are kept",
+        _ => "",
+    }
+}
+
 /// What is told of a run that went wrong, in a line. Empty where it didn't, or nothing is known.
 fn fault_text(alloc: Global, command: &Command, causes: Causes) -> Result<String, AllocError> {
     let (input, output) = (&command.input, &command.output);
@@ -108,8 +118,7 @@ fn fault_text(alloc: Global, command: &Command, causes: Causes) -> Result<String
     if status == "status 7 spawn-fault" {
         return start_fault(alloc, causes.start);
     }
-    let is_full = status == "status 8 no-memory";
-    String::from_str(alloc, if is_full { "memory ran out" } else { "" })
+    String::from_str(alloc, sentence(status))
 }
 
 /// Each step of the nodes beside its answer, or each line of the schedule.

@@ -20,6 +20,6 @@ mod usage;
 
 pub use faults::{BadLine, job_fault};
 pub use help::help_for;
-pub use steps::{lines_told, steps_told};
+pub use steps::{lines_told, patience_told, steps_told, waits_told};
 pub use tables::fill;
 pub use usage::{place_fault, usage_fault};

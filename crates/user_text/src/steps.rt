@@ -1,9 +1,13 @@
 //! The steps and lines of a job beside their answers, for a person.
 
 use crate::faults::{next_line, text_of};
+use crate::kinds::number;
 use crate::places::Reading;
 use crate::tables::{as_one, fill};
 use std::alloc::{AllocError, Global};
+
+/// The lines of a job's head.
+const HEAD_LINES: u8 = 10;
 
 /// The steps of a script that weren't told yet.
 #[derive(Clone, Copy)]
@@ -102,6 +106,71 @@ pub fn steps_told(alloc: Global, job: &[u8], output: &[u8]) -> Result<String, Al
     Ok(told)
 }
 
+/// How many steps are left of a script.
+fn left(steps: &[u8]) -> u64 {
+    let (mut count, mut rest) = (0u64, steps);
+    for _ in 0..steps.len() {
+        let Some((line, after)) = next_line(rest) else {
+            return count;
+        };
+        if text_of(line) == "end" {
+            return count;
+        }
+        count = count.saturating_add(1);
+        rest = after;
+    }
+    count
+}
+
+/// Goes on behind the steps of which these are the lines.
+fn pass_steps<'a>(
+    alloc: Global,
+    scripts: &mut [Script<'a>],
+    lines: &'a [u8],
+) -> Result<(), AllocError> {
+    let mut rest = lines;
+    for _ in 0..lines.len() {
+        let Some((line, after)) = next_line(rest) else {
+            return Ok(());
+        };
+        let mut told = String::new(alloc);
+        if !tell_step(alloc, &mut told, scripts, text_of(line))? {
+            return Ok(());
+        }
+        rest = after;
+    }
+    Ok(())
+}
+
+/// The steps of a node that wait: behind the lines of its steps that ended, a line `waits RANK THREAD DONE STEPS` with
+/// the next step for each of its threads that has one. DONE is how many steps of its script ended, and STEPS how many
+/// that has.
+pub fn waits_told(
+    alloc: Global,
+    job: &[u8],
+    rank: u16,
+    lines: &[u8],
+) -> Result<String, AllocError> {
+    let mut told = String::new(alloc);
+    let Parts { mut scripts, .. } = parts_of(alloc, job)?;
+    pass_steps(alloc, &mut scripts, lines)?;
+    let node = fill(alloc, "%", &[], &[u64::from(rank)])?;
+    for script in scripts.iter() {
+        let left = left(script.steps);
+        let (of, _) = script.thread.split_once(' ').unwrap_or(("", ""));
+        if of != node.as_str() || left == 0 {
+            continue;
+        }
+        if let Some((step, _)) = next_line(script.steps) {
+            let words = [script.thread, text_of(step)];
+            let numbers = [script.told, script.told.saturating_add(left)];
+            let text = fill(alloc, "waits @ % % @\n", &words, &numbers)?;
+            told.push_str(text.as_str())?;
+        }
+    }
+    Ok(told)
+}
+
 /// The lines of a job's schedule beside their answers: a line `line NUMBER` with the line and the
 /// answer for each line of answers with which the output of `world` begins.
 pub fn lines_told(alloc: Global, job: &[u8], output: &[u8]) -> Result<String, AllocError> {
@@ -130,4 +199,36 @@ pub fn lines_told(alloc: Global, job: &[u8], output: &[u8]) -> Result<String, Al
         answered = after;
     }
     Ok(told)
+}
+
+/// The number behind the first word of the head of a job's text.
+fn head_number(job: &[u8], name: &str) -> u64 {
+    let mut rest = job;
+    for _ in 0..HEAD_LINES {
+        let Some((line, after)) = next_line(rest) else {
+            return 0;
+        };
+        if let Some((word, value)) = text_of(line).split_once(' ') {
+            if word == name {
+                return number(value);
+            }
+        }
+        rest = after;
+    }
+    0
+}
+
+/// That the patience of a job's nodes ends before anything is sent again. Empty where it doesn't.
+pub fn patience_told(alloc: Global, job: &[u8]) -> Result<String, AllocError> {
+    let (patience, resend) = (head_number(job, "patience"), head_number(job, "resend"));
+    let threads = head_number(job, "threads").max(1);
+    if patience / threads >= resend {
+        return Ok(String::new(alloc));
+    }
+    fill(
+        alloc,
+        "gasnet_cli: patience % ends before resend %: what is lost isn't sent again\n",
+        &[],
+        &[patience, resend],
+    )
 }
