@@ -59,7 +59,8 @@ pub record ReplaysOutput (job : JobState) (rank : ℕ) (output : Output) (found 
   pub node_is : found.node ≡ kept.node.endpoint
   pub steps_are : found.steps.taken ≡ kept.text
   pub over_is : found.over ≡ are_done kept.node.scripts
-  pub open_is : ForItsRecord found.node (λ node. found.unreturned ≡ open_requests found.node.core.settings found.node.core.me node)
+  pub open_is : ForItsRecord found.node (λ node.
+      found.unreturned ≡ open_requests found.node.core.settings found.node.core.me node)
   pub sent_is : turns.sent.items
       ≡ sent_from record_steps (opening_record job rank) 1
       (take turns.turns (struck_entries job rank output.trace.entries))
