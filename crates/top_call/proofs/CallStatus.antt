@@ -63,7 +63,7 @@ names (commands.Node rank port) h =
 names (commands.Drill seed) h = ap (λ (n : ℕ). commands.Drill n) (decimal_is_IsNumeral seed h).1
 
 -- what words ask for is what they are the words of
-is_asked : (words : List Word) (asked : Option Command) (command : Command) → IsAsked words asked
+pub is_asked : (words : List Word) (asked : Option Command) (command : Command) → IsAsked words asked
     → Asks words command → asked ≡ Some command
 is_asked words None command nothing asks = absurd (nothing command asks)
 is_asked words (Some other) command is asks =

@@ -13,4 +13,5 @@ pub mod NodeCommand
 pub mod DrillCommand
 pub mod NoCommand
 pub mod CallStatus
+mod Closing
 pub mod AskedWords

@@ -16,3 +16,4 @@ pub mod NoCommand
 pub mod TopCall
 pub mod TopParts
 pub mod Standard
+pub mod Told

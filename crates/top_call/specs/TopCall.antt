@@ -1,5 +1,6 @@
 -- What each exit status of the top call says, command by command, and what a call leaves alone.
-use Rattle.std.specs.Prelude.{◌≡◌, ℕ}
+use Rattle.std.specs.Prelude.{◌≡◌, ℕ, List}
+use Rattle.node_script.specs.Lines.{Word}
 use Rattle.top_call.specs.Outsides.{Call}
 use Rattle.top_call.specs.Commands.{Asks, AsksNothing}
 use Rattle.top_call.specs.WorldCommand.{WorldCompletes, WorldMeans}
@@ -40,3 +41,13 @@ pub record LeavesAlone (call : Call) : Type 0 where
       → call.after.devices ≡ call.before.devices
   pub drill : (seed : ℕ) → Asks call.words (commands.Drill seed) → call.after.source ≡ call.before.source
   pub usage : AsksNothing call.words → call.after.source ≡ call.before.source
+
+-- all of that
+pub record IsSaid (call : Call) (code : ℕ) : Type 0 where
+  pub means : StatusMeans call code
+  pub complete : IsComplete call code
+  pub leaves : LeavesAlone call
+
+-- the words are those of `node`, with this rank and port
+abbrev pub AsksNode : List Word → (rank port : ℕ) → Type 0
+AsksNode words rank port = Asks words (commands.Node rank port)

@@ -1,6 +1,6 @@
 -- The parts of the top call.
-use Rattle.std.specs.Prelude.{◌≡◌, ◌⊎◌, ℕ, List, Option, Some, None, Result, Ok, Err, ⊤}
-use Rattle.gas_outside.specs.Buffered.{Outbox, Gathers, GathersAll, GathersFront, Flushes}
+use Rattle.std.specs.Prelude.{◌≡◌, ◌⊎◌, ℕ, List, [], Option, Some, None, Result, Ok, Err, ⊤}
+use Rattle.gas_outside.specs.Buffered.{Outbox, Gathering, Gathers, GathersAll, GathersFront, Flushes, outbox}
 use Rattle.gas_outside.specs.declared.writing.Wrote.TheVariants as wrote
 use Rattle.gas_outside.specs.Faults.{Rose}
 use Rattle.node_script.specs.Lines.{Word, line_text}
@@ -16,8 +16,8 @@ use Rattle.launch_run.specs.TracesEnd.{TracesEnd}
 use Rattle.launch_run.specs.TracesEnd.TheVariants as traces
 use Rattle.launch_run.specs.declared.fault.LaunchFault.{LaunchFault}
 use Rattle.launch_run.specs.declared.fault.LaunchFault.TheVariants as launches
-use Rattle.top_call.specs.Outsides.{Course, Reading, Spawning}
-use Rattle.top_call.specs.Commands.{IsAsked, end_of, status_line}
+use Rattle.top_call.specs.Outsides.{Course, Reading, Spawning, given_by}
+use Rattle.top_call.specs.Commands.{code_of, end_of, status_line}
 use Rattle.top_call.specs.HowEnds.{EndsHow, Means, node_given, nodes_given, nothing, world_given}
 use Rattle.top_call.specs.JobReads.{GivesJob, ReadsNoJob}
 use Rattle.top_call.specs.WorldCommand.{WorldEnds}
@@ -32,6 +32,8 @@ use Rattle.top_call.specs.declared.ending.End.TheVariants as ends
 use Rattle.top_call.specs.declared.ending.Ended.{Ended}
 use Rattle.top_call.specs.declared.ending.Given.{Given}
 use Rattle.top_call.specs.declared.reading.JobRead.{JobRead}
+use Rattle.top_call.specs.declared.outside.Outside.{Outside}
+use Rattle.top_call.specs.declared.top.Status.{Status}
 use Rattle.top_call.specs.declared.words.Command.{Command}
 use Rattle.top_call.specs.declared.words.Command.TheVariants as commands
 
@@ -71,13 +73,15 @@ Keeps (Some (commands.Node rank port)) course spawning = IsUnused spawning
 Keeps (Some (commands.Drill seed)) course spawning =
     KeepsSource course × KeepsDevices course × IsUnused spawning
 
--- how the words' command ended, and what it left as it stood
-pub record EndsAsked (words : List Word) (course : Course) (spawning : Spawning) (old new : Outbox) (ended : Ended)
+-- how what was asked for ended, and what it left as it stood
+pub record EndsAs (asked : Option Command) (course : Course) (spawning : Spawning) (old new : Outbox) (ended : Ended)
     : Type 0 where
-  pub asked : Option Command
-  pub asked_is : IsAsked words asked
   pub ends : EndsBy (Ends asked course spawning) old new ended
   pub keeps : Keeps asked course spawning
+
+-- it isn't to run a node
+abbrev pub IsNoNode : Option Command → Type 0
+IsNoNode asked = (rank port : ℕ) → asked ≡ Some (commands.Node rank port) → ⊥
 
 -- ---- reading
 
@@ -168,3 +172,30 @@ GivesOn old new before after =
     ((before.end ≡ ends.WriteFault) × (after ≡ before) × (new ≡ old))
     ⊎ (((before.end ≡ ends.WriteFault → ⊥) × (after ≡ before) × Flushes old new wrote.Done)
     ⊎ ((before.end ≡ ends.WriteFault → ⊥) × (after ≡ cut) × Flushes old new wrote.Fault))
+
+-- the outside with this sink
+abbrev pub with_sink : {S J K L P C G : Type 0} → Outside S J L P C G → K → Outside S K L P C G
+with_sink outside sink = record {
+  source = outside.source;
+  sink = sink;
+  link = outside.link;
+  spawner = outside.spawner;
+  clock = outside.clock;
+  gate = outside.gate;
+}
+
+-- the outside is the other one, over a sink that gathers before its sink and holds back nothing
+pub record StandsOver {S K L P C G : Type 0} (outside : Outside S K L P C G)
+    (gathering : Outside S (Gathering K) L P C G) : Type 0 where
+  pub is : outside ≡ with_sink gathering gathering.sink.inner
+  pub empty : gathering.sink.pending ≡ []
+
+-- what the sink still held back was given on, and so the call of a command that ended ends
+pub record Closes {S K L P C G : Type 0} (taken : K → Option (List ℕ)) (faults : K → ℕ) (ended : Ended)
+    (gathering : Outside S (Gathering K) L P C G) (status : Status) (outside : Outside S K L P C G) : Type 0 where
+  pub sink : Gathering K
+  pub over : Ended
+  pub gives_on : GivesOn (outbox taken faults gathering.sink) (outbox taken faults sink) ended over
+  pub code : status.code ≡ code_of over.end
+  pub given : given_by status ≡ over.given
+  pub is : outside ≡ with_sink gathering sink.inner

@@ -1,6 +1,6 @@
 //! The top call: the words of a command, its outside, and the exit status.
 //!
-//! Of the top call `gasnet` (`src/top.rt`), where the source and the sink tell their bytes:
+//! Of the top call `gasnet` (`src/top.rt`), and of `returning_call`, where the source and the sink tell their bytes:
 //!
 //! - **What each exit status says** [`means`: `StatusMeans`, a record for each command]. Where the words are those of a
 //!   command (`Asks`), no other status comes than those of its record; where they are those of none, only 2, or 5.
@@ -68,12 +68,16 @@
 //! `ReaderSource` tells as left what its reader tells as remaining, `WriterSink` as taken what its writer tells as its
 //! contents, and both count errors. Standard input and output tell neither.
 //!
-//! What no clause says: what `program` does besides that call. It makes the words and the two streams of a handle, and
-//! calls `run_streams`, with no words where the command line can't be read as text, so that the status is 2, or 5.
-//! Where memory for the words runs out it makes no call, writes `status 8 no-memory`, and ends with 8, or with 5 where
-//! that write fails. No clause says that a write of the system reached anything, nor that memory really ran out with
-//! status 8. That nothing is written after a fault of the sink is tested, and shown by the code alone: `flushed` leaves
-//! the sink then.
+//! `returning_call` is `gasnet` for all words but those of `node`, which it hands back with the outside. Its type has no
+//! `Wait`, so it returns whatever comes, if the calls of the source, the sink and the spawner do; `gasnet` makes that
+//! call first.
+//!
+//! Of `program`: the words of the call are all that the command line told but the first, and none where they are no text
+//! (`AreTold`); where there is memory for them, it ends with the exit status of `run_streams` with these words
+//! (`EndsAsTold`). What no clause says: that it asks the system for the words and the two streams. Where memory for the
+//! words runs out it makes no call, writes `status 8 no-memory`, and ends with 8, or with 5 where that write fails. No
+//! clause says that a write of the system reached anything, nor that memory really ran out with status 8. That nothing is
+//! written after a fault of the sink is tested, and shown by the code alone: `flushed` leaves the sink then.
 #![tactic(auto)]
 
 mod check;
@@ -95,7 +99,8 @@ mod words;
 mod world;
 
 pub use launch_run::{NoNotes, Notes};
+pub use node::AskedNode;
 pub use outside::Outside;
 pub use standard::{ReaderSource, WriterSink};
 pub use streams::{program, run_streams};
-pub use top::{Status, gasnet};
+pub use top::{Status, gasnet, returning_call};

@@ -1,10 +1,12 @@
 //! The program over standard input and output.
 
-ghost use Rattle.std.specs.Prelude.{map, string_bytes};
+ghost use Rattle.std.specs.Prelude.{◌≡◌, IfOk, drop, map, string_bytes};
 ghost use Rattle.std.specs.Process.{exit_status};
+ghost use Rattle.std.specs.Vec.Iter.{into_iter_items};
 ghost use Rattle.top_call.specs.declared.ending.Given.{Given};
 ghost use Rattle.top_call.specs.Standard.{streams_seen, uncounted};
 ghost use Rattle.top_call.specs.Outsides.{call_of};
+ghost use Rattle.top_call.specs.Told.{AreTold, EndsAsTold};
 ghost use Rattle.top_call.specs.TopCall.{IsComplete, LeavesAlone, StatusMeans};
 
 use crate::ending::{End, Ended, Given};
@@ -15,7 +17,7 @@ use crate::top::{flushed, gasnet};
 use gas_outside::{BufferedSink, Clock, Gate, Link, Spawner};
 use launch_run::Notes;
 use std::alloc::{AllocError, Global};
-use std::env;
+use std::env::{self, Args};
 use std::io::{self, Eprint, ErrorKind, Input, Print, Read, Write};
 use std::process::ExitCode;
 use std::rt::Env;
@@ -89,16 +91,29 @@ impl<H: Eprint> Notes for StandardNotes<'_, H> {
     }
 }
 
-/// The words of the command line without the program's name, none where they are no text.
+/// All texts but the first.
 ///
 /// # Errors
 ///
 /// `AllocError` where memory ran out.
-fn words<R: Env + AllocGlobal>(rt: &R) -> Result<Vec<String>, AllocError> {
-    match env::args(rt) {
-        Ok(args) => args.skip(1).collect(rt.alloc()),
+fn after_first(alloc: Global, told: Args) -> Result<Vec<String>, AllocError>
+    ensures { IfOk result (λ words. words.items ≡ drop 1 (into_iter_items told)) }
+{
+    told.skip(1).collect(alloc)
+}
+
+/// The words of a call, by what the command line told: without the program's name, none where they are no text.
+///
+/// # Errors
+///
+/// `AllocError` where memory ran out.
+fn words_of(alloc: Global, told: io::Result<Args>) -> Result<Vec<String>, AllocError>
+    ensures { AreTold told result }
+{
+    match told {
+        Ok(told) => after_first(alloc, told),
         Err(error) if error.kind() == ErrorKind::OutOfMemory => Err(AllocError),
-        Err(_) => Ok(Vec::new(rt.alloc())),
+        Err(_) => Ok(Vec::new(alloc)),
     }
 }
 
@@ -111,6 +126,40 @@ fn end_without_words<W: Write + Drop>(writer: W) -> ExitCode {
     ExitCode::from(end.code())
 }
 
+/// The top call with the words that the command line told, over a reader and a writer of std, with the exit status that
+/// the program ends with. Where memory for the words ran out no call is made.
+fn run_told<
+    H: Threads + Wait + Sync,
+    R: Read + Drop,
+    W: Write + Send + Drop,
+    L: Link + Send + Drop,
+    P: Spawner + Drop,
+    C: Clock + Send + Drop,
+    G: Gate + Sync + Drop,
+    N: Notes,
+>(
+    rt: &H,
+    alloc: Global,
+    told: io::Result<Args>,
+    streams: Outside<R, W, L, P, C, G>,
+    notes: &mut N,
+) -> ExitCode
+    ensures { EndsAsTold R.remaining W.contents L.Link P.Spawner C.Clock streams told
+        (exit_status result) }
+{
+    match words_of(alloc, told) {
+        Ok(words) => {
+            let (code, after) = run_streams(rt, alloc, &words, streams, notes);
+            drop(after);
+            code
+        }
+        Err(AllocError) => {
+            let Outside { sink, .. } = streams;
+            end_without_words(sink)
+        }
+    }
+}
+
 /// The whole program but for what a node runs over and is started by: the words of the command line, standard input and
 /// standard output, and its exit status; 8 also where memory for the words ran out. Standard error has what is told of a
 /// run beside its lines.
@@ -121,9 +170,6 @@ pub fn program<
     C: Clock + Send + Drop,
     G: Gate + Sync + Drop,
 >(rt: &H, link: L, spawner: P, clock: C, gate: G) -> ExitCode {
-    let Ok(words) = words(rt) else {
-        return end_without_words(io::writer(rt));
-    };
     let streams = Outside {
         source: rt.reader(),
         sink: io::writer(rt),
@@ -133,5 +179,5 @@ pub fn program<
         gate,
     };
     let mut notes = StandardNotes { rt };
-    run_streams(rt, rt.alloc(), &words, streams, &mut notes).0
+    run_told(rt, rt.alloc(), env::args(rt), streams, &mut notes)
 }

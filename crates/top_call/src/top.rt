@@ -1,14 +1,16 @@
 //! The top call.
 
-ghost use Rattle.std.specs.Prelude.{◌≡◌, map, string_bytes};
+ghost use Rattle.std.specs.Prelude.{◌≡◌, ℕ, IfErr, IfOk, MatchOption, map, string_bytes};
 ghost use Rattle.gas_outside.specs.Buffered.{outbox};
 ghost use Rattle.top_call.specs.Outsides.{call_of, given_by, seen};
-ghost use Rattle.top_call.specs.TopCall.{IsComplete, LeavesAlone, StatusMeans};
-ghost use Rattle.top_call.specs.TopParts.{GivesOn};
+ghost use Rattle.top_call.specs.TopCall.{AsksNode, IsComplete, IsSaid, LeavesAlone, StatusMeans};
+ghost use Rattle.top_call.specs.TopParts.{Closes, GivesOn, IsNoNode, StandsOver};
 
-use crate::command::command;
+use crate::command::returning_command;
 use crate::ending::{End, Ended};
+use crate::node::{AskedNode, node_command};
 use crate::outside::Outside;
+use crate::words::{Command, asked};
 use gas_endpoint::Endpoint;
 use gas_outside::{BufferedSink, Clock, Gate, Link, Sink, Source, Spawner, Wrote};
 use gas_world::World;
@@ -55,6 +57,113 @@ pub(crate) fn flushed<K: Sink>(sink: &mut BufferedSink<K>, ended: Ended) -> Ende
         Wrote::Fault => {
             drop(ended);
             Ended::cut()
+        }
+    }
+}
+
+/// The outside, over a sink that gathers.
+fn gathering<S, K: Sink, L, P, C, G>(
+    outside: Outside<S, K, L, P, C, G>,
+) -> Outside<S, BufferedSink<K>, L, P, C, G>
+    ensures { StandsOver outside result }
+{
+    let Outside {
+        source,
+        sink,
+        link,
+        spawner,
+        clock,
+        gate,
+    } = outside;
+    Outside {
+        source,
+        sink: BufferedSink::new(sink),
+        link,
+        spawner,
+        clock,
+        gate,
+    }
+}
+
+/// Ends the call of a command that ended so: gives on what the sink still holds back, and gives the outside back.
+fn closed<S, K: Sink, L, P, C, G>(
+    ended: Ended,
+    gathering: Outside<S, BufferedSink<K>, L, P, C, G>,
+) -> (Status, Outside<S, K, L, P, C, G>)
+    ensures { Closes K.taken K.faults ended gathering result.0 result.1 }
+{
+    let Outside {
+        source,
+        sink,
+        link,
+        spawner,
+        clock,
+        gate,
+    } = gathering;
+    let mut sink = sink;
+    let Ended { end, given } = flushed(&mut sink, ended);
+    (
+        Status {
+            code: end.code(),
+            world: given.world,
+            node: given.node,
+            nodes: given.nodes,
+        },
+        Outside {
+            source,
+            sink: sink.into_inner(),
+            link,
+            spawner,
+            clock,
+            gate,
+        },
+    )
+}
+
+/// The node that is asked for, where the command is `node`.
+fn node_of(command: Option<Command>) -> Option<AskedNode>
+    ensures { MatchOption result (IsNoNode command)
+        (λ node. command ≡ Some (Command.Node node.rank node.port)) }
+{
+    match command {
+        Some(Command::Node { rank, port }) => Some(AskedNode { rank, port }),
+        Some(Command::World) => None,
+        Some(Command::Upgrade) => None,
+        Some(Command::Check) => None,
+        Some(Command::Launch { .. }) => None,
+        Some(Command::Drill { .. }) => None,
+        None => None,
+    }
+}
+
+/// The top call of all commands but `node`: it returns, whatever comes, if the calls of the source, the sink and the
+/// spawner do. All else is as [`gasnet`] says it.
+///
+/// # Errors
+///
+/// The rank and the port, and the outside as it was, exactly where the words are those of `node`.
+pub fn returning_call<S: Source, K: Sink, L: Link, P: Spawner, C: Clock, G, N: Notes>(
+    alloc: Global,
+    words: &[String],
+    outside: Outside<S, K, L, P, C, G>,
+    notes: &mut N,
+) -> Result<(Status, Outside<S, K, L, P, C, G>), (AskedNode, Outside<S, K, L, P, C, G>)>
+    ensures said { IfOk result (λ done. IsSaid (call_of (map string_bytes words.now)
+        (seen S.Source K.Sink L.Link P.Spawner C.Clock outside)
+        (seen S.Source K.Sink L.Link P.Spawner C.Clock done.1)
+        (given_by done.0)) done.0.code) }
+    ensures returns { IfOk result (λ done. (rank port : ℕ)
+        → AsksNode (map string_bytes words.now) rank port → ⊥) }
+    ensures node { IfErr result (λ asked.
+        AsksNode (map string_bytes words.now) asked.0.rank asked.0.port × (asked.1 ≡ outside)) }
+{
+    let command = asked(words);
+    match node_of(command) {
+        Some(node) => Err((node, outside)),
+        None => {
+            let mut gathering = gathering(outside);
+            let ended = returning_command(alloc, command, &mut gathering, notes);
+            Ok(closed(ended, gathering))
         }
     }
 }
@@ -126,47 +235,11 @@ pub fn gasnet<
         (seen S.Source K.Sink L.Link P.Spawner C.Clock result.1)
         (given_by result.0)) }
 {
-    let Outside {
-        source,
-        sink,
-        link,
-        spawner,
-        clock,
-        gate,
-    } = outside;
-    let gathering = Outside {
-        source,
-        sink: BufferedSink::new(sink),
-        link,
-        spawner,
-        clock,
-        gate,
-    };
-    let (ended, after) = command(rt, alloc, words, gathering, notes);
-    let Outside {
-        source,
-        sink,
-        link,
-        spawner,
-        clock,
-        gate,
-    } = after;
-    let mut sink = sink;
-    let Ended { end, given } = flushed(&mut sink, ended);
-    (
-        Status {
-            code: end.code(),
-            world: given.world,
-            node: given.node,
-            nodes: given.nodes,
-        },
-        Outside {
-            source,
-            sink: sink.into_inner(),
-            link,
-            spawner,
-            clock,
-            gate,
-        },
-    )
+    match returning_call(alloc, words, outside, notes) {
+        Ok(done) => done,
+        Err((asked, outside)) => {
+            let (ended, after) = node_command(rt, alloc, asked, gathering(outside));
+            closed(ended, after)
+        }
+    }
 }

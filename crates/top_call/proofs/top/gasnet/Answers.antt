@@ -1,37 +1,25 @@
-use Rattle.std.proofs.Common.{map, string_bytes}
-use Rattle.gas_outside.specs.Buffered.{outbox}
-use Rattle.top_call.specs.Outsides.{call_of, course_in, seen, spawning_in, took_in}
-use Rattle.top_call.specs.HowEnds.{Means}
-use Rattle.top_call.specs.TopParts.{Ends}
-use Rattle.top_call.proofs.LastLine.{means}
-use Rattle.top_call.proofs.CallStatus.{completes, leaves_alone, status_means, weak_ends}
+-- A call that returns, and that of a node.
+use Rattle.std.proofs.Common.{Some, ap, map, string_bytes, subst}
+use Rattle.launch_run.specs.Children.{spawner_seen}
+use Rattle.top_call.specs.TopParts.{StandsOver}
+use Rattle.top_call.specs.declared.words.Command.TheVariants as commands
+use Rattle.top_call.proofs.Closing.{closed_call}
 use Rattle.top_call.proofs.top.gasnet.Goals as goal
 
-pub returns : goal.returns
-returns g c =
-    let taken = g.K.Sink.taken in
-    let faults = g.K.Sink.faults in
-    let ended = c.flushed-end.result in
-    let after = c.command-ended.result.1 in
-    let asked = c.command-ended.ensures.asked in
-    let call = call_of (map string_bytes c.args.words.now)
-    (seen g.S.Source g.K.Sink g.L.Link g.P.Spawner g.C.Clock c.args.outside)
-    (seen g.S.Source g.K.Sink g.L.Link g.P.Spawner g.C.Clock (record {
-      source = after.source;
-      sink = c.into_inner.result;
-      link = after.link;
-      spawner = after.spawner;
-      clock = after.clock;
-      gate = after.gate;
-    })) ended.given in
-    let started = means (Ends asked (course_in call) (spawning_in call)) (outbox taken faults c.new.result)
-    (outbox taken faults after.sink) (outbox taken faults c.flushed-end.new.sink) c.command-ended.result.0
-    ended (weak_ends asked (course_in call) (spawning_in call)) c.new.ensures.pending c.command-ended.ensures.ends
-    c.flushed-end.ensures in
-    let m : Means (Ends asked (course_in call) (spawning_in call)) (took_in call) call.given ended.end =
-    rw c.into_inner.ensures (rw c.new.ensures.inner at started) in
-    record {
-      means = rw c.code.ensures (status_means call asked ended.end c.command-ended.ensures.asked_is m);
-      complete = rw c.code.ensures (completes call asked ended.end c.command-ended.ensures.asked_is m);
-      leaves = leaves_alone call asked c.command-ended.ensures.asked_is c.command-ended.ensures.keeps;
-    }
+pub returns-in-Ok : goal.returns-in-Ok
+returns-in-Ok g c = record {
+  means = c.in-Ok.ensures.said.means;
+  complete = c.in-Ok.ensures.said.complete;
+  leaves = c.in-Ok.ensures.said.leaves;
+}
+
+pub returns-in-Err : goal.returns-in-Err
+returns-in-Err g c =
+    let said = closed_call g.S.Source g.K.Sink g.L.Link g.P.Spawner g.C.Clock (map string_bytes c.args.words.now)
+    (Some (commands.Node c.in-Err.asked.rank c.in-Err.asked.port)) c.args.outside _ _ _ _ _ c.in-Err.ensures.node.0
+    (subst (λ o. StandsOver o c.gathering.result) c.in-Err.ensures.node.1 c.gathering.ensures)
+    (record {
+      ends = c.node_command-ended.ensures.ends;
+      keeps = ap (spawner_seen g.P.Spawner) c.node_command-ended.ensures.spawner;
+    }) c.closed.ensures in
+    record { means = said.means; complete = said.complete; leaves = said.leaves }
