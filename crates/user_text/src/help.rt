@@ -8,7 +8,7 @@ use std::alloc::{AllocError, Global};
 /// What is told of the program's version.
 static VERSION: &str = "\
 gasnet_cli of Yuspelgna: GASNet 1.8.1, core and extended API, PARSYNC, over UDP datagrams
-built by rattle-kit-13b, logic dac8208d650f15bf
+built by rattle-kit-13f, logic dac8208d650f15bf
 Proved: what each exit status of a command says of the bytes that were read and written, and the \
 laws of the run.
 Trusted: the kit, LLVM, and the system's sockets, clock, input and output. docs/PROVED.md has the \
