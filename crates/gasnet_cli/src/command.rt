@@ -1,12 +1,13 @@
 //! The command that a run is of, and what is kept of the run.
 
+use crate::again::read_again;
 use crate::ports::{FreePorts, free_ports};
 use crate::telling::{tell, tell_filled};
-use crate::watched::Seen;
+use crate::watched::{MOST_INPUT, Seen};
 use std::alloc::Global;
 use std::io::Eprint;
 use std::net::Net;
-use std::rt::Clock;
+use std::rt::{Clock, Files};
 use user_text::fill;
 
 /// A command, and what is kept of its run.
@@ -85,5 +86,23 @@ impl Command {
     /// Whether it is that of one node.
     pub fn is_node(&self) -> bool {
         self.name() == "node"
+    }
+
+    /// Whether what was read is needed to tell of the run: each step, what nodes tell, or why words
+    /// or a job are refused.
+    fn needs_input(&self) -> bool {
+        let (name, status) = (self.name(), self.output.last_line());
+        self.steps
+            || name == "check"
+            || name == "launch"
+            || status.starts_with("status 2 ")
+            || status.starts_with("status 3 ")
+    }
+
+    /// Reads the front of the input again, where it wasn't kept and is needed to tell of the run.
+    pub fn read_input_again<R: Files + AllocGlobal>(&mut self, rt: &R) {
+        if !self.input.keeps && self.needs_input() {
+            self.input.bytes = read_again(rt, MOST_INPUT);
+        }
     }
 }

@@ -126,8 +126,9 @@ fn tell_statuses<H: Eprint + AllocGlobal>(rt: &H, nodes: &[NodeReplay]) {
     }
 }
 
-/// Tells where the replays of traces that are no run differ from what others sent, and where they stop.
-fn tell_gaps<H: Eprint + AllocGlobal>(rt: &H, replays: &NodeReplays) {
+/// Tells where the replays of traces that are no run stop. Whether there is such a place.
+fn tell_blocked<H: Eprint + AllocGlobal>(rt: &H, replays: &NodeReplays) -> bool {
+    let mut is_blocked = false;
     for (place, node) in replays.nodes.iter().enumerate() {
         let turns = match replays.sent(place) {
             Some(replayed) => replayed.turns,
@@ -138,9 +139,10 @@ fn tell_gaps<H: Eprint + AllocGlobal>(rt: &H, replays: &NodeReplays) {
             let numbers = [u64::from(node.trace.rank), entry, entry.saturating_add(3)];
             let told = "blocked % % line %: its thread holds a lock, and gets nothing\n";
             tell_filled(rt, told, &[], &numbers);
+            is_blocked = true;
         }
     }
-    tell_unsent(rt, replays);
+    is_blocked
 }
 
 /// Tells of a run of `check` or `launch` what the outputs of its nodes tell. Where it failed: the steps that ended, those
@@ -165,7 +167,8 @@ pub fn tell_findings<H: Eprint + AllocGlobal>(rt: &H, command: &Command, kept: &
     tell_counts(rt, nodes, ending);
     tell_differences(rt, nodes);
     if ending == Ending::NoRun {
-        tell_gaps(rt, &replays);
+        let is_blocked = tell_blocked(rt, &replays);
+        tell_unsent(rt, &replays, is_blocked);
     }
     if nodes
         .iter()

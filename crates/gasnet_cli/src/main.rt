@@ -128,12 +128,13 @@ fn main(rt: HostRuntime) -> ExitCode {
     progress.end(&rt);
     tell_dropped(&rt, &socket, &unsealed);
     let (spawner, kept) = spawner.into_parts();
+    command.read_input_again(&rt);
     tell_findings(&rt, &command, &kept);
     tell_ends(&rt, &ends);
     let start = spawner.unstarted();
     drop(spawner);
     if !is_help {
-        tell_end(&rt, &mut command, Causes::new(socket.fault(), start));
+        tell_end(&rt, &command, Causes::new(socket.fault(), start));
     }
     status
 }

@@ -1,14 +1,11 @@
 //! What is told of a run that went wrong.
 
-use crate::again::read_again;
 use crate::command::Command;
-use crate::watched::MOST_INPUT;
 use real_outside::{LinkFault, LinkSocket};
 use sealed_link::Dropped;
 use std::alloc::{AllocError, Global};
 use std::io;
 use std::io::Eprint;
-use std::rt::Files;
 use user_text::{
     BadLine, fill, help_for, job_fault, lines_told, place_fault, steps_told, usage_fault,
 };
@@ -158,18 +155,9 @@ pub fn tell_help<R: Eprint + AllocGlobal>(rt: &R, words: &[String]) -> bool {
     true
 }
 
-/// Whether what was read is needed to tell of a run.
-fn needs_input(command: &Command) -> bool {
-    let status = command.output.last_line();
-    command.steps || bad_line(status).is_some() || status == "status 2 usage"
-}
-
 /// Tells the steps of a run, where that is asked for, and why it went wrong, where that is known.
-pub fn tell_end<R: Eprint + Files + AllocGlobal>(rt: &R, command: &mut Command, causes: Causes) {
+pub fn tell_end<R: Eprint + AllocGlobal>(rt: &R, command: &Command, causes: Causes) {
     let alloc = rt.alloc();
-    if !command.input.keeps && needs_input(command) {
-        command.input.bytes = read_again(rt, MOST_INPUT);
-    }
     if command.steps {
         if let Ok(text) = steps_text(alloc, command) {
             tell(rt, text.as_str());

@@ -150,8 +150,9 @@ fn count(replays: &NodeReplays) -> (usize, usize) {
 }
 
 /// Tells of each node the first entry that got what no node sent to it: of those that aren't mere consequences of others,
-/// or of all, where all may be such. Of very long traces nothing is told.
-pub fn tell_unsent<H: Eprint + AllocGlobal>(rt: &H, replays: &NodeReplays) {
+/// or of all, where all may be such. Where there is none, and no replay stopped, it tells that. Of very long traces nothing
+/// is told.
+pub fn tell_unsent<H: Eprint + AllocGlobal>(rt: &H, replays: &NodeReplays, is_blocked: bool) {
     let (got, sent) = count(replays);
     if got.saturating_mul(sent) > MOST {
         return;
@@ -168,7 +169,7 @@ pub fn tell_unsent<H: Eprint + AllocGlobal>(rt: &H, replays: &NodeReplays) {
             tell_gap(rt, replays, *gap);
         }
     }
-    if gaps.is_empty() {
+    if gaps.is_empty() && !is_blocked {
         tell(
             rt,
             "each datagram was sent, but one or more were got before they were sent\n",
