@@ -1,9 +1,10 @@
 -- The lines of the steps of a run of traces, line by line.
 use Rattle.std.proofs.Common.{◌≡◌, ◌⊎◌, inl, inr, ℕ, zero, suc, ◌+◌, ◌&&◌, Bool, true, false, cond, eqb, List, [], ◌∷◌, ◌++◌}
-use Rattle.std.proofs.Common.{take, drop, Option, Some, None, refl, sym, ap, subst, ◌∙◌, arith, slice_get, eq-eqb, ne_eqb}
+use Rattle.std.proofs.Common.{length, take, drop, Option, Some, None, refl, sym, ap, subst, ◌∙◌, arith, slice_get, eq-eqb, ne_eqb}
 use Rattle.std.specs.Prelude.{is_some, is_none}
 use Rattle.std.specs.Option.{option_map}
 use Rattle.std.proofs.lemmas.Bool.{cases_eq}
+use Rattle.std.proofs.lemmas.List.{length-append}
 use Rattle.std.proofs.lemmas.Option.{same_Some, slice_get-map}
 use Rattle.gasnet_trace.specs.declared.trace.Trace.{Trace}
 use Rattle.machine.specs.declared.entry.Entry.{Entry}
@@ -23,7 +24,7 @@ use Rattle.node_runs.proofs.Fronting.{after_own}
 use Rattle.node_script.specs.Lines.{Line}
 use Rattle.plain_world.specs.World.{Timed}
 use Rattle.check_run.specs.StepLines.{StepAt, after_entry, answer_of_step, lines_of_answer, step_line, step_lines, steps_from}
-use Rattle.check_run.specs.StepsTold.{IsStepTold, ended_in}
+use Rattle.check_run.specs.StepsTold.{IsStepTold, ended_in, lines_before}
 use Rattle.check_run.specs.Machines.{first_machine}
 use Rattle.check_run.specs.TracesRun.{entries_of}
 use Rattle.check_run.proofs.StepsTold.{EndsInRun, Machine, Stands, at_entry, before_of, given_then, items_end}
@@ -178,35 +179,52 @@ dropped_at (suc count) (first ∷ steps) one rest same = dropped_at count steps 
 
 -- ---- the lines of one node
 
--- the line at a place of the lines of its steps
-record LineOf (job : JobState) (rank : ℕ) (machine : Machine) (entries : List Entry) (words : Line) : Type 0 where
+-- the line of this number of the lines of its steps
+record LineOf (job : JobState) (rank : ℕ) (machine : Machine) (entries : List Entry) (words : Line) (line : ℕ)
+    : Type 0 where
   pub place : ℕ
   pub entry : Entry
   pub entry_is : slice_get entries place ≡ Some entry
+  pub line_is : line ≡ length (step_lines job rank machine (take place entries))
   pub answer : ScriptAnswer
   pub ended : answer_of_step job rank (replay (script_job job) rank machine (take place entries)) entry ≡ Some answer
   pub words_are : words ≡ step_line job (at_entry rank entry)
       (after_entry job rank (replay (script_job job) rank machine (take place entries)) entry).node answer
 
 lines_split : (first second : List Line) (place : ℕ) (words : Line) → slice_get (first ++ second) place ≡ Some words
-    → (slice_get first place ≡ Some words) ⊎ ((other : ℕ) × (slice_get second other ≡ Some words))
-lines_split [] second place words there = inr (place, there)
+    → (slice_get first place ≡ Some words)
+    ⊎ ((other : ℕ) × (slice_get second other ≡ Some words) × (place ≡ length first + other))
+lines_split [] second place words there = inr (place, there, omega arith)
 lines_split (one ∷ first) second zero words there = inl there
-lines_split (one ∷ first) second (suc place) words there = lines_split first second place words there
+lines_split (one ∷ first) second (suc place) words there = elim (lines_split first second place words there) [
+  | inl here ↦ inl here
+  | inr later ↦ (let same = later.2 in inr (later.0, later.1, omega (arith, same)))
+]
 
 abbrev LinesOf : JobState → (rank : ℕ) → Machine → List Entry → Line → Type 0
 LinesOf job rank machine entries words =
     (place : ℕ) → slice_get (step_lines job rank machine entries) place ≡ Some words
-    → LineOf job rank machine entries words
+    → LineOf job rank machine entries words place
+
+-- the lines of the turn of an entry and of these entries behind it, where the turn was answered so
+abbrev lines_with : (job : JobState) (rank : ℕ) (machine : Machine) (entry : Entry) (entries : List Entry)
+    → Option ScriptAnswer → List Line
+lines_with job rank machine entry entries ended =
+    lines_of_answer job (at_entry rank entry) (after_entry job rank machine entry).node ended
+    ++ step_lines job rank (after_entry job rank machine entry) entries
 
 -- behind the turn of an entry
 line_later : (job : JobState) (rank : ℕ) (machine : Machine) (entry : Entry) (entries : List Entry) (words : Line)
-    → LineOf job rank (after_entry job rank machine entry) entries words
-    → LineOf job rank machine (entry ∷ entries) words
-line_later job rank machine entry entries words it = record {
+    (ended : Option ScriptAnswer) (line other : ℕ) → answer_of_step job rank machine entry ≡ ended
+    → (it : LineOf job rank (after_entry job rank machine entry) entries words other)
+    → line ≡ length (lines_with job rank machine entry (take it.place entries) ended)
+    → LineOf job rank machine (entry ∷ entries) words line
+line_later job rank machine entry entries words ended line other is it same = record {
   place = suc it.place;
   entry = it.entry;
   entry_is = it.entry_is;
+  line_is = same
+      ∙ ap (λ (a : Option ScriptAnswer). length (lines_with job rank machine entry (take it.place entries) a)) (sym is);
   answer = it.answer;
   ended = it.ended;
   words_are = it.words_are;
@@ -218,27 +236,30 @@ line_here : (job : JobState) (rank : ℕ) (machine : Machine) (entry : Entry) (e
     → LinesOf job rank (after_entry job rank machine entry) entries words
     → slice_get (step_line job (at_entry rank entry) (after_entry job rank machine entry).node answer
     ∷ step_lines job rank (after_entry job rank machine entry) entries) place ≡ Some words
-    → LineOf job rank machine (entry ∷ entries) words
+    → LineOf job rank machine (entry ∷ entries) words place
 line_here job rank machine entry entries words answer zero ended later found = record {
   place = 0;
   entry = entry;
   entry_is = refl;
+  line_is = refl;
   answer = answer;
   ended = ended;
   words_are = sym (same_Some (step_line job (at_entry rank entry) (after_entry job rank machine entry).node answer) words
       found);
 }
 line_here job rank machine entry entries words answer (suc place) ended later found =
-    line_later job rank machine entry entries words (later place found)
+    let it = later place found in
+    line_later job rank machine entry entries words (Some answer) (suc place) place ended it
+    (ap (λ (n : ℕ). suc n) it.line_is)
 
 line_by : (job : JobState) (rank : ℕ) (machine : Machine) (entry : Entry) (entries : List Entry) (words : Line)
     (ended : Option ScriptAnswer) (place : ℕ) → answer_of_step job rank machine entry ≡ ended
     → LinesOf job rank (after_entry job rank machine entry) entries words
     → slice_get (lines_of_answer job (at_entry rank entry) (after_entry job rank machine entry).node ended
     ++ step_lines job rank (after_entry job rank machine entry) entries) place ≡ Some words
-    → LineOf job rank machine (entry ∷ entries) words
+    → LineOf job rank machine (entry ∷ entries) words place
 line_by job rank machine entry entries words None place is later found =
-    line_later job rank machine entry entries words (later place found)
+    let it = later place found in line_later job rank machine entry entries words None place place is it it.line_is
 line_by job rank machine entry entries words (Some answer) place is later found =
     line_here job rank machine entry entries words answer place is later found
 
@@ -251,14 +272,16 @@ line_of job rank (entry ∷ entries) machine words place there =
 
 -- ---- the lines of all nodes
 
-record LineAmong (job : JobState) (rank : ℕ) (traces : List Trace) (words : Line) : Type 0 where
+record LineAmong (job : JobState) (rank : ℕ) (traces : List Trace) (words : Line) (place : ℕ) : Type 0 where
   pub at : ℕ
   pub trace : Trace
   pub there : slice_get traces at ≡ Some trace
-  pub line : LineOf job (rank + at) (first_machine job (rank + at)) trace.entries words
+  pub number : ℕ
+  pub place_is : place ≡ length (steps_from job rank (take at traces)) + number
+  pub line : LineOf job (rank + at) (first_machine job (rank + at)) trace.entries words number
 
 line_among : (job : JobState) (traces : List Trace) (rank place : ℕ) (words : Line)
-    → slice_get (steps_from job rank traces) place ≡ Some words → LineAmong job rank traces words
+    → slice_get (steps_from job rank traces) place ≡ Some words → LineAmong job rank traces words place
 line_among job [] rank place words there = absurd (cc)
 line_among job (trace ∷ traces) rank place words there = elim
     (lines_split (step_lines job rank (first_machine job rank) trace.entries) (steps_from job (rank + 1) traces) place
@@ -267,15 +290,24 @@ line_among job (trace ∷ traces) rank place words there = elim
         at = 0;
         trace = trace;
         there = refl;
-        line = subst (λ (n : ℕ). LineOf job n (first_machine job n) trace.entries words) same
+        number = place;
+        place_is = omega arith;
+        line = subst (λ (n : ℕ). LineOf job n (first_machine job n) trace.entries words place) same
             (line_of job rank trace.entries (first_machine job rank) words place here);
       })
       | inr later ↦ (let it = line_among job traces (rank + 1) later.0 words later.1 in
-          let same : rank + 1 + it.at ≡ rank + suc it.at = omega arith in record {
+          let same : rank + 1 + it.at ≡ rank + suc it.at = omega arith in
+          let own = step_lines job rank (first_machine job rank) trace.entries in
+          let all = length-append own (steps_from job (rank + 1) (take it.at traces)) in
+          let behind = later.2 in
+          let place_is = it.place_is in
+          record {
             at = suc it.at;
             trace = it.trace;
             there = it.there;
-            line = subst (λ (n : ℕ). LineOf job n (first_machine job n) it.trace.entries words) same it.line;
+            number = it.number;
+            place_is = omega (arith, all, behind, place_is);
+            line = subst (λ (n : ℕ). LineOf job n (first_machine job n) it.trace.entries words it.number) same it.line;
           })
     ]
 
@@ -301,11 +333,11 @@ HaveOwn job traces ranks =
 
 -- how the step of a line ended
 line_ends : (job : JobState) (traces : List Trace) (ranks : List ℕ) (turns : List (List (Timed OtherCall)))
-    → IsRunBy job traces ranks turns → HaveOwn job traces ranks → (rank : ℕ) (trace : Trace) (words : Line)
-    → slice_get traces rank ≡ Some trace → (line : LineOf job rank (first_machine job rank) trace.entries words)
+    → IsRunBy job traces ranks turns → HaveOwn job traces ranks → (rank : ℕ) (trace : Trace) (words : Line) (number : ℕ)
+    → slice_get traces rank ≡ Some trace → (line : LineOf job rank (first_machine job rank) trace.entries words number)
     → EndsInRun job (joined turns) rank
     (replay (script_job job) rank (first_machine job rank) (take line.place trace.entries)) line.entry line.answer
-line_ends job traces ranks turns run has rank trace words there line =
+line_ends job traces ranks turns run has rank trace words number there line =
     let items = order_by job (entries_of traces) ranks in
     let machines = opening_machines job.settings (scripts_at job) in
     let listed : slice_get (entries_of traces) rank ≡ Some trace.entries =
@@ -326,12 +358,13 @@ line_ends job traces ranks turns run has rank trace words there line =
     (ap (λ (m : Machine). answer_of_step job rank m line.entry) machine ∙ line.ended))
 
 line_told : (job : JobState) (traces : List Trace) (run : List (Timed OtherCall)) (rank : ℕ) (trace : Trace)
-    (words : Line) → slice_get traces rank ≡ Some trace
-    → (line : LineOf job rank (first_machine job rank) trace.entries words)
+    (words : Line) (place number : ℕ) → slice_get traces rank ≡ Some trace
+    → place ≡ length (steps_from job 0 (take rank traces)) + number
+    → (line : LineOf job rank (first_machine job rank) trace.entries words number)
     → EndsInRun job run rank
     (replay (script_job job) rank (first_machine job rank) (take line.place trace.entries)) line.entry line.answer
-    → IsStepTold job traces run words
-line_told job traces run rank trace words there line ends =
+    → IsStepTold job traces run place words
+line_told job traces run rank trace words place number there place_is line ends =
     let step_at = at_entry rank line.entry in
     let before = take line.place trace.entries in
     let left : drop (ended_in job step_at (first_machine job rank) before)
@@ -344,6 +377,7 @@ line_told job traces run rank trace words there line ends =
       place = line.place;
       entry = line.entry;
       entry_is = line.entry_is;
+      line_is = place_is ∙ ap (λ (n : ℕ). length (steps_from job 0 (take rank traces)) + n) line.line_is;
       thread_is = refl;
       number = ended_in job step_at (first_machine job rank) before;
       number_is = refl;
@@ -351,22 +385,25 @@ line_told job traces run rank trace words there line ends =
       step_is = dropped_at (ended_in job step_at (first_machine job rank) before)
           (steps_of_thread job.scripts rank line.entry.thread) ends.ends.step ends.ends.rest left;
       answer = line.answer;
+      answered = line.ended;
       context = ends.ends.context;
       tried = ends.ends.tried;
       ends = ends.ends.ends;
       over = ends.over;
       later = ends.later;
       run_is = ends.run_is;
+      node_is = ends.node_is;
       words_are = line.words_are
           ∙ ap (λ (node : Node EndpointLocal). step_line job step_at node line.answer) (sym ends.node_is);
     }
 
 pub lines_told : (job : JobState) (traces : List Trace) (ranks : List ℕ) (turns : List (List (Timed OtherCall)))
     → IsRunBy job traces ranks turns → HaveOwn job traces ranks → (line : ℕ) (words : Line)
-    → slice_get (steps_from job 0 traces) line ≡ Some words → IsStepTold job traces (joined turns) words
+    → slice_get (steps_from job 0 traces) line ≡ Some words → IsStepTold job traces (joined turns) line words
 lines_told job traces ranks turns run own line words there =
     let among = line_among job traces 0 line words there in
     let same : 0 + among.at ≡ among.at = omega arith in
-    let its = subst (λ (n : ℕ). LineOf job n (first_machine job n) among.trace.entries words) same among.line in
-    line_told job traces (joined turns) among.at among.trace words among.there its
-    (line_ends job traces ranks turns run own among.at among.trace words among.there its)
+    let its = subst (λ (n : ℕ). LineOf job n (first_machine job n) among.trace.entries words among.number) same
+    among.line in
+    line_told job traces (joined turns) among.at among.trace words line among.number among.there among.place_is its
+    (line_ends job traces ranks turns run own among.at among.trace words among.number among.there its)

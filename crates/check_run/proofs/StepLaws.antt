@@ -387,6 +387,7 @@ later_made job run at holds among transfer answer later same =
       node_is = refl;
       thread_is = refl;
       call_is = refl;
+      number_is = refl;
       transfer_is = refl;
       events = first.later;
       before_is = first.run_is;
@@ -414,10 +415,10 @@ transfer_made job run at holds among transfer answer (inr later) same =
 -- ---- all of them
 
 -- how a told step ended, where it is this one
-ends_of : (job : JobState) (traces : List Trace) (run : List (Timed OtherCall)) (words : Line)
-    (told : IsStepTold job traces run words) (one : ScriptStep) → told.step ≡ one
+ends_of : (job : JobState) (traces : List Trace) (run : List (Timed OtherCall)) (line : ℕ) (words : Line)
+    (told : IsStepTold job traces run line words) (one : ScriptStep) → told.step ≡ one
     → EndsAs job run told.at (step_form one told.context told.tried) told.answer
-ends_of job traces run words told one same =
+ends_of job traces run line words told one same =
     subst (λ (s : ScriptStep). EndsAs job run told.at (step_form s told.context told.tried) told.answer) same told.ends
 
 pub lines_tell : (job : JobState) (traces : List Trace) (ranks : List ℕ) (turns : List (List (Timed OtherCall)))
@@ -427,15 +428,15 @@ pub lines_tell : (job : JobState) (traces : List Trace) (ranks : List ℕ) (turn
     → LinesTell job traces (joined turns)
 lines_tell job traces ranks turns run own = record {
   each = λ line words there. lines_told job traces ranks turns run own line words there;
-  syncs = λ words told wait call is waited ok.
+  syncs = λ line words told wait call is waited ok.
       sync_done job (joined turns) told.at call run.transfers run.among
       (wait_made job (joined turns) told.at wait call told.context told.tried (answers.Synced synced.Ok) told.answer
-      waited (ends_of job traces (joined turns) words told (step.Waiting wait) is) ok);
-  transfers = λ words told text is ok.
+      waited (ends_of job traces (joined turns) line words told (step.Waiting wait) is) ok);
+  transfers = λ line words told text is ok.
       transfer_made job (joined turns) told.at run.transfers run.among (transfer_of text) told.answer
-      (ends_of job traces (joined turns) words told (step.Waiting (waiting.Transfer text)) is) ok;
-  barriers = λ words told id flags answer is said_so ends.
+      (ends_of job traces (joined turns) line words told (step.Waiting (waiting.Transfer text)) is) ok;
+  barriers = λ line words told id flags answer is said_so ends.
       barrier_done job (joined turns) told.at id flags answer run.barrier run.among ends
       (made_so job (joined turns) told.at (tries_barrier id flags) is_not_ready (answers.Barrier answer) told.answer
-      (ends_of job traces (joined turns) words told (step.Waiting (waiting.BarrierWait id flags)) is) said_so);
+      (ends_of job traces (joined turns) line words told (step.Waiting (waiting.BarrierWait id flags)) is) said_so);
 }

@@ -2,7 +2,7 @@
 -- how these were answered there.
 -- Origin: this project's profile. What an `ok` of a transfer and of the barrier means is that of GASNet 1.8.1.
 use Rattle.std.specs.Prelude.{◌≡◌, ◌⊎◌, ℕ, ℤ, suc, ◌==◌, ◌&&◌, if◌then◌else◌, List, [], ◌∷◌, ◌++◌, Option, Some, None}
-use Rattle.std.specs.Prelude.{is_some, slice_get, take}
+use Rattle.std.specs.Prelude.{◌+◌, is_some, length, slice_get, take}
 use Rattle.gasnet_trace.specs.declared.trace.Trace.{Trace}
 use Rattle.machine.specs.declared.entry.Entry.{Entry}
 use Rattle.barrier_laws.specs.BarrierLaws.{EndsPhase, TellsOutcome}
@@ -22,11 +22,12 @@ use Rattle.job_text.specs.declared.job.TransferText.{TransferText}
 use Rattle.job_text.specs.declared.job.WaitingStep.{WaitingStep}
 use Rattle.job_text.specs.declared.job.WaitingStep.TheVariants as waiting
 use Rattle.named_barrier.specs.declared.answer.BarrierAnswer.{BarrierAnswer}
-use Rattle.node_machine.specs.NodeState.{steps_of_thread}
+use Rattle.node_machine.specs.NodeState.{script_job, steps_of_thread}
 use Rattle.node_record.specs.NodeStep.{OfCall, OfRequest}
 use Rattle.node_record.specs.Record.{Node as Record}
 use Rattle.node_record.specs.declared.answer.Asked.{Asked}
 use Rattle.node_runs.specs.Actions.{Form, Once, Again, Until, Twice, Looks, Several, OwnScripts, unless}
+use Rattle.node_runs.specs.Order.{replay}
 use Rattle.node_runs.specs.Scripts.{ThreadCall, TryContext}
 use Rattle.node_runs.specs.Turn.{MachineState}
 use Rattle.node_runs.specs.declared.script_answer.ScriptAnswer.{ScriptAnswer}
@@ -42,7 +43,7 @@ use Rattle.put_get.specs.declared.operation.Transfer.{Transfer}
 use Rattle.script_steps.specs.Forms.{step_form}
 use Rattle.transfer_laws.specs.Chunks.{EndpointJob}
 use Rattle.transfer_laws.specs.TransferLaws.{Beginning, IsDoneSince, Synchronises, called}
-use Rattle.check_run.specs.StepLines.{StepAt, after_entry, answer_of_step, step_line, steps_from}
+use Rattle.check_run.specs.StepLines.{StepAt, after_entry, answer_of_step, step_line, step_lines, steps_from}
 use Rattle.check_run.specs.Machines.{first_machine}
 
 -- ---- calls of a run
@@ -130,9 +131,21 @@ ended_in job at machine (entry ∷ entries) =
     then suc (ended_in job at (after_entry job at.rank machine entry) entries)
     else ended_in job at (after_entry job at.rank machine entry) entries
 
--- what a line tells of the run of these traces: the step of this number of the thread's script, counted from 0, ended
--- so; and the words are the thread's and those of the answer, by what the node's record is after some of the events
-pub record IsStepTold (job : JobState) (traces : List Trace) (run : List (Timed OtherCall)) (words : Line)
+-- the machine of a node before the turn of the entry at this place of its trace
+abbrev pub machine_at : JobState → (rank : ℕ) → Trace → (place : ℕ)
+    → MachineState EndpointLocal (OwnScripts ScriptStep)
+machine_at job rank trace place = replay (script_job job) rank (first_machine job rank) (take place trace.entries)
+
+-- how many lines of steps stand before that of this entry: those of the nodes before, and of the entries before
+abbrev pub lines_before : JobState → List Trace → (rank : ℕ) → Trace → (place : ℕ) → ℕ
+lines_before job traces rank trace place =
+    length (steps_from job 0 (take rank traces))
+    + length (step_lines job rank (first_machine job rank) (take place trace.entries))
+
+-- what this line, counted from 0, tells of the run of these traces: in the turn of its entry the step of this number of
+-- the thread's script, counted from 0, ended so; and the words are the thread's and those of the answer, by the node's
+-- record after that turn, which is the one after these events of the run
+pub record IsStepTold (job : JobState) (traces : List Trace) (run : List (Timed OtherCall)) (line : ℕ) (words : Line)
     : Type 0 where
   pub at : StepAt
   pub trace : Trace
@@ -140,18 +153,21 @@ pub record IsStepTold (job : JobState) (traces : List Trace) (run : List (Timed 
   pub place : ℕ
   pub entry : Entry
   pub entry_is : slice_get trace.entries place ≡ Some entry
+  pub line_is : line ≡ lines_before job traces at.rank trace place
   pub thread_is : entry.thread ≡ at.thread
   pub number : ℕ
   pub number_is : number ≡ ended_in job at (first_machine job at.rank) (take place trace.entries)
   pub step : ScriptStep
   pub step_is : slice_get (steps_of_thread job.scripts at.rank at.thread) number ≡ Some step
   pub answer : ScriptAnswer
+  pub answered : answer_of_step job at.rank (machine_at job at.rank trace place) entry ≡ Some answer
   pub context : TryContext
   pub tried : Record EndpointLocal
   pub ends : EndsAs job run at (step_form step context tried) answer
   pub over : List (Timed OtherCall)
   pub later : List (Timed OtherCall)
   pub run_is : run ≡ over ++ later
+  pub node_is : records_after job over at.rank ≡ (after_entry job at.rank (machine_at job at.rank trace place) entry).node
   pub words_are : words ≡ step_line job at (records_after job over at.rank) answer
 
 -- ---- what an answer of a sync and of the barrier says
@@ -182,6 +198,7 @@ pub record TransferIsMade (job : JobState) (run : List (Timed OtherCall)) (at : 
   pub node_is : beginning.node ≡ at.rank
   pub thread_is : beginning.thread ≡ at.thread
   pub call_is : beginning.call ≡ Begin None transfer
+  pub number_is : beginning.number ≡ handle.serial
   pub transfer_is : beginning.transfer ≡ transfer
   pub events : List (Timed OtherCall)
   pub before_is : sync.made.before
@@ -210,15 +227,16 @@ sync_waited other = None
 -- transfers and of the barrier speak of
 pub record LinesTell (job : JobState) (traces : List Trace) (run : List (Timed OtherCall)) : Type 0 where
   pub each : (line : ℕ) (words : Line) → slice_get (steps_from job 0 traces) line ≡ Some words
-      → IsStepTold job traces run words
-  pub syncs : (words : Line) (told : IsStepTold job traces run words) (wait : WaitingStep) (call : TransferCall)
+      → IsStepTold job traces run line words
+  pub syncs : (line : ℕ) (words : Line) (told : IsStepTold job traces run line words)
+      (wait : WaitingStep) (call : TransferCall)
       → told.step ≡ step.Waiting wait → sync_waited wait ≡ Some call
       → told.answer ≡ said.Call (answers.Synced synced.Ok) → SyncIsMade job run told.at call
-  pub transfers : (words : Line) (told : IsStepTold job traces run words) (text : TransferText)
+  pub transfers : (line : ℕ) (words : Line) (told : IsStepTold job traces run line words) (text : TransferText)
       → told.step ≡ step.Waiting (waiting.Transfer text) → told.answer ≡ said.Call (answers.Synced synced.Ok)
       → IsMade job run told.at (on_transfers (Begin None (transfer_of text))) (answers.Begun begun.Done)
       ⊎ TransferIsMade job run told.at (transfer_of text)
-  pub barriers : (words : Line) (told : IsStepTold job traces run words) (id : ℤ) (flags : ℕ)
+  pub barriers : (line : ℕ) (words : Line) (told : IsStepTold job traces run line words) (id : ℤ) (flags : ℕ)
       (answer : BarrierAnswer) → told.step ≡ step.Waiting (waiting.BarrierWait id flags)
       → told.answer ≡ said.Call (answers.Barrier answer) → EndsPhase answer
       → BarrierIsTried job run told.at id flags answer
