@@ -34,7 +34,6 @@ mod settings;
 mod telling;
 mod unsent;
 mod watched;
-mod words;
 
 use crate::again::is_file;
 use crate::command::Command;
@@ -46,12 +45,13 @@ use crate::progress::shown_progress;
 use crate::run::{Behind, run};
 use crate::settings::{Refusal, Settings};
 use crate::telling::{Causes, tell_dropped, tell_end, tell_help};
-use crate::words::words;
 use real_outside::{ChildEnds, LinkSocket, ProcessSpawner, SocketGate, SystemClock, UdpLink};
 use sealed_link::{Dropped, SealedLink};
 use std::alloc::AllocError;
+use std::env;
 use std::io::IsTerminal;
 use std::process::ExitCode;
+use top_call::words_of;
 
 /// Ends the program before any command, for what the environment sets.
 fn refuse(rt: &HostRuntime, why: Refusal) -> ExitCode {
@@ -84,7 +84,7 @@ fn spawner(
 }
 
 fn main(rt: HostRuntime) -> ExitCode {
-    let Ok(words) = words(&rt) else {
+    let Ok(words) = words_of(rt.alloc(), env::args(&rt)) else {
         return refuse(&rt, Refusal::NoMemory);
     };
     let is_help = tell_help(&rt, &words);

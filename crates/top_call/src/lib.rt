@@ -72,11 +72,9 @@
 //! `Wait`, so it returns whatever comes, if the calls of the source, the sink and the spawner do; `gasnet` makes that
 //! call first.
 //!
-//! Of `program`: the words of the call are all that the command line told but the first, and none where they are no text
-//! (`AreTold`); where there is memory for them, it ends with the exit status of `run_streams` with these words
-//! (`EndsAsTold`). What no clause says: that it asks the system for the words and the two streams. Where memory for the
-//! words runs out it makes no call, writes `status 8 no-memory`, and ends with 8, or with 5 where that write fails. No
-//! clause says that a write of the system reached anything, nor that memory really ran out with status 8. That nothing is
+//! `words_of` [`AreTold`] gives the words of a call: all that the command line told but the first, and none where they
+//! are no text, or memory ran out. What no clause says: that a program asks the system for them and for the two streams.
+//! No clause says that a write of the system reached anything, nor that memory really ran out with status 8. That nothing is
 //! written after a fault of the sink is tested, and shown by the code alone: `flushed` leaves the sink then.
 #![tactic(auto)]
 
@@ -102,5 +100,5 @@ pub use launch_run::{NoNotes, Notes};
 pub use node::AskedNode;
 pub use outside::Outside;
 pub use standard::{ReaderSource, WriterSink};
-pub use streams::{program, run_streams};
+pub use streams::{run_streams, words_of};
 pub use top::{Status, gasnet, returning_call};
