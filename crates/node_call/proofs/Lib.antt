@@ -1,2 +1,5 @@
+mod Sifting
+mod Skipping
+mod Behind
 mod Seeing
 mod Ending
