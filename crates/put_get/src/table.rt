@@ -135,7 +135,7 @@ fn has_flag(flags: &[bool]) -> bool
 {
     let mut any = false;
     for flag in flags {
-        any = either(any, *flag);
+        any |= *flag;
     }
     any
 }
