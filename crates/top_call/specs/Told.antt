@@ -1,5 +1,5 @@
 -- The words of a call, by what the command line told.
-use Rattle.std.specs.Prelude.{◌≡◌, ◌×◌, [], drop, Result, Ok, Err, String, Vec, ⊤, ⊥}
+use Rattle.std.specs.Prelude.{◌≡◌, [], drop, Result, Ok, Err, String, Vec, ⊤}
 use Rattle.std.specs.Global.{Global}
 use Rattle.std.specs.IoError.{error_kind}
 use Rattle.std.specs.Vec.Iter.{into_iter_items}
