@@ -39,7 +39,6 @@ use Rattle.node_runs.specs.declared.script_answer.ScriptAnswer.TheVariants as sa
 use Rattle.node_script.specs.Bodies.{script_meaning}
 use Rattle.node_script.specs.Lines.{Line}
 use Rattle.node_script.specs.Registration.{handlers_of, registered}
-use Rattle.node_script.specs.ScheduledCalls.{transfer_of}
 use Rattle.plain_world.specs.World.{Timed, IsAmong, OfNode, WorldAnswer, run, world_answer}
 use Rattle.put_get.specs.Syncs.{handle_answer}
 use Rattle.put_get.specs.declared.operation.Handle.{Handle}
@@ -433,7 +432,7 @@ lines_tell job traces ranks turns run own = record {
       (wait_made job (joined turns) told.at wait call told.context told.tried (answers.Synced synced.Ok) told.answer
       waited (ends_of job traces (joined turns) line words told (step.Waiting wait) is) ok);
   transfers = λ line words told text is ok.
-      transfer_made job (joined turns) told.at run.transfers run.among (transfer_of text) told.answer
+      transfer_made job (joined turns) told.at run.transfers run.among text told.answer
       (ends_of job traces (joined turns) line words told (step.Waiting (waiting.Transfer text)) is) ok;
   barriers = λ line words told id flags answer is said_so ends.
       barrier_done job (joined turns) told.at id flags answer run.barrier run.among ends

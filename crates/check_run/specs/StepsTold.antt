@@ -18,7 +18,6 @@ use Rattle.endpoint_rules.specs.declared.answer.Answer.TheVariants as answers
 use Rattle.job_text.specs.declared.job.Job.{Job as JobState}
 use Rattle.job_text.specs.declared.job.ScriptStep.{ScriptStep}
 use Rattle.job_text.specs.declared.job.ScriptStep.TheVariants as step
-use Rattle.job_text.specs.declared.job.TransferText.{TransferText}
 use Rattle.job_text.specs.declared.job.WaitingStep.{WaitingStep}
 use Rattle.job_text.specs.declared.job.WaitingStep.TheVariants as waiting
 use Rattle.named_barrier.specs.declared.answer.BarrierAnswer.{BarrierAnswer}
@@ -35,7 +34,6 @@ use Rattle.node_runs.specs.declared.script_answer.ScriptAnswer.TheVariants as sa
 use Rattle.node_script.specs.Bodies.{script_meaning}
 use Rattle.node_script.specs.Lines.{Line}
 use Rattle.node_script.specs.Registration.{handlers_of, registered}
-use Rattle.node_script.specs.ScheduledCalls.{some_of, transfer_of}
 use Rattle.plain_world.specs.World.{Timed, WorldAnswer, OfNode, run, world_answer}
 use Rattle.put_get.specs.declared.operation.Handle.{Handle}
 use Rattle.put_get.specs.declared.operation.Synced.TheVariants as synced
@@ -217,7 +215,7 @@ abbrev pub sync_waited : WaitingStep → Option TransferCall
 sync_waited (waiting.Wait register) = Some (Sync register)
 sync_waited (waiting.WaitAll registers) = Some (SyncAll registers)
 sync_waited (waiting.WaitSome registers) = Some (SyncSome registers)
-sync_waited (waiting.WaitImplicit which) = Some (SyncImplicit (some_of which))
+sync_waited (waiting.WaitImplicit which) = Some (SyncImplicit which)
 sync_waited other = None
 
 -- ---- all lines
@@ -232,10 +230,10 @@ pub record LinesTell (job : JobState) (traces : List Trace) (run : List (Timed O
       (wait : WaitingStep) (call : TransferCall)
       → told.step ≡ step.Waiting wait → sync_waited wait ≡ Some call
       → told.answer ≡ said.Call (answers.Synced synced.Ok) → SyncIsMade job run told.at call
-  pub transfers : (line : ℕ) (words : Line) (told : IsStepTold job traces run line words) (text : TransferText)
+  pub transfers : (line : ℕ) (words : Line) (told : IsStepTold job traces run line words) (text : Transfer)
       → told.step ≡ step.Waiting (waiting.Transfer text) → told.answer ≡ said.Call (answers.Synced synced.Ok)
-      → IsMade job run told.at (on_transfers (Begin None (transfer_of text))) (answers.Begun begun.Done)
-      ⊎ TransferIsMade job run told.at (transfer_of text)
+      → IsMade job run told.at (on_transfers (Begin None text)) (answers.Begun begun.Done)
+      ⊎ TransferIsMade job run told.at text
   pub barriers : (line : ℕ) (words : Line) (told : IsStepTold job traces run line words) (id : ℤ) (flags : ℕ)
       (answer : BarrierAnswer) → told.step ≡ step.Waiting (waiting.BarrierWait id flags)
       → told.answer ≡ said.Call (answers.Barrier answer) → EndsPhase answer

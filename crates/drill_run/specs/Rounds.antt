@@ -9,7 +9,7 @@ use Rattle.handler_rules.specs.declared.rules.Role.TheVariants as role
 use Rattle.gas_world.specs.Settling.{WorldJob}
 use Rattle.job_text.specs.declared.job.Action.TheVariants as action
 use Rattle.job_text.specs.declared.job.HandlerText.{HandlerText}
-use Rattle.job_text.specs.declared.job.ImplicitKind.TheVariants as implicit
+use Rattle.put_get.specs.declared.operation.Some3.TheVariants as implicit
 use Rattle.job_text.specs.declared.job.Job.{Job as JobState}
 use Rattle.job_text.specs.declared.job.Operand.TheVariants as operand
 use Rattle.job_text.specs.declared.job.ReplyAction.TheVariants as reply
@@ -17,7 +17,7 @@ use Rattle.job_text.specs.declared.job.ScheduledCall.TheVariants as call
 use Rattle.job_text.specs.declared.job.ScheduledEvent.{ScheduledEvent}
 use Rattle.job_text.specs.declared.job.ScheduledEvent.TheVariants as scheduled
 use Rattle.job_text.specs.declared.job.TimedEvent.{TimedEvent}
-use Rattle.job_text.specs.declared.job.TransferText.TheVariants as transfer
+use Rattle.put_get.specs.declared.operation.Transfer.TheVariants as transfer
 use Rattle.world_run.specs.Schedules.{world_job, schedule_events}
 use Rattle.drill_run.specs.Draws.{round_at}
 use Rattle.drill_run.specs.declared.rounds.Deed.{Deed}

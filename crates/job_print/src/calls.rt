@@ -9,7 +9,8 @@ ghost use Rattle.job_text.specs.declared.job.ScheduledCall.TheVariants as calls;
 use crate::forms::{Last, write, write_form, write_list};
 use crate::words::Word;
 use gas_outside::{BufferedSink, Sink, Wrote};
-use job_text::{BatchText, LongText, MediumText, Operands, ScheduledCall, TransferText};
+use job_text::{BatchText, LongText, MediumText, Operands, ScheduledCall};
+use put_get::Transfer;
 
 /// Writes a Short request.
 fn write_short<K: Sink>(
@@ -68,13 +69,13 @@ fn write_fill<K: Sink>(offset: u64, len: u64, byte: u8, sink: &mut BufferedSink<
 }
 
 /// Writes an explicit transfer, whose handle is put into the register.
-fn write_begin<K: Sink>(register: u8, transfer: &TransferText, sink: &mut BufferedSink<K>) -> Wrote
+fn write_begin<K: Sink>(register: u8, transfer: &Transfer, sink: &mut BufferedSink<K>) -> Wrote
     ensures { GathersAll (outbox K.taken K.faults sink.old) (outbox K.taken K.faults sink.new)
         (entry_text none_text (begin_entry register transfer.now)) result }
 {
     use Word::{U8, U16, U64};
     match *transfer {
-        TransferText::Put {
+        Transfer::Put {
             to,
             remote,
             local,
@@ -83,7 +84,7 @@ fn write_begin<K: Sink>(register: u8, transfer: &TransferText, sink: &mut Buffer
             let words = [U8(register), U16(to), U64(remote), U64(local), U64(len)];
             write(b"put-nb-bulk", &words, sink)
         }
-        TransferText::Get {
+        Transfer::Get {
             to,
             remote,
             local,
@@ -92,7 +93,7 @@ fn write_begin<K: Sink>(register: u8, transfer: &TransferText, sink: &mut Buffer
             let words = [U8(register), U16(to), U64(remote), U64(local), U64(len)];
             write(b"get-nb", &words, sink)
         }
-        TransferText::Memset {
+        Transfer::Memset {
             to,
             remote,
             len,
@@ -105,13 +106,13 @@ fn write_begin<K: Sink>(register: u8, transfer: &TransferText, sink: &mut Buffer
 }
 
 /// Writes an implicit transfer.
-fn write_implicit<K: Sink>(transfer: &TransferText, sink: &mut BufferedSink<K>) -> Wrote
+fn write_implicit<K: Sink>(transfer: &Transfer, sink: &mut BufferedSink<K>) -> Wrote
     ensures { GathersAll (outbox K.taken K.faults sink.old) (outbox K.taken K.faults sink.new)
         (entry_text none_text (implicit_entry transfer.now)) result }
 {
     use Word::{U8, U16, U64};
     match *transfer {
-        TransferText::Put {
+        Transfer::Put {
             to,
             remote,
             local,
@@ -120,7 +121,7 @@ fn write_implicit<K: Sink>(transfer: &TransferText, sink: &mut BufferedSink<K>) 
             let words = [U16(to), U64(remote), U64(local), U64(len)];
             write(b"put-nbi-bulk", &words, sink)
         }
-        TransferText::Get {
+        Transfer::Get {
             to,
             remote,
             local,
@@ -129,7 +130,7 @@ fn write_implicit<K: Sink>(transfer: &TransferText, sink: &mut BufferedSink<K>) 
             let words = [U16(to), U64(remote), U64(local), U64(len)];
             write(b"get-nbi", &words, sink)
         }
-        TransferText::Memset {
+        Transfer::Memset {
             to,
             remote,
             len,

@@ -5,7 +5,7 @@ ghost use Rattle.job_text.specs.Words.{implicit_word, kind_word, op_word, role_w
 
 use gas_atomic::Op;
 use handler_rules::{CallKind, Role};
-use job_text::ImplicitKind;
+use put_get::Some3;
 
 /// The word of a kind of calls; none of those that no text names.
 pub(crate) fn kind_word(kind: CallKind) -> &'static [u8]
@@ -35,13 +35,13 @@ pub(crate) fn role_word(role: Role) -> &'static [u8]
 }
 
 /// The word of implicit operations.
-pub(crate) fn implicit_word(which: ImplicitKind) -> &'static [u8]
+pub(crate) fn implicit_word(which: Some3) -> &'static [u8]
     ensures { result.now ≡ implicit_word which }
 {
     match which {
-        ImplicitKind::Puts => b"puts",
-        ImplicitKind::Gets => b"gets",
-        ImplicitKind::All => b"all",
+        Some3::Puts => b"puts",
+        Some3::Gets => b"gets",
+        Some3::All => b"all",
     }
 }
 

@@ -9,16 +9,17 @@ use crate::forms::{write, write_list};
 use crate::vis::write_vis;
 use crate::words::Word;
 use gas_outside::{BufferedSink, Sink, Wrote};
-use job_text::{PutText, ScriptStep, TransferText, WaitingStep};
+use job_text::{PutText, ScriptStep, WaitingStep};
+use put_get::Transfer;
 
 /// Writes a transfer that is waited for.
-fn write_transfer<K: Sink>(transfer: &TransferText, sink: &mut BufferedSink<K>) -> Wrote
+fn write_transfer<K: Sink>(transfer: &Transfer, sink: &mut BufferedSink<K>) -> Wrote
     ensures { GathersAll (outbox K.taken K.faults sink.old) (outbox K.taken K.faults sink.new)
         (entry_text none_text (transfer_entry transfer.now)) result }
 {
     use Word::{U8, U16, U64};
     match *transfer {
-        TransferText::Put {
+        Transfer::Put {
             to,
             remote,
             local,
@@ -27,7 +28,7 @@ fn write_transfer<K: Sink>(transfer: &TransferText, sink: &mut BufferedSink<K>) 
             let words = [U16(to), U64(remote), U64(local), U64(len)];
             write(b"put", &words, sink)
         }
-        TransferText::Get {
+        Transfer::Get {
             to,
             remote,
             local,
@@ -36,7 +37,7 @@ fn write_transfer<K: Sink>(transfer: &TransferText, sink: &mut BufferedSink<K>) 
             let words = [U16(to), U64(remote), U64(local), U64(len)];
             write(b"get", &words, sink)
         }
-        TransferText::Memset {
+        Transfer::Memset {
             to,
             remote,
             len,

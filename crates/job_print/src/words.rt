@@ -10,7 +10,8 @@ use crate::payloads::{write_bytes, write_payload};
 use gas_atomic::Op;
 use gas_outside::{BufferedSink, Sink, Wrote};
 use handler_rules::{CallKind, Role};
-use job_text::{Bytes, ImplicitKind, Operand, Payload};
+use job_text::{Bytes, Operand, Payload};
+use put_get::Some3;
 
 /// A word of a line behind its name, by what it says.
 #[derive(Clone, Copy)]
@@ -32,7 +33,7 @@ pub(crate) enum Word<'a> {
     /// A handler's role.
     Role(Role),
     /// Implicit operations.
-    Implicit(ImplicitKind),
+    Implicit(Some3),
     /// An operation of remote atomics.
     Operation(Op),
     /// Bytes.

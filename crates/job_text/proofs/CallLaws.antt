@@ -6,7 +6,7 @@ use Rattle.job_text.specs.Lines.{◌>>=◌}
 use Rattle.job_text.specs.declared.scope.Scope.{Scope}
 use Rattle.job_text.specs.declared.job.ScheduledCall.{ScheduledCall}
 use Rattle.job_text.specs.declared.job.ScheduledCall.TheVariants as call
-use Rattle.job_text.specs.declared.job.TransferText.TheVariants as transfer
+use Rattle.put_get.specs.declared.operation.Transfer.TheVariants as transfer
 use Rattle.job_text.specs.Forms.{none_at, none_text, none_fits, Row, Values, made, passed, row_at, named_at, values_at}
 use Rattle.job_text.specs.Calls.{calls, later_calls, own_calls, segment_calls, transfer_calls, implicit_calls}
 use Rattle.job_text.specs.Calls.{sync_calls, barrier_calls, call_entry, call_at, call_fits, fitting, call_text}

@@ -37,7 +37,7 @@ use Rattle.job_text.specs.declared.job.Action.TheVariants as action
 use Rattle.job_text.specs.declared.job.ScheduledCall.TheVariants as call
 use Rattle.job_text.specs.declared.job.ScriptStep.TheVariants as step
 use Rattle.job_text.specs.declared.job.SieveRule.{SieveRule}
-use Rattle.job_text.specs.declared.job.TransferText.TheVariants as transfer
+use Rattle.put_get.specs.declared.operation.Transfer.TheVariants as transfer
 use Rattle.job_text.specs.declared.job.WaitingStep.TheVariants as waiting
 use Rattle.job_text.specs.declared.sections.HandlerHeader.{HandlerHeader}
 use Rattle.job_text.specs.declared.sections.Section.{Section}

@@ -16,8 +16,8 @@ use Rattle.job_text.specs.declared.job.MediumText.{MediumText}
 use Rattle.job_text.specs.declared.job.LongText.{LongText}
 use Rattle.job_text.specs.declared.job.Payload.{Payload as PayloadValue}
 use Rattle.job_text.specs.declared.job.Operand.{Operand}
-use Rattle.job_text.specs.declared.job.TransferText.{TransferText}
-use Rattle.job_text.specs.declared.job.TransferText.TheVariants as transfer
+use Rattle.put_get.specs.declared.operation.Transfer.{Transfer}
+use Rattle.put_get.specs.declared.operation.Transfer.TheVariants as transfer
 use Rattle.job_text.specs.declared.job.ScheduledCall.{ScheduledCall}
 use Rattle.job_text.specs.declared.job.ScheduledCall.TheVariants as call
 
@@ -194,7 +194,7 @@ abbrev pub words : (row : Row ⊥ ScheduledCall) → Values ⊥ row.shape → En
 words row values = record { row = row; values = values }
 
 -- how an explicit transfer is written
-abbrev pub begin_entry : (register : ℕ) → TransferText → Entry ⊥ ScheduledCall
+abbrev pub begin_entry : (register : ℕ) → Transfer → Entry ⊥ ScheduledCall
 begin_entry register (transfer.Put to remote local len) =
     words put_row (register, (to, (remote, (local, (len, tt)))))
 begin_entry register (transfer.Get to remote local len) =
@@ -203,7 +203,7 @@ begin_entry register (transfer.Memset to remote len byte) =
     words memset_row (register, (to, (remote, (len, (byte, tt)))))
 
 -- and an implicit one
-abbrev pub implicit_entry : TransferText → Entry ⊥ ScheduledCall
+abbrev pub implicit_entry : Transfer → Entry ⊥ ScheduledCall
 implicit_entry (transfer.Put to remote local len) = words implicit_put_row (to, (remote, (local, (len, tt))))
 implicit_entry (transfer.Get to remote local len) = words implicit_get_row (to, (remote, (local, (len, tt))))
 implicit_entry (transfer.Memset to remote len byte) = words implicit_memset_row (to, (remote, (len, (byte, tt))))

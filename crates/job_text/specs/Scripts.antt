@@ -15,8 +15,8 @@ use Rattle.job_text.specs.declared.scope.Scope.{Scope}
 use Rattle.job_text.specs.declared.job.PutText.{PutText}
 use Rattle.job_text.specs.declared.job.ScriptStep.{ScriptStep}
 use Rattle.job_text.specs.declared.job.ScriptStep.TheVariants as step
-use Rattle.job_text.specs.declared.job.TransferText.{TransferText}
-use Rattle.job_text.specs.declared.job.TransferText.TheVariants as transfer
+use Rattle.put_get.specs.declared.operation.Transfer.{Transfer}
+use Rattle.put_get.specs.declared.operation.Transfer.TheVariants as transfer
 use Rattle.job_text.specs.declared.job.WaitingStep.{WaitingStep}
 use Rattle.job_text.specs.declared.job.WaitingStep.TheVariants as waiting
 
@@ -85,7 +85,7 @@ abbrev pub words : (row : Row ⊥ WaitingStep) → Values ⊥ row.shape → Entr
 words row values = record { row = row; values = values }
 
 -- how a blocking transfer is written
-abbrev pub transfer_entry : TransferText → Entry ⊥ WaitingStep
+abbrev pub transfer_entry : Transfer → Entry ⊥ WaitingStep
 transfer_entry (transfer.Put to remote local len) = words put_row (to, (remote, (local, (len, tt))))
 transfer_entry (transfer.Get to remote local len) = words get_row (to, (remote, (local, (len, tt))))
 transfer_entry (transfer.Memset to remote len byte) = words memset_row (to, (remote, (len, (byte, tt))))

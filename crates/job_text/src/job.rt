@@ -13,6 +13,7 @@ use crate::vis::BoxedVis;
 use datagram_grammar::Settings;
 use gas_atomic::WordOp;
 use handler_rules::{CallKind, Role};
+use put_get::{Some3, Transfer};
 use std::marker::Model;
 
 /// A number as an action has it.
@@ -127,44 +128,17 @@ impl Model for BoxedLong {
     ghost view = { λ b. box_value b.inside };
 }
 
-/// What a transfer of a schedule moves between the own segment and that of the node `to`: `remote` and `local` are
-/// offsets there and here, `len` is how many bytes.
-#[derive(Clone, Copy)]
-pub enum TransferText {
-    /// Bytes of the own segment are written there.
-    Put {
-        to: u16,
-        remote: u64,
-        local: u64,
-        len: u64,
-    },
-    /// Bytes of that segment are written here.
-    Get {
-        to: u16,
-        remote: u64,
-        local: u64,
-        len: u64,
-    },
-    /// Each byte of a range there becomes `byte`.
-    Memset {
-        to: u16,
-        remote: u64,
-        len: u64,
-        byte: u8,
-    },
-}
-
 /// A transfer in an allocation of its own, so that a line of a schedule stays small.
 #[derive(Drop)]
 pub struct BoxedTransfer {
-    pub(crate) inside: Box<TransferText>,
+    pub(crate) inside: Box<Transfer>,
 }
 
 impl Model for BoxedTransfer {
     ghost use Rattle.std.specs.Box.{box_value};
-    ghost use Rattle.job_text.specs.declared.job.TransferText.{TransferText};
+    ghost use Rattle.put_get.specs.declared.operation.Transfer.{Transfer};
 
-    ghost Value = { TransferText };
+    ghost Value = { Transfer };
 
     ghost view = { λ b. box_value b.inside };
 }
@@ -225,17 +199,6 @@ impl Model for Registers {
     ghost view = { λ r. r.items.items };
 
     ghost invariant = { λ r. length r.items.items ≤ 16 };
-}
-
-/// Of which implicit operations of its thread a synchronisation speaks.
-#[derive(Clone, Copy)]
-pub enum ImplicitKind {
-    /// Puts and memsets.
-    Puts,
-    /// Gets.
-    Gets,
-    /// All of them.
-    All,
 }
 
 /// The locks that a handler lists, each 0 to 63, in rising order.
@@ -397,7 +360,7 @@ pub enum ScheduledCall {
     },
     /// Synchronises implicit transfers of the thread.
     SyncImplicit {
-        which: ImplicitKind,
+        which: Some3,
     },
     /// Begins an access region.
     RegionBegin,
@@ -502,7 +465,7 @@ pub enum WaitingStep {
     /// Waits for one of them at least (gasnet_wait_syncnb_some).
     WaitSome { registers: Registers },
     /// Waits for implicit transfers of the thread (gasnet_wait_syncnbi_puts, _gets and _all).
-    WaitImplicit { which: ImplicitKind },
+    WaitImplicit { which: Some3 },
     /// Waits at the barrier (gasnet_barrier_wait).
     BarrierWait { id: i32, flags: u8 },
 }
@@ -707,7 +670,7 @@ impl BoxedLong {
 
 impl BoxedTransfer {
     /// The transfer.
-    pub fn text(&self) -> &TransferText
+    pub fn text(&self) -> &Transfer
         ensures { result.now ≡ self.now }
     {
         &self.inside

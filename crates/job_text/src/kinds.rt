@@ -6,7 +6,6 @@ ghost use Rattle.job_text.specs.Forms.{Implicit, Kind, Operation, Role as RolePa
 ghost use Rattle.job_text.specs.Reading.{Finds};
 
 use crate::fault::Other;
-use crate::job::ImplicitKind;
 use crate::words::{is_name, name_of, spaced};
 use gas_atomic::Op;
 use handler_rules::{CallKind, Role};
@@ -85,24 +84,24 @@ pub fn role_at(bytes: &[u8]) -> Result<(Role, &[u8]), Other>
 
 /// The kind of implicit operations that a word names.
 #[tactic(auto, unfolding(crate::specs::Words::implicit_of))]
-fn implicit_of(word: &[u8]) -> Option<ImplicitKind>
+fn implicit_of(word: &[u8]) -> Option<Some3>
     ensures { result ≡ implicit_of word.now }
 {
     if is_name(word, b"puts") {
-        return Some(ImplicitKind::Puts);
+        return Some(Some3::Puts);
     }
     if is_name(word, b"gets") {
-        return Some(ImplicitKind::Gets);
+        return Some(Some3::Gets);
     }
     if is_name(word, b"all") {
-        return Some(ImplicitKind::All);
+        return Some(Some3::All);
     }
     None
 }
 
 /// A kind of implicit operations behind a space.
 #[tactic(auto, unfolding(crate::specs::Forms::part_at, crate::specs::Forms::word_at))]
-pub fn implicit_at(bytes: &[u8]) -> Result<(ImplicitKind, &[u8]), Other>
+pub fn implicit_at(bytes: &[u8]) -> Result<(Some3, &[u8]), Other>
     ensures { Finds (λ x. (x.0, x.1.now)) result (part_at Implicit bytes.now) }
 {
     let bytes = spaced(bytes)?;

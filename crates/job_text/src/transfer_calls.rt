@@ -3,13 +3,13 @@
 ghost use Rattle.std.specs.Prelude.{◌≡◌, IfOk, false};
 ghost use Rattle.job_text.specs.Calls.{barrier_calls, fill_shape, implicit_calls, move_shape, sync_calls};
 ghost use Rattle.job_text.specs.Calls.{transfer_calls};
-ghost use Rattle.job_text.specs.declared.job.TransferText.TheVariants as transfer;
+ghost use Rattle.put_get.specs.declared.operation.Transfer.TheVariants as transfer;
 ghost use Rattle.job_text.specs.Forms.{named_at, none_at, values_at};
 ghost use Rattle.job_text.specs.Reasons.{named_form};
 ghost use Rattle.job_text.specs.Reading.{Finds, Reads};
 
 use crate::fault::{Miss, Other};
-use crate::job::{BoxedTransfer, ScheduledCall, TransferText};
+use crate::job::{BoxedTransfer, ScheduledCall};
 use crate::kinds::implicit_at;
 use crate::numbers::{byte_at, number_at, short_at};
 use crate::operand_lists::registers_at;
@@ -73,10 +73,10 @@ pub fn fill_at(bytes: &[u8]) -> Result<(Fill, &[u8]), Other>
 }
 
 /// The put of such words.
-pub fn put_of(words: Move) -> TransferText
+pub fn put_of(words: Move) -> Transfer
     ensures { result ≡ transfer.Put words.to words.remote words.local words.len }
 {
-    TransferText::Put {
+    Transfer::Put {
         to: words.to,
         remote: words.remote,
         local: words.local,
@@ -85,10 +85,10 @@ pub fn put_of(words: Move) -> TransferText
 }
 
 /// The get of such words.
-pub fn get_of(words: Move) -> TransferText
+pub fn get_of(words: Move) -> Transfer
     ensures { result ≡ transfer.Get words.to words.remote words.local words.len }
 {
-    TransferText::Get {
+    Transfer::Get {
         to: words.to,
         remote: words.remote,
         local: words.local,
@@ -97,10 +97,10 @@ pub fn get_of(words: Move) -> TransferText
 }
 
 /// The memset of such words.
-pub fn memset_of(words: Fill) -> TransferText
+pub fn memset_of(words: Fill) -> Transfer
     ensures { result ≡ transfer.Memset words.to words.remote words.len words.byte }
 {
-    TransferText::Memset {
+    Transfer::Memset {
         to: words.to,
         remote: words.remote,
         len: words.len,
@@ -109,7 +109,7 @@ pub fn memset_of(words: Fill) -> TransferText
 }
 
 /// A transfer in an allocation of its own.
-pub fn boxed(alloc: Global, text: TransferText) -> Result<BoxedTransfer, AllocError>
+pub fn boxed(alloc: Global, text: Transfer) -> Result<BoxedTransfer, AllocError>
     ensures { IfOk result (λ transfer. transfer ≡ text) }
 {
     let inside = Box::new(alloc, text)?;

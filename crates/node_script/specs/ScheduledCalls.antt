@@ -10,21 +10,13 @@ use Rattle.endpoint_rules.specs.TransferCalls.{RegionBegin, RegionEnd}
 use Rattle.endpoint_rules.specs.BarrierCalls.{Notify, TryBarrier}
 use Rattle.endpoint_rules.specs.Called.{Meant, Requests, Performs}
 use Rattle.gas_atomic.specs.Asking.{batch_asking}
-use Rattle.put_get.specs.declared.operation.Some3.{Some3}
-use Rattle.put_get.specs.declared.operation.Some3.TheVariants as some
-use Rattle.put_get.specs.declared.operation.Transfer.{Transfer}
-use Rattle.put_get.specs.declared.operation.Transfer.TheVariants as transfers
 use Rattle.job_text.specs.Payloads.{IsPayload}
-use Rattle.job_text.specs.declared.job.ImplicitKind.{ImplicitKind}
-use Rattle.job_text.specs.declared.job.ImplicitKind.TheVariants as implicit
 use Rattle.job_text.specs.declared.job.LongText.{LongText}
 use Rattle.job_text.specs.declared.job.MediumText.{MediumText}
 use Rattle.job_text.specs.declared.job.Payload.{Payload}
 use Rattle.job_text.specs.declared.job.Payload.TheVariants as payload
 use Rattle.job_text.specs.declared.job.ScheduledCall.{ScheduledCall}
 use Rattle.job_text.specs.declared.job.ScheduledCall.TheVariants as call
-use Rattle.job_text.specs.declared.job.TransferText.{TransferText}
-use Rattle.job_text.specs.declared.job.TransferText.TheVariants as text
 use Rattle.node_script.specs.Bodies.{operand_value}
 
 -- where a payload is. No schedule has that of a message, which would have no bytes
@@ -44,18 +36,6 @@ abbrev pub meant_long : (cells : List ℤ) → LongText → Meant
 meant_long cells text =
     Requests text.to
     (long_asking text.handler (map (operand_value cells []) text.operands) (given_from text.payload) text.offset)
-
--- a transfer
-abbrev pub transfer_of : TransferText → Transfer
-transfer_of (text.Put to remote local len) = transfers.Put to remote local len
-transfer_of (text.Get to remote local len) = transfers.Get to remote local len
-transfer_of (text.Memset to remote len byte) = transfers.Memset to remote len byte
-
--- the implicit operations of a synchronisation
-abbrev pub some_of : ImplicitKind → Some3
-some_of implicit.Puts = some.Puts
-some_of implicit.Gets = some.Gets
-some_of implicit.All = some.All
 
 -- a call, by the cells of its node
 abbrev pub meant_by : (cells : List ℤ) → ScheduledCall → Meant
@@ -77,13 +57,13 @@ meant_by cells (call.Fill offset len byte) = Performs (OnCore (OnSegment (Fill o
 meant_by cells (call.Word offset) = Performs (OnCore (OnSegment (LoadWord offset)))
 meant_by cells (call.SetWord offset number) = Performs (OnCore (OnSegment (SetWord offset number)))
 meant_by cells (call.Begin register transfer) =
-    Performs (OnTransfers (Begin (Some register) (transfer_of transfer)))
-meant_by cells (call.BeginImplicit transfer) = Performs (OnTransfers (BeginImplicit (transfer_of transfer)))
+    Performs (OnTransfers (Begin (Some register) transfer))
+meant_by cells (call.BeginImplicit transfer) = Performs (OnTransfers (BeginImplicit transfer))
 meant_by cells (call.IsIssued register) = Performs (OnTransfers (IsIssued register))
 meant_by cells (call.Sync register) = Performs (OnTransfers (Sync register))
 meant_by cells (call.SyncAll registers) = Performs (OnTransfers (SyncAll registers))
 meant_by cells (call.SyncSome registers) = Performs (OnTransfers (SyncSome registers))
-meant_by cells (call.SyncImplicit which) = Performs (OnTransfers (SyncImplicit (some_of which)))
+meant_by cells (call.SyncImplicit which) = Performs (OnTransfers (SyncImplicit which))
 meant_by cells call.RegionBegin = Performs (OnTransfers RegionBegin)
 meant_by cells (call.RegionEnd register) = Performs (OnTransfers (RegionEnd register))
 meant_by cells (call.Notify id flags) = Performs (OnBarrier (Notify id flags))

@@ -33,6 +33,6 @@ pub use answer_words::{lock_fault_word, rule_word};
 pub use answers::{write_answer, write_vis};
 pub use body_numbers::value_of;
 pub use handlers::ScriptHandlers;
-pub use line::{call_of, some_of, transfer_of};
+pub use line::call_of;
 pub use line_writer::write_line;
 pub use script::Script;

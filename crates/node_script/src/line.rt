@@ -7,7 +7,7 @@ ghost use Rattle.gas_atomic.specs.Asking.{batch_asking};
 ghost use Rattle.node_script.specs.Callable.{IsCallable};
 ghost use Rattle.node_script.specs.Bodies.{operand_value};
 ghost use Rattle.node_script.specs.ScheduledCalls.{IsGiven, IsOnSegment, IsOnTransfers, IsOwn, given_from, meant_by};
-ghost use Rattle.node_script.specs.ScheduledCalls.{meant_long, meant_medium, some_of, transfer_of};
+ghost use Rattle.node_script.specs.ScheduledCalls.{meant_long, meant_medium};
 ghost use Rattle.job_text.specs.Payloads.{IsPayload};
 
 use crate::body_numbers::{value_of, values_of};
@@ -16,10 +16,8 @@ use endpoint_rules::Call;
 use gas_atomic::BATCH_HANDLER;
 use handler_rules::Cells;
 use job_text::{
-    BatchText, ImplicitKind, LongText, MediumText, Operands, Payload as Given, ScheduledCall,
-    TransferText,
+    BatchText, LongText, MediumText, Operands, Payload as Given, ScheduledCall,
 };
-use put_get::{Some3, Transfer};
 
 /// A call, by the cells of its node. The arguments of a request are put into `args`.
 pub fn call_of<'a>(call: &'a ScheduledCall, cells: &Cells, args: &'a mut [i32; 17]) -> Call<'a>
@@ -181,58 +179,6 @@ fn segment_call_of(call: &ScheduledCall) -> Call<'_>
     }
 }
 
-/// A transfer.
-pub fn transfer_of(text: &TransferText) -> Transfer
-    ensures { result ≡ transfer_of text.now }
-{
-    match *text {
-        TransferText::Put {
-            to,
-            remote,
-            local,
-            len,
-        } => Transfer::Put {
-            to,
-            remote,
-            local,
-            len,
-        },
-        TransferText::Get {
-            to,
-            remote,
-            local,
-            len,
-        } => Transfer::Get {
-            to,
-            remote,
-            local,
-            len,
-        },
-        TransferText::Memset {
-            to,
-            remote,
-            len,
-            byte,
-        } => Transfer::Memset {
-            to,
-            remote,
-            len,
-            byte,
-        },
-    }
-}
-
-/// The implicit operations of a synchronisation.
-pub fn some_of(kind: ImplicitKind) -> Some3
-    ensures { result ≡ some_of kind }
-{
-    match kind {
-        ImplicitKind::Puts => Some3::Puts,
-        ImplicitKind::Gets => Some3::Gets,
-        ImplicitKind::All => Some3::All,
-    }
-}
-
 /// A call on transfers, regions or the barrier.
 fn transfer_call_of(call: &ScheduledCall) -> Call<'_>
     requires { IsOnTransfers call.now }
@@ -242,10 +188,10 @@ fn transfer_call_of(call: &ScheduledCall) -> Call<'_>
     match call {
         ScheduledCall::Begin { register, transfer } => Call::Begin {
             reg: Some(*register),
-            transfer: transfer_of(transfer.text()),
+            transfer: *transfer.text(),
         },
         ScheduledCall::BeginImplicit { transfer } => Call::BeginImplicit {
-            transfer: transfer_of(transfer.text()),
+            transfer: *transfer.text(),
         },
         ScheduledCall::IsIssued { register } => Call::IsIssued { reg: *register },
         ScheduledCall::Sync { register } => Call::Sync { reg: *register },
@@ -256,7 +202,7 @@ fn transfer_call_of(call: &ScheduledCall) -> Call<'_>
             regs: registers.items(),
         },
         ScheduledCall::SyncImplicit { which } => Call::SyncImplicit {
-            which: some_of(*which),
+            which: *which,
         },
         ScheduledCall::RegionBegin => Call::RegionBegin,
         ScheduledCall::RegionEnd { register } => Call::RegionEnd { reg: *register },

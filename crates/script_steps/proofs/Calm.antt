@@ -60,7 +60,7 @@ use Rattle.job_text.specs.declared.job.ScriptStep.TheVariants as step
 use Rattle.job_text.specs.declared.job.WaitingStep.{WaitingStep}
 use Rattle.job_text.specs.declared.job.WaitingStep.TheVariants as waiting
 use Rattle.node_script.specs.Bodies.{operand_value}
-use Rattle.node_script.specs.ScheduledCalls.{meant_by, given_from, some_of}
+use Rattle.node_script.specs.ScheduledCalls.{meant_by, given_from}
 use Rattle.node_runs.specs.Actions.{Form, Once, Again, Until, Twice, Looks, Several, calls_of, ended_by, begins}
 use Rattle.node_runs.specs.Actions.{OwnScripts, next_calls, tried_step, scripts_of, unless}
 use Rattle.node_runs.specs.Empty.{IsCalm}
@@ -335,7 +335,7 @@ waiting_calm place node (waiting.WaitAll registers) =
 waiting_calm place node (waiting.WaitSome registers) =
     transfer_leaves place node (SyncSome registers) (sync_some_waits registers)
 waiting_calm place node (waiting.WaitImplicit which) =
-    transfer_leaves place node (SyncImplicit (some_of which)) (sync_implicit_waits (some_of which))
+    transfer_leaves place node (SyncImplicit which) (sync_implicit_waits which)
 waiting_calm place node (waiting.BarrierWait id flags) = barrier_leaves place node id flags
 
 step_calm : (place : TryContext) (node : Node EndpointLocal) (one : ScriptStep)

@@ -12,12 +12,11 @@ use Rattle.endpoint_rules.specs.declared.answer.Answer.{Answer}
 use Rattle.gas_endpoint.specs.EndpointState.{EndpointState, EndpointStands, ForItsRecord}
 use Rattle.job_text.specs.declared.job.ScheduledCall.{ScheduledCall}
 use Rattle.job_text.specs.declared.job.ScheduledCall.TheVariants as call
-use Rattle.job_text.specs.declared.job.TransferText.{TransferText}
 use Rattle.job_text.specs.declared.job.WaitingStep.TheVariants as waiting
 use Rattle.node_runs.specs.Actions.{Form, Once, Again, Until, Twice, Looks, calls_of, ended_by, begins, unless}
 use Rattle.node_runs.specs.declared.script_answer.ScriptAnswer.{ScriptAnswer}
 use Rattle.node_runs.specs.Scripts.{ThreadCall}
-use Rattle.node_script.specs.ScheduledCalls.{meant_by, transfer_of}
+use Rattle.node_script.specs.ScheduledCalls.{meant_by}
 use Rattle.script_steps.specs.Forms.{call_form, tried_while, waits_of, waiting_form, waits_at, begun_handle}
 use Rattle.script_steps.specs.Forms.{as_synced, on_transfers}
 use Rattle.script_steps.specs.Tries.{Makes, TriesForm, made_by, read_as, begun_by}
@@ -89,9 +88,9 @@ tries_scheduled meaning old new trial one meant answer waits tried makes meant_i
 -- ---- blocking transfers
 
 -- its first try, where an operation is under way
-pub transfer_begun : (meaning : Meaning) (old new : EndpointState) (trial : Trial) (text : TransferText)
+pub transfer_begun : (meaning : Meaning) (old new : EndpointState) (trial : Trial) (text : Transfer)
     (made : Transfer) (answer : Answer) (handle : Handle) (tried : Tried)
-    → Makes meaning old (made_by trial (on_transfers (Begin None made)) answer) new → made ≡ transfer_of text
+    → Makes meaning old (made_by trial (on_transfers (Begin None made)) answer) new → made ≡ text
     → trial.began ≡ None → begun_handle answer ≡ Some handle → tried ≡ begun_with answer
     → TriesForm meaning old
     (read_as trial (λ node. waiting_form node.local.core.cells (waiting.Transfer text))) tried new
@@ -109,9 +108,9 @@ transfer_begun meaning old new trial text made answer handle tried makes made_is
     })
 
 -- its first try, where none is
-pub transfer_not_begun : (meaning : Meaning) (old new : EndpointState) (trial : Trial) (text : TransferText)
+pub transfer_not_begun : (meaning : Meaning) (old new : EndpointState) (trial : Trial) (text : Transfer)
     (made : Transfer) (answer said : Answer) (tried : Tried)
-    → Makes meaning old (made_by trial (on_transfers (Begin None made)) answer) new → made ≡ transfer_of text
+    → Makes meaning old (made_by trial (on_transfers (Begin None made)) answer) new → made ≡ text
     → trial.began ≡ None → begun_handle answer ≡ None → said ≡ as_synced answer
     → tried ≡ ended_with false answer said
     → TriesForm meaning old

@@ -36,7 +36,7 @@ use Rattle.job_text.specs.declared.job.ScriptStep.TheVariants as step
 use Rattle.job_text.specs.declared.job.WaitingStep.{WaitingStep}
 use Rattle.job_text.specs.declared.job.WaitingStep.TheVariants as waiting
 use Rattle.node_script.specs.Bodies.{operand_value}
-use Rattle.node_script.specs.ScheduledCalls.{meant_by, transfer_of, some_of}
+use Rattle.node_script.specs.ScheduledCalls.{meant_by}
 use Rattle.gas_strided.specs.Beginning.{BeginCall, calls_made, vis_answer}
 use Rattle.gas_strided.specs.Plans.{PlanState}
 use Rattle.node_caller.specs.Sites.{Site, ThreadCall as CallerCall}
@@ -172,7 +172,7 @@ waiting_form cells (waiting.UntilWord offset number) =
     Until (Performs (OnCore (OnSegment (LoadWord offset)))) (word_reached number)
 -- gasnet_put, gasnet_get and gasnet_memset: the operation is begun without a register
 waiting_form cells (waiting.Transfer transfer) =
-    Twice (on_transfers (Begin None (transfer_of transfer))) sync_of is_not_ready as_synced
+    Twice (on_transfers (Begin None transfer)) sync_of is_not_ready as_synced
 -- gasnet_put_nb and gasnet_put_nbi: the source may be written again once all chunks were issued
 waiting_form cells (waiting.PutBegin register put) =
     Looks (on_transfers (Begin (Some register) (put_of put))) is_sent
@@ -182,7 +182,7 @@ waiting_form cells (waiting.Wait register) = Again is_not_ready (on_transfers (S
 waiting_form cells (waiting.WaitAll registers) = Again is_not_ready (on_transfers (SyncAll registers))
 waiting_form cells (waiting.WaitSome registers) = Again is_not_ready (on_transfers (SyncSome registers))
 waiting_form cells (waiting.WaitImplicit which) =
-    Again is_not_ready (on_transfers (SyncImplicit (some_of which)))
+    Again is_not_ready (on_transfers (SyncImplicit which))
 -- gasnet_barrier_wait
 waiting_form cells (waiting.BarrierWait id flags) = Again is_not_ready (Performs (OnBarrier (TryBarrier id flags)))
 

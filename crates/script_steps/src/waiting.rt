@@ -16,9 +16,9 @@ use crate::trial::{Trial, Tried};
 use endpoint_rules::{Answer, Call};
 use gas_endpoint::Endpoint;
 use handler_rules::Handlers;
-use job_text::{Operand, PutText, TransferText, WaitingStep};
+use job_text::{Operand, PutText, WaitingStep};
 use node_runs::ScriptAnswer;
-use node_script::{some_of, transfer_of, value_of};
+use node_script::value_of;
 use put_get::Transfer;
 
 /// The try of an `until`: it reads the cell.
@@ -71,7 +71,7 @@ fn begin_transfer<H: Handlers>(
     endpoint: &mut Endpoint,
     handlers: &H,
     trial: &Trial<'_>,
-    transfer: &TransferText,
+    transfer: &Transfer,
 ) -> Tried
     requires thread { trial.now.thread < endpoint.old.core.settings.threads }
     requires first { trial.now.began ≡ None }
@@ -82,7 +82,7 @@ fn begin_transfer<H: Handlers>(
 {
     let call = Call::Begin {
         reg: None,
-        transfer: transfer_of(transfer),
+        transfer: *transfer,
     };
     let answer = make(endpoint, handlers, trial, &call);
     match begun_handle(&answer) {
@@ -96,7 +96,7 @@ fn sync_transfer<H: Handlers>(
     endpoint: &mut Endpoint,
     handlers: &H,
     trial: &Trial<'_>,
-    transfer: &TransferText,
+    transfer: &Transfer,
     first: &Answer,
 ) -> Tried
     requires thread { trial.now.thread < endpoint.old.core.settings.threads }
@@ -118,7 +118,7 @@ pub(crate) fn try_transfer<H: Handlers>(
     endpoint: &mut Endpoint,
     handlers: &H,
     trial: &Trial<'_>,
-    transfer: &TransferText,
+    transfer: &Transfer,
 ) -> Tried
     requires { trial.now.thread < endpoint.old.core.settings.threads }
     ensures { TriesForm (H.meaning handlers.now) endpoint.old
@@ -230,7 +230,7 @@ fn sync_call(step: &WaitingStep) -> Call<'_>
             regs: registers.items(),
         },
         WaitingStep::WaitImplicit { which } => Call::SyncImplicit {
-            which: some_of(*which),
+            which: *which,
         },
         WaitingStep::BarrierWait { id, flags } => Call::TryBarrier {
             id: *id,

@@ -1,8 +1,8 @@
 use Rattle.std.proofs.Common.{◌+◌, ◌-◌, ◌*◌, ◌%◌, ◌^◌, ◌<◌, lit<, sym, subst, ◌∙◌, arith}
-use Rattle.job_text.specs.declared.job.ImplicitKind.TheVariants as implicit
+use Rattle.put_get.specs.declared.operation.Some3.TheVariants as implicit
 use Rattle.job_text.specs.declared.job.ScheduledCall.TheVariants as call
 use Rattle.job_text.specs.declared.job.ScheduledEvent.TheVariants as scheduled
-use Rattle.job_text.specs.declared.job.TransferText.TheVariants as transfer
+use Rattle.put_get.specs.declared.operation.Transfer.TheVariants as transfer
 use Rattle.drill_run.specs.Rounds.{at_time}
 use Rattle.datagram_grammar.specs.Parameters.{Parameters}
 use Rattle.drill_run.specs.Drilling.{stage}
