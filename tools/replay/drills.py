@@ -2,6 +2,7 @@
 import random
 
 from .atomics import APPLIED
+from .collectives import KINDS, Shape
 from .job import read_job
 from .plans import read_plan
 from .world import World
@@ -20,6 +21,7 @@ REGISTERS = 8  # of plans
 MOST_PIECES = 65_536  # of the plans of a job
 WORDS = range(32_768, 32_768 + 8 * 8, 8)  # of batches
 BLOCKS = range(36_864, 36_864 + 64 * 8, 64)
+PARTS, ROOM = 45_056, 64  # the area of collectives, and the room of a part
 
 HANDLERS = f"""\
 handler 128 request
@@ -57,6 +59,7 @@ class Drill:
         self.mixes = [name for name in MIXES if mix in (name, "all")]
         self.calls = [call for name in self.mixes for call in MIXES[name]]
         self.pieces = 0  # of the plans so far
+        self.shapes = []  # of the collectives so far
         self.head = self.settings(nodes, credits) + HANDLERS
         self.world = World(read_job(self.head + "done\n")[0])
         self.lines, self.ways = [], []
@@ -64,12 +67,13 @@ class Drill:
         self.held = [None] * nodes
 
     def settings(self, nodes, credits):
-        """The lines before the handlers. Plans and atomics stand in version 2 alone."""
-        version = 2 if {"plans", "atomics"} & set(self.mixes) else 1
+        """The lines before the handlers. Plans, atomics and collectives stand in version 2 alone."""
+        version = 2 if {"plans", "atomics", "collectives"} & set(self.mixes) else 1
         atomics = "atomics\n" if "atomics" in self.mixes else ""
+        collect = f"collect {PARTS} {ROOM}\n" if "collectives" in self.mixes else ""
         return (
             f"gasnet {version}\njob 7\nnodes {nodes}\ncredits {credits}\nthreads 2\nsegment {SEGMENT}\nlast 1000000\n"
-            f"resend {RESEND}\npatience 1\nsieve 0 0 0\n{atomics}"
+            f"resend {RESEND}\npatience 1\nsieve 0 0 0\n{atomics}{collect}"
         )
 
     # ---- what happens
@@ -222,10 +226,35 @@ class Drill:
         block = self.draw.choice(BLOCKS)
         self.line(f"call {node} 0 word {self.draw.choice((*WORDS, block, block + 8))}")
 
+    # ---- collectives
+
+    def collective(self, node):
+        """The next call of a node's collectives: a start, or now and then a needless one; a step; a try."""
+        at = self.world.nodes[node].collectives
+        if at.started == at.ended or self.draw.randrange(16) == 0:
+            shape, source = self.shape(at.started), self.draw.randrange(0, AREA, 8)
+            words = "coll-start", shape.kind, shape.root, source, shape.length
+        elif self.draw.randrange(3):
+            words = ("coll-step",)
+        else:
+            words = "coll-try", self.draw.randrange(0, AREA, 8)
+        self.line(" ".join(map(str, ("call", node, 0, *words))))
+
+    def shape(self, phase):
+        """That of a phase, which is drawn as the first node starts it; now and then a node has another one."""
+        while len(self.shapes) <= phase:
+            self.shapes.append(self.drawn_shape())
+        return self.drawn_shape() if self.draw.randrange(16) == 0 else self.shapes[phase]
+
+    def drawn_shape(self):
+        shape = Shape(self.draw.choice(KINDS), length=self.draw.randrange(0, ROOM + 1, 8))
+        shape.root = self.draw.randrange(len(self.notified)) if shape.has_root else 0
+        return shape
+
     # ---- the job
 
     def end(self):
-        """The locks are given back, and all goes through; then what plans and batches wrote is shown."""
+        """The locks are given back, and all goes through; then what plans, batches and collectives wrote is shown."""
         for node, lock in enumerate(self.held):
             if lock is not None:
                 self.lock(node)
@@ -233,6 +262,7 @@ class Drill:
         for node in range(len(self.notified)):
             if "plans" in self.mixes:
                 self.sync_plans(node)
+            if {"plans", "collectives"} & set(self.mixes):
                 self.line(f"call {node} 0 show 0 {AREA}")
             for place in WORDS if "atomics" in self.mixes else ():
                 self.line(f"call {node} 0 word {place}")
@@ -248,6 +278,7 @@ MIXES = {
     "barriers": (Drill.barrier, Drill.barrier),
     "plans": (Drill.plan, Drill.plan, Drill.sync_plans, Drill.set),
     "atomics": (Drill.batch, Drill.batch, Drill.word),
+    "collectives": (Drill.collective, Drill.collective, Drill.set),
 }
 
 

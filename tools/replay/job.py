@@ -3,6 +3,7 @@ from contextlib import contextmanager
 from dataclasses import dataclass, field
 
 from .atomics import BATCH, BLOCK
+from .collectives import COLLECTIVE
 
 HEAD = ("gasnet", "job", "nodes", "credits", "threads", "segment", "last", "resend", "patience", "sieve")
 FIRST_CLIENT_INDEX = 128
@@ -43,6 +44,7 @@ class Job:
     last: int
     resend: int
     atomics: bool = False
+    collect: tuple = None  # of the area of collectives: where it begins, and the room of a part
     pairs: dict = field(default_factory=dict)
     handlers: dict = field(default_factory=dict)
     scripts: dict = field(default_factory=dict)
@@ -106,14 +108,16 @@ def read_head(lines):
     return Job(**{name: head[names.get(name, name)][0] for name in settings})
 
 
-def batch_handlers():
-    """Those of remote atomics, whose bodies no job has."""
-    return {BATCH: Handler("request", set(), []), BLOCK: Handler("reply", set(), [])}
+def own_handlers(job):
+    """Those of remote atomics and of collectives, whose bodies no job has."""
+    roles = {BATCH: "request", BLOCK: "reply"} if job.atomics else {}
+    roles |= {COLLECTIVE: "request"} if job.collect else {}
+    return {index: Handler(role, set(), []) for index, role in roles.items()}
 
 
-def read_handlers(lines, atomics):
-    """The handlers by index: those with 0 get the lowest indexes that are left, once the others have theirs."""
-    handlers, later = batch_handlers() if atomics else {}, []
+def read_handlers(lines, handlers):
+    """The handlers by index, with these: those with 0 get the lowest indexes that are left, once the others have theirs."""
+    later = []
     while lines.peek()[0] == "handler":
         index, role, *locks = lines.take("handler")
         handler = Handler(role, set(numbers(locks)), lines.until_end())
@@ -142,7 +146,9 @@ def read_parts(lines):
     job.atomics = lines.peek() == ["atomics"]
     if job.atomics:
         lines.take("atomics")
-    job.handlers = read_handlers(lines, job.atomics)
+    if lines.peek()[0] == "collect":
+        job.collect = tuple(numbers(lines.take("collect")))
+    job.handlers = read_handlers(lines, own_handlers(job))
     while lines.peek()[0] == "script":
         node, thread = numbers(lines.take("script"))
         job.scripts[node, thread] = lines.until_end()

@@ -1,6 +1,7 @@
 """A node of a job: what it does with calls, deliveries and ticks."""
 from dataclasses import dataclass
 
+from . import collectives
 from .atomics import BATCH, batch_request, serve
 from .barrier import Barrier, is_note, note_said
 from .client import KINDS, Client, HandlerRun, acknowledged, library_fault, payload_in, run_library
@@ -46,6 +47,7 @@ class Node:
         self.client = Client(job, me)
         self.transfers = Transfers(job)
         self.barrier = Barrier(job, me)
+        self.collectives = collectives.Collectives(self) if job.collect else None
         self.asked = {}  # by peer: all requests, in the order of their numbers
         self.open = {}  # by peer: those that aren't back, by their numbers
         self.ran = {}  # by peer and slot: the greatest number that ran
@@ -185,6 +187,8 @@ class Node:
             return acknowledged(run_library(self, message))
         if message.handler == BATCH and self.job.atomics:
             return acknowledged(serve(self.client, message))
+        if message.handler == collectives.COLLECTIVE and self.job.collect:
+            return acknowledged(collectives.serve(self.client, message))
         return acknowledged(HandlerRun(self.client, message, "request").run())
 
     def take(self, message):
@@ -232,6 +236,8 @@ class Node:
             words = batch_request(*words[1:])
         if words[0] in KINDS:
             return self.did(self.ask(now, thread, words))
+        if words[0] in collectives.NAMES:
+            return self.did(Did(*self.collectives.call(now, thread, words)))
         return self.did(Did(self.local_call(thread, words)))
 
     def local_call(self, thread, words):

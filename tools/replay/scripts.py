@@ -54,6 +54,8 @@ class Script:
             return self.attempt_transfer(now, step)
         if name in PUTS:
             return self.attempt_put(now, [PUTS[name], *step[1:]])
+        if name == "coll":
+            return self.attempt_collective(now, *step[1:])
         did = self.node.call(now, self.thread, [WAITING_SYNCS.get(name, name), *step[1:]])
         return Tried(None if waits(name, did.answer) else did.answer, did.sent)
 
@@ -78,6 +80,21 @@ class Script:
             self.began = answer
             return Tried(began=begins)
         return Tried(answer)
+
+
+    def attempt_collective(self, now, kind, root, source, length, dest):
+        """A collective: its start, until no lock is in the way; then a step and a try at each turn, until it is over."""
+        if self.began is None:
+            answer = self.node.call(now, self.thread, ["coll-start", kind, root, source, length]).answer
+            if answer.startswith("lock-busy"):
+                return Tried()
+            self.began = answer
+            return Tried(began=True) if answer == "ok" else Tried(answer)
+        did = self.node.call(now, self.thread, ["coll-step"])
+        if did.answer.startswith("forbidden"):
+            return Tried(did.answer)
+        answer = self.node.call(now, self.thread, ["coll-try", dest]).answer
+        return Tried(None if answer == "not-ready" else answer, did.sent)
 
 
 def number_of(answer):
