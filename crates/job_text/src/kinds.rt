@@ -9,6 +9,7 @@ use crate::fault::Other;
 use crate::words::{is_name, name_of, spaced};
 use gas_atomic::Op;
 use handler_rules::{CallKind, Role};
+use put_get::Some3;
 
 /// The kind of calls that a word names.
 #[tactic(auto, unfolding(crate::specs::Words::kind_of))]

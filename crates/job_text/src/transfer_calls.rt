@@ -16,6 +16,7 @@ use crate::operand_lists::registers_at;
 use crate::operands::integer_at;
 use crate::reasons::{is_between, words_left};
 use crate::words::is_name;
+use put_get::Transfer;
 use std::alloc::{AllocError, Global};
 
 /// The words of a put or a get.
