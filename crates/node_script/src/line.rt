@@ -15,9 +15,7 @@ use am_core::Payload;
 use endpoint_rules::Call;
 use gas_atomic::BATCH_HANDLER;
 use handler_rules::Cells;
-use job_text::{
-    BatchText, LongText, MediumText, Operands, Payload as Given, ScheduledCall,
-};
+use job_text::{BatchText, LongText, MediumText, Operands, Payload as Given, ScheduledCall};
 
 /// A call, by the cells of its node. The arguments of a request are put into `args`.
 pub fn call_of<'a>(call: &'a ScheduledCall, cells: &Cells, args: &'a mut [i32; 17]) -> Call<'a>
@@ -201,9 +199,7 @@ fn transfer_call_of(call: &ScheduledCall) -> Call<'_>
         ScheduledCall::SyncSome { registers } => Call::SyncSome {
             regs: registers.items(),
         },
-        ScheduledCall::SyncImplicit { which } => Call::SyncImplicit {
-            which: *which,
-        },
+        ScheduledCall::SyncImplicit { which } => Call::SyncImplicit { which: *which },
         ScheduledCall::RegionBegin => Call::RegionBegin,
         ScheduledCall::RegionEnd { register } => Call::RegionEnd { reg: *register },
         ScheduledCall::Notify { id, flags } => Call::Notify {

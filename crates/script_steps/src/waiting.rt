@@ -229,9 +229,7 @@ fn sync_call(step: &WaitingStep) -> Call<'_>
         WaitingStep::WaitSome { registers } => Call::SyncSome {
             regs: registers.items(),
         },
-        WaitingStep::WaitImplicit { which } => Call::SyncImplicit {
-            which: *which,
-        },
+        WaitingStep::WaitImplicit { which } => Call::SyncImplicit { which: *which },
         WaitingStep::BarrierWait { id, flags } => Call::TryBarrier {
             id: *id,
             flags: *flags,
