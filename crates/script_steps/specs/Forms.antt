@@ -1,7 +1,7 @@
 -- How each step of a script is tried, and where it ends.
 -- Origin: this project's profile; waiting is that of the blocking calls of GASNet 1.8.1.
 use Rattle.std.specs.Prelude.{◌≡◌, ℕ, ℤ, int_le, ◌==◌, if◌then◌else◌, Bool, true, false, not, List, [], map}
-use Rattle.std.specs.Prelude.{Option, None, Some}
+use Rattle.std.specs.Prelude.{Option, None, Some, is_none, ◌++◌, ◌&&◌}
 use Rattle.std.specs.Option.{option_map}
 use Rattle.datagram_grammar.specs.Parameters.{Parameters}
 use Rattle.hsl_locks.specs.declared.answer.LockAnswer.TheVariants as locking
@@ -37,11 +37,22 @@ use Rattle.job_text.specs.declared.job.WaitingStep.{WaitingStep}
 use Rattle.job_text.specs.declared.job.WaitingStep.TheVariants as waiting
 use Rattle.node_script.specs.Bodies.{operand_value}
 use Rattle.node_script.specs.ScheduledCalls.{meant_by, transfer_of, some_of}
+use Rattle.collective_area.specs.declared.shape.Shape.{Shape}
+use Rattle.gas_collectives.specs.CollectivesState.{CollectivesState}
+use Rattle.gas_collectives.specs.Ends.{EndAsked}
+use Rattle.gas_collectives.specs.Starts.{StartAsked}
+use Rattle.gas_collectives.specs.declared.answers.EndAnswer.{EndAnswer}
+use Rattle.gas_collectives.specs.declared.answers.StepAnswer.{StepAnswer}
+use Rattle.gas_collectives.specs.declared.answers.StepAnswer.TheVariants as steps
+use Rattle.job_text.specs.declared.job.CollectiveText.{CollectiveText}
+use Rattle.job_text.specs.declared.job.CollectiveText.TheVariants as text
 use Rattle.gas_strided.specs.Beginning.{BeginCall, calls_made, vis_answer}
 use Rattle.gas_strided.specs.Plans.{PlanState}
-use Rattle.node_caller.specs.Sites.{Site, ThreadCall as CallerCall}
-use Rattle.node_runs.specs.Actions.{Form, Once, Again, Until, Twice, Looks, Several, Reading}
+use Rattle.node_caller.specs.Sites.{Site, ThreadCall as CallerCall, node_in_the_end}
+use Rattle.node_runs.specs.Actions.{Form, Once, Again, Until, Twice, Looks, Several, Part, StepContext, Reading}
 use Rattle.node_runs.specs.Scripts.{ThreadCall, TryContext}
+use Rattle.script_steps.specs.Collecting.{Outcome, end_outcome, is_quiet, is_started, start_ends, start_outcome}
+use Rattle.script_steps.specs.Collecting.{step_ends, step_outcome, try_ends}
 use Rattle.node_runs.specs.declared.script_answer.ScriptAnswer.{ScriptAnswer}
 use Rattle.node_runs.specs.declared.script_answer.ScriptAnswer.TheVariants as said
 
@@ -150,6 +161,10 @@ site_of at = record {
   now = at.now;
 }
 
+-- one try, whose calls end the step
+abbrev pub in_one_try : Part → Form EndpointLocal
+in_one_try part = Several part part
+
 -- the calls of a thread
 abbrev pub calls_of_all : List CallerCall → List ThreadCall
 calls_of_all calls = map (λ (one : CallerCall). one.call) calls
@@ -160,7 +175,91 @@ abbrev pub plan_form : (plan : PlanState) → (from register : ℕ) → TryConte
 plan_form plan from register at node =
     let asked : BeginCall = record { plan = plan; thread = at.thread; from = from; register = register } in
     let answer = vis_answer (site_of at) node asked in
-    Several (calls_of_all (calls_made asked answer)) (said.Vis answer)
+    in_one_try (record {
+      calls = calls_of_all (calls_made asked answer);
+      ended = Some (said.Vis answer);
+      next = None;
+    })
+
+-- ---- collectives of the node
+
+-- the start of a thread
+abbrev pub start_asked : TryContext → Shape → (from : ℕ) → StartAsked
+start_asked at shape from = record { thread = at.thread; shape = shape; from = from }
+
+-- a try to end of a thread
+abbrev pub end_asked : TryContext → (dest : ℕ) → EndAsked
+end_asked at dest = record { thread = at.thread; dest = dest }
+
+-- a step that ends with what a call of collectives is answered
+abbrev pub part_by : {Told : Type 0} → (Told → ScriptAnswer) → Outcome Told → Part
+part_by says outcome = record {
+  calls = calls_of_all outcome.calls;
+  ended = Some (says outcome.answer);
+  next = Some outcome.next;
+}
+
+-- a call of the node's collectives, of the record that the try finds
+abbrev pub call_part : CollectiveText → TryContext → Node EndpointLocal → CollectivesState → Part
+call_part (text.Start shape from) at node it =
+    part_by said.Start (start_outcome (site_of at) node it (start_asked at shape from))
+call_part text.Step at node it = part_by said.Step (step_outcome (site_of at) at.thread node it)
+call_part (text.Try dest) at node it = part_by said.End (end_outcome (site_of at) node it (end_asked at dest))
+
+-- the first try of a whole collective: the start alone
+abbrev pub first_part : TryContext → Shape → (from : ℕ) → Node EndpointLocal → CollectivesState → Part
+first_part at shape from node it =
+    let start = start_outcome (site_of at) node it (start_asked at shape from) in
+    record {
+      calls = calls_of_all start.calls;
+      ended = option_map said.Start (start_ends start.answer);
+      next = if is_started start.answer then Some start.next else None;
+    }
+
+-- a later one: a step, and a try to end behind it unless the step ends the collective
+abbrev pub try_behind : TryContext → (dest : ℕ) → Node EndpointLocal → Outcome StepAnswer → Outcome EndAnswer
+try_behind at dest node step =
+    end_outcome (site_of at) (node_in_the_end (site_of at) node step.calls) step.next (end_asked at dest)
+
+-- how far the node is then, where that changed
+abbrev pub moved : CollectivesState → StepAnswer → Outcome EndAnswer → Option CollectivesState
+moved it step try = if is_none (try_ends try.answer) && is_quiet it step then None else Some try.next
+
+abbrev pub later_by : TryContext → (dest : ℕ) → Node EndpointLocal → CollectivesState → Outcome StepAnswer
+    → Option StepAnswer → Part
+later_by at dest node it step (Some end) =
+    record { calls = calls_of_all step.calls; ended = Some (said.Step end); next = Some step.next }
+later_by at dest node it step None =
+    let try = try_behind at dest node step in
+    record {
+      calls = calls_of_all (step.calls ++ try.calls);
+      ended = option_map said.End (try_ends try.answer);
+      next = moved it step.answer try;
+    }
+
+abbrev pub later_part : TryContext → (dest : ℕ) → Node EndpointLocal → CollectivesState → Part
+later_part at dest node it =
+    let step = step_outcome (site_of at) at.thread node it in
+    later_by at dest node it step (step_ends step.answer)
+
+-- a step of a node that has no collectives
+abbrev pub nothing_there : Form EndpointLocal
+nothing_there = in_one_try (record { calls = []; ended = Some (said.Step steps.Nothing); next = None })
+
+-- a call of the node's collectives
+abbrev pub collective_form : CollectiveText → StepContext → Node EndpointLocal → Form EndpointLocal
+collective_form call at node = elim at.collectives [
+  | None ↦ nothing_there
+  | Some it ↦ in_one_try (call_part call at.place node it)
+]
+
+-- a whole collective of the node: the start at each turn until it waits for no lock; then a step and a try to end at each
+-- turn until the phase ends
+abbrev pub whole_form : Shape → (from dest : ℕ) → StepContext → Node EndpointLocal → Form EndpointLocal
+whole_form shape from dest at node = elim at.collectives [
+  | None ↦ nothing_there
+  | Some it ↦ Several (first_part at.place shape from node it) (later_part at.place dest node it)
+]
 
 -- ---- steps
 
@@ -185,12 +284,20 @@ waiting_form cells (waiting.WaitImplicit which) =
     Again is_not_ready (on_transfers (SyncImplicit (some_of which)))
 -- gasnet_barrier_wait
 waiting_form cells (waiting.BarrierWait id flags) = Again is_not_ready (Performs (OnBarrier (TryBarrier id flags)))
+-- it is read by how far the node's collectives are (`whole_form`)
+waiting_form cells (waiting.Collective shape from dest) = nothing_there
+
+-- how such a step is tried in a context
+abbrev pub waiting_in : WaitingStep → StepContext → Node EndpointLocal → Form EndpointLocal
+waiting_in (waiting.Collective shape from dest) at node = whole_form shape from dest at node
+waiting_in step at node = waiting_form node.local.core.cells step
 
 -- how a step is tried, by the record of its node as the try begins: `cN` is read from the node's cells
 abbrev pub step_form : Reading EndpointLocal ScriptStep
 step_form (step.Call call) at node = call_form call (meant_by node.local.core.cells call)
-step_form (step.Vis vis) at node = plan_form vis.plan vis.words.from vis.words.register at node
-step_form (step.Waiting waiting) at node = waiting_form node.local.core.cells waiting
+step_form (step.Vis vis) at node = plan_form vis.plan vis.words.from vis.words.register at.place node
+step_form (step.Collective call) at node = collective_form call at node
+step_form (step.Waiting waiting) at node = waiting_in waiting at node
 
 -- ---- kinds of steps
 
