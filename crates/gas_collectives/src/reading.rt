@@ -1,6 +1,6 @@
 //! What stands in the parts of the own segment.
 
-ghost use Rattle.std.specs.Prelude.{◌≡◌, ◌≢◌, ◌<◌, ◌≤◌, ◌+◌, ◌*◌, ◌%◌, length, true, IfSome, IfNone, ℕ, List, Some};
+ghost use Rattle.std.specs.Prelude.{◌≡◌, ◌≢◌, ◌<◌, ◌≤◌, ◌+◌, ◌*◌, ◌%◌, length, true, is_none, IfSome, IfNone, ℕ, List, Some};
 ghost use Rattle.std.specs.Prelude.{slice_get, take};
 ghost use Rattle.std.specs.Int.{w64, from_le_bytes};
 ghost use Rattle.raw_segment.specs.Bytes.{part};
@@ -126,6 +126,14 @@ impl Collectives {
             }
         }
         None
+    }
+
+    /// Whether no node is left that wasn't sent to and for which no number was left when it was asked last in the phase.
+    pub fn is_unworn(&self) -> bool
+        ensures { result ≡ is_none
+            (worn_node self.now.area self.now.me (progress_of self.now)) }
+    {
+        self.worn_node().is_none()
     }
 
     /// Whether a node wasn't sent to, and no number was left for it.

@@ -1,4 +1,3 @@
-pub mod Collecting
 pub mod Forms
 pub mod Tries
 pub mod Laws
