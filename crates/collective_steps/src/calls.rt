@@ -1,7 +1,7 @@
 //! The calls of a node's collectives at its endpoint.
 
 ghost use Rattle.std.specs.Prelude.{◌≡◌, ◌<◌, None};
-ghost use Rattle.gas_collectives.specs.CollectivesState.{IsSameNode};
+ghost use Rattle.gas_collectives.specs.CollectivesState.{IsSameNode, Stands};
 ghost use Rattle.gas_endpoint.specs.EndpointState.{ForItsRecord};
 ghost use Rattle.collective_steps.specs.Outcomes.{end_outcome, start_outcome, step_outcome};
 ghost use Rattle.collective_steps.specs.Parts.{site_of, start_asked, end_asked};
@@ -22,14 +22,14 @@ fn start_at<H: Handlers>(
     start: Start,
 ) -> StartAnswer
     requires first { caller.old.last ≡ None }
-    requires time { caller.old.now ≡ at.now }
     requires thread { at.thread < caller.old.endpoint.now.core.settings.threads }
     requires of { AreOf caller.old.endpoint.now.core collectives.old }
     ensures same_reference { caller.new.endpoint.ghost_name ≡ caller.old.endpoint.ghost_name }
     ensures same { IsSameCore caller.old.endpoint.now.core caller.new.endpoint.now.core }
     ensures same_node { IsSameNode collectives.old collectives.new }
     ensures comes { ForItsRecord caller.old.endpoint.now (λ node.
-        let here = context_at (H.meaning caller.old.handlers.now) caller.old.endpoint.now at in
+        let here = context_at (H.meaning caller.old.handlers.now) caller.old.endpoint.now
+        (record { thread = at.thread; now = caller.old.now }) in
         Comes (site_of here) node
         (start_outcome (site_of here) node collectives.old (start_asked here start.shape start.from))
         result caller.new.last collectives.new caller.new.endpoint.now) }
@@ -72,14 +72,15 @@ fn step_at<H: Handlers>(
     at: AtThread,
 ) -> StepAnswer
     requires first { caller.old.last ≡ None }
-    requires time { caller.old.now ≡ at.now }
     requires thread { at.thread < caller.old.endpoint.now.core.settings.threads }
     requires of { AreOf caller.old.endpoint.now.core collectives.old }
     ensures same_reference { caller.new.endpoint.ghost_name ≡ caller.old.endpoint.ghost_name }
     ensures same { IsSameCore caller.old.endpoint.now.core caller.new.endpoint.now.core }
     ensures same_node { IsSameNode collectives.old collectives.new }
+    ensures good { Stands collectives.old }
     ensures comes { ForItsRecord caller.old.endpoint.now (λ node.
-        let here = context_at (H.meaning caller.old.handlers.now) caller.old.endpoint.now at in
+        let here = context_at (H.meaning caller.old.handlers.now) caller.old.endpoint.now
+        (record { thread = at.thread; now = caller.old.now }) in
         Comes (site_of here) node (step_outcome (site_of here) at.thread node collectives.old)
         result caller.new.last collectives.new caller.new.endpoint.now) }
 {
@@ -97,6 +98,7 @@ pub(crate) fn step<H: Handlers>(
     requires of { AreOf endpoint.old.core collectives.old }
     ensures same { IsSameCore endpoint.old.core endpoint.new.core }
     ensures same_node { IsSameNode collectives.old collectives.new }
+    ensures good { Stands collectives.old }
     ensures comes { ForItsRecord endpoint.old (λ node.
         let here = context_at (H.meaning handlers.now) endpoint.old at in
         Comes (site_of here) node (step_outcome (site_of here) at.thread node collectives.old)
@@ -119,14 +121,14 @@ fn end_at<H: Handlers>(
     at: AtThread,
     dest: u64,
 ) -> EndAnswer
-    requires time { caller.old.now ≡ at.now }
     requires thread { at.thread < caller.old.endpoint.now.core.settings.threads }
     requires of { AreOf caller.old.endpoint.now.core collectives.old }
     ensures same_reference { caller.new.endpoint.ghost_name ≡ caller.old.endpoint.ghost_name }
     ensures same { IsSameCore caller.old.endpoint.now.core caller.new.endpoint.now.core }
     ensures same_node { IsSameNode collectives.old collectives.new }
     ensures comes { ForItsRecord caller.old.endpoint.now (λ node.
-        let here = context_at (H.meaning caller.old.handlers.now) caller.old.endpoint.now at in
+        let here = context_at (H.meaning caller.old.handlers.now) caller.old.endpoint.now
+        (record { thread = at.thread; now = caller.old.now }) in
         EndComes (site_of here) node
         (end_outcome (site_of here) node collectives.old (end_asked here dest)) result
         collectives.new caller.new.endpoint.now) }

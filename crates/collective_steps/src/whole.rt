@@ -1,6 +1,7 @@
 //! The tries of a step that runs a whole collective: its start, and then its steps and its tries to end.
 
-ghost use Rattle.std.specs.Prelude.{◌≡◌, ◌<◌};
+ghost use Rattle.std.specs.Prelude.{◌≡◌, ◌<◌, ◌&&◌};
+ghost use Rattle.std.specs.Option.{option_map};
 ghost use Rattle.gas_collectives.specs.CollectivesState.{IsSameNode};
 ghost use Rattle.gas_endpoint.specs.EndpointState.{ForItsRecord};
 ghost use Rattle.collective_steps.specs.Outcomes.{is_nothing, is_started, start_ends, step_ends, try_ends};
@@ -16,13 +17,13 @@ use gas_endpoint::Endpoint;
 use handler_rules::Handlers;
 use node_runs::ScriptAnswer;
 
-/// The answer of the collective, where its start ends it: the phase isn't started, and the start waits for no lock.
-fn start_ends(answer: StartAnswer) -> Option<StartAnswer>
-    ensures { result ≡ start_ends answer }
+/// The answer of the step, where its start ends it: the phase isn't started, and the start waits for no lock.
+fn start_said(answer: StartAnswer) -> Option<ScriptAnswer>
+    ensures { result ≡ option_map (λ one. ScriptAnswer.Start one) (start_ends answer) }
 {
     match answer {
         StartAnswer::Started | StartAnswer::LockBusy(_) => None,
-        _ => Some(answer),
+        _ => Some(ScriptAnswer::Start(answer)),
     }
 }
 
@@ -43,11 +44,11 @@ fn step_ends(answer: StepAnswer) -> Option<StepAnswer>
     }
 }
 
-/// Whether a step sent nothing.
-fn is_nothing(answer: StepAnswer) -> bool
-    ensures { result ≡ is_nothing answer }
+/// Whether a step changed nothing where the phase isn't ended: it sent nothing, and no mark of a node was there.
+fn is_quiet(answer: StepAnswer, unworn: bool) -> bool
+    ensures { result ≡ (is_nothing answer && unworn) }
 {
-    matches!(answer, StepAnswer::Nothing)
+    matches!(answer, StepAnswer::Nothing) && unworn
 }
 
 /// The answer of the collective, where a try to end ends it.
@@ -82,13 +83,9 @@ pub fn begin_whole<H: Handlers>(
         (first_part here asked.shape asked.from node collectives.old) node) }
 {
     let (answer, last) = start(endpoint, handlers, collectives, at, asked);
-    let ended = match start_ends(answer) {
-        Some(end) => Some(ScriptAnswer::Start(end)),
-        None => None,
-    };
     let tried = PartTried {
         sent: sent_by(&last),
-        ended,
+        ended: start_said(answer),
         moved: is_started(answer),
     };
     (tried, last)
@@ -140,7 +137,7 @@ pub fn go_on_whole<H: Handlers>(
             moved: true,
         };
     }
-    let quiet = is_nothing(answer) && unworn;
+    let quiet = is_quiet(answer, unworn);
     let ended = end(endpoint, handlers, collectives, at, dest);
     went_on(sent, quiet, ended)
 }

@@ -17,7 +17,8 @@ use Rattle.node_runs.specs.Scripts.{ThreadCall, Scripts, TryContext, NodeJob}
 use Rattle.node_runs.specs.Actions.{Form, Once, Again, Until, Twice, Looks, Several, calls_of, ended_by, begins}
 use Rattle.gas_collectives.specs.CollectivesState.{CollectivesState}
 use Rattle.node_runs.specs.Actions.{Progress, OwnScripts, Reading, next_calls, tried_step, scripts_of, FormMay}
-use Rattle.node_runs.specs.Actions.{ActionsMay, StepContext, collectives_after, collectives_then, moves, part_of}
+use Rattle.node_runs.specs.Actions.{ActionMay, ActionsMay, FormFar, IfFar, StepContext, collectives_after, collectives_then}
+use Rattle.node_runs.specs.Actions.{moves, part_of}
 use Rattle.node_runs.specs.Actions.{step_context}
 use Rattle.node_runs.proofs.Emptying.{or_parts}
 use Rattle.node_runs.proofs.Turns.{AreWritten}
@@ -41,15 +42,38 @@ calls_may May (Looks begin ready) (Some answer) may = tt
 calls_may May (Several first later) None may = may.0
 calls_may May (Several first later) (Some answer) may = may.1
 
+-- how far the node's collectives are after a form
+next_far : (Far : CollectivesState → Type 0) (next now : Option CollectivesState) → IfFar Far next → IfFar Far now
+    → IfFar Far (option_or next now)
+next_far Far None now far old = old
+next_far Far (Some it) now far old = far
+
+form_far : {Kept : Type 0} (Far : CollectivesState → Type 0) (form : Form Kept) (began : Option Answer)
+    (now : Option CollectivesState) → FormFar Far form → IfFar Far now → IfFar Far (collectives_after form began now)
+form_far Far (Once made) began now may old = old
+form_far Far (Again waits made) began now may old = old
+form_far Far (Until call ends) began now may old = old
+form_far Far (Twice begin next waits says) began now may old = old
+form_far Far (Looks begin ready) began now may old = old
+form_far Far (Several first later) None now may old = next_far Far first.next now may.0 old
+form_far Far (Several first later) (Some answer) now may old = next_far Far later.next now may.1 old
+
 -- the calls of a thread's next step
-next_may : {Kept Action : Type 0} (Fits : Kept → Type 0) (May : ThreadCall → Type 0) (form : Reading Kept Action)
-    (at : StepContext) (began : Option Answer) (left : List Action) (node : Node Kept)
-    → AllByRecursion (λ (action : Action). (at : StepContext) (x : Node Kept) → Fits x.local
-    → FormMay May (form action at x)) left
-    → Fits node.local → AllByRecursion May (next_calls form at began left node)
-next_may Fits May form at began [] node all fit = tt
-next_may Fits May form at began (action ∷ rest) node all fit =
-    calls_may May (form action at node) began (all.0 at node fit)
+next_may : {Kept Action : Type 0} (Fits : Kept → Type 0) (May : ThreadCall → Type 0) (Far : CollectivesState → Type 0)
+    (form : Reading Kept Action) (at : StepContext) (began : Option Answer) (left : List Action) (node : Node Kept)
+    → AllByRecursion (ActionMay Fits May Far form) left → Fits node.local → IfFar Far at.collectives
+    → AllByRecursion May (next_calls form at began left node)
+next_may Fits May Far form at began [] node all fit far = tt
+next_may Fits May Far form at began (action ∷ rest) node all fit far =
+    calls_may May (form action at node) began ((all.0 at node far).calls fit)
+
+then_far : {Kept Action : Type 0} (Fits : Kept → Type 0) (May : ThreadCall → Type 0) (Far : CollectivesState → Type 0)
+    (form : Reading Kept Action) (at : StepContext) (began : Option Answer) (left : List Action) (node : Node Kept)
+    → AllByRecursion (ActionMay Fits May Far form) left → IfFar Far at.collectives
+    → IfFar Far (collectives_then form at began left node)
+then_far Fits May Far form at began [] node all far = far
+then_far Fits May Far form at began (action ∷ rest) node all far =
+    form_far Far (form action at node) began at.collectives (all.0 at node far).far far
 
 -- what is left of them
 left_may : {Kept Action : Type 0} (P : Action → Type 0) (form : Reading Kept Action) (at : StepContext)
@@ -68,21 +92,22 @@ left_may {Kept} {Action} P form at began (action ∷ rest) before after answer a
     go false true = all
     go false false = all
 
+-- what scripts do that may be said is what may happen, where what a node keeps fits as its step is tried
 pub are_written : {Kept Action : Type 0} (job : NodeJob Kept (OwnScripts Action)) (Fits : Kept → Type 0)
-    (May : ThreadCall → Type 0) (MayHappen : NodeEvent OtherCall → Type 0) (form : Reading Kept Action)
-    → job.scripts ≡ scripts_of form
+    (May : ThreadCall → Type 0) (Far : CollectivesState → Type 0) (MayHappen : NodeEvent OtherCall → Type 0)
+    (form : Reading Kept Action) → job.scripts ≡ scripts_of form
     → ((thread : ℕ) (call : ThreadCall) → May call → MayHappen (node_event thread call))
-    → AreWritten job Fits MayHappen (ActionsMay Fits May form)
-are_written {Kept} {Action} job Fits May MayHappen form is event =
+    → AreWritten job Fits MayHappen (ActionsMay Fits May Far form)
+are_written {Kept} {Action} job Fits May Far MayHappen form is event =
     record {
       calls = λ at own node W fit. subst (λ (x : Scripts Kept (OwnScripts Action)).
           AllByRecursion (λ (call : ThreadCall). MayHappen (node_event at.thread call)) (x.calls at own node)) (sym is)
           (all_happen at.thread
           (next_calls form (step_context at own) (own.threads at.thread).began (own.threads at.thread).left node)
-          (next_may Fits May form (step_context at own) (own.threads at.thread).began (own.threads at.thread).left node
-          (W at.thread) fit));
+          (next_may Fits May Far form (step_context at own) (own.threads at.thread).began (own.threads at.thread).left
+          node (W.threads at.thread) fit W.far));
       left = λ at own before after answer W. subst (λ (x : Scripts Kept (OwnScripts Action)).
-          ActionsMay Fits May form (x.tried at own before after answer).left) (sym is)
+          ActionsMay Fits May Far form (x.tried at own before after answer).left) (sym is)
           (left_all at own before after answer W);
     }
   where
@@ -92,22 +117,24 @@ are_written {Kept} {Action} job Fits May MayHappen form is event =
     all_happen thread (call ∷ calls) may = (event thread call may.0, all_happen thread calls may.1)
 
     left_all : (at : TryContext) (own : OwnScripts Action) (before after : Node Kept) (answer : Option Answer)
-        → ActionsMay Fits May form own
-        → ActionsMay Fits May form ((scripts_of form).tried at own before after answer).left
-    left_all at own before after answer W other =
-        let P : Action → Type 0 =
-        λ (action : Action). (at : StepContext) (x : Node Kept) → Fits x.local → FormMay May (form action at x) in
+        → ActionsMay Fits May Far form own
+        → ActionsMay Fits May Far form ((scripts_of form).tried at own before after answer).left
+    left_all at own before after answer W =
+        let P : Action → Type 0 = ActionMay Fits May Far form in
         let thread = at.thread in
         let here = step_context at own in
         let progress = own.threads thread in
         let tried = tried_step form here progress.began progress.left before after answer in
-        elim (cases_eq other thread) [
-          | inl e ↦ subst (λ (p : Progress Action). AllByRecursion P p.left)
-              (sym (ap (put own.threads thread tried.left) e ∙ put_same own.threads thread tried.left))
-              (left_may P form here progress.began progress.left before after answer (W thread))
-          | inr apart ↦ subst (λ (p : Progress Action). AllByRecursion P p.left)
-              (sym (put_other own.threads thread tried.left other apart)) (W other)
-        ]
+        record {
+          threads = λ other. elim (cases_eq other thread) [
+            | inl e ↦ subst (λ (p : Progress Action). AllByRecursion P p.left)
+                (sym (ap (put own.threads thread tried.left) e ∙ put_same own.threads thread tried.left))
+                (left_may P form here progress.began progress.left before after answer (W.threads thread))
+            | inr apart ↦ subst (λ (p : Progress Action). AllByRecursion P p.left)
+                (sym (put_other own.threads thread tried.left other apart)) (W.threads other)
+          ];
+          far = then_far Fits May Far form here progress.began progress.left before (W.threads thread) W.far;
+        }
 
 -- ---- a try that neither ends nor begins anything
 

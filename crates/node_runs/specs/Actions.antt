@@ -189,6 +189,11 @@ scripts_of form = record {
 
 -- ---- what actions may say
 
+-- how far a node's collectives are is one that may be, where the node has any
+abbrev pub IfFar : (CollectivesState → Type 0) → Option CollectivesState → Type 0
+IfFar Far None = Unit {0}
+IfFar Far (Some it) = Far it
+
 -- each call of the form is one that may be made
 abbrev pub FormMay : {Kept : Type 0} → (ThreadCall → Type 0) → Form Kept → Type 0
 FormMay May (Once call) = May call
@@ -199,10 +204,25 @@ FormMay May (Twice begin next waits says) =
 FormMay May (Looks begin ready) = May begin
 FormMay May (Several first later) = AllByRecursion May first.calls × AllByRecursion May later.calls
 
--- each action that is left is read as such a form in any context, where the node keeps what fits
-abbrev pub ActionsMay : {Kept Action : Type 0}
-    → (Fits : Kept → Type 0) → (ThreadCall → Type 0) → Reading Kept Action → OwnScripts Action → Type 0
-ActionsMay {Kept} {Action} Fits May form own =
-    (thread : ℕ)
-    → AllByRecursion (λ (action : Action). (at : StepContext) (node : Node Kept) → Fits node.local
-    → FormMay May (form action at node)) (own.threads thread).left
+-- so far the node's collectives may be after the form, where that changes them
+abbrev pub FormFar : {Kept : Type 0} → (CollectivesState → Type 0) → Form Kept → Type 0
+FormFar Far (Several first later) = IfFar Far first.next × IfFar Far later.next
+FormFar Far form = Unit {0}
+
+-- of an action that is read as this form: its calls may be made where the node keeps what fits
+pub record ReadMay {Kept : Type 0} (Fits : Kept → Type 0) (May : ThreadCall → Type 0) (Far : CollectivesState → Type 0)
+    (node : Node Kept) (form : Form Kept) : Type 0 where
+  pub calls : Fits node.local → FormMay May form
+  pub far : FormFar Far form
+
+-- it is so in any context
+abbrev pub ActionMay : {Kept Action : Type 0} → (Fits : Kept → Type 0) → (ThreadCall → Type 0)
+    → (Far : CollectivesState → Type 0) → Reading Kept Action → Action → Type 0
+ActionMay {Kept} Fits May Far form action =
+    (at : StepContext) (node : Node Kept) → IfFar Far at.collectives → ReadMay Fits May Far node (form action at node)
+
+-- so is each action that is left; and so far the node's collectives may be
+pub record ActionsMay {Kept Action : Type 0} (Fits : Kept → Type 0) (May : ThreadCall → Type 0)
+    (Far : CollectivesState → Type 0) (form : Reading Kept Action) (own : OwnScripts Action) : Type 0 where
+  pub threads : (thread : ℕ) → AllByRecursion (ActionMay Fits May Far form) (own.threads thread).left
+  pub far : IfFar Far own.collectives

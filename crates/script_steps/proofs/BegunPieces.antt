@@ -124,7 +124,8 @@ pub plan_may : (May : Meant → Type 0) → ((call : TransferCall) → May (Perf
     → FormMay May (plan_form plan from register at node)
 plan_may May each plan from register at node =
     let asked : BeginCall = record { plan = plan; thread = at.thread; from = from; register = register } in
-    made_may May each asked (vis_answer (site_of at) node asked)
+    let may = made_may May each asked (vis_answer (site_of at) node asked) in
+    (may, may)
 
 -- what such calls do to a node, as the events of a try
 pub record DoAsEvents (at : TryContext) (node : Node EndpointLocal) (calls : List ThreadCall) : Type 0 where
@@ -184,8 +185,9 @@ pieces_tried meaning old new last trial plan from register answer lawful B is =
       subst (EndpointStands new) does.leaves (B.leaves node stands),
       sym (ap (map slot_of) does.sends),
       does.well,
-      ap (λ (one : Vis). Some (said.Vis one)) (B.answered node stands),
-      refl,
+      ap (λ (one : Vis). Some (said.Vis one)) (B.answered node stands)
+          ∙ sym (in_one_ends (the_part node) trial.began (node_run _ _ _ _ _) _),
+      sym (in_one_begins (the_part node) trial.began _ _ refl),
     ))))
   where
     at : TryContext

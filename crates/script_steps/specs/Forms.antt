@@ -1,7 +1,7 @@
 -- How each step of a script is tried, and where it ends.
 -- Origin: this project's profile; waiting is that of the blocking calls of GASNet 1.8.1.
-use Rattle.std.specs.Prelude.{◌≡◌, ℕ, ℤ, int_le, ◌==◌, if◌then◌else◌, Bool, true, false, not, List, [], map}
-use Rattle.std.specs.Prelude.{Option, None, Some, is_none, ◌++◌, ◌&&◌}
+use Rattle.std.specs.Prelude.{◌≡◌, ℕ, ℤ, int_le, ◌==◌, if◌then◌else◌, Bool, true, false, not, List, []}
+use Rattle.std.specs.Prelude.{Option, None, Some}
 use Rattle.std.specs.Option.{option_map}
 use Rattle.datagram_grammar.specs.Parameters.{Parameters}
 use Rattle.hsl_locks.specs.declared.answer.LockAnswer.TheVariants as locking
@@ -38,21 +38,17 @@ use Rattle.job_text.specs.declared.job.WaitingStep.TheVariants as waiting
 use Rattle.node_script.specs.Bodies.{operand_value}
 use Rattle.node_script.specs.ScheduledCalls.{meant_by, transfer_of, some_of}
 use Rattle.collective_area.specs.declared.shape.Shape.{Shape}
+use Rattle.collective_steps.specs.Parts.{end_part, first_part, later_part, start_part, step_part}
+-- for those who stand on steps of scripts
+pub use Rattle.collective_steps.specs.Parts.{calls_of_all, site_of}
 use Rattle.gas_collectives.specs.CollectivesState.{CollectivesState}
-use Rattle.gas_collectives.specs.Ends.{EndAsked}
-use Rattle.gas_collectives.specs.Starts.{StartAsked}
-use Rattle.gas_collectives.specs.declared.answers.EndAnswer.{EndAnswer}
-use Rattle.gas_collectives.specs.declared.answers.StepAnswer.{StepAnswer}
 use Rattle.gas_collectives.specs.declared.answers.StepAnswer.TheVariants as steps
 use Rattle.job_text.specs.declared.job.CollectiveText.{CollectiveText}
 use Rattle.job_text.specs.declared.job.CollectiveText.TheVariants as text
 use Rattle.gas_strided.specs.Beginning.{BeginCall, calls_made, vis_answer}
 use Rattle.gas_strided.specs.Plans.{PlanState}
-use Rattle.node_caller.specs.Sites.{Site, ThreadCall as CallerCall, node_in_the_end}
 use Rattle.node_runs.specs.Actions.{Form, Once, Again, Until, Twice, Looks, Several, Part, StepContext, Reading}
 use Rattle.node_runs.specs.Scripts.{ThreadCall, TryContext}
-use Rattle.script_steps.specs.Collecting.{Outcome, end_outcome, is_quiet, is_started, start_ends, start_outcome}
-use Rattle.script_steps.specs.Collecting.{step_ends, step_outcome, try_ends}
 use Rattle.node_runs.specs.declared.script_answer.ScriptAnswer.{ScriptAnswer}
 use Rattle.node_runs.specs.declared.script_answer.ScriptAnswer.TheVariants as said
 
@@ -151,23 +147,9 @@ put_of put = transfers.Put put.to put.remote put.local put.len
 
 -- ---- transfers of many pieces
 
--- in which job, at which node and when, as a caller has it
-abbrev pub site_of : TryContext → Site
-site_of at = record {
-  settings = at.settings;
-  table = at.table;
-  meaning = at.meaning;
-  node = at.me;
-  now = at.now;
-}
-
--- one try, whose calls end the step
+-- several calls in one try, which ends the step
 abbrev pub in_one_try : Part → Form EndpointLocal
 in_one_try part = Several part part
-
--- the calls of a thread
-abbrev pub calls_of_all : List CallerCall → List ThreadCall
-calls_of_all calls = map (λ (one : CallerCall). one.call) calls
 
 -- the pieces of a plan from one on are begun in a region of the thread, whose handle goes into the register. The calls
 -- and the answer are those of that beginning, of the record that the try finds
@@ -183,78 +165,24 @@ plan_form plan from register at node =
 
 -- ---- collectives of the node
 
--- the start of a thread
-abbrev pub start_asked : TryContext → Shape → (from : ℕ) → StartAsked
-start_asked at shape from = record { thread = at.thread; shape = shape; from = from }
-
--- a try to end of a thread
-abbrev pub end_asked : TryContext → (dest : ℕ) → EndAsked
-end_asked at dest = record { thread = at.thread; dest = dest }
-
--- a step that ends with what a call of collectives is answered
-abbrev pub part_by : {Told : Type 0} → (Told → ScriptAnswer) → Outcome Told → Part
-part_by says outcome = record {
-  calls = calls_of_all outcome.calls;
-  ended = Some (says outcome.answer);
-  next = Some outcome.next;
-}
-
--- a call of the node's collectives, of the record that the try finds
-abbrev pub call_part : CollectiveText → TryContext → Node EndpointLocal → CollectivesState → Part
-call_part (text.Start shape from) at node it =
-    part_by said.Start (start_outcome (site_of at) node it (start_asked at shape from))
-call_part text.Step at node it = part_by said.Step (step_outcome (site_of at) at.thread node it)
-call_part (text.Try dest) at node it = part_by said.End (end_outcome (site_of at) node it (end_asked at dest))
-
--- the first try of a whole collective: the start alone
-abbrev pub first_part : TryContext → Shape → (from : ℕ) → Node EndpointLocal → CollectivesState → Part
-first_part at shape from node it =
-    let start = start_outcome (site_of at) node it (start_asked at shape from) in
-    record {
-      calls = calls_of_all start.calls;
-      ended = option_map said.Start (start_ends start.answer);
-      next = if is_started start.answer then Some start.next else None;
-    }
-
--- a later one: a step, and a try to end behind it unless the step ends the collective
-abbrev pub try_behind : TryContext → (dest : ℕ) → Node EndpointLocal → Outcome StepAnswer → Outcome EndAnswer
-try_behind at dest node step =
-    end_outcome (site_of at) (node_in_the_end (site_of at) node step.calls) step.next (end_asked at dest)
-
--- how far the node is then, where that changed
-abbrev pub moved : CollectivesState → StepAnswer → Outcome EndAnswer → Option CollectivesState
-moved it step try = if is_none (try_ends try.answer) && is_quiet it step then None else Some try.next
-
-abbrev pub later_by : TryContext → (dest : ℕ) → Node EndpointLocal → CollectivesState → Outcome StepAnswer
-    → Option StepAnswer → Part
-later_by at dest node it step (Some end) =
-    record { calls = calls_of_all step.calls; ended = Some (said.Step end); next = Some step.next }
-later_by at dest node it step None =
-    let try = try_behind at dest node step in
-    record {
-      calls = calls_of_all (step.calls ++ try.calls);
-      ended = option_map said.End (try_ends try.answer);
-      next = moved it step.answer try;
-    }
-
-abbrev pub later_part : TryContext → (dest : ℕ) → Node EndpointLocal → CollectivesState → Part
-later_part at dest node it =
-    let step = step_outcome (site_of at) at.thread node it in
-    later_by at dest node it step (step_ends step.answer)
-
--- a step of a node that has no collectives
+-- a step of a node that has none
 abbrev pub nothing_there : Form EndpointLocal
 nothing_there = in_one_try (record { calls = []; ended = Some (said.Step steps.Nothing); next = None })
 
--- a call of the node's collectives
+-- one call of the collectives, of the record that the try finds
+abbrev pub call_part : CollectiveText → TryContext → Node EndpointLocal → CollectivesState → Part
+call_part (text.Start shape from) at node it = start_part at shape from node it
+call_part text.Step at node it = step_part at node it
+call_part (text.Try dest) at node it = end_part at dest node it
+
 abbrev pub collective_form : CollectiveText → StepContext → Node EndpointLocal → Form EndpointLocal
 collective_form call at node = elim at.collectives [
   | None ↦ nothing_there
   | Some it ↦ in_one_try (call_part call at.place node it)
 ]
 
--- a whole collective of the node: the start at each turn until it waits for no lock; then a step and a try to end at each
--- turn until the phase ends
+-- a whole collective: the start at each turn until it waits for no lock; then a step and a try to end at each turn until
+-- the phase ends
 abbrev pub whole_form : Shape → (from dest : ℕ) → StepContext → Node EndpointLocal → Form EndpointLocal
 whole_form shape from dest at node = elim at.collectives [
   | None ↦ nothing_there
@@ -284,7 +212,7 @@ waiting_form cells (waiting.WaitImplicit which) =
     Again is_not_ready (on_transfers (SyncImplicit (some_of which)))
 -- gasnet_barrier_wait
 waiting_form cells (waiting.BarrierWait id flags) = Again is_not_ready (Performs (OnBarrier (TryBarrier id flags)))
--- it is read by how far the node's collectives are (`whole_form`)
+-- a whole collective is read by how far the node's collectives are, too (`waiting_in`)
 waiting_form cells (waiting.Collective shape from dest) = nothing_there
 
 -- how such a step is tried in a context
