@@ -21,6 +21,8 @@ mod atomics_line;
 mod batches;
 mod bodies;
 mod calls;
+mod collect_line;
+mod collectives;
 mod digits;
 mod endings;
 mod events;
@@ -49,13 +51,15 @@ mod vis_lines;
 mod waiting_steps;
 mod words;
 
+pub use collective_area::{CollectiveKind, Shape};
 pub use fault::{JobFault, JobWhy};
 pub use gas_strided::Vis;
 pub use job::{
-    Action, BatchText, Body, BoxedBatch, BoxedLong, BoxedMedium, BoxedTransfer, Bytes, HandlerText,
-    HandlerTexts, ImplicitKind, Job, ListedLocks, LongText, MediumText, NodeScript, NodeScripts,
-    Operand, Operands, Payload, PutText, Registers, ReplyAction, Schedule, ScheduledCall,
-    ScheduledEvent, ScriptStep, ScriptSteps, SieveRule, TimedEvent, TransferText, WaitingStep,
+    Action, BatchText, Body, BoxedBatch, BoxedLong, BoxedMedium, BoxedTransfer, Bytes, CollectArea,
+    CollectiveText, HandlerText, HandlerTexts, ImplicitKind, Job, ListedLocks, LongText,
+    MediumText, NodeScript, NodeScripts, Operand, Operands, Payload, PutText, Registers,
+    ReplyAction, Schedule, ScheduledCall, ScheduledEvent, ScriptStep, ScriptSteps, SieveRule,
+    TimedEvent, TransferText, WaitingStep,
 };
 pub use reading::{read_job, read_job_front};
 pub use vis::{BoxedVis, Levels, SegmentRanges, VisShape, VisText, VisWords};
