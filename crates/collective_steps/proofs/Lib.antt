@@ -5,3 +5,4 @@ mod AtLast
 mod Quiet
 pub mod Parted
 mod Trying
+pub mod Fitting

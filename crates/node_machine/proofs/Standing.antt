@@ -22,6 +22,7 @@ use Rattle.node_record.specs.SlotMessages.{message_at}
 use Rattle.node_record.specs.declared.answer.SlotRef.{SlotRef}
 use Rattle.endpoint_rules.specs.EndpointLocal.{EndpointLocal}
 use Rattle.node_runs.specs.declared.script_answer.ScriptAnswer.{ScriptAnswer}
+use Rattle.gas_collectives.specs.CollectivesState.{CollectivesState}
 use Rattle.gas_endpoint.specs.EndpointState.{EndpointState, EndpointStands}
 use Rattle.job_text.specs.declared.job.Job.{Job as JobState}
 use Rattle.job_text.specs.declared.job.ScriptStep.{ScriptStep}
@@ -74,6 +75,9 @@ pub record Turning : Type 0 where
 -- what the machine's turn found
 abbrev pub found_by : MachineKept → Found
 found_by machine = record { endpoint = machine.endpoint; collectives = machine.collectives }
+
+abbrev pub found_in : EndpointState → Option CollectivesState → Found
+found_in endpoint collectives = record { endpoint = endpoint; collectives = collectives }
 
 -- all that is known of it
 pub record IsTurning (it : Turning) : Type 0 where
@@ -312,10 +316,11 @@ copied_some (Some bytes) = refl
 -- ---- from what the code says
 
 -- a machine that has these cursors
-abbrev pub machine_at : JobState → EndpointState → List Cursor → List SlotRef → Option ScriptAnswer → MachineKept
-machine_at job endpoint cursors outgoing answer = record {
+abbrev pub machine_at : JobState → Found → List Cursor → List SlotRef → Option ScriptAnswer → MachineKept
+machine_at job found cursors outgoing answer = record {
   job = job;
-  endpoint = endpoint;
+  endpoint = found.endpoint;
+  collectives = found.collectives;
   scripts = progress_of_all cursors;
   outgoing = outgoing;
   answer = answer;
@@ -336,35 +341,37 @@ reads_is machine job cursors from thread place cursor same low at is read = reco
 }
 
 -- what is left of the thread's script can be said
-pub read_said : (job : JobState) (endpoint : EndpointState) (cursors : List Cursor) (outgoing : List SlotRef)
+pub read_said : (job : JobState) (found : Found) (cursors : List Cursor) (outgoing : List SlotRef)
     (answer : Option ScriptAnswer) (thread : ℕ) (cursor : Cursor)
-    → IsMachine (machine_at job endpoint cursors outgoing answer) → Reads job cursors thread cursor
-    → CanBeSaid endpoint.core.settings (progress_of cursor)
-read_said job endpoint cursors outgoing answer thread cursor is R =
+    → IsMachine (machine_at job found cursors outgoing answer) → Reads job cursors thread cursor
+    → CanBeSaid found.endpoint.core.settings (progress_of cursor)
+read_said job found cursors outgoing answer thread cursor is R =
     subst (λ settings. CanBeSaid settings (progress_of cursor)) (sym is.node.settings_are)
     (is.said thread (progress_of cursor)
     (slice_get-map progress_of cursors thread ∙ ap (option_map progress_of) R.read))
 
-pub turning_is : (job : JobState) (endpoint : EndpointState) (cursors : List Cursor) (outgoing : List SlotRef)
+pub turning_is : (job : JobState) (found : Found) (cursors : List Cursor) (outgoing : List SlotRef)
     (answer : Option ScriptAnswer) (taken : TurnTaken) (cursor : Cursor) (handlers : JobHandlers) (done : Done)
-    (later : EndpointState) (progress : Progress ScriptStep)
-    → IsMachine (machine_at job endpoint cursors outgoing answer) → Reads job cursors taken.thread cursor
+    (later : Found) (progress : Progress ScriptStep)
+    → IsMachine (machine_at job found cursors outgoing answer) → Reads job cursors taken.thread cursor
     → handlers ≡ handlers_of job
-    → TakesTurn (script_meaning handlers) (endpoint, progress_of cursor) taken done (later, progress)
+    → TakesTurn (script_meaning handlers) (found, progress_of cursor) taken done (later, progress)
+    → AreThere later.endpoint later.collectives
     → IsTurning (record {
-      machine = machine_at job endpoint cursors outgoing answer;
+      machine = machine_at job found cursors outgoing answer;
       taken = taken;
       done = done;
-      endpoint = later;
+      found = later;
       progress = progress;
     })
-turning_is job endpoint cursors outgoing answer taken cursor handlers done later progress is R same takes = record {
+turning_is job found cursors outgoing answer taken cursor handlers done later progress is R same takes there_then = record {
   is = is;
   inside = subst (λ (n : ℕ). taken.thread < n) (sym is.threads) R.low;
   before = progress_of cursor;
   there = slice_get-map progress_of cursors taken.thread ∙ ap (option_map progress_of) R.read;
   takes = subst (λ (of : JobHandlers).
-      TakesTurn (script_meaning of) (endpoint, progress_of cursor) taken done (later, progress)) same takes;
+      TakesTurn (script_meaning of) (found, progress_of cursor) taken done (later, progress)) same takes;
+  there_then = there_then;
 }
 
 -- the scripts, where one cursor went on
@@ -386,37 +393,38 @@ takes_is calm it T = record {
 }
 
 -- both of a machine whose cursors were read and written
-pub record Took (job : JobState) (endpoint : EndpointState) (cursors : List Cursor) (outgoing : List SlotRef)
-    (answer : Option ScriptAnswer) (taken : TurnTaken) (done : Done) (later : EndpointState) (more : List Cursor) : Type 0
+pub record Took (job : JobState) (found : Found) (cursors : List Cursor) (outgoing : List SlotRef)
+    (answer : Option ScriptAnswer) (taken : TurnTaken) (done : Done) (later : Found) (more : List Cursor) : Type 0
   where
     pub is : IsMachine (machine_at job later more outgoing answer)
-    pub takes : MachineTakes (machine_at job endpoint cursors outgoing answer) taken done
+    pub takes : MachineTakes (machine_at job found cursors outgoing answer) taken done
         (machine_at job later more outgoing answer)
 
-pub took : WaitingIsCalm → (job : JobState) (endpoint : EndpointState) (cursors : List Cursor)
+pub took : WaitingIsCalm → (job : JobState) (found : Found) (cursors : List Cursor)
     (outgoing : List SlotRef) (answer : Option ScriptAnswer) (taken : TurnTaken) (place : ℕ) (cursor next : Cursor)
-    (handlers : JobHandlers) (done : Done) (later : EndpointState)
-    → IsMachine (machine_at job endpoint cursors outgoing answer) → Reads job cursors taken.thread cursor
+    (handlers : JobHandlers) (done : Done) (later : Found)
+    → IsMachine (machine_at job found cursors outgoing answer) → Reads job cursors taken.thread cursor
     → place ≡ taken.thread → handlers ≡ handlers_of job
-    → TakesTurn (script_meaning handlers) (endpoint, progress_of cursor) taken done (later, progress_of next)
-    → Took job endpoint cursors outgoing answer taken done later (slice_set cursors place next)
-took calm job endpoint cursors outgoing answer taken place cursor next handlers done later is R at same takes =
+    → TakesTurn (script_meaning handlers) (found, progress_of cursor) taken done (later, progress_of next)
+    → AreThere later.endpoint later.collectives
+    → Took job found cursors outgoing answer taken done later (slice_set cursors place next)
+took calm job found cursors outgoing answer taken place cursor next handlers done later is R at same takes there_then =
     let it : Turning = record {
-      machine = machine_at job endpoint cursors outgoing answer;
+      machine = machine_at job found cursors outgoing answer;
       taken = taken;
       done = done;
-      endpoint = later;
+      found = later;
       progress = progress_of next;
     } in
-    let T = turning_is job endpoint cursors outgoing answer taken cursor handlers done later (progress_of next) is R
-    same takes in
+    let T = turning_is job found cursors outgoing answer taken cursor handlers done later (progress_of next) is R
+    same takes there_then in
     let scripts = cursors_set cursors taken.thread place next at in
     record {
       is = subst (λ (these : List (Progress ScriptStep)).
           IsMachine (record (machine_with it outgoing answer) { scripts = these })) scripts
           (machine_is it T outgoing answer);
       takes = subst (λ (these : List (Progress ScriptStep)).
-          MachineTakes (machine_at job endpoint cursors outgoing answer) taken done
+          MachineTakes (machine_at job found cursors outgoing answer) taken done
           (record (machine_with it outgoing answer) { scripts = these })) scripts (takes_is calm it T);
     }
 
@@ -424,7 +432,14 @@ took calm job endpoint cursors outgoing answer taken place cursor next handlers 
 pub still_machine : (machine : MachineKept) (outgoing : List SlotRef) (answer : Option ScriptAnswer) → IsMachine machine
     → IsMachine (record machine { outgoing = outgoing; answer = answer })
 still_machine machine outgoing answer is =
-    record { job = is.job; node = is.node; threads = is.threads; said = is.said; record_ = is.record_ }
+    record {
+      job = is.job;
+      node = is.node;
+      there = is.there;
+      threads = is.threads;
+      said = is.said;
+      record_ = is.record_;
+    }
 
 -- an empty turn, as the trait says it
 pub empty_turn : WaitingIsCalm → (old : MachineKept) (taken : TurnTaken) (done : Done) (new : MachineKept)

@@ -32,7 +32,7 @@ use Rattle.node_runs.specs.Turn.{MachineState, before_try, first_events, as_trie
 use Rattle.node_runs.specs.Turn.{node_run, is_some_there, datagram, receiver, message_of}
 use Rattle.node_runs.proofs.Outgoings.{sent_stand, turns_come_first}
 use Rattle.script_steps.specs.Forms.{step_form}
-use Rattle.script_steps.specs.Tries.{Found, HasHappened, Happen, IsAtSameNode, context_here, step_here}
+use Rattle.script_steps.specs.Tries.{AreThere, Found, HasHappened, Happen, IsAtSameNode, context_here, step_here}
 use Rattle.script_steps.specs.declared.trial.Tried.{Tried}
 use Rattle.node_machine.specs.Kept.{CanBeSaid}
 use Rattle.node_machine.specs.Parts.{at_once}
@@ -277,6 +277,15 @@ progress_said progress tried settings said = by_left progress.left progress.bega
     by_left [] began said = said
     by_left (step ∷ rest) began said =
         rest_said settings step rest tried.ended (option_or tried.began began) said
+
+-- the collectives are still those of the node
+pub still_there : (old new : EndpointState) (collectives : Option CollectivesState) → IsAtSameNode old.core new.core
+    → AreThere old collectives → AreThere new collectives
+still_there old new None same there = tt
+still_there old new (Some it) same there = record {
+  settings = there.settings ∙ sym same.settings;
+  me_is = there.me_is ∙ sym same.me_is;
+}
 
 pub turn_goes : (meaning : Meaning) (old : Found) (mid : EndpointState) (new : Found) (taken : TurnTaken)
     (progress : Progress ScriptStep) (polls : Bool) (slots : List SlotRef) (tried : Tried) (done : Done)
