@@ -11,7 +11,6 @@ use Rattle.collective_area.specs.Shapes.{kind_code, shape_word}
 use Rattle.collective_area.specs.declared.shape.CollectiveKind.{CollectiveKind}
 use Rattle.collective_area.specs.declared.shape.CollectiveKind.TheVariants as kind
 use Rattle.collective_area.specs.declared.shape.Shape.{Shape}
-use Rattle.lists.proofs.Members.{all_append}
 use Rattle.raw_segment.specs.Image.{Write}
 use Rattle.node_record.specs.Record.{Node}
 use Rattle.endpoint_rules.specs.EndpointLocal.{EndpointLocal}
