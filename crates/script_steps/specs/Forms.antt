@@ -166,8 +166,11 @@ plan_form plan from register at node =
 -- ---- collectives of the node
 
 -- a step of a node that has none
+abbrev pub nothing_part : Part
+nothing_part = record { calls = []; ended = Some (said.Step steps.Nothing); next = None }
+
 abbrev pub nothing_there : Form EndpointLocal
-nothing_there = in_one_try (record { calls = []; ended = Some (said.Step steps.Nothing); next = None })
+nothing_there = in_one_try nothing_part
 
 -- one call of the collectives, of the record that the try finds
 abbrev pub call_part : CollectiveText → TryContext → Node EndpointLocal → CollectivesState → Part
@@ -181,12 +184,13 @@ collective_form call at node = elim at.collectives [
   | Some it ↦ in_one_try (call_part call at.place node it)
 ]
 
--- a whole collective: the start at each turn until it waits for no lock; then a step and a try to end at each turn until
--- the phase ends
+-- a whole collective of the node: the start at each turn until it waits for no lock; then a step and a try to end at each
+-- turn until the phase ends
 abbrev pub whole_form : Shape → (from dest : ℕ) → StepContext → Node EndpointLocal → Form EndpointLocal
 whole_form shape from dest at node = elim at.collectives [
   | None ↦ nothing_there
-  | Some it ↦ Several (first_part at.place shape from node it) (later_part at.place dest node it)
+  | Some it ↦ if it.me == at.place.me
+      then Several (first_part at.place shape from node it) (later_part at.place dest node it) else nothing_there
 ]
 
 -- ---- steps

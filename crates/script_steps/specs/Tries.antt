@@ -247,7 +247,6 @@ pub record TriesFound (meaning : Meaning) (old : Found) (trial : Trial)
   pub far : ForItsRecord old.endpoint (λ node.
       new.collectives
       ≡ collectives_after (form (step_here meaning old trial.thread trial.time) node) trial.began old.collectives)
-  pub there : AreThere new.endpoint new.collectives
 
 -- ---- the beginning of a plan's pieces
 

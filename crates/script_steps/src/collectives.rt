@@ -109,6 +109,7 @@ pub(crate) fn try_collective<H: Handlers>(
         (record { endpoint = endpoint.old; collectives = collectives.old }) trial.now
         (collective_form call) result
         (record { endpoint = endpoint.new; collectives = collectives.new }) }
+    ensures there { AreThere endpoint.new collectives.new }
 {
     match collectives {
         Some(it) => {
@@ -133,6 +134,7 @@ fn whole_part<H: Handlers>(
         (record { endpoint = endpoint.old; collectives = Some collectives.old }) trial.now
         (whole_form text.start.shape text.start.from text.dest) result
         (record { endpoint = endpoint.new; collectives = Some collectives.new }) }
+    ensures there { AreOf endpoint.new.core collectives.new }
 {
     match trial.began {
         None => {
@@ -160,6 +162,7 @@ pub(crate) fn try_whole<H: Handlers>(
         (record { endpoint = endpoint.old; collectives = collectives.old }) trial.now
         (whole_form text.start.shape text.start.from text.dest) result
         (record { endpoint = endpoint.new; collectives = collectives.new }) }
+    ensures there { AreThere endpoint.new collectives.new }
 {
     match collectives {
         Some(it) => whole_part(endpoint, handlers, it, trial, text),

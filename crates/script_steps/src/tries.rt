@@ -1,8 +1,8 @@
 //! The try of a step.
 
 ghost use Rattle.std.specs.Prelude.{◌<◌};
-ghost use Rattle.script_steps.specs.Forms.{IsJobStep};
-ghost use Rattle.script_steps.specs.Tries.{AreThere, Tries};
+ghost use Rattle.script_steps.specs.Forms.{IsJobStep, waiting_in};
+ghost use Rattle.script_steps.specs.Tries.{AreThere, Tries, TriesFound};
 
 use crate::calls::try_call;
 use crate::collectives::{WholeText, try_collective, try_whole};
@@ -14,6 +14,32 @@ use gas_collectives::Collectives;
 use gas_endpoint::Endpoint;
 use handler_rules::Handlers;
 use job_text::{ScriptStep, WaitingStep};
+
+/// The try of a step that scripts alone have, by how far the node's collectives are.
+fn try_scripted<H: Handlers>(
+    endpoint: &mut Endpoint,
+    handlers: &H,
+    collectives: &mut Option<Collectives>,
+    trial: &Trial<'_>,
+    step: &WaitingStep,
+) -> Tried
+    requires thread { trial.now.thread < endpoint.old.core.settings.threads }
+    requires there { AreThere endpoint.old collectives.old }
+    ensures tries { TriesFound (H.meaning handlers.now)
+        (record { endpoint = endpoint.old; collectives = collectives.old }) trial.now
+        (waiting_in step.now) result
+        (record { endpoint = endpoint.new; collectives = collectives.new }) }
+    ensures there { AreThere endpoint.new collectives.new }
+{
+    match step {
+        WaitingStep::Collective { shape, from, dest } => {
+            let (shape, from, dest) = (*shape, *from, *dest);
+            let start = Start { shape, from };
+            try_whole(endpoint, handlers, collectives, trial, WholeText { start, dest })
+        }
+        _ => try_waiting(endpoint, handlers, trial, step),
+    }
+}
 
 /// Tries a step of a thread's script, with the calls of the endpoint that its form makes. `collectives` is how far the
 /// node's collectives are, which all its threads run; None where the job has none.
@@ -37,18 +63,8 @@ pub fn attempt<H: Handlers>(
         ScriptStep::Collective { call } => {
             try_collective(endpoint, handlers, collectives, trial, *call)
         }
-        ScriptStep::Waiting {
-            step: WaitingStep::Collective { shape, from, dest },
-        } => {
-            let text = WholeText {
-                start: Start {
-                    shape: *shape,
-                    from: *from,
-                },
-                dest: *dest,
-            };
-            try_whole(endpoint, handlers, collectives, trial, text)
+        ScriptStep::Waiting { step } => {
+            try_scripted(endpoint, handlers, collectives, trial, step)
         }
-        ScriptStep::Waiting { step } => try_waiting(endpoint, handlers, trial, step),
     }
 }
