@@ -14,7 +14,9 @@ use Rattle.node_runs.specs.Turn.{MachineState, try_of, turn}
 use Rattle.node_runs.specs.declared.script_answer.ScriptAnswer.{ScriptAnswer}
 use Rattle.node_runs.specs.declared.script_answer.ScriptAnswer.TheVariants as said
 use Rattle.node_script.specs.AnswerWords.{Sight, answer_words, sight_of, vis_words}
+use Rattle.node_script.specs.CollectiveWords.{collective_words}
 use Rattle.node_script.specs.Lines.{Line}
+use Rattle.node_script.specs.declared.collective_texts.CollectiveAnswer.TheVariants as collective
 use Rattle.world_run.specs.RunText.{lines_of_node, violations}
 use Rattle.check_run.specs.Machines.{first_machine, last_record}
 
@@ -29,6 +31,9 @@ pub record StepAt : Type 0 where
 abbrev pub script_words : Sight → ScriptAnswer → Line
 script_words sight (said.Call answer) = answer_words sight answer
 script_words sight (said.Vis vis) = vis_words vis
+script_words sight (said.Start answer) = collective_words (collective.Start answer)
+script_words sight (said.Step answer) = collective_words (collective.Step answer)
+script_words sight (said.End answer) = collective_words (collective.End answer)
 
 -- the line of the answer of a step, by the record of its node after it
 abbrev pub step_line : JobState → StepAt → Record EndpointLocal → ScriptAnswer → Line

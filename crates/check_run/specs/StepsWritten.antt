@@ -16,6 +16,9 @@ use Rattle.check_run.specs.declared.steps.StepAt.{StepAt}
 abbrev pub NamesWhatIsThere : EndpointState → ScriptAnswer → Type 0
 NamesWhatIsThere endpoint (said.Call answer) = NamesWhatIs endpoint answer
 NamesWhatIsThere endpoint (said.Vis vis) = Unit {0}
+NamesWhatIsThere endpoint (said.Start answer) = Unit {0}
+NamesWhatIsThere endpoint (said.Step answer) = Unit {0}
+NamesWhatIsThere endpoint (said.End answer) = Unit {0}
 
 -- where a step ended, the machine keeps its answer, and what that names is there
 abbrev pub CanTellStep : (stepped : Bool) → MachineKept → Type 0

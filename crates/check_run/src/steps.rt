@@ -14,7 +14,7 @@ use gas_outside::{BufferedSink, MemorySink, Sink, Wrote};
 use itoa::Buffer;
 use node_machine::NodeMachine;
 use node_runs::ScriptAnswer;
-use node_script::{write_answer, write_vis};
+use node_script::{CollectiveAnswer, write_answer, write_collective, write_vis};
 
 /// Which step's answer it is.
 #[derive(Clone, Copy)]
@@ -40,6 +40,13 @@ fn write_said<K: Sink>(
     match answer {
         ScriptAnswer::Call(answer) => write_answer(thread, answer, endpoint, sink),
         ScriptAnswer::Vis(vis) => write_vis(thread, vis, sink),
+        ScriptAnswer::Start(answer) => {
+            write_collective(thread, CollectiveAnswer::Start(*answer), sink)
+        }
+        ScriptAnswer::Step(answer) => {
+            write_collective(thread, CollectiveAnswer::Step(*answer), sink)
+        }
+        ScriptAnswer::End(answer) => write_collective(thread, CollectiveAnswer::End(*answer), sink),
     }
 }
 

@@ -30,6 +30,20 @@ states_carry job = record {
   sent = λ state. refl;
 }
 
+-- collectives of which none was started are as far as they may be
+opening_far : (job : JobState) (node : ℕ) → IsJob job → IfFar CollectivesFit (opening_collectives job node)
+opening_far job node is = by_area job.collect is.collect
+  where
+    by_area : (area : Option CollectArea) → IsCollectOrNone job.settings area
+        → IfFar CollectivesFit (option_map (fresh_collectives job.settings node) area)
+    by_area None fits = tt
+    by_area (Some at) fits = record {
+      count = omega arith;
+      word = omega arith;
+      nodes = is.settings.nodes;
+      room = fits.area.small;
+    }
+
 pub traces_run : StepsFit → AreTracesARun
 traces_run fit job traces ranks is few reaches =
     states_run job.settings (registered (handlers_of job)).table (script_meaning (handlers_of job)) step_form
@@ -37,7 +51,7 @@ traces_run fit job traces ranks is few reaches =
     state_steps (scripts_at job) traces ranks
     (job_fits job.settings (handlers_of job) is.settings is.job_fits is.last_fits is.handlers)
     (λ node. fit job.settings (scripts_at job node)
-    (λ thread. steps_said (scope_of job) job.scripts node thread is.scripts))
+    (λ thread. steps_said (scope_of job) job.scripts node thread is.scripts) (opening_far job node is))
     few (states_carry job) reaches
 
 -- ---- the nodes before all turns, and the replays of their traces

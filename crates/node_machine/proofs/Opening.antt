@@ -1,7 +1,8 @@
 -- A machine before all turns.
 use Rattle.std.proofs.Common.{◌≡◌, inl, inr, ℕ, ◌<◌, ◌≤◌, ◌≢◌, Bool, true, false, List, [], ◌∷◌, None, Some}
 use Rattle.std.proofs.Common.{refl, sym, ap, ◌∙◌, subst, slice_get, arith, eqb, ne_eqb, cond, length, length-append}
-use Rattle.std.proofs.Common.{◌+◌, ◌++◌}
+use Rattle.std.proofs.Common.{◌+◌, ◌++◌, Option, ap₂}
+use Rattle.std.specs.Option.{option_map}
 use Rattle.std.specs.List.{AllByRecursion, find}
 use Rattle.std.proofs.Math.Path.{fun_ext}
 use Rattle.std.proofs.lemmas.Bool.{cases_Bool, cases_lt}
@@ -14,18 +15,21 @@ use Rattle.gas_endpoint.specs.EndpointState.{EndpointState, EndpointStands, IsNo
 use Rattle.job_text.specs.JobText.{IsJob, IsNodeScript}
 use Rattle.job_text.specs.Scripts.{IsStep}
 use Rattle.job_text.specs.Scopes.{scope_of}
+use Rattle.job_text.specs.declared.job.CollectArea.{CollectArea}
 use Rattle.job_text.specs.declared.job.Job.{Job as JobState}
 use Rattle.job_text.specs.declared.job.NodeScript.{NodeScript}
 use Rattle.job_text.specs.declared.job.ScriptStep.{ScriptStep}
 use Rattle.job_text.specs.declared.scope.Scope.{Scope}
 use Rattle.script_steps.specs.Forms.{IsJobStep}
+use Rattle.script_steps.specs.Tries.{AreThere}
 use Rattle.node_script.specs.Registration.{handlers_of, registered}
 use Rattle.node_runs.specs.Actions.{Progress}
 use Rattle.node_machine.specs.Cursors.{progress_of, progress_of_all}
 use Rattle.node_machine.specs.declared.cursor.Cursor.{Cursor}
 use Rattle.node_machine.specs.Kept.{MachineKept, progress_or_none, CanBeSaid, IsMachine}
 use Rattle.node_machine.specs.Openings.{AreFirst}
-use Rattle.node_machine.specs.NodeState.{NodeStands, opening_state, scripts_at, is_of, steps_or_none, steps_of_thread}
+use Rattle.node_machine.specs.NodeState.{NodeStands, fresh_collectives, opening_collectives, opening_state, threads_at, is_of, steps_or_none}
+use Rattle.node_machine.specs.NodeState.{steps_of_thread}
 
 -- ---- the steps of a thread
 
@@ -72,7 +76,7 @@ first_none job me = record { threads = refl; each = λ thread low. absurd (omega
 -- of one thread more
 pub first_push : (job : JobState) (me count : ℕ) (cursors more : List Cursor) (cursor : Cursor)
     → AreFirst job me count (progress_of_all cursors) → more ≡ cursors ++ cursor ∷ []
-    → progress_of cursor ≡ scripts_at job me count → AreFirst job me (count + 1) (progress_of_all more)
+    → progress_of cursor ≡ threads_at job me count → AreFirst job me (count + 1) (progress_of_all more)
 first_push job me count cursors more cursor first is_more is =
     let pushed : progress_of_all more ≡ progress_of_all cursors ++ progress_of cursor ∷ [] =
     ap progress_of_all is_more ∙ map-append progress_of cursors (cursor ∷ []) in
@@ -81,14 +85,14 @@ first_push job me count cursors more cursor first is_more is =
           omega (arith, n, length-append (progress_of_all cursors) (progress_of cursor ∷ []));
       each = λ thread low. elim (cases_lt thread count) [
         | inl there ↦
-            slice_get_kept (progress_of_all cursors) (progress_of cursor) thread (scripts_at job me thread)
+            slice_get_kept (progress_of_all cursors) (progress_of cursor) thread (threads_at job me thread)
             (first.each thread there)
         | inr past ↦ (
             let same : thread ≡ count = omega (arith, past, low) in
             let last : thread ≡ length (progress_of_all cursors) = same ∙ sym first.threads in
             ap (slice_get (progress_of_all cursors ++ progress_of cursor ∷ [])) last
             ∙ (slice_get_last (progress_of_all cursors) (progress_of cursor)
-            ∙ ap (λ (p : Progress ScriptStep). Some p) (is ∙ ap (scripts_at job me) (sym same)))
+            ∙ ap (λ (p : Progress ScriptStep). Some p) (is ∙ ap (threads_at job me) (sym same)))
             )
       ];
     })
@@ -98,7 +102,14 @@ first_push job me count cursors more cursor first is_more is =
 -- a machine that did nothing
 abbrev pub opened : JobState → EndpointState → List (Progress ScriptStep) → MachineKept
 opened job endpoint scripts =
-    record { job = job; endpoint = endpoint; scripts = scripts; outgoing = []; answer = None }
+    record {
+      job = job;
+      endpoint = endpoint;
+      collectives = opening_collectives job endpoint.core.me;
+      scripts = scripts;
+      outgoing = [];
+      answer = None;
+    }
 
 pub opened_stands : (job : JobState) (me : ℕ) (endpoint : EndpointState) (scripts : List (Progress ScriptStep))
     → IsJob job → IsNodeOf job.settings (registered (handlers_of job)).table me endpoint
@@ -108,16 +119,28 @@ opened_stands job me endpoint scripts is node stands first = record {
   job_is = refl;
   me_is = sym node.me_is;
   node = stands;
-  own_is = fun_ext (λ thread. elim (cases_lt thread job.settings.threads) [
-    | inl there ↦ sym (ap progress_or_none (first.each thread there))
-    | inr past ↦
-        ap (λ (left : List ScriptStep). record { left = left; began = None })
-        (no_thread (scope_of job) job.scripts me thread is.scripts past)
-        ∙ sym (ap progress_or_none (slice_get_past scripts thread (subst (λ n. n ≤ thread) (sym first.threads) past)))
-  ]);
+  own_is = ap₂ (λ (threads : ℕ → Progress ScriptStep) (rank : ℕ). record {
+    threads = threads;
+    collectives = opening_collectives job rank;
+  })
+      (fun_ext (λ thread. elim (cases_lt thread job.settings.threads) [
+        | inl there ↦ sym (ap progress_or_none (first.each thread there))
+        | inr past ↦
+            ap (λ (left : List ScriptStep). record { left = left; began = None })
+            (no_thread (scope_of job) job.scripts me thread is.scripts past)
+            ∙ sym (ap progress_or_none
+            (slice_get_past scripts thread (subst (λ n. n ≤ thread) (sym first.threads) past)))
+      ]))
+      (sym node.me_is);
   outgoing_is = refl;
   answer_is = refl;
 }
+
+opening_there : (job : JobState) (endpoint : EndpointState) (area : Option CollectArea)
+    → job.settings ≡ endpoint.core.settings
+    → AreThere endpoint (option_map (fresh_collectives job.settings endpoint.core.me) area)
+opening_there job endpoint None same = tt
+opening_there job endpoint (Some at) same = record { settings = same; me_is = refl }
 
 pub opened_is : (job : JobState) (me : ℕ) (endpoint : EndpointState) (scripts : List (Progress ScriptStep))
     → IsJob job → IsNodeOf job.settings (registered (handlers_of job)).table me endpoint
@@ -126,11 +149,12 @@ pub opened_is : (job : JobState) (me : ℕ) (endpoint : EndpointState) (scripts 
 opened_is job me endpoint scripts is node stands first = record {
   job = is;
   node = record { settings_are = node.settings_are; me_is = refl; table_is = node.table_is };
+  there = opening_there job endpoint job.collect (sym node.settings_are);
   threads = first.threads;
   said = λ thread progress at.
       let inside = slice_get_within scripts thread progress at in
       let there : thread < job.settings.threads = subst (λ n. thread < n) first.threads inside in
-      subst (CanBeSaid job.settings) (same_Some (scripts_at job me thread) progress (sym (first.each thread there) ∙ at))
+      subst (CanBeSaid job.settings) (same_Some (threads_at job me thread) progress (sym (first.each thread there) ∙ at))
       (steps_said (scope_of job) job.scripts me thread is.scripts);
   record_ = (opening_node (nothing_begun job.settings), stands);
 }

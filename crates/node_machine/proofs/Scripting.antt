@@ -3,15 +3,14 @@ use Rattle.std.proofs.Common.{◌≡◌, ℕ, List, [], ◌∷◌, Option, None,
 use Rattle.std.proofs.lemmas.Option.{same_Some}
 use Rattle.handler_rules.specs.Runs.{Meaning}
 use Rattle.endpoint_rules.specs.declared.answer.Answer.{Answer}
-use Rattle.gas_endpoint.specs.EndpointState.{EndpointState}
 use Rattle.job_text.specs.declared.job.ScriptStep.{ScriptStep}
-use Rattle.script_steps.specs.Tries.{Tries}
+use Rattle.script_steps.specs.Tries.{Found, Tries}
 use Rattle.script_steps.specs.declared.trial.Trial.{Trial}
 use Rattle.script_steps.specs.declared.trial.Tried.{Tried}
 use Rattle.node_machine.specs.Scripted.{TriesNext}
 use Rattle.node_machine.proofs.Happening.{none_happens}
 
-pub next_tried : (meaning : Meaning) (old new : EndpointState) (trial : Trial) (tried : Tried) (rest : List ScriptStep)
+pub next_tried : (meaning : Meaning) (old new : Found) (trial : Trial) (tried : Tried) (rest : List ScriptStep)
     → Tries meaning old trial tried new
     → TriesNext meaning old (record {
       now = trial.time;
@@ -21,14 +20,16 @@ pub next_tried : (meaning : Meaning) (old new : EndpointState) (trial : Trial) (
 next_tried meaning old new trial tried rest T = record {
   happen = record { same = T.happen.same; happened = T.happen.happened };
   tried_so = λ node stands. T.tried_so node stands rest;
+  far = T.far;
 }
 
-pub no_next : (meaning : Meaning) (old : EndpointState) (now thread : ℕ) (began : Option Answer)
+pub no_next : (meaning : Meaning) (old : Found) (now thread : ℕ) (began : Option Answer)
     → TriesNext meaning old (record { now = now; thread = thread; progress = record { left = []; began = began } })
     (record { sent = None; ended = None; began = None }) old
 no_next meaning old now thread began = record {
-  happen = none_happens meaning old now;
+  happen = none_happens meaning old.endpoint now;
   tried_so = λ node stands. refl;
+  far = λ node stands. refl;
 }
 
 -- ---- by the first of the steps that are left
@@ -44,7 +45,7 @@ none_there [] e = refl
 none_there (first ∷ rest) e = absurd cc
 
 -- a step is tried
-pub next_from : (meaning : Meaning) (old new : EndpointState) (trial : Trial) (tried : Tried) (left : List ScriptStep)
+pub next_from : (meaning : Meaning) (old new : Found) (trial : Trial) (tried : Tried) (left : List ScriptStep)
     → Some trial.step.now ≡ slice_get left 0 → Tries meaning old trial tried new
     → TriesNext meaning old (record {
       now = trial.time;
@@ -60,7 +61,7 @@ next_from meaning old new trial tried left first T =
     }) tried new) (sym it.1) (next_tried meaning old new trial tried it.0 T)
 
 -- there is none
-pub none_from : (meaning : Meaning) (old : EndpointState) (now thread : ℕ) (left : List ScriptStep)
+pub none_from : (meaning : Meaning) (old : Found) (now thread : ℕ) (left : List ScriptStep)
     (began : Option Answer) → None ≡ slice_get left 0
     → TriesNext meaning old (record { now = now; thread = thread; progress = record { left = left; began = began } })
     (record { sent = None; ended = None; began = None }) old

@@ -22,6 +22,7 @@ use Rattle.node_record.specs.SlotMessages.{message_at}
 use Rattle.node_record.specs.declared.answer.SlotRef.{SlotRef}
 use Rattle.endpoint_rules.specs.EndpointLocal.{EndpointLocal}
 use Rattle.node_runs.specs.declared.script_answer.ScriptAnswer.{ScriptAnswer}
+use Rattle.gas_collectives.specs.CollectivesState.{CollectivesState}
 use Rattle.gas_endpoint.specs.EndpointState.{EndpointState, EndpointStands}
 use Rattle.job_text.specs.declared.job.Job.{Job as JobState}
 use Rattle.job_text.specs.declared.job.ScriptStep.{ScriptStep}
@@ -34,10 +35,11 @@ use Rattle.node_runs.specs.WorldRun.{endpoint_job}
 use Rattle.node_runs.proofs.Emptying.{empty_turns, or_parts, none_of}
 use Rattle.script_steps.specs.Forms.{step_form}
 use Rattle.script_steps.specs.Laws.{WaitingIsCalm}
+use Rattle.script_steps.specs.Tries.{AreThere, Found}
 use Rattle.node_machine.specs.Cursors.{progress_of, progress_of_all}
 use Rattle.node_machine.specs.declared.cursor.Cursor.{Cursor}
 use Rattle.node_machine.specs.Machines.{MachineTakes}
-use Rattle.node_machine.specs.Kept.{MachineKept, progress_or_none, own_scripts, polls_at, CanBeSaid, IsMachine}
+use Rattle.node_machine.specs.Kept.{MachineKept, progress_or_none, own_scripts, own_threads, polls_at, CanBeSaid, IsMachine}
 use Rattle.node_machine.specs.NodeState.{NodeState, state_of, script_job, after_turn, turned, datagram_at, as_there}
 use Rattle.node_machine.specs.NodeState.{NodeStands}
 use Rattle.node_machine.specs.Turns.{slots_of, job_at, TurnTaken, turn_by, is_changed, GoesAsTurn, TakesTurn}
@@ -48,15 +50,15 @@ use Rattle.node_machine.specs.declared.turn.Done.{Done}
 -- what is left of the scripts, where one thread's went on
 own_set : (scripts : List (Progress ScriptStep)) (thread : ℕ) (progress : Progress ScriptStep)
     → thread < length scripts
-    → put (own_scripts scripts) thread progress ≡ own_scripts (slice_set scripts thread progress)
+    → put (own_threads scripts) thread progress ≡ own_threads (slice_set scripts thread progress)
 own_set scripts thread progress inside = fun_ext (λ other. elim (cases_eq other thread) [
   | inl same ↦
-      ap (put (own_scripts scripts) thread progress) same
-      ∙ (put_same (own_scripts scripts) thread progress
+      ap (put (own_threads scripts) thread progress) same
+      ∙ (put_same (own_threads scripts) thread progress
       ∙ (sym (ap progress_or_none (get-set_same scripts thread progress inside))
-      ∙ ap (own_scripts (slice_set scripts thread progress)) (sym same)))
+      ∙ ap (own_threads (slice_set scripts thread progress)) (sym same)))
   | inr apart ↦
-      put_other (own_scripts scripts) thread progress other apart
+      put_other (own_threads scripts) thread progress other apart
       ∙ sym (ap progress_or_none (get-set_other scripts thread progress other apart))
 ])
 
@@ -67,8 +69,15 @@ pub record Turning : Type 0 where
   pub machine : MachineKept
   pub taken : TurnTaken
   pub done : Done
-  pub endpoint : EndpointState
+  pub found : Found
   pub progress : Progress ScriptStep
+
+-- what the machine's turn found
+abbrev pub found_by : MachineKept → Found
+found_by machine = record { endpoint = machine.endpoint; collectives = machine.collectives }
+
+abbrev pub found_in : EndpointState → Option CollectivesState → Found
+found_in endpoint collectives = record { endpoint = endpoint; collectives = collectives }
 
 -- all that is known of it
 pub record IsTurning (it : Turning) : Type 0 where
@@ -76,8 +85,9 @@ pub record IsTurning (it : Turning) : Type 0 where
   pub inside : it.taken.thread < length it.machine.scripts
   pub before : Progress ScriptStep
   pub there : slice_get it.machine.scripts it.taken.thread ≡ Some before
-  pub takes : TakesTurn (script_meaning (handlers_of it.machine.job)) (it.machine.endpoint, before) it.taken it.done
-      (it.endpoint, it.progress)
+  pub takes : TakesTurn (script_meaning (handlers_of it.machine.job)) (found_by it.machine, before) it.taken it.done
+      (it.found, it.progress)
+  pub there_then : AreThere it.found.endpoint it.found.collectives
 
 -- the scripts after it
 abbrev pub scripts_then : Turning → List (Progress ScriptStep)
@@ -87,7 +97,8 @@ scripts_then it = slice_set it.machine.scripts it.taken.thread it.progress
 abbrev pub machine_with : Turning → (outgoing : List SlotRef) → (answer : Option ScriptAnswer) → MachineKept
 machine_with it outgoing answer = record {
   job = it.machine.job;
-  endpoint = it.endpoint;
+  endpoint = it.found.endpoint;
+  collectives = it.found.collectives;
   scripts = scripts_then it;
   outgoing = outgoing;
   answer = answer;
@@ -97,8 +108,12 @@ machine_with it outgoing answer = record {
 pub record Facts (it : Turning) (state : MachineState EndpointLocal (OwnScripts ScriptStep))
     (job : NodeJob EndpointLocal (OwnScripts ScriptStep)) (me : ℕ) : Type 0 where
   pub goes : GoesAsTurn job me it.taken state it.done
-  pub node : EndpointStands it.endpoint (turn_by job me it.taken state).after.node
-  pub own : (turn_by job me it.taken state).after.own ≡ put state.own it.taken.thread it.progress
+  pub node : EndpointStands it.found.endpoint (turn_by job me it.taken state).after.node
+  pub own : (turn_by job me it.taken state).after.own
+      ≡ record {
+        threads = put state.own.threads it.taken.thread it.progress;
+        collectives = it.found.collectives;
+      }
 
 -- the job of a machine is that of its endpoint
 job_same : (machine : MachineKept) → IsMachine machine
@@ -108,12 +123,13 @@ job_same machine is = ap₂ (λ (settings : Parameters) (table : List (Option En
     is.node.settings_are is.node.table_is
 
 facts_at : (it : Turning) → IsTurning it → (state : MachineState EndpointLocal (OwnScripts ScriptStep))
-    → EndpointStands it.machine.endpoint state.node → state.own ≡ own_scripts it.machine.scripts
+    → EndpointStands it.machine.endpoint state.node → state.own ≡ own_scripts it.machine
     → Facts it state (script_job it.machine.job) it.machine.endpoint.core.me
 facts_at it T state stands own =
     let meaning = script_meaning (handlers_of it.machine.job) in
     let G = T.takes.goes state stands
-    (ap (λ (f : OwnScripts ScriptStep). f it.taken.thread) own ∙ ap progress_or_none T.there) in
+    (ap (λ (f : OwnScripts ScriptStep). f.threads it.taken.thread) own ∙ ap progress_or_none T.there)
+    (ap (λ (f : OwnScripts ScriptStep). f.collectives) own) in
     subst (λ (job : NodeJob EndpointLocal (OwnScripts ScriptStep)).
     Facts it state job it.machine.endpoint.core.me) (job_same it.machine T.is)
     (record { goes = G.0; node = G.1; own = G.2 })
@@ -127,15 +143,16 @@ facts_of it T state S =
 
 -- the machine's node is the same
 me_then : (it : Turning) → IsTurning it → (state : NodeState) → NodeStands it.machine state
-    → state.ranked.me ≡ it.endpoint.core.me
+    → state.ranked.me ≡ it.found.endpoint.core.me
 me_then it T state S = S.me_is ∙ sym T.takes.same.me_is
 
 own_then : (it : Turning) → IsTurning it → (state : NodeState) → NodeStands it.machine state
     → (turn_by (script_job state.job) state.ranked.me it.taken state.ranked.state).after.own
-    ≡ own_scripts (scripts_then it)
+    ≡ record { threads = own_threads (scripts_then it); collectives = it.found.collectives }
 own_then it T state S =
     (facts_of it T state S).own
-    ∙ (ap (λ (own : OwnScripts ScriptStep). put own it.taken.thread it.progress) S.own_is
+    ∙ ap (λ (threads : ℕ → Progress ScriptStep). record { threads = threads; collectives = it.found.collectives })
+    (ap (λ (own : OwnScripts ScriptStep). put own.threads it.taken.thread it.progress) S.own_is
     ∙ own_set it.machine.scripts it.taken.thread it.progress T.inside)
 
 -- a turn that changed something
@@ -249,7 +266,7 @@ quiet_stands calm it T state S quiet =
 -- a state of a record of the endpoint
 abbrev pub some_state : MachineKept → Node EndpointLocal → MachineState EndpointLocal (OwnScripts ScriptStep)
 some_state machine node =
-    record { node = node; own = own_scripts machine.scripts; outgoing = []; answer = None }
+    record { node = node; own = own_scripts machine; outgoing = []; answer = None }
 
 -- of the record for which the endpoint stands
 some_facts : (it : Turning) → (T : IsTurning it)
@@ -262,7 +279,7 @@ pub polls_stay : (it : Turning) → IsTurning it → is_some it.done.ended ≡ f
     → polls_at (machine_with it outgoing answer) thread ≡ polls_at it.machine thread
 polls_stay it T none outgoing answer thread =
     let F = some_facts it T in
-    let locks : it.endpoint.core.locks ≡ it.machine.endpoint.core.locks =
+    let locks : it.found.endpoint.core.locks ≡ it.machine.endpoint.core.locks =
     F.node.core.locks_are ∙ (F.goes.locks (none_of it.done.ended none) ∙ sym T.is.record_.1.core.locks_are) in
     ap (λ (held : List Held). not (holds (owner.Thread thread) held)) locks
 
@@ -276,6 +293,7 @@ machine_is it T outgoing answer = record {
     me_is = refl;
     table_is = T.takes.same.table ∙ T.is.node.table_is;
   };
+  there = T.there_then;
   threads = length-set it.machine.scripts it.taken.thread it.progress ∙ T.is.threads;
   said = λ thread progress at. elim (cases_eq thread it.taken.thread) [
     | inl same ↦
@@ -298,10 +316,11 @@ copied_some (Some bytes) = refl
 -- ---- from what the code says
 
 -- a machine that has these cursors
-abbrev pub machine_at : JobState → EndpointState → List Cursor → List SlotRef → Option ScriptAnswer → MachineKept
-machine_at job endpoint cursors outgoing answer = record {
+abbrev pub machine_at : JobState → Found → List Cursor → List SlotRef → Option ScriptAnswer → MachineKept
+machine_at job found cursors outgoing answer = record {
   job = job;
-  endpoint = endpoint;
+  endpoint = found.endpoint;
+  collectives = found.collectives;
   scripts = progress_of_all cursors;
   outgoing = outgoing;
   answer = answer;
@@ -322,35 +341,37 @@ reads_is machine job cursors from thread place cursor same low at is read = reco
 }
 
 -- what is left of the thread's script can be said
-pub read_said : (job : JobState) (endpoint : EndpointState) (cursors : List Cursor) (outgoing : List SlotRef)
+pub read_said : (job : JobState) (found : Found) (cursors : List Cursor) (outgoing : List SlotRef)
     (answer : Option ScriptAnswer) (thread : ℕ) (cursor : Cursor)
-    → IsMachine (machine_at job endpoint cursors outgoing answer) → Reads job cursors thread cursor
-    → CanBeSaid endpoint.core.settings (progress_of cursor)
-read_said job endpoint cursors outgoing answer thread cursor is R =
+    → IsMachine (machine_at job found cursors outgoing answer) → Reads job cursors thread cursor
+    → CanBeSaid found.endpoint.core.settings (progress_of cursor)
+read_said job found cursors outgoing answer thread cursor is R =
     subst (λ settings. CanBeSaid settings (progress_of cursor)) (sym is.node.settings_are)
     (is.said thread (progress_of cursor)
     (slice_get-map progress_of cursors thread ∙ ap (option_map progress_of) R.read))
 
-pub turning_is : (job : JobState) (endpoint : EndpointState) (cursors : List Cursor) (outgoing : List SlotRef)
+pub turning_is : (job : JobState) (found : Found) (cursors : List Cursor) (outgoing : List SlotRef)
     (answer : Option ScriptAnswer) (taken : TurnTaken) (cursor : Cursor) (handlers : JobHandlers) (done : Done)
-    (later : EndpointState) (progress : Progress ScriptStep)
-    → IsMachine (machine_at job endpoint cursors outgoing answer) → Reads job cursors taken.thread cursor
+    (later : Found) (progress : Progress ScriptStep)
+    → IsMachine (machine_at job found cursors outgoing answer) → Reads job cursors taken.thread cursor
     → handlers ≡ handlers_of job
-    → TakesTurn (script_meaning handlers) (endpoint, progress_of cursor) taken done (later, progress)
+    → TakesTurn (script_meaning handlers) (found, progress_of cursor) taken done (later, progress)
+    → AreThere later.endpoint later.collectives
     → IsTurning (record {
-      machine = machine_at job endpoint cursors outgoing answer;
+      machine = machine_at job found cursors outgoing answer;
       taken = taken;
       done = done;
-      endpoint = later;
+      found = later;
       progress = progress;
     })
-turning_is job endpoint cursors outgoing answer taken cursor handlers done later progress is R same takes = record {
+turning_is job found cursors outgoing answer taken cursor handlers done later progress is R same takes there_then = record {
   is = is;
   inside = subst (λ (n : ℕ). taken.thread < n) (sym is.threads) R.low;
   before = progress_of cursor;
   there = slice_get-map progress_of cursors taken.thread ∙ ap (option_map progress_of) R.read;
   takes = subst (λ (of : JobHandlers).
-      TakesTurn (script_meaning of) (endpoint, progress_of cursor) taken done (later, progress)) same takes;
+      TakesTurn (script_meaning of) (found, progress_of cursor) taken done (later, progress)) same takes;
+  there_then = there_then;
 }
 
 -- the scripts, where one cursor went on
@@ -372,37 +393,38 @@ takes_is calm it T = record {
 }
 
 -- both of a machine whose cursors were read and written
-pub record Took (job : JobState) (endpoint : EndpointState) (cursors : List Cursor) (outgoing : List SlotRef)
-    (answer : Option ScriptAnswer) (taken : TurnTaken) (done : Done) (later : EndpointState) (more : List Cursor) : Type 0
+pub record Took (job : JobState) (found : Found) (cursors : List Cursor) (outgoing : List SlotRef)
+    (answer : Option ScriptAnswer) (taken : TurnTaken) (done : Done) (later : Found) (more : List Cursor) : Type 0
   where
     pub is : IsMachine (machine_at job later more outgoing answer)
-    pub takes : MachineTakes (machine_at job endpoint cursors outgoing answer) taken done
+    pub takes : MachineTakes (machine_at job found cursors outgoing answer) taken done
         (machine_at job later more outgoing answer)
 
-pub took : WaitingIsCalm → (job : JobState) (endpoint : EndpointState) (cursors : List Cursor)
+pub took : WaitingIsCalm → (job : JobState) (found : Found) (cursors : List Cursor)
     (outgoing : List SlotRef) (answer : Option ScriptAnswer) (taken : TurnTaken) (place : ℕ) (cursor next : Cursor)
-    (handlers : JobHandlers) (done : Done) (later : EndpointState)
-    → IsMachine (machine_at job endpoint cursors outgoing answer) → Reads job cursors taken.thread cursor
+    (handlers : JobHandlers) (done : Done) (later : Found)
+    → IsMachine (machine_at job found cursors outgoing answer) → Reads job cursors taken.thread cursor
     → place ≡ taken.thread → handlers ≡ handlers_of job
-    → TakesTurn (script_meaning handlers) (endpoint, progress_of cursor) taken done (later, progress_of next)
-    → Took job endpoint cursors outgoing answer taken done later (slice_set cursors place next)
-took calm job endpoint cursors outgoing answer taken place cursor next handlers done later is R at same takes =
+    → TakesTurn (script_meaning handlers) (found, progress_of cursor) taken done (later, progress_of next)
+    → AreThere later.endpoint later.collectives
+    → Took job found cursors outgoing answer taken done later (slice_set cursors place next)
+took calm job found cursors outgoing answer taken place cursor next handlers done later is R at same takes there_then =
     let it : Turning = record {
-      machine = machine_at job endpoint cursors outgoing answer;
+      machine = machine_at job found cursors outgoing answer;
       taken = taken;
       done = done;
-      endpoint = later;
+      found = later;
       progress = progress_of next;
     } in
-    let T = turning_is job endpoint cursors outgoing answer taken cursor handlers done later (progress_of next) is R
-    same takes in
+    let T = turning_is job found cursors outgoing answer taken cursor handlers done later (progress_of next) is R
+    same takes there_then in
     let scripts = cursors_set cursors taken.thread place next at in
     record {
       is = subst (λ (these : List (Progress ScriptStep)).
           IsMachine (record (machine_with it outgoing answer) { scripts = these })) scripts
           (machine_is it T outgoing answer);
       takes = subst (λ (these : List (Progress ScriptStep)).
-          MachineTakes (machine_at job endpoint cursors outgoing answer) taken done
+          MachineTakes (machine_at job found cursors outgoing answer) taken done
           (record (machine_with it outgoing answer) { scripts = these })) scripts (takes_is calm it T);
     }
 
@@ -410,7 +432,14 @@ took calm job endpoint cursors outgoing answer taken place cursor next handlers 
 pub still_machine : (machine : MachineKept) (outgoing : List SlotRef) (answer : Option ScriptAnswer) → IsMachine machine
     → IsMachine (record machine { outgoing = outgoing; answer = answer })
 still_machine machine outgoing answer is =
-    record { job = is.job; node = is.node; threads = is.threads; said = is.said; record_ = is.record_ }
+    record {
+      job = is.job;
+      node = is.node;
+      there = is.there;
+      threads = is.threads;
+      said = is.said;
+      record_ = is.record_;
+    }
 
 -- an empty turn, as the trait says it
 pub empty_turn : WaitingIsCalm → (old : MachineKept) (taken : TurnTaken) (done : Done) (new : MachineKept)

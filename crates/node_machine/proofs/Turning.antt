@@ -22,16 +22,17 @@ use Rattle.endpoint_rules.proofs.Sound.{rules_sound}
 use Rattle.gas_endpoint.specs.EndpointState.{EndpointState, EndpointStands, ForItsRecord}
 use Rattle.script_steps.specs.Forms.{IsJobStep}
 use Rattle.job_text.specs.declared.job.ScriptStep.{ScriptStep}
-use Rattle.node_runs.specs.Actions.{Progress, OwnScripts, tried_step}
+use Rattle.gas_collectives.specs.CollectivesState.{CollectivesState}
+use Rattle.node_runs.specs.Actions.{Progress, OwnScripts, StepContext, collectives_then, step_context, tried_step}
 use Rattle.node_runs.specs.Laws.{GotBytes}
 use Rattle.node_runs.specs.Outgoing.{slot_of, SentStands}
 use Rattle.node_runs.specs.declared.script_answer.ScriptAnswer.{ScriptAnswer}
-use Rattle.node_runs.specs.Scripts.{NodeJob, Tried as FormTried, TryContext}
+use Rattle.node_runs.specs.Scripts.{NodeJob, Tried as FormTried}
 use Rattle.node_runs.specs.Turn.{MachineState, before_try, first_events, as_tried, turn_events, tried_answer}
 use Rattle.node_runs.specs.Turn.{node_run, is_some_there, datagram, receiver, message_of}
 use Rattle.node_runs.proofs.Outgoings.{sent_stand, turns_come_first}
 use Rattle.script_steps.specs.Forms.{step_form}
-use Rattle.script_steps.specs.Tries.{HasHappened, Happen, IsAtSameNode, context_here}
+use Rattle.script_steps.specs.Tries.{AreThere, Found, HasHappened, Happen, IsAtSameNode, context_here, step_here}
 use Rattle.script_steps.specs.declared.trial.Tried.{Tried}
 use Rattle.node_machine.specs.Kept.{CanBeSaid}
 use Rattle.node_machine.specs.Parts.{at_once}
@@ -72,56 +73,83 @@ stand_there settings me node (packet ∷ packets) stand =
 -- ---- a turn of a state
 
 -- of what was tried, as the try of the turn says it
-tried_is : (meaning : Meaning) (old mid new : EndpointState) (taken : TurnTaken)
+tried_is : (meaning : Meaning) (old mid : EndpointState) (new : Found) (taken : TurnTaken)
     (state : MachineState EndpointLocal (OwnScripts ScriptStep)) (slots : List SlotRef) (tried : Tried)
     → EndpointStands old state.node
     → Happen meaning old
     (at_once taken.now (first_events (job_at meaning old) state taken.thread taken.got) slots) mid
-    → TriesNext meaning mid
-    (record { now = taken.now; thread = taken.thread; progress = state.own taken.thread }) tried new
+    → TriesNext meaning (record { endpoint = mid; collectives = state.own.collectives })
+    (record { now = taken.now; thread = taken.thread; progress = state.own.threads taken.thread }) tried new
     → let job = job_at meaning old in
     let me = old.core.me in
     let node = as_tried job me state taken.thread taken.now taken.got in
-    tried_step step_form (context_here meaning old taken.thread taken.now) (state.own taken.thread).began
-    (state.own taken.thread).left node
+    tried_step step_form (step_context (context_here meaning old taken.thread taken.now) state.own)
+    (state.own.threads taken.thread).began
+    (state.own.threads taken.thread).left node
     (node_run job.job me taken.now (turn_events job me state taken.thread taken.now taken.got) state.node)
     (tried_answer job me state taken.thread taken.now taken.got)
-    ≡ as_said (record { now = taken.now; thread = taken.thread; progress = state.own taken.thread }) tried
+    ≡ as_said (record { now = taken.now; thread = taken.thread; progress = state.own.threads taken.thread }) tried
 tried_is meaning old mid new taken state slots tried stands before tries =
     let job = job_at meaning old in
     let me = old.core.me in
     let trial : NextTrial =
-    record { now = taken.now; thread = taken.thread; progress = state.own taken.thread } in
+    record { now = taken.now; thread = taken.thread; progress = state.own.threads taken.thread } in
     let first = first_events job state taken.thread taken.got in
     let node = as_tried job me state taken.thread taken.now taken.got in
-    let at : TryContext = context_here meaning old taken.thread taken.now in
+    let at : StepContext = step_context (context_here meaning old taken.thread taken.now) state.own in
     let run = run-append job.job me taken.now first (events_of_next at trial.progress node) state.node in
     let so = at_same old.core mid.core (λ settings table me.
-    tried_next (record at { settings = settings; table = table; me = me }) trial.progress node
+    tried_next (record at { place = record at.place { settings = settings; table = table; me = me } }) trial.progress node
     ≡ as_said trial tried) before.same
     (tries.tried_so node (before.happened state.node stands).stands) in
     ap (λ (after : Node EndpointLocal). tried_step step_form at trial.progress.began trial.progress.left node after
     (tried_answer job me state taken.thread taken.now taken.got)) run
     ∙ so
 
+-- how far the collectives are then, as the turn says it
+far_is : (meaning : Meaning) (old mid : EndpointState) (new : Found) (taken : TurnTaken)
+    (state : MachineState EndpointLocal (OwnScripts ScriptStep)) (slots : List SlotRef) (tried : Tried)
+    → EndpointStands old state.node
+    → Happen meaning old
+    (at_once taken.now (first_events (job_at meaning old) state taken.thread taken.got) slots) mid
+    → TriesNext meaning (record { endpoint = mid; collectives = state.own.collectives })
+    (record { now = taken.now; thread = taken.thread; progress = state.own.threads taken.thread }) tried new
+    → new.collectives
+    ≡ collectives_then step_form (step_context (context_here meaning old taken.thread taken.now) state.own)
+    (state.own.threads taken.thread).began (state.own.threads taken.thread).left
+    (as_tried (job_at meaning old) old.core.me state taken.thread taken.now taken.got)
+far_is meaning old mid new taken state slots tried stands before tries =
+    let node = as_tried (job_at meaning old) old.core.me state taken.thread taken.now taken.got in
+    let progress = state.own.threads taken.thread in
+    let at : StepContext = step_context (context_here meaning old taken.thread taken.now) state.own in
+    at_same old.core mid.core (λ settings table me.
+    new.collectives
+    ≡ collectives_then step_form (record at { place = record at.place { settings = settings; table = table; me = me } })
+    progress.began progress.left node) before.same
+    (tries.far node (before.happened state.node stands).stands)
+
 -- what the try did at the node after the events before it, as at the node before them
-try_at : (meaning : Meaning) (old mid new : EndpointState) (trial : NextTrial) (slots : List SlotRef)
-    → IsAtSameNode old.core mid.core
+try_at : (meaning : Meaning) (old mid new : EndpointState) (collectives : Option CollectivesState) (trial : NextTrial)
+    (slots : List SlotRef) → IsAtSameNode old.core mid.core
     → Happen meaning mid (record {
       now = trial.now;
-      events = events_of_next (context_here meaning mid trial.thread trial.now) trial.progress;
+      events = events_of_next
+          (step_here meaning (record { endpoint = mid; collectives = collectives }) trial.thread trial.now) trial.progress;
       slots = slots;
     }) new
     → Happen meaning mid (record {
       now = trial.now;
-      events = events_of_next (context_here meaning old trial.thread trial.now) trial.progress;
+      events = events_of_next
+          (step_here meaning (record { endpoint = old; collectives = collectives }) trial.thread trial.now) trial.progress;
       slots = slots;
     }) new
-try_at meaning old mid new trial slots same happen =
-    let at : TryContext = context_here meaning old trial.thread trial.now in
+try_at meaning old mid new collectives trial slots same happen =
+    let at : StepContext =
+    step_here meaning (record { endpoint = old; collectives = collectives }) trial.thread trial.now in
     at_same old.core mid.core (λ settings table me. Happen meaning mid (record {
       now = trial.now;
-      events = events_of_next (record at { settings = settings; table = table; me = me }) trial.progress;
+      events = events_of_next (record at { place = record at.place { settings = settings; table = table; me = me } })
+          trial.progress;
       slots = slots;
     }) new) same happen
 
@@ -131,19 +159,22 @@ same_changed got slots packets ended began more less e f h =
     sym (ap₂ (λ (x y : Bool). got || x || y || began) e f ∙ ap (λ (x : Bool). got || packets || more || x) h)
 
 -- a turn of a state for which the endpoint stands
-state_goes : (meaning : Meaning) (old mid new : EndpointState) (taken : TurnTaken)
+state_goes : (meaning : Meaning) (old mid : EndpointState) (new : Found) (taken : TurnTaken)
     (state : MachineState EndpointLocal (OwnScripts ScriptStep)) (slots : List SlotRef) (tried : Tried) (done : Done)
     → IsLawfulMeaning meaning → GotBytes taken.got → EndpointStands old state.node
     → Happen meaning old
     (at_once taken.now (first_events (job_at meaning old) state taken.thread taken.got) slots) mid
-    → TriesNext meaning mid
-    (record { now = taken.now; thread = taken.thread; progress = state.own taken.thread }) tried new
+    → TriesNext meaning (record { endpoint = mid; collectives = state.own.collectives })
+    (record { now = taken.now; thread = taken.thread; progress = state.own.threads taken.thread }) tried new
     → slots_of done.outgoing ≡ slots ++ option_to_list tried.sent → done.ended ≡ tried.ended
     → done.began ≡ is_some tried.began
     → GoesAsTurn (job_at meaning old) old.core.me taken state done
-    × EndpointStands new (turn_by (job_at meaning old) old.core.me taken state).after.node
+    × EndpointStands new.endpoint (turn_by (job_at meaning old) old.core.me taken state).after.node
     × ((turn_by (job_at meaning old) old.core.me taken state).after.own
-    ≡ put state.own taken.thread (progress_after (state.own taken.thread) tried))
+    ≡ record {
+      threads = put state.own.threads taken.thread (progress_after (state.own.threads taken.thread) tried);
+      collectives = new.collectives;
+    })
 state_goes meaning old mid new taken state slots tried done lawful bytes stands before tries slots_is ended_is
     began_is =
     let it = turn_by job me taken state in
@@ -162,7 +193,12 @@ state_goes meaning old mid new taken state slots tried done lawful bytes stands 
         locks = λ none. kept (sym ended_is ∙ none);
       },
       all.stands,
-      ap (λ (t : FormTried (Progress ScriptStep)). put state.own taken.thread t.left) went,
+      ap₂ (λ (threads : ℕ → Progress ScriptStep) (now : Option CollectivesState). record {
+        threads = threads;
+        collectives = now;
+      })
+          (ap (λ (t : FormTried (Progress ScriptStep)). put state.own.threads taken.thread t.left) went)
+          (sym (far_is meaning old mid new taken state slots tried stands before tries)),
     )
   where
     job : NodeJob EndpointLocal (OwnScripts ScriptStep)
@@ -175,10 +211,10 @@ state_goes meaning old mid new taken state slots tried done lawful bytes stands 
     settings = old.core.settings
 
     trial : NextTrial
-    trial = record { now = taken.now; thread = taken.thread; progress = state.own taken.thread }
+    trial = record { now = taken.now; thread = taken.thread; progress = state.own.threads taken.thread }
 
-    at : TryContext
-    at = context_here meaning old taken.thread taken.now
+    at : StepContext
+    at = step_context (context_here meaning old taken.thread taken.now) state.own
 
     node : Node EndpointLocal
     node = as_tried job me state taken.thread taken.now taken.got
@@ -189,18 +225,18 @@ state_goes meaning old mid new taken state slots tried done lawful bytes stands 
           ++ events_of_next at trial.progress
           (node_run job.job me taken.now (first_events job state taken.thread taken.got) x);
       slots = slots ++ option_to_list tried.sent;
-    }) state.node new
-    all = (happen_then meaning old mid new
+    }) state.node new.endpoint
+    all = (happen_then meaning old mid new.endpoint
         (at_once taken.now (first_events job state taken.thread taken.got) slots)
         (record {
           now = taken.now;
           events = events_of_next at trial.progress;
           slots = option_to_list tried.sent;
         }) refl before
-        (try_at meaning old mid new trial (option_to_list tried.sent) before.same tries.happen)).happened state.node
-        stands
+        (try_at meaning old mid new.endpoint state.own.collectives trial (option_to_list tried.sent) before.same
+        tries.happen)).happened state.node stands
 
-    went : tried_step step_form at (state.own taken.thread).began (state.own taken.thread).left node
+    went : tried_step step_form at (state.own.threads taken.thread).began (state.own.threads taken.thread).left node
         (node_run job.job me taken.now (turn_events job me state taken.thread taken.now taken.got) state.node)
         (tried_answer job me state taken.thread taken.now taken.got)
         ≡ as_said trial tried
@@ -242,28 +278,47 @@ progress_said progress tried settings said = by_left progress.left progress.bega
     by_left (step ∷ rest) began said =
         rest_said settings step rest tried.ended (option_or tried.began began) said
 
-pub turn_goes : (meaning : Meaning) (old mid new : EndpointState) (taken : TurnTaken) (progress : Progress ScriptStep)
-    (polls : Bool) (slots : List SlotRef) (tried : Tried) (done : Done)
+-- the collectives are still those of the node
+pub still_there : (old new : EndpointState) (collectives : Option CollectivesState) → IsAtSameNode old.core new.core
+    → AreThere old collectives → AreThere new collectives
+still_there old new None same there = tt
+still_there old new (Some it) same there = record {
+  settings = there.settings ∙ sym same.settings;
+  me_is = there.me_is ∙ sym same.me_is;
+}
+
+pub turn_goes : (meaning : Meaning) (old : Found) (mid : EndpointState) (new : Found) (taken : TurnTaken)
+    (progress : Progress ScriptStep) (polls : Bool) (slots : List SlotRef) (tried : Tried) (done : Done)
     → IsLawfulMeaning meaning → GotBytes taken.got
-    → ForItsRecord old (λ node. polls ≡ not (holds (owner.Thread taken.thread) node.local.core.locks))
-    → Happen meaning old (at_once taken.now (before_try old.core.settings.version polls taken.got) slots) mid
-    → TriesNext meaning mid (record { now = taken.now; thread = taken.thread; progress = progress }) tried new
+    → ForItsRecord old.endpoint (λ node. polls ≡ not (holds (owner.Thread taken.thread) node.local.core.locks))
+    → Happen meaning old.endpoint
+    (at_once taken.now (before_try old.endpoint.core.settings.version polls taken.got) slots) mid
+    → TriesNext meaning (record { endpoint = mid; collectives = old.collectives })
+    (record { now = taken.now; thread = taken.thread; progress = progress }) tried new
     → slots_of done.outgoing ≡ slots ++ option_to_list tried.sent → done.ended ≡ tried.ended
     → done.began ≡ is_some tried.began
     → TakesTurn meaning (old, progress) taken done (new, progress_after progress tried)
 turn_goes meaning old mid new taken progress polls slots tried done lawful bytes polled before tries slots_is ended_is
     began_is =
     record {
-      same = same_then old.core mid.core new.core before.same tries.happen.same;
+      same = same_then old.endpoint.core mid.core new.endpoint.core before.same tries.happen.same;
       said = progress_said progress tried;
-      goes = λ state stands own.
-          let version = old.core.settings.version in
-          let it = state_goes meaning old mid new taken state slots tried done lawful bytes stands
-          (subst (λ (b : Bool). Happen meaning old (at_once taken.now (before_try version b taken.got) slots) mid)
+      goes = λ state stands own far.
+          let version = old.endpoint.core.settings.version in
+          let it = state_goes meaning old.endpoint mid new taken state slots tried done lawful bytes stands
+          (subst (λ (b : Bool).
+          Happen meaning old.endpoint (at_once taken.now (before_try version b taken.got) slots) mid)
           (polled state.node stands) before)
-          (subst (λ (p : Progress ScriptStep).
-          TriesNext meaning mid (record { now = taken.now; thread = taken.thread; progress = p }) tried new)
-          (sym own) tries) slots_is ended_is began_is in
-          let left = λ (p : Progress ScriptStep). put state.own taken.thread (progress_after p tried) in
+          (subst (λ (c : Option CollectivesState).
+          TriesNext meaning (record { endpoint = mid; collectives = c })
+          (record { now = taken.now; thread = taken.thread; progress = state.own.threads taken.thread }) tried new)
+          (sym far)
+          (subst (λ (p : Progress ScriptStep). TriesNext meaning (record { endpoint = mid; collectives = old.collectives })
+          (record { now = taken.now; thread = taken.thread; progress = p }) tried new) (sym own) tries))
+          slots_is ended_is began_is in
+          let left : Progress ScriptStep → OwnScripts ScriptStep = λ p. record {
+            threads = put state.own.threads taken.thread (progress_after p tried);
+            collectives = new.collectives;
+          } in
           (it.0, it.1, it.2 ∙ ap left own);
     }

@@ -10,7 +10,9 @@ use Rattle.node_runs.specs.declared.script_answer.ScriptAnswer.{ScriptAnswer}
 use Rattle.gas_endpoint.specs.EndpointState.{EndpointState, IsNodeOf}
 use Rattle.gas_endpoint.specs.Parts.{HasRecord}
 use Rattle.job_text.specs.JobText.{IsJob}
+use Rattle.gas_collectives.specs.CollectivesState.{CollectivesState}
 use Rattle.script_steps.specs.Forms.{IsJobStep}
+use Rattle.script_steps.specs.Tries.{AreThere}
 use Rattle.job_text.specs.declared.job.Job.{Job as JobState}
 use Rattle.job_text.specs.declared.job.ScriptStep.{ScriptStep}
 use Rattle.node_script.specs.Registration.{handlers_of, registered}
@@ -20,6 +22,8 @@ use Rattle.node_runs.specs.Actions.{Progress, OwnScripts}
 pub record MachineKept : Type 0 where
   pub job : JobState
   pub endpoint : EndpointState
+  -- how far the node's collectives are; None where the job has none
+  pub collectives : Option CollectivesState
   -- of each thread: what is left of its script, and the answer with which its next step began
   pub scripts : List (Progress ScriptStep)
   -- the slots of the messages that its last turn sent which wasn't empty, in order
@@ -37,8 +41,12 @@ progress_or_none None = no_steps
 progress_or_none (Some progress) = progress
 
 -- what is left of each thread's script; a thread that isn't there has none
-abbrev pub own_scripts : List (Progress ScriptStep) → OwnScripts ScriptStep
-own_scripts scripts thread = progress_or_none (slice_get scripts thread)
+abbrev pub own_threads : List (Progress ScriptStep) → (thread : ℕ) → Progress ScriptStep
+own_threads scripts thread = progress_or_none (slice_get scripts thread)
+
+-- with how far the node's collectives are
+abbrev pub own_scripts : MachineKept → OwnScripts ScriptStep
+own_scripts machine = record { threads = own_threads machine.scripts; collectives = machine.collectives }
 
 -- no step is left
 abbrev pub is_done : Progress ScriptStep → Bool
@@ -63,6 +71,7 @@ pub record IsMachine (machine : MachineKept) : Type 0 where
   pub job : IsJob machine.job
   pub node : IsNodeOf machine.job.settings (registered (handlers_of machine.job)).table machine.endpoint.core.me
       machine.endpoint
+  pub there : AreThere machine.endpoint machine.collectives
   pub threads : length machine.scripts ≡ machine.job.settings.threads
   pub said : (thread : ℕ) (progress : Progress ScriptStep) → slice_get machine.scripts thread ≡ Some progress
       → CanBeSaid machine.job.settings progress

@@ -14,7 +14,11 @@ use Rattle.job_text.specs.declared.job.NodeScript.{NodeScript}
 use Rattle.job_text.specs.declared.job.ScriptStep.{ScriptStep}
 use Rattle.node_script.specs.Bodies.{script_meaning}
 use Rattle.node_script.specs.Registration.{handlers_of, registered}
-use Rattle.node_runs.specs.Actions.{OwnScripts, scripts_of}
+use Rattle.std.specs.Option.{option_map}
+use Rattle.gas_collectives.specs.CollectivesState.{CollectivesState, no_nodes}
+use Rattle.gas_collectives.specs.Progress.{idle}
+use Rattle.job_text.specs.declared.job.CollectArea.{CollectArea}
+use Rattle.node_runs.specs.Actions.{OwnScripts, Progress, scripts_of}
 use Rattle.node_runs.specs.Order.{Ranked, job_steps}
 use Rattle.node_runs.specs.Scripts.{NodeJob}
 use Rattle.node_runs.specs.WorldRun.{endpoint_job, opening_machines}
@@ -71,9 +75,30 @@ steps_or_none (Some script) = script.steps
 abbrev pub steps_of_thread : List NodeScript → (node thread : ℕ) → List ScriptStep
 steps_of_thread scripts node thread = steps_or_none (find (is_of node thread) scripts)
 
+-- what is left of them before all turns
+abbrev pub threads_at : JobState → (node thread : ℕ) → Progress ScriptStep
+threads_at job node thread = record { left = steps_of_thread job.scripts node thread; began = None }
+
+-- collectives of which none was started, in this area
+abbrev pub fresh_collectives : Parameters → (me : ℕ) → CollectArea → CollectivesState
+fresh_collectives settings me at = record {
+  settings = settings;
+  me = me;
+  area = record { nodes = settings.nodes; base = at.base; room = at.room };
+  started = 0;
+  ended = 0;
+  shape = idle.shape;
+  sent = no_nodes;
+  worn = no_nodes;
+}
+
+-- those of a node before all turns, where the job has an area of them
+abbrev pub opening_collectives : JobState → (me : ℕ) → Option CollectivesState
+opening_collectives job me = option_map (fresh_collectives job.settings me) job.collect
+
 -- the scripts of a node before all turns
 abbrev pub scripts_at : JobState → (node : ℕ) → OwnScripts ScriptStep
-scripts_at job node thread = record { left = steps_of_thread job.scripts node thread; began = None }
+scripts_at job node = record { threads = threads_at job node; collectives = opening_collectives job node }
 
 -- the node of this number before all turns
 abbrev pub opening_state : JobState → (me : ℕ) → NodeState
@@ -95,7 +120,7 @@ pub record NodeStands (machine : MachineKept) (state : NodeState) : Type 0 where
   pub job_is : state.job ≡ machine.job
   pub me_is : state.ranked.me ≡ machine.endpoint.core.me
   pub node : EndpointStands machine.endpoint state.ranked.state.node
-  pub own_is : state.ranked.state.own ≡ own_scripts machine.scripts
+  pub own_is : state.ranked.state.own ≡ own_scripts machine
   -- each datagram stands in its slot
   pub outgoing_is : map (datagram_at machine.job.settings machine.endpoint.core.me state.ranked.state.node)
       machine.outgoing

@@ -7,13 +7,13 @@ use Rattle.node_record.specs.Record.{Node}
 use Rattle.endpoint_rules.specs.EndpointLocal.{EndpointLocal}
 use Rattle.endpoint_rules.specs.EndpointRules.{RecordEvent, job_of}
 use Rattle.endpoint_rules.specs.declared.answer.Answer.{Answer}
-use Rattle.gas_endpoint.specs.EndpointState.{EndpointState, ForItsRecord}
+use Rattle.gas_endpoint.specs.EndpointState.{ForItsRecord}
 use Rattle.job_text.specs.declared.job.ScriptStep.{ScriptStep}
-use Rattle.node_runs.specs.Actions.{Progress, next_calls, tried_step}
-use Rattle.node_runs.specs.Scripts.{ThreadCall, Tried as FormTried, TryContext}
+use Rattle.node_runs.specs.Actions.{Progress, StepContext, collectives_then, next_calls, tried_step}
+use Rattle.node_runs.specs.Scripts.{ThreadCall, Tried as FormTried}
 use Rattle.node_runs.specs.Turn.{node_run, events_of, first_answer}
 use Rattle.script_steps.specs.Forms.{step_form}
-use Rattle.script_steps.specs.Tries.{Happen, context_here}
+use Rattle.script_steps.specs.Tries.{Found, Happen, step_here}
 use Rattle.script_steps.specs.declared.trial.Tried.{Tried}
 
 -- a try of the next step of a thread's script, of which this is left
@@ -23,25 +23,27 @@ pub record NextTrial : Type 0 where
   pub progress : Progress ScriptStep
 
 -- the calls that it makes, in order, by the record that it finds
-abbrev pub calls_of_next : TryContext → Progress ScriptStep → Node EndpointLocal → List ThreadCall
+abbrev pub calls_of_next : StepContext → Progress ScriptStep → Node EndpointLocal → List ThreadCall
 calls_of_next at progress node = next_calls step_form at progress.began progress.left node
 
 -- the events of these calls
-abbrev pub events_of_next : TryContext → Progress ScriptStep → Node EndpointLocal → List RecordEvent
-events_of_next at progress node = events_of at.thread (calls_of_next at progress node)
+abbrev pub events_of_next : StepContext → Progress ScriptStep → Node EndpointLocal → List RecordEvent
+events_of_next at progress node = events_of at.place.thread (calls_of_next at progress node)
 
 -- the answer of the first of them
-abbrev pub answer_of_next : TryContext → Progress ScriptStep → Node EndpointLocal → Option Answer
+abbrev pub answer_of_next : StepContext → Progress ScriptStep → Node EndpointLocal → Option Answer
 answer_of_next at progress node =
-    first_answer (job_of at.settings at.table at.meaning) at.me at.thread at.now (calls_of_next at progress node) node
+    first_answer (job_of at.place.settings at.place.table at.place.meaning) at.place.me at.place.thread at.place.now
+    (calls_of_next at progress node) node
 
 -- the record after them
-abbrev pub after_next : TryContext → Progress ScriptStep → Node EndpointLocal → Node EndpointLocal
+abbrev pub after_next : StepContext → Progress ScriptStep → Node EndpointLocal → Node EndpointLocal
 after_next at progress node =
-    node_run (job_of at.settings at.table at.meaning) at.me at.now (events_of_next at progress node) node
+    node_run (job_of at.place.settings at.place.table at.place.meaning) at.place.me at.place.now
+    (events_of_next at progress node) node
 
 -- how the try goes
-abbrev pub tried_next : TryContext → Progress ScriptStep → Node EndpointLocal → FormTried (Progress ScriptStep)
+abbrev pub tried_next : StepContext → Progress ScriptStep → Node EndpointLocal → FormTried (Progress ScriptStep)
 tried_next at progress node =
     tried_step step_form at progress.began progress.left node (after_next at progress node)
     (answer_of_next at progress node)
@@ -66,14 +68,16 @@ as_said trial tried =
     record { left = progress_after trial.progress tried; ended = tried.ended; began = is_some tried.began }
 
 -- the next step was tried, if there is one: of every record for which the endpoint stood, the try made the calls that
--- the step's form makes, in order, and went as the form says
-pub record TriesNext
-    (meaning : Meaning) (old : EndpointState) (trial : NextTrial) (tried : Tried) (new : EndpointState) : Type 0
-  where
-    pub happen : Happen meaning old (record {
-      now = trial.now;
-      events = events_of_next (context_here meaning old trial.thread trial.now) trial.progress;
-      slots = option_to_list tried.sent;
-    }) new
-    pub tried_so : ForItsRecord old (λ node.
-        tried_next (context_here meaning old trial.thread trial.now) trial.progress node ≡ as_said trial tried)
+-- the step's form makes, in order, went as the form says, and left the collectives as far as it says
+pub record TriesNext (meaning : Meaning) (old : Found) (trial : NextTrial) (tried : Tried) (new : Found) : Type 0 where
+  pub happen : Happen meaning old.endpoint (record {
+    now = trial.now;
+    events = events_of_next (step_here meaning old trial.thread trial.now) trial.progress;
+    slots = option_to_list tried.sent;
+  }) new.endpoint
+  pub tried_so : ForItsRecord old.endpoint (λ node.
+      tried_next (step_here meaning old trial.thread trial.now) trial.progress node ≡ as_said trial tried)
+  pub far : ForItsRecord old.endpoint (λ node.
+      new.collectives
+      ≡ collectives_then step_form (step_here meaning old trial.thread trial.now) trial.progress.began
+      trial.progress.left node)

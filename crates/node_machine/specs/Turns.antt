@@ -14,7 +14,7 @@ use Rattle.node_runs.specs.Scripts.{NodeJob}
 use Rattle.node_runs.specs.Turn.{MachineState, Turn, turn, try_of, datagram, is_some_there}
 use Rattle.node_runs.specs.WorldRun.{endpoint_job}
 use Rattle.script_steps.specs.Forms.{step_form}
-use Rattle.script_steps.specs.Tries.{IsAtSameNode}
+use Rattle.script_steps.specs.Tries.{Found, IsAtSameNode}
 use Rattle.node_machine.specs.Kept.{CanBeSaid}
 use Rattle.node_machine.specs.NodeState.{datagram_at, as_there}
 use Rattle.node_machine.specs.declared.outgoing.Outgoing.{Outgoing}
@@ -59,15 +59,18 @@ pub record GoesAsTurn
   pub locks : done.ended ≡ None
       → (turn_by job me taken state).after.node.local.core.locks ≡ state.node.local.core.locks
 
--- a turn of a thread of which this was left of its script: it went so for every state for which the endpoint stood, and
--- this is left now
+-- a turn of a thread of which this was left of its script: it went so for every state for which the endpoint stood and
+-- whose collectives are so far, and this is left now
 pub record TakesTurn
-    (meaning : Meaning) (old : EndpointState × Progress ScriptStep) (taken : TurnTaken) (done : Done)
-    (new : EndpointState × Progress ScriptStep) : Type 0 where
-  pub same : IsAtSameNode old.0.core new.0.core
+    (meaning : Meaning) (old : Found × Progress ScriptStep) (taken : TurnTaken) (done : Done)
+    (new : Found × Progress ScriptStep) : Type 0 where
+  pub same : IsAtSameNode old.0.endpoint.core new.0.endpoint.core
   pub said : (settings : Parameters) → CanBeSaid settings old.1 → CanBeSaid settings new.1
   pub goes : (state : MachineState EndpointLocal (OwnScripts ScriptStep))
-      → EndpointStands old.0 state.node → state.own taken.thread ≡ old.1
-      → GoesAsTurn (job_at meaning old.0) old.0.core.me taken state done
-      × EndpointStands new.0 (turn_by (job_at meaning old.0) old.0.core.me taken state).after.node
-      × ((turn_by (job_at meaning old.0) old.0.core.me taken state).after.own ≡ put state.own taken.thread new.1)
+      → EndpointStands old.0.endpoint state.node → state.own.threads taken.thread ≡ old.1
+      → state.own.collectives ≡ old.0.collectives
+      → GoesAsTurn (job_at meaning old.0.endpoint) old.0.endpoint.core.me taken state done
+      × EndpointStands new.0.endpoint
+      (turn_by (job_at meaning old.0.endpoint) old.0.endpoint.core.me taken state).after.node
+      × ((turn_by (job_at meaning old.0.endpoint) old.0.endpoint.core.me taken state).after.own
+      ≡ record { threads = put state.own.threads taken.thread new.1; collectives = new.0.collectives })

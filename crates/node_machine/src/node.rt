@@ -8,11 +8,12 @@ ghost use Rattle.node_machine.specs.Cursors.{progress_of_all};
 ghost use Rattle.node_machine.specs.Kept.{polls_at};
 ghost use Rattle.node_machine.specs.Machines.{MachineTakes};
 ghost use Rattle.node_machine.specs.Openings.{AreFirst};
-ghost use Rattle.node_machine.specs.NodeState.{NodeStands, is_of, opening_state, steps_of_thread};
+ghost use Rattle.node_machine.specs.NodeState.{NodeStands, is_of, opening_collectives, opening_state, steps_of_thread};
 
 use crate::cursor::{Cursor, are_done, cursor_at};
 use crate::outgoing::Outgoing;
 use crate::turn::{Done, ThreadTurn, take_turn};
+use gas_collectives::Collectives;
 use gas_endpoint::Endpoint;
 use job_text::{NodeScript, ScriptStep};
 use machine::{Machine, Turned};
@@ -28,6 +29,8 @@ use std::marker::Model;
 pub struct NodeMachine<'a> {
     job: &'a Script,
     endpoint: Endpoint,
+    /// How far the node's collectives are, which all its threads run; None where the job has none.
+    collectives: Option<Collectives>,
     /// For each thread what is left of its script.
     cursors: Vec<Cursor<'a>>,
     /// What its last turn sent that wasn't empty.
@@ -48,6 +51,7 @@ impl<'a> Model for NodeMachine<'a> {
     ghost view = { λ m. record {
       job = m.job.now;
       endpoint = m.endpoint;
+      collectives = m.collectives;
       scripts = progress_of_all m.cursors.items;
       outgoing = slots_of m.outgoing;
       answer = m.answer;
@@ -56,6 +60,7 @@ impl<'a> Model for NodeMachine<'a> {
     ghost invariant = { λ m. IsMachine (record {
       job = m.job.now;
       endpoint = m.endpoint;
+      collectives = m.collectives;
       scripts = progress_of_all m.cursors.items;
       outgoing = slots_of m.outgoing;
       answer = m.answer;
@@ -94,6 +99,18 @@ fn cursors_of(alloc: Global, job: &Script, me: u16) -> Result<Vec<Cursor<'_>>, A
     Ok(cursors)
 }
 
+/// The collectives of a node of which none has started, where the job has an area of them.
+fn collectives_of(job: &Script, me: u16) -> Option<Collectives>
+    requires job { IsJob job.now }
+    requires me { me < job.now.settings.nodes }
+    ensures { result ≡ opening_collectives job.now me }
+{
+    match job.collect() {
+        Some((base, room)) => Collectives::new(job.settings(), me, base, room),
+        None => None,
+    }
+}
+
 impl<'a> NodeMachine<'a> {
     /// The machine of node `me` of the job, which did nothing, at the first steps of its scripts.
     ///
@@ -108,6 +125,7 @@ impl<'a> NodeMachine<'a> {
         Ok(NodeMachine {
             job,
             endpoint,
+            collectives: collectives_of(job, me),
             cursors,
             outgoing: Outgoing::NONE,
             answer: None,
@@ -144,9 +162,14 @@ impl<'a> NodeMachine<'a> {
         let done = take_turn(
             &mut self.endpoint,
             self.job.handlers(),
+            &mut self.collectives,
             &mut cursor,
-            ThreadTurn { thread, now, polls },
-            got,
+            ThreadTurn {
+                thread,
+                now,
+                polls,
+                got,
+            },
         );
         self.cursors[place] = cursor;
         done

@@ -7,26 +7,30 @@ ghost use Rattle.node_machine.specs.Kept.{CanBeSaid};
 ghost use Rattle.node_machine.specs.Cursors.{progress_of};
 ghost use Rattle.node_machine.specs.Scripted.{TriesNext};
 ghost use Rattle.node_runs.specs.Turn.{is_some_there};
+ghost use Rattle.script_steps.specs.Tries.{AreThere};
 ghost use Rattle.node_machine.specs.Turns.{TakesTurn, slots_of};
 
 use crate::cursor::Cursor;
 use crate::outgoing::Outgoing;
 use crate::parts::before_try;
+use gas_collectives::Collectives;
 use gas_endpoint::Endpoint;
 use handler_rules::Handlers;
 use hsl_locks::Owner;
 use node_runs::ScriptAnswer;
 use script_steps::{Trial, Tried, attempt};
 
-/// Which thread takes a turn, and when.
+/// Which thread takes a turn, when, and what it got.
 #[derive(Clone, Copy)]
-pub struct ThreadTurn {
+pub struct ThreadTurn<'a> {
     /// The thread.
     pub thread: u16,
     /// The time.
     pub now: u64,
     /// The thread polls: it holds no lock.
     pub polls: bool,
+    /// The bytes that it got, if it got any.
+    pub got: Option<&'a [u8]>,
 }
 
 /// What a turn did.
@@ -36,7 +40,7 @@ pub struct Done {
     pub outgoing: Outgoing,
     /// The answer of the script step that it ended.
     pub ended: Option<ScriptAnswer>,
-    /// It began a script step, and didn't end it.
+    /// It began a script step, or changed the node's collectives, and didn't end the step.
     pub began: bool,
 }
 
@@ -54,19 +58,24 @@ impl Done {
 fn try_next<H: Handlers>(
     endpoint: &mut Endpoint,
     handlers: &H,
+    collectives: &mut Option<Collectives>,
     cursor: &Cursor<'_>,
-    turn: ThreadTurn,
+    turn: ThreadTurn<'_>,
 ) -> Tried
     requires thread { turn.thread < endpoint.old.core.settings.threads }
     requires said { CanBeSaid endpoint.old.core.settings (progress_of cursor.now) }
-    ensures { TriesNext (H.meaning handlers.now) endpoint.old
-        (record { now = turn.now; thread = turn.thread; progress = progress_of cursor.now })
-        result endpoint.new }
+    requires there { AreThere endpoint.old collectives.old }
+    ensures tries { TriesNext (H.meaning handlers.now)
+        (record { endpoint = endpoint.old; collectives = collectives.old })
+        (record { now = turn.now; thread = turn.thread; progress = progress_of cursor.now }) result
+        (record { endpoint = endpoint.new; collectives = collectives.new }) }
+    ensures there { AreThere endpoint.new collectives.new }
 {
     match cursor.left.first() {
         Some(step) => attempt(
             endpoint,
             handlers,
+            collectives,
             &Trial {
                 time: turn.now,
                 thread: turn.thread,
@@ -83,25 +92,28 @@ fn try_next<H: Handlers>(
 }
 
 /// A turn of a thread, with its script: where it polls, what was got is delivered, and the node ticks; then the next
-/// step of the script is tried.
+/// step of the script is tried. `collectives` is how far the node's collectives are.
 pub fn take_turn<H: Handlers>(
     endpoint: &mut Endpoint,
     handlers: &H,
+    collectives: &mut Option<Collectives>,
     cursor: &mut Cursor<'_>,
-    turn: ThreadTurn,
-    got: Option<&[u8]>,
+    turn: ThreadTurn<'_>,
 ) -> Done
     requires thread { turn.thread < endpoint.old.core.settings.threads }
     requires said { CanBeSaid endpoint.old.core.settings (progress_of cursor.old) }
+    requires there { AreThere endpoint.old collectives.old }
     requires polls { ForItsRecord endpoint.old (λ node.
         turn.polls ≡ not (holds (Owner.Thread turn.thread) node.local.core.locks)) }
-    requires got { IsSome got → turn.polls ≡ true }
-    ensures { TakesTurn (H.meaning handlers.now) (endpoint.old, progress_of cursor.old)
-        (record { thread = turn.thread; now = turn.now; got = option_copied got.entry }) result
-        (endpoint.new, progress_of cursor.new) }
+    requires got { IsSome turn.got → turn.polls ≡ true }
+    ensures takes { TakesTurn (H.meaning handlers.now)
+        (record { endpoint = endpoint.old; collectives = collectives.old }, progress_of cursor.old)
+        (record { thread = turn.thread; now = turn.now; got = option_copied turn.got }) result
+        (record { endpoint = endpoint.new; collectives = collectives.new }, progress_of cursor.new) }
+    ensures there { AreThere endpoint.new collectives.new }
 {
-    let sent = before_try(endpoint, handlers, turn.now, turn.polls, got);
-    let tried = try_next(endpoint, handlers, cursor, turn);
+    let sent = before_try(endpoint, handlers, turn.now, turn.polls, turn.got);
+    let tried = try_next(endpoint, handlers, collectives, cursor, turn);
     cursor.go_on(&tried);
     Done {
         outgoing: Outgoing {

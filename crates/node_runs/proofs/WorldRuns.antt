@@ -24,7 +24,7 @@ use Rattle.node_runs.specs.Actions.{Reading, OwnScripts, scripts_of, ActionsMay}
 use Rattle.node_runs.specs.Turn.{MachineState}
 use Rattle.node_runs.specs.Order.{Ranked, NodeEntry, own_entries, job_steps, GoInOrder}
 use Rattle.node_runs.specs.Merged.{nodes_from, order_of, Carries, carried}
-use Rattle.node_runs.specs.Fitting.{KeptFits, CallFits, IsFittingJob}
+use Rattle.node_runs.specs.Fitting.{KeptFits, CallFits, CollectivesFit, IsFittingJob}
 use Rattle.node_runs.specs.WorldRun.{IsWorldRun, endpoint_job, opening_machines, joined}
 use Rattle.node_runs.proofs.Turns.{AreWritten}
 use Rattle.node_runs.proofs.Runs.{run_from_opening}
@@ -79,20 +79,20 @@ world_run {Own} settings table meaning scripts Written own items fitting calls w
 pub scripts_run : {Action : Type 0} (settings : Parameters) (table : List (Option TableEntry)) (meaning : Meaning)
     (form : Reading EndpointLocal Action) (own : ℕ → OwnScripts Action) (items : List NodeEntry)
     → IsFittingJob settings table meaning
-    → ((node : ℕ) → ActionsMay KeptFits CallFits form (own node))
+    → ((node : ℕ) → ActionsMay KeptFits CallFits CollectivesFit form (own node))
     → GoInOrder (endpoint_job settings table meaning (scripts_of form)) (opening_machines settings own) [] items
     → (turns : List (List (Timed OtherCall)))
     × IsWorldRun settings table meaning (scripts_of form) own items turns
 scripts_run settings table meaning form own items fitting acts go =
-    world_run settings table meaning (scripts_of form) (ActionsMay KeptFits CallFits form) own items fitting
-    (are_written (endpoint_job settings table meaning (scripts_of form)) KeptFits CallFits EventFits form refl
+    world_run settings table meaning (scripts_of form) (ActionsMay KeptFits CallFits CollectivesFit form) own items fitting
+    (are_written (endpoint_job settings table meaning (scripts_of form)) KeptFits CallFits CollectivesFit EventFits form refl
     call_event_fits) acts go
 
 -- of the order of a merge
 pub merged_run : {Action : Type 0} (settings : Parameters) (table : List (Option TableEntry)) (meaning : Meaning)
     (form : Reading EndpointLocal Action) (own : ℕ → OwnScripts Action) (traces : List (List Entry)) (list : List ℕ)
     → IsFittingJob settings table meaning
-    → ((node : ℕ) → ActionsMay KeptFits CallFits form (own node))
+    → ((node : ℕ) → ActionsMay KeptFits CallFits CollectivesFit form (own node))
     → length traces ≤ settings.nodes
     → let nodes = nodes_from (opening_machines settings own) 0 traces in
     GoesOn (job_steps (endpoint_job settings table meaning (scripts_of form))) nodes (start nodes) list (full nodes)
@@ -113,7 +113,7 @@ pub states_run : {Action State : Type 0} (settings : Parameters) (table : List (
     (form : Reading EndpointLocal Action) (become : Ranked EndpointLocal (OwnScripts Action) → State)
     (steps : Steps State) (own : ℕ → OwnScripts Action) (traces : List (List Entry)) (list : List ℕ)
     → IsFittingJob settings table meaning
-    → ((node : ℕ) → ActionsMay KeptFits CallFits form (own node))
+    → ((node : ℕ) → ActionsMay KeptFits CallFits CollectivesFit form (own node))
     → length traces ≤ settings.nodes
     → Carries become (job_steps (endpoint_job settings table meaning (scripts_of form))) steps
     → let nodes = map (carried become) (nodes_from (opening_machines settings own) 0 traces) in

@@ -1,15 +1,23 @@
 -- The steps of scripts: how each is tried, and when it ends.
 -- Origin: this project's profile; waiting is that of the blocking calls of GASNet 1.8.1.
-use Rattle.std.specs.Prelude.{ℕ, ◌≡◌, Bool, true, false, not, ◌&&◌, if◌then◌else◌, List, [], ◌∷◌}
+use Rattle.std.specs.Prelude.{ℕ, ◌≡◌, Bool, true, false, not, ◌&&◌, ◌||◌, if◌then◌else◌, List, [], ◌∷◌}
 use Rattle.std.specs.Prelude.{Option, None, Some, is_some, is_none}
 use Rattle.std.specs.List.{AllByRecursion}
-use Rattle.std.specs.Option.{option_map, option_to_list}
+use Rattle.std.specs.Option.{option_map, option_or, option_to_list}
 use Rattle.lists.specs.Put.{put}
 use Rattle.node_record.specs.Record.{Node}
 use Rattle.endpoint_rules.specs.declared.answer.Answer.{Answer}
+use Rattle.gas_collectives.specs.CollectivesState.{CollectivesState}
 use Rattle.node_runs.specs.declared.script_answer.ScriptAnswer.{ScriptAnswer}
 use Rattle.node_runs.specs.declared.script_answer.ScriptAnswer.TheVariants as said
 use Rattle.node_runs.specs.Scripts.{ThreadCall, Tried, TryContext, Scripts}
+
+-- what one try of a step that makes several calls does: these calls, in this order; the answer of the step, where the
+-- try ends it; and how far the node's collectives are then, where it changes that
+pub record Part : Type 0 where
+  pub calls : List ThreadCall
+  pub ended : Option ScriptAnswer
+  pub next : Option CollectivesState
 
 -- how a step is tried
 pub data Form (Kept : Type 0) : Type 0 where
@@ -28,9 +36,14 @@ pub data Form (Kept : Type 0) : Type 0 where
   -- the first try begins; then each try, the first one too, looks whether what was begun has come so far, and makes no
   -- call for it: a put whose chunks are to be issued
   Looks : (begin : ThreadCall) → (ready : Answer → Node Kept → Bool) → Form Kept
-  -- these calls in one try, in this order, whatever their answers, which an action that is read so knows by the context
-  -- and the record of the try: `says` is the answer of the step, which ends
-  Several : (calls : List ThreadCall) → (says : ScriptAnswer) → Form Kept
+  -- several calls in one try, which an action that is read so knows by the context and the record of the try: those of
+  -- the first try, and of each later one where the first began the step, which it does by changing the node's collectives
+  Several : (first later : Part) → Form Kept
+
+-- the part of a step of several calls that a try is, by the answer with which the step began
+abbrev pub part_of : (first later : Part) → (began : Option Answer) → Part
+part_of first later None = first
+part_of first later (Some answer) = later
 
 -- the calls of a try, in order, by the answer with which the step began
 abbrev pub calls_of : {Kept : Type 0} → Form Kept → (began : Option Answer) → List ThreadCall
@@ -41,7 +54,7 @@ calls_of (Twice begin next waits says) None = begin ∷ []
 calls_of (Twice begin next waits says) (Some answer) = option_to_list (next answer)
 calls_of (Looks begin ready) None = begin ∷ []
 calls_of (Looks begin ready) (Some answer) = []
-calls_of (Several calls says) began = calls
+calls_of (Several first later) began = (part_of first later began).calls
 
 -- the answer, unless it is one to wait at
 abbrev pub unless : Bool → Answer → Option ScriptAnswer
@@ -63,7 +76,7 @@ ended_by (Twice begin next waits says) (Some first) after (Some answer) = unless
 ended_by (Looks begin ready) None after None = None
 ended_by (Looks begin ready) None after (Some answer) = unless (not (ready answer after)) answer
 ended_by (Looks begin ready) (Some first) after answer = unless (not (ready first after)) first
-ended_by (Several calls says) began after answer = Some says
+ended_by (Several first later) began after answer = (part_of first later began).ended
 
 -- the step begins something that a later try finds again
 abbrev pub begins : {Kept : Type 0} → Form Kept → Bool
@@ -72,7 +85,12 @@ begins (Again waits call) = false
 begins (Until call ends) = false
 begins (Twice begin next waits says) = true
 begins (Looks begin ready) = true
-begins (Several calls says) = false
+begins (Several first later) = is_none first.ended && is_some first.next
+
+-- the try of a step that began so changes the node's collectives
+abbrev pub moves : {Kept : Type 0} → Form Kept → (began : Option Answer) → Bool
+moves (Several first later) began = is_some (part_of first later began).next
+moves form began = false
 
 -- ---- the scripts of a node
 
@@ -81,17 +99,28 @@ pub record Progress (Action : Type 0) : Type 0 where
   pub left : List Action
   pub began : Option Answer
 
--- of each thread
-abbrev pub OwnScripts : Type 0 → Type 0
-OwnScripts Action = (thread : ℕ) → Progress Action
+-- of each thread; and how far the node's collectives are, which all its threads run. None where its job has none
+pub record OwnScripts (Action : Type 0) : Type 0 where
+  pub threads : (thread : ℕ) → Progress Action
+  pub collectives : Option CollectivesState
+
+-- where an action is tried: in which job, at which node, by which thread and when, and how far the node's collectives
+-- are
+pub record StepContext : Type 0 where
+  pub place : TryContext
+  pub collectives : Option CollectivesState
 
 -- how an action is tried in a context, by the record as the try begins: an action may name cells
 abbrev pub Reading : (Kept Action : Type 0) → Type 0
-Reading Kept Action = Action → TryContext → Node Kept → Form Kept
+Reading Kept Action = Action → StepContext → Node Kept → Form Kept
+
+-- the context of a node with these scripts
+abbrev pub step_context : {Action : Type 0} → TryContext → OwnScripts Action → StepContext
+step_context at own = record { place = at; collectives = own.collectives }
 
 -- the calls of the thread's next step, if it has one, where this is left of its script
 abbrev pub next_calls : {Kept Action : Type 0}
-    → Reading Kept Action → TryContext → (began : Option Answer) → (left : List Action) → Node Kept → List ThreadCall
+    → Reading Kept Action → StepContext → (began : Option Answer) → (left : List Action) → Node Kept → List ThreadCall
 next_calls form at began [] node = []
 next_calls form at began (action ∷ rest) node = calls_of (form action at node) began
 
@@ -113,28 +142,57 @@ tried_form form action rest began after answer =
     record {
       left = progress_after form action rest began ended answer;
       ended = ended;
-      began = begins form && is_none began && is_none ended;
+      began = (begins form && is_none began || moves form began) && is_none ended;
     }
 
 -- how a try of the thread's next step went, where this is left of its script
 abbrev pub tried_step : {Kept Action : Type 0}
-    → Reading Kept Action → TryContext → (began : Option Answer) → (left : List Action) → (before after : Node Kept)
+    → Reading Kept Action → StepContext → (began : Option Answer) → (left : List Action) → (before after : Node Kept)
     → (answer : Option Answer) → Tried (Progress Action)
 tried_step form at began [] before after answer =
     record { left = record { left = []; began = began }; ended = None; began = false }
 tried_step form at began (action ∷ rest) before after answer =
     tried_form (form action at before) action rest began after answer
 
+-- how far the node's collectives are after a try of this form
+abbrev pub collectives_after : {Kept : Type 0} → Form Kept → (began : Option Answer) → Option CollectivesState
+    → Option CollectivesState
+collectives_after (Several first later) began now = option_or (part_of first later began).next now
+collectives_after form began now = now
+
+-- and after a try of the thread's next step, where this is left of its script
+abbrev pub collectives_then : {Kept Action : Type 0}
+    → Reading Kept Action → StepContext → (began : Option Answer) → (left : List Action) → (before : Node Kept)
+    → Option CollectivesState
+collectives_then form at began [] before = at.collectives
+collectives_then form at began (action ∷ rest) before =
+    collectives_after (form action at before) began at.collectives
+
 -- the scripts of a node whose actions are read so
 abbrev pub scripts_of : {Kept Action : Type 0} → Reading Kept Action → Scripts Kept (OwnScripts Action)
 scripts_of form = record {
-  calls = λ at own before. next_calls form at (own at.thread).began (own at.thread).left before;
+  calls = λ at own before.
+      next_calls form (step_context at own) (own.threads at.thread).began (own.threads at.thread).left before;
   tried = λ at own before after answer.
-      let tried = tried_step form at (own at.thread).began (own at.thread).left before after answer in
-      record { left = put own at.thread tried.left; ended = tried.ended; began = tried.began };
+      let here = step_context at own in
+      let progress = own.threads at.thread in
+      let tried = tried_step form here progress.began progress.left before after answer in
+      record {
+        left = record {
+          threads = put own.threads at.thread tried.left;
+          collectives = collectives_then form here progress.began progress.left before;
+        };
+        ended = tried.ended;
+        began = tried.began;
+      };
 }
 
 -- ---- what actions may say
+
+-- how far a node's collectives are is one that may be, where the node has any
+abbrev pub IfFar : (CollectivesState → Type 0) → Option CollectivesState → Type 0
+IfFar Far None = Unit {0}
+IfFar Far (Some it) = Far it
 
 -- each call of the form is one that may be made
 abbrev pub FormMay : {Kept : Type 0} → (ThreadCall → Type 0) → Form Kept → Type 0
@@ -144,12 +202,27 @@ FormMay May (Until call ends) = May call
 FormMay May (Twice begin next waits says) =
     May begin × ((answer : Answer) (call : ThreadCall) → next answer ≡ Some call → May call)
 FormMay May (Looks begin ready) = May begin
-FormMay May (Several calls says) = AllByRecursion May calls
+FormMay May (Several first later) = AllByRecursion May first.calls × AllByRecursion May later.calls
 
--- each action that is left is read as such a form in any context, where the node keeps what fits
-abbrev pub ActionsMay : {Kept Action : Type 0}
-    → (Fits : Kept → Type 0) → (ThreadCall → Type 0) → Reading Kept Action → OwnScripts Action → Type 0
-ActionsMay {Kept} {Action} Fits May form own =
-    (thread : ℕ)
-    → AllByRecursion (λ (action : Action). (at : TryContext) (node : Node Kept) → Fits node.local
-    → FormMay May (form action at node)) (own thread).left
+-- so far the node's collectives may be after the form, where that changes them
+abbrev pub FormFar : {Kept : Type 0} → (CollectivesState → Type 0) → Form Kept → Type 0
+FormFar Far (Several first later) = IfFar Far first.next × IfFar Far later.next
+FormFar Far form = Unit {0}
+
+-- of an action that is read as this form: its calls may be made where the node keeps what fits
+pub record ReadMay {Kept : Type 0} (Fits : Kept → Type 0) (May : ThreadCall → Type 0) (Far : CollectivesState → Type 0)
+    (node : Node Kept) (form : Form Kept) : Type 0 where
+  pub calls : Fits node.local → FormMay May form
+  pub far : FormFar Far form
+
+-- it is so in any context
+abbrev pub ActionMay : {Kept Action : Type 0} → (Fits : Kept → Type 0) → (ThreadCall → Type 0)
+    → (Far : CollectivesState → Type 0) → Reading Kept Action → Action → Type 0
+ActionMay {Kept} Fits May Far form action =
+    (at : StepContext) (node : Node Kept) → IfFar Far at.collectives → ReadMay Fits May Far node (form action at node)
+
+-- so is each action that is left; and so far the node's collectives may be
+pub record ActionsMay {Kept Action : Type 0} (Fits : Kept → Type 0) (May : ThreadCall → Type 0)
+    (Far : CollectivesState → Type 0) (form : Reading Kept Action) (own : OwnScripts Action) : Type 0 where
+  pub threads : (thread : ℕ) → AllByRecursion (ActionMay Fits May Far form) (own.threads thread).left
+  pub far : IfFar Far own.collectives

@@ -16,6 +16,8 @@ use Rattle.endpoint_rules.specs.CoreCalls.{SetCell, OnSegment}
 use Rattle.endpoint_rules.specs.EndpointLocal.{EndpointLocal}
 use Rattle.endpoint_rules.specs.EndpointRules.{OtherCall, OnCore}
 use Rattle.endpoint_rules.specs.Memory.{Set, Fill}
+use Rattle.collective_area.specs.Shapes.{shape_word}
+use Rattle.gas_collectives.specs.CollectivesState.{CollectivesState}
 use Rattle.node_runs.specs.Scripts.{ThreadCall}
 
 -- numbers of 32 bits
@@ -88,6 +90,14 @@ OtherFits call = Unit {0}
 abbrev pub CallFits : ThreadCall → Type 0
 CallFits (Requests to asking) = AreNumbers asking.args × PayloadFits asking.payload
 CallFits (Performs call) = OtherFits call
+
+-- how far a node's collectives are fits its places: the numbers of phases and the word of the shape are numbers of 64
+-- bits, and so is the word of each shape within the area's limits
+pub record CollectivesFit (it : CollectivesState) : Type 0 where
+  pub count : it.started < 2 ^ 64
+  pub word : shape_word it.shape < 2 ^ 64
+  pub nodes : it.area.nodes ≤ 256
+  pub room : it.area.room ≤ 8192
 
 -- ---- jobs
 

@@ -20,7 +20,7 @@ use Rattle.node_runs.specs.Outgoing.{StaysWell, ComesFirst, SentStands}
 use Rattle.node_runs.specs.Actions.{Reading, OwnScripts, scripts_of, ActionsMay}
 use Rattle.node_runs.specs.Order.{Ranked, job_steps, NodeEntry, own_entries, GoInOrder}
 use Rattle.node_runs.specs.Merged.{nodes_from, order_of, Carries, carried}
-use Rattle.node_runs.specs.Fitting.{AreBytes, KeptFits, CallFits, IsFittingJob}
+use Rattle.node_runs.specs.Fitting.{AreBytes, KeptFits, CallFits, CollectivesFit, IsFittingJob}
 use Rattle.node_runs.specs.WorldRun.{IsWorldRun, endpoint_job, opening_machines}
 
 -- of a job of endpoints whose scripts' actions are read so, and the scripts of each of its nodes: numbers fit their
@@ -29,7 +29,7 @@ pub record MayRun
     {Action : Type 0} (settings : Parameters) (table : List (Option TableEntry)) (meaning : Meaning)
     (form : Reading EndpointLocal Action) (own : ℕ → OwnScripts Action) : Type 0 where
   pub job : IsFittingJob settings table meaning
-  pub actions : (node : ℕ) → ActionsMay KeptFits CallFits form (own node)
+  pub actions : (node : ℕ) → ActionsMay KeptFits CallFits CollectivesFit form (own node)
 
 -- entries in an order in which each can go are a run of the world
 abbrev pub IsOrderARun : {Action : Type 0} → Reading EndpointLocal Action → Type 0

@@ -19,7 +19,7 @@ ThreadCall = Meant
 pub record Tried (Own : Type 0) : Type 0 where
   pub left : Own  -- what is left of the node's scripts
   pub ended : Option ScriptAnswer  -- the answer of the step, where the try ended it
-  pub began : Bool  -- the try began the operation of its step, and didn't end it
+  pub began : Bool  -- the try began its step, or changed the node's collectives, and didn't end the step
 
 -- in which job a step is tried, at which node, by which thread and when
 pub record TryContext : Type 0 where

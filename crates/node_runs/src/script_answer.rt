@@ -1,6 +1,7 @@
 //! What a step of a script is answered.
 
 use endpoint_rules::Answer;
+use gas_collectives::{EndAnswer, StartAnswer, StepAnswer};
 use gas_strided::Vis;
 
 /// What a step of a script is answered.
@@ -10,4 +11,10 @@ pub enum ScriptAnswer {
     Call(Answer),
     /// How the transfer of many pieces began.
     Vis(Vis),
+    /// How the next collective of the node started.
+    Start(StartAnswer),
+    /// How the node's collective went on.
+    Step(StepAnswer),
+    /// How the try to end the node's collective went.
+    End(EndAnswer),
 }

@@ -25,16 +25,18 @@ use Rattle.job_text.specs.declared.job.ScriptStep.TheVariants as step
 use Rattle.job_text.specs.declared.vis.VisText.{VisText}
 use Rattle.job_text.proofs.VisLaws.{vis_from, vis_settings}
 use Rattle.node_caller.specs.Sites.{ThreadCall, node_in_the_end, node_then}
-use Rattle.node_runs.specs.Actions.{FormMay}
+use Rattle.std.specs.Prelude.{false, is_none, is_some}
+use Rattle.node_runs.specs.Actions.{FormMay, Part, part_of}
 use Rattle.node_runs.specs.Outgoing.{slot_of, StaysWell}
 use Rattle.node_runs.specs.Scripts.{TryContext}
 use Rattle.node_runs.specs.Turn.{events_of, node_run, node_sends}
 use Rattle.node_runs.specs.declared.script_answer.ScriptAnswer.TheVariants as said
-use Rattle.script_steps.specs.Forms.{IsJobStep, site_of, calls_of_all, plan_form}
-use Rattle.script_steps.specs.Tries.{FormTrial, HasBegun, TriesForm, context_here, read_as}
+use Rattle.script_steps.specs.Forms.{IsJobStep, in_one_try, site_of, calls_of_all, plan_form}
+use Rattle.script_steps.specs.Tries.{FormTrial, HasBegun, begun_by, TriesForm, context_here, read_as}
 use Rattle.script_steps.specs.declared.trial.Trial.{Trial}
 use Rattle.script_steps.specs.declared.trial.Tried.{Tried}
-use Rattle.script_steps.proofs.Trying.{CallsOf, goes_so, well_of}
+use Rattle.script_steps.proofs.OneTry.{DoesPart, none_begun, one_part}
+use Rattle.script_steps.proofs.Trying.{goes_so, well_of}
 
 -- ---- calls on transfers, one after another
 
@@ -124,7 +126,8 @@ pub plan_may : (May : Meant → Type 0) → ((call : TransferCall) → May (Perf
     → FormMay May (plan_form plan from register at node)
 plan_may May each plan from register at node =
     let asked : BeginCall = record { plan = plan; thread = at.thread; from = from; register = register } in
-    made_may May each asked (vis_answer (site_of at) node asked)
+    let may = made_may May each asked (vis_answer (site_of at) node asked) in
+    (may, may)
 
 -- what such calls do to a node, as the events of a try
 pub record DoAsEvents (at : TryContext) (node : Node EndpointLocal) (calls : List ThreadCall) : Type 0 where
@@ -177,15 +180,18 @@ pieces_tried meaning old new last trial plan from register answer lawful B is =
     subst (TriesForm meaning old form tried) (sym is)
     (goes_so meaning old new form tried (record { settings = B.settings; me_is = B.me_is; table = B.table })
     (λ node stands.
-    subst (λ (one : Vis). CallsOf meaning old form tried new node (calls_of_all (calls_made asked one)))
-    (B.answered node stands)
-    (let does = made_do at node asked answer refl
-    (rules_sound old.core.settings old.core.table meaning stands.core.range lawful) (well_of old node stands) in (
+    let does = made_do at node asked answer refl
+    (rules_sound old.core.settings old.core.table meaning stands.core.range lawful) (well_of old node stands) in
+    subst (DoesPart meaning old trial node tried (begun_by (form.form node) trial.began tried.ended) new)
+    (sym (one_part (part_at (vis_answer (site_of at) node asked)) trial.began))
+    (subst (λ (one : Vis). DoesPart meaning old trial node tried
+    (begun_by (in_one_try (part_at one)) trial.began tried.ended) new (part_at one)) (B.answered node stands) (
       subst (EndpointStands new) does.leaves (B.leaves node stands),
       sym (ap (map slot_of) does.sends),
       does.well,
-      ap (λ (one : Vis). Some (said.Vis one)) (B.answered node stands),
       refl,
+      none_begun false (is_none trial.began) (is_some (part_of (part_at answer) (part_at answer) trial.began).next) _
+          trial.began tried.ended refl,
     ))))
   where
     at : TryContext
@@ -199,3 +205,6 @@ pieces_tried meaning old new last trial plan from register answer lawful B is =
 
     tried : Tried
     tried = record { sent = None; ended = Some (said.Vis answer); began = None }
+
+    part_at : Vis → Part
+    part_at one = record { calls = calls_of_all (calls_made asked one); ended = Some (said.Vis one); next = None }

@@ -1,5 +1,5 @@
 -- A try that waits leaves the record of its node.
-use Rattle.std.proofs.Common.{◌≡◌, ℕ, ℤ, Bool, true, false, true≢false, cond, ◌&&◌, map, List, [], ◌∷◌, ◌++◌, Option}
+use Rattle.std.proofs.Common.{◌≡◌, ℕ, ℤ, Bool, true, false, true≢false, cond, ◌&&◌, ◌||◌, map, List, [], ◌∷◌, ◌++◌, Option}
 use Rattle.std.proofs.Common.{None, Some, refl, sym, ap, ◌∙◌, subst}
 use Rattle.std.specs.Prelude.{◌==◌, is_some, is_none, Result, Ok, Err}
 use Rattle.std.specs.Int.{w64, from_le_bytes}
@@ -62,7 +62,13 @@ use Rattle.job_text.specs.declared.job.WaitingStep.TheVariants as waiting
 use Rattle.node_script.specs.Bodies.{operand_value}
 use Rattle.node_script.specs.ScheduledCalls.{meant_by, given_from}
 use Rattle.node_runs.specs.Actions.{Form, Once, Again, Until, Twice, Looks, Several, calls_of, ended_by, begins}
-use Rattle.node_runs.specs.Actions.{OwnScripts, next_calls, tried_step, scripts_of, unless}
+use Rattle.collective_area.specs.declared.shape.Shape.{Shape}
+use Rattle.collective_steps.specs.Parts.{first_part, later_part}
+use Rattle.collective_steps.proofs.Calm.{first_calm, later_calm}
+use Rattle.gas_collectives.specs.CollectivesState.{CollectivesState}
+use Rattle.job_text.specs.declared.job.CollectiveText.{CollectiveText}
+use Rattle.node_runs.specs.Actions.{OwnScripts, Part, StepContext, moves, next_calls, step_context, tried_step, scripts_of}
+use Rattle.node_runs.specs.Actions.{unless}
 use Rattle.node_runs.specs.Empty.{IsCalm}
 use Rattle.node_runs.specs.declared.script_answer.ScriptAnswer.{ScriptAnswer}
 use Rattle.node_runs.specs.Scripts.{ThreadCall, TryContext}
@@ -70,7 +76,9 @@ use Rattle.node_runs.specs.Turn.{node_run, events_of, first_answer}
 use Rattle.node_runs.specs.WorldRun.{endpoint_job}
 use Rattle.node_runs.proofs.Acting.{scripts_same}
 use Rattle.script_steps.specs.Forms.{is_put_off, is_held, is_not_ready, call_form, waiting_form, step_form}
-use Rattle.script_steps.specs.Forms.{begun_handle, on_transfers, sync_of}
+use Rattle.script_steps.specs.Forms.{begun_handle, call_part, collective_form, nothing_there, on_transfers, sync_of}
+use Rattle.script_steps.specs.Forms.{waiting_in, whole_form}
+use Rattle.script_steps.proofs.Collecting.{call_ends}
 use Rattle.script_steps.specs.Tries.{EndpointJob}
 
 -- ---- calls, and answers at which a step waits
@@ -283,6 +291,12 @@ barrier_leaves place node id flags e =
 
 -- ---- steps
 
+-- where a part ends nothing and changes nothing of the node's collectives, its calls leave the record
+abbrev IsCalmPart : TryContext → Node EndpointLocal → Part → Type 0
+IsCalmPart place node part =
+    part.ended ≡ None → is_some part.next ≡ false
+    → node_run (job_at place) place.me place.now (events_of place.thread part.calls) node ≡ node
+
 -- the calls of the form at whose answers it waits leave the record
 abbrev WaitsCalm : TryContext → Node EndpointLocal → Form EndpointLocal → Type 0
 WaitsCalm place node (Once made) = Unit {0}
@@ -291,7 +305,7 @@ WaitsCalm place node (Until call ends) = after_of place node call ≡ node
 WaitsCalm place node (Twice begin next waits says) =
     (first : Answer) (made : ThreadCall) → next first ≡ Some made → Leaves waits place node made
 WaitsCalm place node (Looks begin ready) = Unit {0}
-WaitsCalm place node (Several calls says) = Unit {0}
+WaitsCalm place node (Several first later) = IsCalmPart place node first × IsCalmPart place node later
 
 call_calm : (place : TryContext) (node : Node EndpointLocal) (one : ScheduledCall)
     → WaitsCalm place node (call_form one (meant_by node.local.core.cells one))
@@ -337,12 +351,62 @@ waiting_calm place node (waiting.WaitSome registers) =
 waiting_calm place node (waiting.WaitImplicit which) =
     transfer_leaves place node (SyncImplicit which) (sync_implicit_waits which)
 waiting_calm place node (waiting.BarrierWait id flags) = barrier_leaves place node id flags
+waiting_calm place node (waiting.Collective shape from dest) = (λ ended still. absurd (cc), λ ended still. absurd (cc))
 
-step_calm : (place : TryContext) (node : Node EndpointLocal) (one : ScriptStep)
-    → WaitsCalm place node (step_form one place node)
-step_calm place node (step.Call made) = call_calm place node made
-step_calm place node (step.Vis vis) = tt
-step_calm place node (step.Waiting one) = waiting_calm place node one
+-- a part that ends its step
+ends_calm : (place : TryContext) (node : Node EndpointLocal) (part : Part) → is_none part.ended ≡ false
+    → IsCalmPart place node part
+ends_calm place node part ends none still = absurd (true≢false (sym (ap is_none none) ∙ ends))
+
+-- one call of the node's collectives
+collective_calm : (call : CollectiveText) (at : StepContext) (node : Node EndpointLocal)
+    → WaitsCalm at.place node (collective_form call at node)
+collective_calm call at node = by_state at.collectives
+  where
+    by_state : (state : Option CollectivesState)
+        → WaitsCalm at.place node (collective_form call (record at { collectives = state }) node)
+    by_state None = (λ ended still. absurd (cc), λ ended still. absurd (cc))
+    by_state (Some it) = (
+      ends_calm at.place node (call_part call at.place node it) (call_ends call at.place node it),
+      ends_calm at.place node (call_part call at.place node it) (call_ends call at.place node it),
+    )
+
+-- a whole collective
+whole_calm : (shape : Shape) (from dest : ℕ) (at : StepContext) (node : Node EndpointLocal)
+    → WaitsCalm at.place node (whole_form shape from dest at node)
+whole_calm shape from dest at node = by_state at.collectives
+  where
+    by_me : (it : CollectivesState) (same : Bool)
+        → WaitsCalm at.place node (cond {A = Form EndpointLocal} same
+        (Several (first_part at.place shape from node it) (later_part at.place dest node it)) nothing_there)
+    by_me it true = (first_calm at.place shape from node it, later_calm at.place dest node it)
+    by_me it false = (λ ended still. absurd (cc), λ ended still. absurd (cc))
+
+    by_state : (state : Option CollectivesState)
+        → WaitsCalm at.place node (whole_form shape from dest (record at { collectives = state }) node)
+    by_state None = (λ ended still. absurd (cc), λ ended still. absurd (cc))
+    by_state (Some it) = by_me it (it.me == at.place.me)
+
+waiting_in_calm : (at : StepContext) (node : Node EndpointLocal) (one : WaitingStep)
+    → WaitsCalm at.place node (waiting_in one at node)
+waiting_in_calm at node (waiting.Collective shape from dest) = whole_calm shape from dest at node
+waiting_in_calm at node (waiting.Until cell operand) = waiting_calm at.place node (waiting.Until cell operand)
+waiting_in_calm at node (waiting.UntilWord offset number) = waiting_calm at.place node (waiting.UntilWord offset number)
+waiting_in_calm at node (waiting.Transfer transfer) = waiting_calm at.place node (waiting.Transfer transfer)
+waiting_in_calm at node (waiting.PutBegin register put) = waiting_calm at.place node (waiting.PutBegin register put)
+waiting_in_calm at node (waiting.PutImplicit put) = waiting_calm at.place node (waiting.PutImplicit put)
+waiting_in_calm at node (waiting.Wait register) = waiting_calm at.place node (waiting.Wait register)
+waiting_in_calm at node (waiting.WaitAll registers) = waiting_calm at.place node (waiting.WaitAll registers)
+waiting_in_calm at node (waiting.WaitSome registers) = waiting_calm at.place node (waiting.WaitSome registers)
+waiting_in_calm at node (waiting.WaitImplicit which) = waiting_calm at.place node (waiting.WaitImplicit which)
+waiting_in_calm at node (waiting.BarrierWait id flags) = waiting_calm at.place node (waiting.BarrierWait id flags)
+
+step_calm : (at : StepContext) (node : Node EndpointLocal) (one : ScriptStep)
+    → WaitsCalm at.place node (step_form one at node)
+step_calm at node (step.Call made) = call_calm at.place node made
+step_calm at node (step.Vis vis) = (λ ended still. absurd (cc), λ ended still. absurd (cc))
+step_calm at node (step.Collective call) = collective_calm call at node
+step_calm at node (step.Waiting one) = waiting_in_calm at node one
 
 -- an answer is no end exactly where it is one to wait at
 pub waits_there : (waits : Bool) (answer : Answer) → unless waits answer ≡ None → waits ≡ true
@@ -353,6 +417,9 @@ waits_there false answer e = absurd (cc)
 begun_now : (ended : Option ScriptAnswer) → ended ≡ None → is_none ended ≡ false → ⊥
 begun_now None e not = true≢false not
 begun_now (Some answer) e not = cc
+
+both_parts : (open_ : Bool) → ((true && true || false) && open_) ≡ false → open_ ≡ false
+both_parts open_ e = e
 
 -- the record after calls of a thread, and the answer of the first of them
 abbrev after_calls : TryContext → Node EndpointLocal → List ThreadCall → Node EndpointLocal
@@ -370,38 +437,51 @@ second_waits : (place : TryContext) (node after : Node EndpointLocal) (begin : T
 second_waits place node after begin next waits says first None calm e = refl
 second_waits place node after begin next waits says first (Some made) calm e = calm made refl (waits_there _ _ e)
 
+-- a try that changes nothing of the node's collectives
+still_part : (starts moved : Bool) (ended : Option ScriptAnswer) → ended ≡ None
+    → ((starts || moved) && is_none ended) ≡ false → moved ≡ false
+still_part starts false ended none b = refl
+still_part true true None none b = absurd (true≢false b)
+still_part false true None none b = absurd (true≢false b)
+still_part starts true (Some end) none b = absurd (cc)
+
 -- a try that neither ends nor begins its step
 form_calm : (place : TryContext) (node : Node EndpointLocal) (form : Form EndpointLocal) (began : Option Answer)
     → WaitsCalm place node form
     → let calls = calls_of form began in
     let ended = ended_by form began (after_calls place node calls) (answer_to place node calls) in
-    ended ≡ None → (begins form && is_none began && is_none ended) ≡ false → after_calls place node calls ≡ node
+    ended ≡ None → ((begins form && is_none began || moves form began) && is_none ended) ≡ false
+    → after_calls place node calls ≡ node
 form_calm place node (Once call) began calm e b = absurd (cc)
 form_calm place node (Again waits call) began calm e b = calm (waits_there _ _ e)
 form_calm place node (Until call ends) began calm e b = calm
-form_calm place node (Twice begin next waits says) None calm e b = absurd (begun_now _ e b)
+form_calm place node (Twice begin next waits says) None calm e b = absurd (begun_now _ e (both_parts _ b))
 form_calm place node (Twice begin next waits says) (Some first) calm e b =
     second_waits place node (after_calls place node (option_to_list (next first))) begin next waits says first
     (next first) (calm first) e
-form_calm place node (Looks begin ready) None calm e b = absurd (begun_now _ e b)
+form_calm place node (Looks begin ready) None calm e b = absurd (begun_now _ e (both_parts _ b))
 form_calm place node (Looks begin ready) (Some first) calm e b = refl
-form_calm place node (Several calls says) began calm e b = absurd (cc)
+form_calm place node (Several first later) None calm e b = calm.0 e (still_part _ (is_some first.next) first.ended e b)
+form_calm place node (Several first later) (Some answer) calm e b =
+    calm.1 e (still_part _ (is_some later.next) later.ended e b)
 
 -- of what is left of a script
-left_calm : (place : TryContext) (node : Node EndpointLocal) (left : List ScriptStep) (began : Option Answer)
-    → let calls = next_calls step_form place began left node in
-    let tried = tried_step step_form place began left node (after_calls place node calls) (answer_to place node calls) in
+left_calm : (at : StepContext) (node : Node EndpointLocal) (left : List ScriptStep) (began : Option Answer)
+    → let place = at.place in
+    let calls = next_calls step_form at began left node in
+    let tried = tried_step step_form at began left node (after_calls place node calls) (answer_to place node calls) in
     tried.ended ≡ None → tried.began ≡ false → after_calls place node calls ≡ node
-left_calm place node [] began e b = refl
-left_calm place node (one ∷ rest) began e b =
-    form_calm place node (step_form one place node) began (step_calm place node one) e b
+left_calm at node [] began e b = refl
+left_calm at node (one ∷ rest) began e b =
+    form_calm at.place node (step_form one at node) began (step_calm at node one) e b
 
 pub waiting_is_calm : (settings : Parameters) (table : List (Option Entry)) (meaning : Meaning)
     → IsCalm (endpoint_job settings table meaning (scripts_of step_form))
 waiting_is_calm settings table meaning = record {
   node = λ me thread now own node e b sent.
       left_calm
-      (record { settings = settings; table = table; meaning = meaning; me = me; thread = thread; now = now })
-      node (own thread).left (own thread).began e b;
+      (step_context
+      (record { settings = settings; table = table; meaning = meaning; me = me; thread = thread; now = now }) own)
+      node (own.threads thread).left (own.threads thread).began e b;
   left = λ at own before after answer e b. scripts_same step_form at own before after answer e b;
 }

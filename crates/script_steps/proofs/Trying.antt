@@ -1,5 +1,5 @@
 -- What a step of the endpoint leaves, as a try of a form of step.
-use Rattle.std.proofs.Common.{◌≡◌, ℕ, Bool, true, false, true≢false, cond, ◌&&◌, List, [], ◌∷◌, ◌++◌, map, Option}
+use Rattle.std.proofs.Common.{◌≡◌, ℕ, Bool, true, false, true≢false, cond, ◌&&◌, ◌||◌, List, [], ◌∷◌, ◌++◌, map, Option}
 use Rattle.std.proofs.Common.{None, Some}
 use Rattle.std.proofs.Common.{refl, sym, ap, ◌∙◌, subst}
 use Rattle.std.specs.Prelude.{is_some, is_none, slice_get}
@@ -25,7 +25,7 @@ use Rattle.gas_endpoint.specs.EndpointState.{EndpointState, EndpointStands, ForI
 use Rattle.gas_endpoint.specs.Sends.{AreThatOf, NodeSends, slot_of as endpoint_slot}
 use Rattle.job_text.specs.declared.job.ScriptStep.{ScriptStep}
 use Rattle.node_runs.specs.Actions.{Form, Once, Again, Until, Twice, Looks, Several, Progress, calls_of, ended_by}
-use Rattle.node_runs.specs.Actions.{begins}
+use Rattle.node_runs.specs.Actions.{begins, moves}
 use Rattle.node_runs.specs.Actions.{progress_after, tried_form}
 use Rattle.node_runs.specs.Outgoing.{slot_of, StaysWell}
 use Rattle.node_runs.specs.declared.script_answer.ScriptAnswer.{ScriptAnswer}
@@ -34,8 +34,8 @@ use Rattle.node_runs.specs.Turn.{node_run, node_sends, events_of, first_answer}
 use Rattle.script_steps.specs.Tries.{EndpointJob, Happening, HasHappened, Happen, IsAtSameNode, Made}
 use Rattle.script_steps.specs.Tries.{made_happening, Makes}
 use Rattle.script_steps.specs.Tries.{FormTrial}
-use Rattle.script_steps.specs.Tries.{trial_calls, trial_events, trial_answer, trial_after, begun_by, WentSo}
-use Rattle.script_steps.specs.Tries.{trial_happening, TriesForm, as_form, left_by, as_tried, IsTriedSo, Tries}
+use Rattle.script_steps.specs.Tries.{trial_calls, trial_events, trial_answer, trial_after, begun_by, moved_by, WentSo}
+use Rattle.script_steps.specs.Tries.{trial_happening, Found, IsFar, TriesForm, as_form, left_by, as_tried, Tries}
 use Rattle.script_steps.specs.declared.trial.Trial.{Trial}
 use Rattle.script_steps.specs.declared.trial.Tried.{Tried}
 
@@ -179,8 +179,9 @@ pub tries_nothing : (meaning : Meaning) (endpoint : EndpointState) (trial : Form
     → tried.sent ≡ None
     → ForItsRecord endpoint (λ node. trial_calls trial node ≡ [])
     → ForItsRecord endpoint (λ node. tried.ended ≡ ended_by (trial.form node) trial.began node None)
+    → ForItsRecord endpoint (λ node. moved_by (trial.form node) trial.began tried.ended ≡ None)
     → tried.began ≡ None → TriesForm meaning endpoint trial tried endpoint
-tries_nothing meaning endpoint trial tried sent none ended began =
+tries_nothing meaning endpoint trial tried sent none ended still began =
     goes_so meaning endpoint endpoint trial tried
     (record { settings = refl; me_is = refl; table = refl })
     (λ node stands. subst (CallsOf meaning endpoint trial tried endpoint node) (sym (none node stands)) (
@@ -188,54 +189,80 @@ tries_nothing meaning endpoint trial tried sent none ended began =
       ap option_to_list sent,
       well_of endpoint node stands,
       ended node stands,
-      began ∙ sym (none_begun (begins (trial.form node) && is_none trial.began && is_none tried.ended)),
+      began ∙ sym (ap (λ (o : Option Answer).
+          cond {A = Option Answer} (begins (trial.form node) && is_none trial.began && is_none tried.ended) None o)
+          (still node stands)
+          ∙ none_begun (begins (trial.form node) && is_none trial.began && is_none tried.ended)),
     ))
 
 -- ---- the try of a step
 
 -- a form that begins something makes its first call
-first_call : (form : Form EndpointLocal) → begins form ≡ true
-    → (call : ThreadCall) × (slice_get (calls_of form None) 0 ≡ Some call)
-first_call (Once call) starts = (call, refl)
-first_call (Again waits call) starts = (call, refl)
-first_call (Until call ends) starts = absurd (true≢false (sym starts))
-first_call (Twice begin next waits says) starts = (begin, refl)
-first_call (Looks begin ready) starts = (begin, refl)
-first_call (Several calls says) starts = absurd (true≢false (sym starts))
+abbrev pub HasFirst : Form EndpointLocal → Type 0
+HasFirst form = begins form ≡ true → (call : ThreadCall) × (slice_get (calls_of form None) 0 ≡ Some call)
 
--- how a try went by whether it begins something, the answer with which its step began, whether and how it ended it, and
--- the answer of its call
-went_by : (step : ScriptStep) (rest : List ScriptStep) (starts : Bool) (began : Option Answer)
+-- how a try went by whether it begins something and changes the node's collectives, the answer with which its step began,
+-- whether and how it ended it, and the answer of its call
+went_by : (step : ScriptStep) (rest : List ScriptStep) (starts moved : Bool) (began : Option Answer)
     (ended : Option ScriptAnswer) (answer : Option Answer)
     → (starts ≡ true → began ≡ None → (said : Answer) × (answer ≡ Some said))
+    → (moved ≡ true → began ≡ None → ended ≡ None → starts ≡ true)
     → ◌≡◌ {A = FormTried (Progress ScriptStep)}
     (record {
       left = cond {A = Progress ScriptStep} (is_some ended) (record { left = rest; began = None })
           (cond {A = Progress ScriptStep} (starts && is_none began) (record { left = step ∷ rest; began = answer })
           (record { left = step ∷ rest; began = began }));
       ended = ended;
-      began = starts && is_none began && is_none ended;
+      began = (starts && is_none began || moved) && is_none ended;
     })
-    (let begun : Option Answer = cond {A = Option Answer} (starts && is_none began && is_none ended) answer None in
+    (let begun : Option Answer = cond {A = Option Answer} (starts && is_none began && is_none ended) answer
+    (cond {A = Option Answer} (moved && is_none ended) began None) in
     record {
       left = cond {A = Progress ScriptStep} (is_some ended) (record { left = rest; began = None })
           (record { left = step ∷ rest; began = option_or begun began });
       ended = ended;
       began = is_some begun;
     })
-went_by step rest true None None answer says =
+went_by step rest true moved None None answer says alone =
     let it = says refl refl in
     subst (λ (o : Option Answer). ◌≡◌ {A = FormTried (Progress ScriptStep)}
     (record { left = record { left = step ∷ rest; began = o }; ended = None; began = true })
     (record { left = record { left = step ∷ rest; began = option_or o None }; ended = None; began = is_some o }))
     (sym it.1) refl
-went_by step rest true None (Some end) answer says = refl
-went_by step rest true (Some first) None answer says = refl
-went_by step rest true (Some first) (Some end) answer says = refl
-went_by step rest false None None answer says = refl
-went_by step rest false None (Some end) answer says = refl
-went_by step rest false (Some first) None answer says = refl
-went_by step rest false (Some first) (Some end) answer says = refl
+went_by step rest true true None (Some end) answer says alone = refl
+went_by step rest true false None (Some end) answer says alone = refl
+went_by step rest true true (Some first) None answer says alone = refl
+went_by step rest true false (Some first) None answer says alone = refl
+went_by step rest true true (Some first) (Some end) answer says alone = refl
+went_by step rest true false (Some first) (Some end) answer says alone = refl
+went_by step rest false true None None answer says alone = absurd (true≢false (sym (alone refl refl refl)))
+went_by step rest false false None None answer says alone = refl
+went_by step rest false true None (Some end) answer says alone = refl
+went_by step rest false false None (Some end) answer says alone = refl
+went_by step rest false true (Some first) None answer says alone = refl
+went_by step rest false false (Some first) None answer says alone = refl
+went_by step rest false true (Some first) (Some end) answer says alone = refl
+went_by step rest false false (Some first) (Some end) answer says alone = refl
+
+moved_is : (form : Form EndpointLocal) (began : Option Answer) (ended : Option ScriptAnswer)
+    → moved_by form began ended ≡ cond {A = Option Answer} (moves form began && is_none ended) began None
+moved_is (Once call) began ended = refl
+moved_is (Again waits call) began ended = refl
+moved_is (Until call ends) began ended = refl
+moved_is (Twice begin next waits says) began ended = refl
+moved_is (Looks begin ready) began ended = refl
+moved_is (Several first later) began ended = refl
+
+-- a first try that changes the node's collectives, and doesn't end its step, begins it
+moves_alone : (form : Form EndpointLocal) (after : Node EndpointLocal) (answer : Option Answer)
+    → moves form None ≡ true → ended_by form None after answer ≡ None → begins form ≡ true
+moves_alone (Once call) after answer moved none = absurd (true≢false (sym moved))
+moves_alone (Again waits call) after answer moved none = absurd (true≢false (sym moved))
+moves_alone (Until call ends) after answer moved none = absurd (true≢false (sym moved))
+moves_alone (Twice begin next waits says) after answer moved none = absurd (true≢false (sym moved))
+moves_alone (Looks begin ready) after answer moved none = absurd (true≢false (sym moved))
+moves_alone (Several first later) after answer moved none =
+    ap (λ (o : Option ScriptAnswer). is_none o && is_some first.next) none ∙ moved
 
 -- so of what was told
 told_so : (form : Form EndpointLocal) (trial : Trial) (tried : Tried) (after : Node EndpointLocal)
@@ -249,7 +276,7 @@ told_so form trial tried after answer ended began says rest =
     record {
       left = progress_after form step rest trial.began end answer;
       ended = end;
-      began = begins form && is_none trial.began && is_none end;
+      began = (begins form && is_none trial.began || moves form trial.began) && is_none end;
     } in
     let as_told : (end : Option ScriptAnswer) (begun : Option Answer) → FormTried (Progress ScriptStep) = λ end begun.
     record {
@@ -258,32 +285,42 @@ told_so form trial tried after answer ended began says rest =
       ended = end;
       began = is_some begun;
     } in
+    let begun : Option Answer → Option Answer = λ moved.
+    cond {A = Option Answer} (begins form && is_none trial.began && is_none tried.ended) answer moved in
     ap by_end (sym ended)
-    ∙ (went_by step rest (begins form) trial.began tried.ended answer says
-    ∙ ap (as_told tried.ended) (sym began))
+    ∙ (went_by step rest (begins form) (moves form trial.began) trial.began tried.ended answer says
+    (λ moved none open_. moves_alone form after answer (ap (moves form) (sym none) ∙ moved)
+    (ap (λ (o : Option Answer). ended_by form o after answer) (sym none) ∙ (sym ended ∙ open_)))
+    ∙ ap (as_told tried.ended) (ap begun (sym (moved_is form trial.began tried.ended)) ∙ sym began))
 
-pub tries_step : (meaning : Meaning) (old new : EndpointState) (trial : Trial) (tried : Tried)
-    → TriesForm meaning old (as_form meaning old trial) tried new → Tries meaning old trial tried new
-tries_step meaning old new trial tried tries =
+pub tries_step : (meaning : Meaning) (old new : Found) (trial : Trial) (tried : Tried)
+    → ForItsRecord old.endpoint (λ node. HasFirst ((as_form meaning old trial).form node))
+    → TriesForm meaning old.endpoint (as_form meaning old trial) tried new.endpoint
+    → ForItsRecord old.endpoint (IsFar meaning old trial new.collectives) → Tries meaning old trial tried new
+tries_step meaning old new trial tried has_first tries far =
     record {
       happen = tries.happen;
       tried_so = λ node stands rest.
           let form = (as_form meaning old trial).form node in
           let went = tries.went node stands in
           told_so form trial tried
-          (trial_after (job_here meaning old) old.core.me (as_form meaning old trial) node)
-          (trial_answer (job_here meaning old) old.core.me (as_form meaning old trial) node) went.ended went.began
-          (λ starts none. answered node form (first_call form starts) none) rest;
+          (trial_after (job_here meaning old.endpoint) me (as_form meaning old trial) node)
+          (trial_answer (job_here meaning old.endpoint) me (as_form meaning old trial) node) went.ended went.began
+          (λ starts none. answered node form (has_first node stands starts) none) rest;
+      far = far;
     }
   where
+    me : ℕ
+    me = old.endpoint.core.me
+
     told_of : Node EndpointLocal → ThreadCall → Answer
     told_of node call =
-        told (node_answer (job_here meaning old) old.core.me node trial.time (node_event trial.thread call))
+        told (node_answer (job_here meaning old.endpoint) me node trial.time (node_event trial.thread call))
 
     answered : (node : Node EndpointLocal) (form : Form EndpointLocal)
         → (call : ThreadCall) × (slice_get (calls_of form None) 0 ≡ Some call) → trial.began ≡ None
         → (said : Answer)
-        × (first_answer (job_here meaning old) old.core.me trial.thread trial.time (calls_of form trial.began) node
+        × (first_answer (job_here meaning old.endpoint) me trial.thread trial.time (calls_of form trial.began) node
         ≡ Some said)
     answered node form call none = (
       told_of node call.0,

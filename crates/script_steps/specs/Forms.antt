@@ -1,6 +1,6 @@
 -- How each step of a script is tried, and where it ends.
 -- Origin: this project's profile; waiting is that of the blocking calls of GASNet 1.8.1.
-use Rattle.std.specs.Prelude.{◌≡◌, ℕ, ℤ, int_le, ◌==◌, if◌then◌else◌, Bool, true, false, not, List, [], map}
+use Rattle.std.specs.Prelude.{◌≡◌, ℕ, ℤ, int_le, ◌==◌, if◌then◌else◌, Bool, true, false, not, List, []}
 use Rattle.std.specs.Prelude.{Option, None, Some}
 use Rattle.std.specs.Option.{option_map}
 use Rattle.datagram_grammar.specs.Parameters.{Parameters}
@@ -37,10 +37,17 @@ use Rattle.job_text.specs.declared.job.WaitingStep.{WaitingStep}
 use Rattle.job_text.specs.declared.job.WaitingStep.TheVariants as waiting
 use Rattle.node_script.specs.Bodies.{operand_value}
 use Rattle.node_script.specs.ScheduledCalls.{meant_by}
+use Rattle.collective_area.specs.declared.shape.Shape.{Shape}
+use Rattle.collective_steps.specs.Parts.{end_part, first_part, later_part, start_part, step_part}
+-- for those who stand on steps of scripts
+pub use Rattle.collective_steps.specs.Parts.{calls_of_all, site_of}
+use Rattle.gas_collectives.specs.CollectivesState.{CollectivesState}
+use Rattle.gas_collectives.specs.declared.answers.StepAnswer.TheVariants as steps
+use Rattle.job_text.specs.declared.job.CollectiveText.{CollectiveText}
+use Rattle.job_text.specs.declared.job.CollectiveText.TheVariants as text
 use Rattle.gas_strided.specs.Beginning.{BeginCall, calls_made, vis_answer}
 use Rattle.gas_strided.specs.Plans.{PlanState}
-use Rattle.node_caller.specs.Sites.{Site, ThreadCall as CallerCall}
-use Rattle.node_runs.specs.Actions.{Form, Once, Again, Until, Twice, Looks, Several, Reading}
+use Rattle.node_runs.specs.Actions.{Form, Once, Again, Until, Twice, Looks, Several, Part, StepContext, Reading}
 use Rattle.node_runs.specs.Scripts.{ThreadCall, TryContext}
 use Rattle.node_runs.specs.declared.script_answer.ScriptAnswer.{ScriptAnswer}
 use Rattle.node_runs.specs.declared.script_answer.ScriptAnswer.TheVariants as said
@@ -140,19 +147,9 @@ put_of put = transfers.Put put.to put.remote put.local put.len
 
 -- ---- transfers of many pieces
 
--- in which job, at which node and when, as a caller has it
-abbrev pub site_of : TryContext → Site
-site_of at = record {
-  settings = at.settings;
-  table = at.table;
-  meaning = at.meaning;
-  node = at.me;
-  now = at.now;
-}
-
--- the calls of a thread
-abbrev pub calls_of_all : List CallerCall → List ThreadCall
-calls_of_all calls = map (λ (one : CallerCall). one.call) calls
+-- several calls in one try, which ends the step
+abbrev pub in_one_try : Part → Form EndpointLocal
+in_one_try part = Several part part
 
 -- the pieces of a plan from one on are begun in a region of the thread, whose handle goes into the register. The calls
 -- and the answer are those of that beginning, of the record that the try finds
@@ -160,7 +157,41 @@ abbrev pub plan_form : (plan : PlanState) → (from register : ℕ) → TryConte
 plan_form plan from register at node =
     let asked : BeginCall = record { plan = plan; thread = at.thread; from = from; register = register } in
     let answer = vis_answer (site_of at) node asked in
-    Several (calls_of_all (calls_made asked answer)) (said.Vis answer)
+    in_one_try (record {
+      calls = calls_of_all (calls_made asked answer);
+      ended = Some (said.Vis answer);
+      next = None;
+    })
+
+-- ---- collectives of the node
+
+-- a step of a node that has none
+abbrev pub nothing_part : Part
+nothing_part = record { calls = []; ended = Some (said.Step steps.Nothing); next = None }
+
+abbrev pub nothing_there : Form EndpointLocal
+nothing_there = in_one_try nothing_part
+
+-- one call of the collectives, of the record that the try finds
+abbrev pub call_part : CollectiveText → TryContext → Node EndpointLocal → CollectivesState → Part
+call_part (text.Start shape from) at node it = start_part at shape from node it
+call_part text.Step at node it = step_part at node it
+call_part (text.Try dest) at node it = end_part at dest node it
+
+abbrev pub collective_form : CollectiveText → StepContext → Node EndpointLocal → Form EndpointLocal
+collective_form call at node = elim at.collectives [
+  | None ↦ nothing_there
+  | Some it ↦ in_one_try (call_part call at.place node it)
+]
+
+-- a whole collective of the node: the start at each turn until it waits for no lock; then a step and a try to end at each
+-- turn until the phase ends
+abbrev pub whole_form : Shape → (from dest : ℕ) → StepContext → Node EndpointLocal → Form EndpointLocal
+whole_form shape from dest at node = elim at.collectives [
+  | None ↦ nothing_there
+  | Some it ↦ if it.me == at.place.me
+      then Several (first_part at.place shape from node it) (later_part at.place dest node it) else nothing_there
+]
 
 -- ---- steps
 
@@ -185,12 +216,20 @@ waiting_form cells (waiting.WaitImplicit which) =
     Again is_not_ready (on_transfers (SyncImplicit which))
 -- gasnet_barrier_wait
 waiting_form cells (waiting.BarrierWait id flags) = Again is_not_ready (Performs (OnBarrier (TryBarrier id flags)))
+-- a whole collective is read by how far the node's collectives are, too (`waiting_in`)
+waiting_form cells (waiting.Collective shape from dest) = nothing_there
+
+-- how such a step is tried in a context
+abbrev pub waiting_in : WaitingStep → StepContext → Node EndpointLocal → Form EndpointLocal
+waiting_in (waiting.Collective shape from dest) at node = whole_form shape from dest at node
+waiting_in step at node = waiting_form node.local.core.cells step
 
 -- how a step is tried, by the record of its node as the try begins: `cN` is read from the node's cells
 abbrev pub step_form : Reading EndpointLocal ScriptStep
 step_form (step.Call call) at node = call_form call (meant_by node.local.core.cells call)
-step_form (step.Vis vis) at node = plan_form vis.plan vis.words.from vis.words.register at node
-step_form (step.Waiting waiting) at node = waiting_form node.local.core.cells waiting
+step_form (step.Vis vis) at node = plan_form vis.plan vis.words.from vis.words.register at.place node
+step_form (step.Collective call) at node = collective_form call at node
+step_form (step.Waiting waiting) at node = waiting_in waiting at node
 
 -- ---- kinds of steps
 

@@ -16,7 +16,7 @@ use Rattle.script_steps.specs.Forms.{IsJobStep, step_form}
 abbrev pub StepsFit : Type 0
 StepsFit =
     (settings : Parameters) (own : OwnScripts ScriptStep)
-    → ((thread : ℕ) → AllByRecursion (IsJobStep settings) (own thread).left)
+    → ((thread : ℕ) → AllByRecursion (IsJobStep settings) (own.threads thread).left)
     → ActionsMay KeptFits CallFits step_form own
 
 -- a try that waits leaves the record of its node, and the scripts

@@ -15,7 +15,13 @@ use Rattle.endpoint_rules.specs.Sends.{sends}
 use Rattle.endpoint_rules.specs.declared.answer.Answer.{Answer}
 use Rattle.gas_endpoint.specs.EndpointState.{EndpointState, EndpointStands, ForItsRecord, job_here}
 use Rattle.job_text.specs.declared.job.ScriptStep.{ScriptStep}
-use Rattle.node_runs.specs.Actions.{Form, Progress, calls_of, ended_by, begins, tried_form, unless}
+use Rattle.collective_steps.specs.Tries.{AreOf}
+use Rattle.collective_steps.specs.declared.tries.PartTried.{PartTried}
+use Rattle.gas_collectives.specs.declared.answers.StepAnswer.TheVariants as steps
+use Rattle.node_runs.specs.declared.script_answer.ScriptAnswer.TheVariants as said
+use Rattle.gas_collectives.specs.CollectivesState.{CollectivesState}
+use Rattle.node_runs.specs.Actions.{Form, Several, Progress, StepContext, calls_of, collectives_after, ended_by, begins}
+use Rattle.node_runs.specs.Actions.{moves, tried_form, unless}
 use Rattle.node_runs.specs.Outgoing.{slot_of, StaysWell}
 use Rattle.node_runs.specs.declared.script_answer.ScriptAnswer.{ScriptAnswer}
 use Rattle.node_runs.specs.Scripts.{ThreadCall, Tried as FormTried, TryContext}
@@ -107,10 +113,18 @@ trial_answer job me trial node = first_answer job me trial.thread trial.now (tri
 abbrev pub trial_after : EndpointJob → (me : ℕ) → FormTrial → Node EndpointLocal → Node EndpointLocal
 trial_after job me trial node = node_run job me trial.now (trial_events trial node) node
 
--- the answer with which a try of this form began its step, where it began it and didn't end it
+-- the answer with which a step of this form began, where this try changed the node's collectives, and didn't end it
+abbrev pub moved_by : Form EndpointLocal → (began : Option Answer) → (ended : Option ScriptAnswer) → Option Answer
+moved_by (Several first later) began ended =
+    if moves (Several first later) began && is_none ended then began else None
+moved_by form began ended = None
+
+-- the answer with which a try of this form began its step, where it began it and didn't end it; or with which an earlier
+-- try began it, where this one changed the node's collectives
 abbrev pub begun_by : Form EndpointLocal
     → (began : Option Answer) → (ended : Option ScriptAnswer) → (answer : Option Answer) → Option Answer
-begun_by form began ended answer = if begins form && is_none began && is_none ended then answer else None
+begun_by form began ended answer =
+    if begins form && is_none began && is_none ended then answer else moved_by form began ended
 
 -- how the try went, of a record that it found
 pub record WentSo (job : EndpointJob) (me : ℕ) (trial : FormTrial) (tried : Tried) (node : Node EndpointLocal) : Type 0
@@ -159,10 +173,23 @@ context_here meaning endpoint thread now = record {
   now = now;
 }
 
+-- what a try finds: the endpoint of the node, and how far the node's collectives are
+pub record Found : Type 0 where
+  pub endpoint : EndpointState
+  pub collectives : Option CollectivesState
+
+-- the collectives are those of the endpoint's node
+abbrev pub AreThere : EndpointState → Option CollectivesState → Type 0
+AreThere endpoint None = Unit {0}
+AreThere endpoint (Some it) = AreOf endpoint.core it
+
+abbrev pub step_here : Meaning → Found → (thread now : ℕ) → StepContext
+step_here meaning found thread now =
+    record { place = context_here meaning found.endpoint thread now; collectives = found.collectives }
+
 -- the step, as it is read there
-abbrev pub as_form : Meaning → EndpointState → Trial → FormTrial
-as_form meaning endpoint trial =
-    read_as trial (step_form trial.step.now (context_here meaning endpoint trial.thread trial.time))
+abbrev pub as_form : Meaning → Found → Trial → FormTrial
+as_form meaning found trial = read_as trial (step_form trial.step.now (step_here meaning found trial.thread trial.time))
 
 -- what is left of the script whose step was tried, and behind which this is left
 abbrev pub left_by : Trial → Tried → (rest : List ScriptStep) → Progress ScriptStep
@@ -176,21 +203,50 @@ as_tried trial tried rest =
     record { left = left_by trial tried rest; ended = tried.ended; began = is_some tried.began }
 
 -- of a record that the try found: it went as the step's form says
-abbrev pub IsTriedSo : Meaning → EndpointState → Trial → Tried → Node EndpointLocal → Type 0
+abbrev pub IsTriedSo : Meaning → Found → Trial → Tried → Node EndpointLocal → Type 0
 IsTriedSo meaning old trial tried node =
-    let job = job_here meaning old in
+    let job = job_here meaning old.endpoint in
+    let me = old.endpoint.core.me in
     let form = as_form meaning old trial in
     (rest : List ScriptStep)
-    → tried_form (form.form node) trial.step.now rest trial.began
-    (trial_after job old.core.me form node) (trial_answer job old.core.me form node)
+    → tried_form (form.form node) trial.step.now rest trial.began (trial_after job me form node)
+    (trial_answer job me form node)
     ≡ as_tried trial tried rest
+
+-- how far the node's collectives are after the try, of a record that it found
+abbrev pub IsFar : Meaning → Found → Trial → (next : Option CollectivesState) → Node EndpointLocal → Type 0
+IsFar meaning old trial next node =
+    next ≡ collectives_after ((as_form meaning old trial).form node) trial.began old.collectives
 
 -- a step was tried: of every record for which the endpoint stood, the try made the calls that the step's form makes, in
 -- order, and went as the form says
-pub record Tries (meaning : Meaning) (old : EndpointState) (trial : Trial) (tried : Tried) (new : EndpointState)
-    : Type 0 where
-  pub happen : Happen meaning old (trial_happening (as_form meaning old trial) tried) new
-  pub tried_so : ForItsRecord old (IsTriedSo meaning old trial tried)
+pub record Tries (meaning : Meaning) (old : Found) (trial : Trial) (tried : Tried) (new : Found) : Type 0 where
+  pub happen : Happen meaning old.endpoint (trial_happening (as_form meaning old trial) tried) new.endpoint
+  pub tried_so : ForItsRecord old.endpoint (IsTriedSo meaning old trial tried)
+  pub far : ForItsRecord old.endpoint (IsFar meaning old trial new.collectives)
+
+-- ---- a step that runs collectives
+
+-- how a part of such a step is told, by the answer with which the step began
+abbrev pub of_part : PartTried → (began : Option Answer) → Tried
+of_part part began = record {
+  sent = part.sent;
+  ended = part.ended;
+  began = if part.moved && is_none part.ended then began else None;
+}
+
+-- a node without collectives has nothing to do
+abbrev pub no_collectives : Tried
+no_collectives = record { sent = None; ended = Some (said.Step steps.Nothing); began = None }
+
+-- a step that is read so was tried, and the collectives are as far as its form says
+pub record TriesFound (meaning : Meaning) (old : Found) (trial : Trial)
+    (form : StepContext → Node EndpointLocal → Form EndpointLocal) (tried : Tried) (new : Found) : Type 0 where
+  pub tries : TriesForm meaning old.endpoint (read_as trial (form (step_here meaning old trial.thread trial.time)))
+      tried new.endpoint
+  pub far : ForItsRecord old.endpoint (λ node.
+      new.collectives
+      ≡ collectives_after (form (step_here meaning old trial.thread trial.time) node) trial.began old.collectives)
 
 -- ---- the beginning of a plan's pieces
 

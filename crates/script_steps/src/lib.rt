@@ -20,6 +20,7 @@
 
 mod answers;
 mod calls;
+mod collectives;
 mod laws;
 mod making;
 mod many;

@@ -7,7 +7,8 @@ use Rattle.node_machine.specs.Cursors.{progress_of}
 use Rattle.node_machine.specs.Kept.{CanBeSaid}
 use Rattle.node_machine.specs.Turns.{TurnTaken, TakesTurn}
 use Rattle.node_machine.specs.declared.turn.Done.{Done}
-use Rattle.node_machine.proofs.Turning.{turn_goes}
+use Rattle.script_steps.specs.Tries.{Found}
+use Rattle.node_machine.proofs.Turning.{still_there, turn_goes}
 use Rattle.node_machine.proofs.turn.take_turn.Goals as goal
 
 pub try_next-tried-requires-clause-thread : goal.try_next-tried-requires-clause-thread
@@ -20,13 +21,23 @@ try_next-tried-requires-clause-said g c =
     subst (λ (settings : Parameters). CanBeSaid settings (progress_of c.args.cursor.now))
     (sym c.before_try-sent.ensures.happen.same.settings) c.requires.said
 
+pub try_next-tried-requires-clause-there : goal.try_next-tried-requires-clause-there
+try_next-tried-requires-clause-there g c =
+    still_there c.args.endpoint.now c.before_try-sent.new.endpoint c.args.collectives.now
+    c.before_try-sent.ensures.happen.same c.requires.there
+
 pub returns : goal.returns
 returns g c =
     let meaning = g.H.Handlers.meaning c.args.handlers.now in
+    let old : Found = record { endpoint = c.args.endpoint.now; collectives = c.args.collectives.now } in
+    let new : Found = record {
+      endpoint = c.try_next-tried.new.endpoint;
+      collectives = c.try_next-tried.new.collectives;
+    } in
     let taken : TurnTaken = record {
       thread = c.args.turn.thread;
       now = c.args.turn.now;
-      got = option_copied c.args.got;
+      got = option_copied c.args.turn.got;
     } in
     let done : Done = record {
       outgoing = record {
@@ -37,10 +48,14 @@ returns g c =
       ended = c.try_next-tried.result.ended;
       began = c.is_some.result;
     } in
-    subst (λ (p : Progress ScriptStep). TakesTurn meaning (c.args.endpoint.now, progress_of c.args.cursor.now) taken
-    done (c.try_next-tried.new.endpoint, p)) (sym c.go_on.ensures)
-    (turn_goes meaning c.args.endpoint.now c.before_try-sent.new.endpoint c.try_next-tried.new.endpoint taken
-    (progress_of c.args.cursor.now) c.args.turn.polls
-    (option_to_list c.before_try-sent.result.reply ++ option_to_list c.before_try-sent.result.tick)
-    c.try_next-tried.result done (g.met.H.Handlers.is_lawful c.args.handlers.now) c.before_try-sent.ensures.bytes
-    c.requires.polls c.before_try-sent.ensures.happen c.try_next-tried.ensures refl refl c.is_some.ensures)
+    record {
+      takes = subst (λ (p : Progress ScriptStep).
+          TakesTurn meaning (old, progress_of c.args.cursor.now) taken done (new, p)) (sym c.go_on.ensures)
+          (turn_goes meaning old c.before_try-sent.new.endpoint new taken (progress_of c.args.cursor.now)
+          c.args.turn.polls
+          (option_to_list c.before_try-sent.result.reply ++ option_to_list c.before_try-sent.result.tick)
+          c.try_next-tried.result done (g.met.H.Handlers.is_lawful c.args.handlers.now)
+          c.before_try-sent.ensures.bytes c.requires.polls c.before_try-sent.ensures.happen
+          c.try_next-tried.ensures.tries refl refl c.is_some.ensures);
+      there = c.try_next-tried.ensures.there;
+    }

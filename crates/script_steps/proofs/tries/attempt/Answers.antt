@@ -2,22 +2,18 @@
 use Rattle.std.proofs.Common.{ap, sym, subst, ◌∙◌}
 use Rattle.job_text.specs.declared.job.ScriptStep.{ScriptStep}
 use Rattle.job_text.specs.declared.job.ScriptStep.TheVariants as step
-use Rattle.script_steps.specs.Forms.{step_form}
-use Rattle.script_steps.specs.Tries.{TriesForm, context_here, read_as}
+use Rattle.script_steps.specs.Tries.{Found, Tries}
 use Rattle.script_steps.proofs.BegunPieces.{may_begin}
-use Rattle.script_steps.proofs.Trying.{tries_step}
+use Rattle.script_steps.proofs.Attempts.{call_attempted, found_attempted, kept_there, vis_attempted}
 use Rattle.script_steps.proofs.tries.attempt.Goals as goal
 
 pub returns-in-Call : goal.returns-in-Call
-returns-in-Call g c =
-    let meaning = g.H.Handlers.meaning c.args.handlers.now in
-    let at = context_here meaning c.args.endpoint.now c.args.trial.now.thread c.args.trial.now.time in
-    record {
-      tries = tries_step _ _ _ _ _
-          (subst (λ (one : ScriptStep). TriesForm meaning c.args.endpoint.now
-          (read_as c.args.trial.now (step_form one at)) c.try_call.result c.try_call.new.endpoint)
-          (sym c.in-Call.is) c.try_call.ensures);
-    }
+returns-in-Call g c = record {
+  tries = call_attempted (g.H.Handlers.meaning c.args.handlers.now) c.args.endpoint.now c.try_call.new.endpoint
+      c.args.collectives.now c.args.trial.now c.try_call.result _ c.in-Call.is c.try_call.ensures;
+  there = kept_there c.args.endpoint.now c.try_call.new.endpoint c.args.collectives.now
+      c.try_call.ensures.happen.same c.requires.there;
+}
 
 pub try_vis-requires-clause-from : goal.try_vis-requires-clause-from
 try_vis-requires-clause-from g c =
@@ -30,23 +26,24 @@ try_vis-requires-clause-settings g c =
     c.text.ensures).1
 
 pub returns-in-Vis : goal.returns-in-Vis
-returns-in-Vis g c =
-    let meaning = g.H.Handlers.meaning c.args.handlers.now in
-    let at = context_here meaning c.args.endpoint.now c.args.trial.now.thread c.args.trial.now.time in
-    record {
-      tries = tries_step _ _ _ _ _
-          (subst (λ (one : ScriptStep). TriesForm meaning c.args.endpoint.now
-          (read_as c.args.trial.now (step_form one at)) c.try_vis.result c.try_vis.new.endpoint)
-          (ap step.Vis c.text.ensures ∙ sym c.in-Vis.is) c.try_vis.ensures);
-    }
+returns-in-Vis g c = record {
+  tries = vis_attempted (g.H.Handlers.meaning c.args.handlers.now) c.args.endpoint.now c.try_vis.new.endpoint
+      c.args.collectives.now c.args.trial.now c.try_vis.result _ (ap step.Vis c.text.ensures ∙ sym c.in-Vis.is)
+      c.try_vis.ensures;
+  there = kept_there c.args.endpoint.now c.try_vis.new.endpoint c.args.collectives.now
+      c.try_vis.ensures.happen.same c.requires.there;
+}
+
+pub returns-in-Collective : goal.returns-in-Collective
+returns-in-Collective g c = record {
+  tries = found_attempted (g.H.Handlers.meaning c.args.handlers.now) _ _ c.args.trial.now c.try_collective.result _
+      c.in-Collective.is c.try_collective.ensures.tries;
+  there = c.try_collective.ensures.there;
+}
 
 pub returns-in-Waiting : goal.returns-in-Waiting
-returns-in-Waiting g c =
-    let meaning = g.H.Handlers.meaning c.args.handlers.now in
-    let at = context_here meaning c.args.endpoint.now c.args.trial.now.thread c.args.trial.now.time in
-    record {
-      tries = tries_step _ _ _ _ _
-          (subst (λ (one : ScriptStep). TriesForm meaning c.args.endpoint.now
-          (read_as c.args.trial.now (step_form one at)) c.try_waiting.result c.try_waiting.new.endpoint)
-          (sym c.in-Waiting.is) c.try_waiting.ensures);
-    }
+returns-in-Waiting g c = record {
+  tries = found_attempted (g.H.Handlers.meaning c.args.handlers.now) _ _ c.args.trial.now c.try_scripted.result _
+      c.in-Waiting.is c.try_scripted.ensures.tries;
+  there = c.try_scripted.ensures.there;
+}

@@ -1,0 +1,8 @@
+mod Resting
+mod Coming
+mod Going
+mod AtLast
+mod Quiet
+pub mod Parted
+mod Trying
+pub mod Fitting

@@ -1,0 +1,79 @@
+-- The tries of steps, each by its kind.
+use Rattle.std.proofs.Common.{◌≡◌, Bool, Option, None, Some, refl, sym, ap, ◌∙◌, subst}
+use Rattle.handler_rules.specs.Runs.{Meaning}
+use Rattle.node_record.specs.Record.{Node}
+use Rattle.endpoint_rules.specs.EndpointLocal.{EndpointLocal}
+use Rattle.endpoint_rules.specs.declared.answer.Answer.{Answer}
+use Rattle.gas_collectives.specs.CollectivesState.{CollectivesState}
+use Rattle.gas_endpoint.specs.EndpointState.{EndpointState, ForItsRecord}
+use Rattle.job_text.specs.declared.job.ScheduledCall.{ScheduledCall}
+use Rattle.job_text.specs.declared.job.ScriptStep.{ScriptStep}
+use Rattle.job_text.specs.declared.job.ScriptStep.TheVariants as step
+use Rattle.job_text.specs.declared.vis.VisText.{VisText}
+use Rattle.node_runs.specs.Actions.{Form, StepContext, collectives_after}
+use Rattle.node_runs.specs.Scripts.{ThreadCall}
+use Rattle.node_script.specs.ScheduledCalls.{meant_by}
+use Rattle.script_steps.specs.Forms.{call_form, plan_form, step_form, tried_while, waits_of}
+use Rattle.script_steps.specs.Tries.{AreThere, Found, IsAtSameNode, Tries, TriesForm, TriesFound, context_here, read_as}
+use Rattle.script_steps.specs.Tries.{step_here}
+use Rattle.script_steps.specs.declared.trial.Trial.{Trial}
+use Rattle.script_steps.specs.declared.trial.Tried.{Tried}
+use Rattle.script_steps.proofs.Firsts.{step_first}
+use Rattle.script_steps.proofs.Trying.{tries_step}
+
+-- the collectives are still those of the node
+pub kept_there : (old new : EndpointState) (collectives : Option CollectivesState) → IsAtSameNode old.core new.core
+    → AreThere old collectives → AreThere new collectives
+kept_there old new None same there = tt
+kept_there old new (Some it) same there = record {
+  settings = there.settings ∙ sym same.settings;
+  me_is = there.me_is ∙ sym same.me_is;
+}
+
+-- a step that is read so, and found so
+pub found_attempted : (meaning : Meaning) (old new : Found) (trial : Trial) (tried : Tried) (one : ScriptStep)
+    → trial.step.now ≡ one → TriesFound meaning old trial (step_form one) tried new → Tries meaning old trial tried new
+found_attempted meaning old new trial tried one is found =
+    tries_step meaning old new trial tried
+    (λ node stands. step_first trial.step.now (step_here meaning old trial.thread trial.time) node)
+    (subst (λ (s : ScriptStep). TriesForm meaning old.endpoint
+    (read_as trial (step_form s (step_here meaning old trial.thread trial.time))) tried new.endpoint) (sym is) found.tries)
+    (subst (λ (s : ScriptStep). ForItsRecord old.endpoint (λ node. new.collectives
+    ≡ collectives_after (step_form s (step_here meaning old trial.thread trial.time) node) trial.began old.collectives))
+    (sym is) found.far)
+
+-- a call that a schedule has, too
+while_far : (waits : Option (Answer → Bool)) (meant : ThreadCall) (began : Option Answer)
+    (now : Option CollectivesState)
+    → now ≡ collectives_after {Kept = EndpointLocal} (tried_while waits meant) began now
+while_far None meant began now = refl
+while_far (Some waits) meant began now = refl
+
+pub call_attempted : (meaning : Meaning) (old new : EndpointState) (collectives : Option CollectivesState)
+    (trial : Trial) (tried : Tried) (call : ScheduledCall) → trial.step.now ≡ step.Call call
+    → TriesForm meaning old (read_as trial (λ node. call_form call (meant_by node.local.core.cells call))) tried new
+    → Tries meaning (record { endpoint = old; collectives = collectives }) trial tried
+    (record { endpoint = new; collectives = collectives })
+call_attempted meaning old new collectives trial tried call is tries =
+    found_attempted meaning _ _ trial tried (step.Call call) is (record {
+      tries = tries;
+      far = λ node stands.
+          while_far (waits_of call) (meant_by node.local.core.cells call) trial.began collectives;
+    })
+
+plan_far : (began : Option Answer) (now : Option CollectivesState) (plan : _) (from register : _) (at : _)
+    (node : Node EndpointLocal) → now ≡ collectives_after (plan_form plan from register at node) began now
+plan_far None now plan from register at node = refl
+plan_far (Some first) now plan from register at node = refl
+
+pub vis_attempted : (meaning : Meaning) (old new : EndpointState) (collectives : Option CollectivesState)
+    (trial : Trial) (tried : Tried) (vis : VisText) → step.Vis vis ≡ trial.step.now
+    → TriesForm meaning old (read_as trial (plan_form vis.plan vis.words.from vis.words.register
+    (context_here meaning old trial.thread trial.time))) tried new
+    → Tries meaning (record { endpoint = old; collectives = collectives }) trial tried
+    (record { endpoint = new; collectives = collectives })
+vis_attempted meaning old new collectives trial tried vis is tries =
+    found_attempted meaning _ _ trial tried (step.Vis vis) (sym is) (record {
+      tries = tries;
+      far = λ node stands. plan_far trial.began collectives vis.plan vis.words.from vis.words.register _ node;
+    })
