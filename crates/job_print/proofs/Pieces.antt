@@ -4,8 +4,9 @@ use Rattle.std.proofs.Common.{append_assoc, append-nil, codes, decimal}
 use Rattle.std.specs.List.{flat_map}
 use Rattle.std.proofs.lemmas.List.{drop_more}
 use Rattle.std.proofs.lemmas.List.Concat.{flat_map-append}
-use Rattle.job_text.specs.JobText.{Line, handler_lines, head_lines, job_text, pair_line, schedule_lines, script_lines}
-use Rattle.job_text.specs.JobText.{atomics_lines, spell}
+use Rattle.job_text.specs.JobText.{Line, handler_lines, head_lines, job_text, lines_with_collect, pair_line}
+use Rattle.job_text.specs.JobText.{schedule_lines, script_lines}
+use Rattle.job_text.specs.JobText.{atomics_lines, collect_lines, spell}
 use Rattle.job_text.specs.declared.job.Job.{Job}
 use Rattle.gas_strided.specs.declared.shapes.Level.{Level}
 use Rattle.gas_strided.specs.declared.shapes.Way.{Way}
@@ -110,29 +111,36 @@ both_then : (front back : List Line) (rest : List ℕ)
 both_then front back rest =
     ap (λ (text : List ℕ). text ++ rest) (both front back) ∙ append_assoc (spell front) (spell back) rest
 
-six_parts : (head pairs atomics handlers scripts schedule : List Line)
-    → spell (((((head ++ pairs) ++ atomics) ++ handlers) ++ scripts) ++ (schedule ++ codes "done" ∷ []))
-    ≡ spell head ++ (spell pairs ++ (spell atomics ++ (spell handlers ++ (spell scripts
-    ++ (spell schedule ++ last_line)))))
-six_parts head pairs atomics handlers scripts schedule =
+head_parts : (head pairs atomics collect : List Line) (rest : List ℕ)
+    → spell (((head ++ pairs) ++ atomics) ++ collect) ++ rest
+    ≡ spell head ++ (spell pairs ++ (spell atomics ++ (spell collect ++ rest)))
+head_parts head pairs atomics collect rest =
+    both_then ((head ++ pairs) ++ atomics) collect rest
+    ∙ both_then (head ++ pairs) atomics (spell collect ++ rest)
+    ∙ both_then head pairs (spell atomics ++ (spell collect ++ rest))
+
+tail_parts : (front handlers scripts schedule : List Line)
+    → spell (((front ++ handlers) ++ scripts) ++ (schedule ++ codes "done" ∷ []))
+    ≡ spell front ++ (spell handlers ++ (spell scripts ++ (spell schedule ++ last_line)))
+tail_parts front handlers scripts schedule =
     let rest = spell (schedule ++ codes "done" ∷ []) in
-    both ((((head ++ pairs) ++ atomics) ++ handlers) ++ scripts) (schedule ++ codes "done" ∷ [])
-    ∙ both_then (((head ++ pairs) ++ atomics) ++ handlers) scripts rest
-    ∙ both_then ((head ++ pairs) ++ atomics) handlers (spell scripts ++ rest)
-    ∙ both_then (head ++ pairs) atomics (spell handlers ++ (spell scripts ++ rest))
-    ∙ both_then head pairs (spell atomics ++ (spell handlers ++ (spell scripts ++ rest)))
-    ∙ ap (λ (text : List ℕ). spell head ++ (spell pairs ++ (spell atomics ++ (spell handlers
-    ++ (spell scripts ++ text))))) (both schedule (codes "done" ∷ []))
+    both ((front ++ handlers) ++ scripts) (schedule ++ codes "done" ∷ [])
+    ∙ both_then (front ++ handlers) scripts rest
+    ∙ both_then front handlers (spell scripts ++ rest)
+    ∙ ap (λ (text : List ℕ). spell front ++ (spell handlers ++ (spell scripts ++ text)))
+    (both schedule (codes "done" ∷ []))
 
 -- the parts of a job's text
 pub text_parts : (job : Job) → job_text job
     ≡ spell (head_lines job) ++ (spell (map pair_line job.settings.pairs) ++ (spell (atomics_lines job.atomics)
-    ++ (spell (flat_map handler_lines job.handlers) ++ (spell (flat_map script_lines job.scripts)
-    ++ (spell (schedule_lines job.settings job.schedule) ++ last_line)))))
+    ++ (spell (collect_lines job.collect) ++ (spell (flat_map handler_lines job.handlers)
+    ++ (spell (flat_map script_lines job.scripts) ++ (spell (schedule_lines job.settings job.schedule) ++ last_line))))))
 text_parts job =
-    six_parts (head_lines job) (map pair_line job.settings.pairs) (atomics_lines job.atomics)
-    (flat_map handler_lines job.handlers) (flat_map script_lines job.scripts)
+    tail_parts (lines_with_collect job) (flat_map handler_lines job.handlers) (flat_map script_lines job.scripts)
     (schedule_lines job.settings job.schedule)
+    ∙ head_parts (head_lines job) (map pair_line job.settings.pairs) (atomics_lines job.atomics)
+    (collect_lines job.collect) (spell (flat_map handler_lines job.handlers)
+    ++ (spell (flat_map script_lines job.scripts) ++ (spell (schedule_lines job.settings job.schedule) ++ last_line)))
 
 -- ---- lines that begin transfers of many pieces
 

@@ -3,7 +3,7 @@ use Rattle.std.specs.Prelude.{ℕ, List, [], ◌∷◌, ◌++◌, codes, decimal
 use Rattle.std.specs.Fmt.{signed_decimal}
 use Rattle.std.specs.List.{flat_map}
 use Rattle.job_text.specs.Payloads.{bytes_word, payload_word}
-use Rattle.job_text.specs.Words.{implicit_word, kind_word, op_word, operand_word, role_word}
+use Rattle.job_text.specs.Words.{collective_word, implicit_word, kind_word, op_word, operand_word, role_word}
 use Rattle.gas_strided.specs.declared.shapes.Way.{Way}
 use Rattle.gas_strided.specs.declared.shapes.Way.TheVariants.{Put, Get}
 use Rattle.job_text.specs.Forms.{Operations, Spans, Strides, bundle_text}
@@ -25,6 +25,7 @@ word_bytes (word.Kind kind) = kind_word kind
 word_bytes (word.Role role) = role_word role
 word_bytes (word.Implicit which) = implicit_word which
 word_bytes (word.Operation op) = op_word op
+word_bytes (word.Collective kind) = collective_word kind
 word_bytes (word.Bytes bytes) = bytes_word bytes.now
 word_bytes (word.Payload payload) = payload_word payload.now
 

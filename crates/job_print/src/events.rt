@@ -6,12 +6,13 @@ ghost use Rattle.job_text.specs.Events.{event_text, timed_text};
 ghost use Rattle.job_text.specs.declared.job.ScheduledEvent.TheVariants as events;
 
 use crate::calls::write_call;
+use crate::collectives::write_collective;
 use crate::forms::write;
 use crate::numbers::write_number;
 use crate::vis::write_vis;
 use crate::words::Word;
 use gas_outside::{BufferedSink, Sink, Wrote};
-use job_text::{ScheduledCall, ScheduledEvent, TimedEvent, VisText};
+use job_text::{CollectiveText, ScheduledCall, ScheduledEvent, TimedEvent, VisText};
 
 /// Writes a call of a thread of a node.
 fn write_thread_call<K: Sink>(
@@ -53,6 +54,26 @@ fn write_thread_vis<K: Sink>(
     write_vis(vis, sink)
 }
 
+/// Writes a call of collectives of a thread of a node.
+fn write_thread_collective<K: Sink>(
+    node: u16,
+    thread: u16,
+    call: &CollectiveText,
+    sink: &mut BufferedSink<K>,
+) -> Wrote
+    ensures { (nodes threads : ℕ) → GathersAll (outbox K.taken K.faults sink.old)
+        (outbox K.taken K.faults sink.new)
+        (event_text nodes threads (events.Collective node thread call.now)) result }
+{
+    if let Wrote::Fault = write(b"call", &[Word::U16(node), Word::U16(thread)], sink) {
+        return Wrote::Fault;
+    }
+    if let Wrote::Fault = sink.write_all(b" ") {
+        return Wrote::Fault;
+    }
+    write_collective(call, sink)
+}
+
 /// Writes an event.
 fn write_event<K: Sink>(event: &ScheduledEvent, sink: &mut BufferedSink<K>) -> Wrote
     ensures { (nodes threads : ℕ) → GathersAll (outbox K.taken K.faults sink.old)
@@ -68,6 +89,9 @@ fn write_event<K: Sink>(event: &ScheduledEvent, sink: &mut BufferedSink<K>) -> W
             *thread,
             vis.text(),
             sink,
+        ),
+        ScheduledEvent::Collective { node, thread, call } => write_thread_collective(
+            *node, *thread, call, sink,
         ),
         ScheduledEvent::Request { from, to, number } => {
             write(b"request", &[U16(*from), U16(*to), U64(*number)], sink)

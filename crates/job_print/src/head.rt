@@ -1,8 +1,9 @@
-//! The head of a job: its settings, the sieve, the pairs with credits of their own, and the line of atomics.
+//! The head of a job: its settings, the sieve, the pairs with credits of their own, and the lines of atomics and of
+//! collectives.
 
 ghost use Rattle.std.specs.Prelude.{◌++◌, ◌∷◌, [], map};
 ghost use Rattle.gas_outside.specs.Buffered.{GathersAll, outbox};
-ghost use Rattle.job_text.specs.JobText.{atomics_lines};
+ghost use Rattle.job_text.specs.JobText.{atomics_lines, collect_lines};
 ghost use Rattle.job_text.specs.JobText.{all_settings, head_lines, pair_line, setting_line};
 ghost use Rattle.job_text.specs.JobText.{sieve_line, spell};
 ghost use Rattle.job_print.specs.Writing.{number_line};
@@ -11,7 +12,7 @@ use crate::forms::write;
 use crate::words::Word;
 use datagram_grammar::PairCredits;
 use gas_outside::{BufferedSink, Sink, Wrote};
-use job_text::{Job, SieveRule};
+use job_text::{CollectArea, Job, SieveRule};
 
 /// A line of a name and a number.
 #[derive(Clone, Copy)]
@@ -110,4 +111,22 @@ pub(crate) fn write_atomics<K: Sink>(atomics: bool, sink: &mut BufferedSink<K>) 
         return Wrote::Done;
     }
     sink.write_all(b"atomics\n")
+}
+
+/// Writes the line of collectives, where nodes run them.
+pub(crate) fn write_collect<K: Sink>(
+    area: Option<CollectArea>,
+    sink: &mut BufferedSink<K>,
+) -> Wrote
+    ensures { GathersAll (outbox K.taken K.faults sink.old) (outbox K.taken K.faults sink.new)
+        (spell (collect_lines area)) result }
+{
+    let Some(area) = area else {
+        return Wrote::Done;
+    };
+    let words = [Word::U64(area.base), Word::U64(area.room)];
+    if let Wrote::Fault = write(b"collect", &words, sink) {
+        return Wrote::Fault;
+    }
+    sink.write_all(b"\n")
 }

@@ -10,6 +10,7 @@
 
 mod actions;
 mod calls;
+mod collectives;
 mod events;
 mod forms;
 mod handlers;

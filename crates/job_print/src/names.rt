@@ -1,8 +1,9 @@
-//! The words of kinds of calls, of roles, of implicit operations and of those of remote atomics.
+//! The words of kinds of calls, of roles, of implicit operations, of those of remote atomics and of kinds of collectives.
 
 ghost use Rattle.std.specs.Prelude.{◌≡◌};
-ghost use Rattle.job_text.specs.Words.{implicit_word, kind_word, op_word, role_word};
+ghost use Rattle.job_text.specs.Words.{collective_word, implicit_word, kind_word, op_word, role_word};
 
+use collective_area::CollectiveKind;
 use gas_atomic::Op;
 use handler_rules::{CallKind, Role};
 use job_text::ImplicitKind;
@@ -60,5 +61,22 @@ pub(crate) fn op_word(op: Op) -> &'static [u8]
         Op::Xor => b"xor",
         Op::Min => b"min",
         Op::Max => b"max",
+    }
+}
+
+/// The word of a kind of collective.
+pub(crate) fn collective_word(kind: CollectiveKind) -> &'static [u8]
+    ensures { result.now ≡ collective_word kind }
+{
+    match kind {
+        CollectiveKind::Broadcast => b"broadcast",
+        CollectiveKind::Gather => b"gather",
+        CollectiveKind::AllGather => b"all-gather",
+        CollectiveKind::Sum => b"sum",
+        CollectiveKind::Min => b"min",
+        CollectiveKind::Max => b"max",
+        CollectiveKind::AllSum => b"all-sum",
+        CollectiveKind::AllMin => b"all-min",
+        CollectiveKind::AllMax => b"all-max",
     }
 }

@@ -4,7 +4,7 @@ ghost use Rattle.gas_outside.specs.Buffered.{GathersAll, outbox};
 ghost use Rattle.job_text.specs.JobText.{job_text};
 
 use crate::handlers::write_handlers;
-use crate::head::{write_atomics, write_head, write_pairs};
+use crate::head::{write_atomics, write_collect, write_head, write_pairs};
 use crate::schedules::write_schedule;
 use crate::scripts::write_scripts;
 use gas_outside::{BufferedSink, Sink, Wrote};
@@ -25,6 +25,9 @@ pub fn print_job<K: Sink>(job: &Job, sink: &mut BufferedSink<K>) -> Wrote
         return Wrote::Fault;
     }
     if let Wrote::Fault = write_atomics(job.atomics, sink) {
+        return Wrote::Fault;
+    }
+    if let Wrote::Fault = write_collect(job.collect, sink) {
         return Wrote::Fault;
     }
     if let Wrote::Fault = write_handlers(job.handlers.texts(), sink) {

@@ -2,12 +2,15 @@
 
 ghost use Rattle.gas_outside.specs.Buffered.{GathersAll, outbox};
 ghost use Rattle.job_text.specs.Forms.{entry_text, none_text};
+ghost use Rattle.job_text.specs.declared.job.WaitingStep.TheVariants as waits;
 ghost use Rattle.job_text.specs.Scripts.{step_text, transfer_entry, waiting_text};
 
 use crate::calls::{write_barrier, write_call};
+use crate::collectives::write_collective;
 use crate::forms::{write, write_list};
 use crate::vis::write_vis;
 use crate::words::Word;
+use collective_area::Shape;
 use gas_outside::{BufferedSink, Sink, Wrote};
 use job_text::{PutText, ScriptStep, TransferText, WaitingStep};
 
@@ -48,6 +51,22 @@ fn write_transfer<K: Sink>(transfer: &TransferText, sink: &mut BufferedSink<K>) 
     }
 }
 
+/// Writes a whole collective.
+fn write_coll<K: Sink>(shape: Shape, from: u64, dest: u64, sink: &mut BufferedSink<K>) -> Wrote
+    ensures { GathersAll (outbox K.taken K.faults sink.old) (outbox K.taken K.faults sink.new)
+        (waiting_text (waits.Collective shape from dest)) result }
+{
+    use Word::{Collective, U16, U64};
+    let words = [
+        Collective(shape.kind),
+        U16(shape.root),
+        U64(from),
+        U64(shape.len),
+        U64(dest),
+    ];
+    write(b"coll", &words, sink)
+}
+
 /// Writes a step that scripts alone have.
 fn write_waiting<K: Sink>(step: &WaitingStep, sink: &mut BufferedSink<K>) -> Wrote
     ensures { GathersAll (outbox K.taken K.faults sink.old) (outbox K.taken K.faults sink.new)
@@ -80,6 +99,7 @@ fn write_waiting<K: Sink>(step: &WaitingStep, sink: &mut BufferedSink<K>) -> Wro
         Step::UntilWord { offset, number } => {
             write(b"until-word", &[U64(*offset), U64(*number)], sink)
         }
+        Step::Collective { shape, from, dest } => write_coll(*shape, *from, *dest, sink),
     }
 }
 
@@ -91,6 +111,7 @@ pub(crate) fn write_step<K: Sink>(step: &ScriptStep, sink: &mut BufferedSink<K>)
     match step {
         ScriptStep::Call { call } => write_call(call, sink),
         ScriptStep::Vis { vis } => write_vis(vis.text(), sink),
+        ScriptStep::Collective { call } => write_collective(call, sink),
         ScriptStep::Waiting { step } => write_waiting(step, sink),
     }
 }

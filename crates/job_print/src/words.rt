@@ -4,9 +4,10 @@ ghost use Rattle.gas_outside.specs.Buffered.{GathersAll, outbox};
 ghost use Rattle.std.specs.List.{flat_map};
 ghost use Rattle.job_print.specs.Writing.{spaced_word, word_bytes};
 
-use crate::names::{implicit_word, kind_word, op_word, role_word};
+use crate::names::{collective_word, implicit_word, kind_word, op_word, role_word};
 use crate::numbers::{write_integer, write_number, write_operand};
 use crate::payloads::{write_bytes, write_payload};
+use collective_area::CollectiveKind;
 use gas_atomic::Op;
 use gas_outside::{BufferedSink, Sink, Wrote};
 use handler_rules::{CallKind, Role};
@@ -35,6 +36,8 @@ pub(crate) enum Word<'a> {
     Implicit(ImplicitKind),
     /// An operation of remote atomics.
     Operation(Op),
+    /// A kind of collective.
+    Collective(CollectiveKind),
     /// Bytes.
     Bytes(&'a Bytes),
     /// A payload.
@@ -57,6 +60,7 @@ pub(crate) fn write_word<K: Sink>(word: Word<'_>, sink: &mut BufferedSink<K>) ->
         Word::Role(role) => sink.write_all(role_word(role)),
         Word::Implicit(which) => sink.write_all(implicit_word(which)),
         Word::Operation(op) => sink.write_all(op_word(op)),
+        Word::Collective(kind) => sink.write_all(collective_word(kind)),
         Word::Bytes(bytes) => write_bytes(bytes.items(), sink),
         Word::Payload(payload) => write_payload(payload, sink),
     }

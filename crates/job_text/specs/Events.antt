@@ -21,6 +21,7 @@ form name shape make = record { name = name; shape = shape; make = make }
 abbrev pub event_of : (node thread : ℕ) → ThreadAction → ScheduledEvent
 event_of node thread (does.Call call) = event.Call node thread call
 event_of node thread (does.Vis vis) = event.Vis node thread vis
+event_of node thread (does.Collective call) = event.Collective node thread call
 
 abbrev pub call_row : (nodes threads : ℕ) → Row ThreadAction ScheduledEvent
 call_row nodes threads = form (codes "call") (Below nodes ▸ Below threads ▸ Inner) event_of
@@ -56,6 +57,8 @@ event_entry nodes threads (event.Call node thread call) =
     words (call_row nodes threads) (node, (thread, does.Call call))
 event_entry nodes threads (event.Vis node thread vis) =
     words (call_row nodes threads) (node, (thread, does.Vis vis))
+event_entry nodes threads (event.Collective node thread call) =
+    words (call_row nodes threads) (node, (thread, does.Collective call))
 event_entry nodes threads (event.Request from to number) = words (request_row nodes) (from, (to, (number, tt)))
 event_entry nodes threads (event.Reply from to number) = words (reply_row nodes) (from, (to, (number, tt)))
 event_entry nodes threads (event.Tick node) = words (tick_row nodes) (node, tt)

@@ -10,7 +10,7 @@ use Rattle.std.specs.Str.{bytes_eq}
 use Rattle.job_text.specs.Lines.{Word, ◌>>=◌, front, back, spaced}
 use Rattle.job_text.specs.Words.{integer_of, integer_read, number_in, operand_of, operand_word, IsOperand}
 use Rattle.job_text.specs.Words.{kind_of, kind_word, IsNamed, role_of, role_word}
-use Rattle.job_text.specs.Words.{implicit_of, implicit_word, op_of, op_word}
+use Rattle.job_text.specs.Words.{implicit_of, implicit_word, op_of, op_word, collective_of, collective_word}
 use Rattle.job_text.specs.Payloads.{payload_of, body_payload_of, payload_word, IsPayload, IsBodyPayload, bytes_of}
 use Rattle.job_text.specs.Payloads.{bytes_word, AreBytes}
 use Rattle.job_text.specs.declared.job.ImplicitKind.{ImplicitKind}
@@ -19,6 +19,7 @@ use Rattle.job_text.specs.declared.job.Operand.TheVariants as operand
 use Rattle.job_text.specs.declared.job.Payload.{Payload as PayloadValue}
 use Rattle.job_text.specs.declared.operands.NumberPlace.{NumberPlace}
 use Rattle.job_text.specs.declared.operands.NumberPlace.TheVariants.{Schedule, Body}
+use Rattle.collective_area.specs.declared.shape.CollectiveKind.{CollectiveKind}
 use Rattle.gas_atomic.specs.declared.word.Op.{Op}
 use Rattle.gas_atomic.specs.declared.word.WordOp.{WordOp}
 use Rattle.gas_strided.specs.declared.shapes.Level.{Level}
@@ -39,6 +40,7 @@ pub data Part : Type 0 where
   Integer : Part  -- a number of 32 bits, itself
   Implicit : Part  -- implicit operations
   Operation : Part  -- an operation of remote atomics
+  Collective : Part  -- a kind of collective
 
 -- a number of a schedule or a script, and one of a handler's body
 abbrev pub Value : Part
@@ -59,6 +61,7 @@ Meaning BodyPayload = PayloadValue
 Meaning Integer = ℤ
 Meaning Implicit = ImplicitKind
 Meaning Operation = Op
+Meaning Collective = CollectiveKind
 
 -- the word that says it
 abbrev pub word_text : (p : Part) → Meaning p → Word
@@ -72,6 +75,7 @@ word_text BodyPayload said = payload_word said
 word_text Integer n = signed_decimal n
 word_text Implicit kind = implicit_word kind
 word_text Operation op = op_word op
+word_text Collective kind = collective_word kind
 
 -- what can be said so
 abbrev pub IsSaid : (p : Part) → Meaning p → Type 0
@@ -85,6 +89,7 @@ IsSaid BodyPayload said = IsBodyPayload said
 IsSaid Integer n = FitsSigned w32 n
 IsSaid Implicit kind = Unit {0}
 IsSaid Operation op = Unit {0}
+IsSaid Collective kind = Unit {0}
 
 -- what a word says
 abbrev pub word_says : (p : Part) → Word → Option (Meaning p)
@@ -98,6 +103,7 @@ word_says BodyPayload word = body_payload_of word
 word_says Integer word = integer_of word
 word_says Implicit word = implicit_of word
 word_says Operation word = op_of word
+word_says Collective word = collective_of word
 
 -- what the first word says, and the bytes after it
 unfoldable pub word_at : (p : Part) → List ℕ → Option (Meaning p × List ℕ)

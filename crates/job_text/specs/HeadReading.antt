@@ -107,6 +107,7 @@ head_at bytes = do
       patience = patience.0;
       sieve = rule.0;
       atomics = false;
+      collect = None;
       handlers = [];
       scripts = [];
       schedule = None;

@@ -11,7 +11,8 @@ use Rattle.job_text.specs.Reasons.{reason}
 use Rattle.job_text.specs.Places.{Setting, Version, Nodes, Credits, Threads, Segment, Last, Resend, Patience}
 use Rattle.job_text.specs.Scopes.{scope_of}
 use Rattle.job_text.specs.declared.scope.Scope.{Scope}
-use Rattle.job_text.specs.Places.{AtAtomics}
+use Rattle.job_text.specs.Places.{AtAtomics, AtCollect, HandlerItem, CollectItem, AtomicsItem, PairItem}
+use Rattle.collective_area.specs.Served.{collective_handler}
 use Rattle.job_text.specs.Places.{Place, AtSetting, AtSieve, AtPairs, AtHandlers, AtBody, AtScripts, AtSteps}
 use Rattle.job_text.specs.Places.{AtSchedule, AtDone, Over, NamedOr, Named, Other, Item, item_at, item_form}
 use Rattle.job_text.specs.Places as places
@@ -21,6 +22,7 @@ use Rattle.job_text.specs.PlanPieces.{scripts_pieces}
 use Rattle.job_text.specs.declared.fault.JobWhy.{JobWhy}
 use Rattle.job_text.specs.declared.fault.JobWhy.TheVariants.{Size, Early, Entry, Count, After}
 use Rattle.job_text.specs.declared.job.Action.{Action}
+use Rattle.job_text.specs.declared.job.CollectArea.{CollectArea}
 use Rattle.job_text.specs.declared.job.HandlerText.{HandlerText}
 use Rattle.job_text.specs.declared.job.Head.{Head}
 use Rattle.job_text.specs.declared.job.Job.{Job}
@@ -58,6 +60,7 @@ least_job = record {
   patience = 1;
   sieve = record { lose = 0; repeat = 0; swap = 0 };
   atomics = false;
+  collect = None;
   handlers = [];
   scripts = [];
   schedule = None;
@@ -70,6 +73,7 @@ job_of_head head = record {
   patience = head.patience;
   sieve = head.sieve;
   atomics = head.atomics;
+  collect = head.collect;
   handlers = [];
   scripts = [];
   schedule = None;
@@ -112,6 +116,10 @@ with_own pair job = record job { settings = with_pair job.settings pair }
 -- the line of atomics
 abbrev pub with_atomics : Job → Job
 with_atomics job = record job { atomics = true }
+
+-- the line of collectives
+abbrev pub with_collect : CollectArea → Job → Job
+with_collect area job = record job { collect = Some area }
 
 -- an action
 abbrev pub with_action : Action → HandlerText → HandlerText
@@ -156,13 +164,21 @@ abbrev pub has_index : List HandlerText → ℕ → Bool
 has_index handlers index = not (index == 0) && list_any (λ other. other == index) (map
     (λ handler. handler.index) handlers)
 
--- an index that the handlers of batches have
-abbrev pub is_reserved : (atomics : Bool) → (index : ℕ) → Bool
-is_reserved atomics index = atomics && ((index == batch_handler) || (index == block_handler))
+-- an index that the handlers of batches have, or that of collectives
+abbrev pub is_reserved : Scope → (index : ℕ) → Bool
+is_reserved scope index =
+    (scope.atomics && ((index == batch_handler) || (index == block_handler)))
+    || (scope.collect && (index == collective_handler))
 
--- how many handlers a job may have beside those of batches
-abbrev pub most_handlers : (atomics : Bool) → ℕ
-most_handlers atomics = if atomics then 126 else 128
+-- how many handlers a job may have beside those of batches and that of collectives, where it has these
+abbrev pub most_beside : (atomics collect : Bool) → ℕ
+most_beside true true = 125
+most_beside true false = 126
+most_beside false true = 127
+most_beside false false = 128
+
+abbrev pub most_handlers : Scope → ℕ
+most_handlers scope = most_beside scope.atomics scope.collect
 
 -- whether a thread of a node has a script
 abbrev pub has_thread : List NodeScript → (node thread : ℕ) → Bool
@@ -214,10 +230,10 @@ abbrev pub is_full_script : (pieces steps : ℕ) → ScriptStep → Bool
 is_full_script pieces steps step = nat_le 4096 steps || nat_lt most_pieces (pieces + step_pieces step)
 
 -- why a handler with this index may not stand behind these
-abbrev pub handler_why : (atomics : Bool) → List HandlerText → (index : ℕ) → Option JobWhy
-handler_why atomics handlers index =
-    if has_index handlers index || is_reserved atomics index then Some Entry
-    else (if nat_le (most_handlers atomics) (length handlers) then Some Count else None)
+abbrev pub handler_why : Scope → List HandlerText → (index : ℕ) → Option JobWhy
+handler_why scope handlers index =
+    if has_index handlers index || is_reserved scope index then Some Entry
+    else (if nat_le (most_handlers scope) (length handlers) then Some Count else None)
 
 -- why a pair may not
 abbrev pub pair_why : List PairCredits → PairCredits → Option JobWhy
@@ -277,19 +293,26 @@ abbrev pub opened : Job → Section → Result State JobWhy
 opened job section = unless (section_why job.scripts section) (behind_section job section)
 
 -- behind the first line of a handler, or such a line
-abbrev pub headed : Job → NamedOr HandlerHeader Section → Result State JobWhy
+abbrev pub headed : Job → HandlerItem → Result State JobWhy
 headed job (Named header) =
-    unless (handler_why job.atomics job.handlers header.index) (record { place = AtBody (begun header); job = job })
+    unless (handler_why (scope_of job) job.handlers header.index) (record {
+      place = AtBody (begun header);
+      job = job;
+    })
 headed job (Other section) = opened job section
 
+-- behind the line of collectives, or one of these
+abbrev pub collected : Job → CollectItem → Result State JobWhy
+collected job (Named area) = Ok (record { place = AtHandlers; job = with_collect area job })
+collected job (Other item) = headed job item
+
 -- behind the line of atomics, or one of these
-abbrev pub served : Job → NamedOr (Unit {0}) (NamedOr HandlerHeader Section) → Result State JobWhy
-served job (Named line) = Ok (record { place = AtHandlers; job = with_atomics job })
-served job (Other item) = headed job item
+abbrev pub served : Job → AtomicsItem → Result State JobWhy
+served job (Named line) = Ok (record { place = AtCollect; job = with_atomics job })
+served job (Other item) = collected job item
 
 -- behind a pair, or one of these
-abbrev pub paired : Job → NamedOr PairCredits (NamedOr (Unit {0}) (NamedOr HandlerHeader Section))
-    → Result State JobWhy
+abbrev pub paired : Job → PairItem → Result State JobWhy
 paired job (Named pair) = unless (pair_why job.settings.pairs pair)
     (record { place = AtPairs; job = with_own pair job })
 paired job (Other item) = served job item
@@ -323,6 +346,7 @@ next (AtSetting setting) job number = Ok (record {
 next AtSieve job rule = Ok (record { place = AtPairs; job = record job { sieve = rule } })
 next AtPairs job item = paired job item
 next AtAtomics job item = served job item
+next AtCollect job item = collected job item
 next AtHandlers job item = headed job item
 next (AtBody handler) job item = acted handler job item
 next AtScripts job section = opened job section

@@ -10,12 +10,15 @@ use Rattle.job_text.specs.Events.{timed_text, IsTimed}
 use Rattle.job_text.specs.Scripts.{step_text, IsStep}
 use Rattle.job_text.specs.Places.{Setting, Version, Nodes, Credits, Threads, Segment, Last, Resend, Patience}
 use Rattle.job_text.specs.Places as places
-use Rattle.job_text.specs.Places.{setting_entry, sieve_entry, pair_text, atomics_text, header_text, section_text}
+use Rattle.job_text.specs.Places.{setting_entry, sieve_entry, pair_text, atomics_text, collect_text, header_text}
+use Rattle.job_text.specs.Places.{section_text}
+use Rattle.job_text.specs.CollectAreas.{IsCollectOrNone}
 use Rattle.job_text.specs.Locks.{are_listed}
 use Rattle.job_text.specs.Scopes.{scope_of}
 use Rattle.job_text.specs.declared.scope.Scope.{Scope}
 use Rattle.job_text.specs.JobReading.{has_thread, total_rounds, limit, is_reserved, lines_of, most_handlers}
 use Rattle.job_text.specs.PlanPieces.{most_pieces, schedule_pieces, scripts_pieces}
+use Rattle.job_text.specs.declared.job.CollectArea.{CollectArea}
 use Rattle.job_text.specs.declared.job.HandlerText.{HandlerText}
 use Rattle.job_text.specs.declared.job.Job.{Job}
 use Rattle.job_text.specs.declared.job.NodeScript.{NodeScript}
@@ -61,6 +64,11 @@ pair_line pair = pair_text pair
 abbrev pub atomics_lines : Bool → List Line
 atomics_lines atomics = if atomics then atomics_text tt ∷ [] else []
 
+-- the line of collectives, where the nodes run them
+abbrev pub collect_lines : Option CollectArea → List Line
+collect_lines None = []
+collect_lines (Some area) = collect_text area ∷ []
+
 abbrev pub header_line : HandlerText → Line
 header_line handler =
     header_text (record { index = handler.index; role = handler.role; locks = handler.locks })
@@ -85,7 +93,8 @@ abbrev pub schedule_lines : Parameters → Option (List TimedEvent) → List Lin
 schedule_lines settings None = []
 schedule_lines settings (Some events) = codes "schedule" ∷ (timed_lines settings events ++ codes "end" ∷ [])
 
--- the lines before the pairs, before that of atomics, before the handlers, before the scripts, and before the schedule
+-- the lines before the pairs, before that of atomics, before that of collectives, before the handlers, before the
+-- scripts, and before the schedule
 abbrev pub head_lines : Job → List Line
 head_lines job = map (setting_line job) all_settings ++ sieve_line job.sieve ∷ []
 
@@ -95,8 +104,11 @@ lines_with_pairs job = head_lines job ++ map pair_line job.settings.pairs
 abbrev pub lines_with_atomics : Job → List Line
 lines_with_atomics job = lines_with_pairs job ++ atomics_lines job.atomics
 
+abbrev pub lines_with_collect : Job → List Line
+lines_with_collect job = lines_with_atomics job ++ collect_lines job.collect
+
 abbrev pub lines_with_handlers : Job → List Line
-lines_with_handlers job = lines_with_atomics job ++ flat_map handler_lines job.handlers
+lines_with_handlers job = lines_with_collect job ++ flat_map handler_lines job.handlers
 
 abbrev pub lines_with_scripts : Job → List Line
 lines_with_scripts job = lines_with_handlers job ++ flat_map script_lines job.scripts
@@ -120,9 +132,9 @@ AreApart handlers =
     (k l : ℕ) (one other : HandlerText) → slice_get handlers k ≡ Some one → slice_get handlers l ≡ Some other
     → one.index ≢ 0 → one.index ≡ other.index → k ≡ l
 
--- none has an index that the handlers of batches have
-abbrev pub AreUnreserved : (atomics : Bool) → List HandlerText → Type 0
-AreUnreserved atomics handlers = AllByRecursion (λ handler. is_reserved atomics handler.index ≡ false) handlers
+-- none has an index that the handlers of batches have, or that of collectives
+abbrev pub AreUnreserved : Scope → List HandlerText → Type 0
+AreUnreserved scope handlers = AllByRecursion (λ handler. is_reserved scope handler.index ≡ false) handlers
 
 -- a script of a thread that is there, with at most 4,096 steps
 pub record IsNodeScript (scope : Scope) (script : NodeScript) : Type 0 where
@@ -174,10 +186,11 @@ pub record IsJob (job : Job) : Type 0 where
   pub patience : job.patience ≤ 1000000
   pub sieve : IsSieve job.sieve
   pub atomics : job.atomics ≡ true → job.settings.version ≡ 2
-  pub few_handlers : length job.handlers ≤ most_handlers job.atomics
+  pub collect : IsCollectOrNone job.settings job.collect
+  pub few_handlers : length job.handlers ≤ most_handlers (scope_of job)
   pub handlers : AllByRecursion IsHandler job.handlers
   pub apart : AreApart job.handlers
-  pub unreserved : AreUnreserved job.atomics job.handlers
+  pub unreserved : AreUnreserved (scope_of job) job.handlers
   pub scripts : AllByRecursion (IsNodeScript (scope_of job)) job.scripts
   pub threads : AreThreads job.scripts
   pub schedule : IsScheduleOrNone (scope_of job) job.schedule

@@ -4,10 +4,12 @@ pub mod Payloads
 pub mod Locks
 pub mod Batches
 pub mod Scopes
+pub mod CollectAreas
 pub mod Forms
 pub mod Reasons
 pub mod Calls
 pub mod VisLines
+pub mod CollectiveLines
 pub mod ThreadActions
 pub mod Events
 pub mod Bodies

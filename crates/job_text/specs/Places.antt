@@ -6,7 +6,8 @@ use Rattle.datagram_grammar.specs.Parameters.{Parameters, credits_in_all}
 use Rattle.datagram_grammar.specs.declared.pairs.PairCredits.{PairCredits}
 use Rattle.job_text.specs.Lines.{Word, ◌>>=◌, front, back}
 use Rattle.job_text.specs.Forms.{Number, Role, Shape, End, ◌▸◌, Any, Maker, Row, Entry}
-use Rattle.job_text.specs.Forms.{table_at, entry_text, IsOf, none_at, none_text, none_fits, U16, U8}
+use Rattle.job_text.specs.Forms.{table_at, entry_text, IsOf, none_at, none_text, none_fits, U64, U16, U8}
+use Rattle.job_text.specs.CollectAreas.{area_of, is_area}
 use Rattle.job_text.specs.Locks.{are_listed}
 use Rattle.job_text.specs.Reasons.{table_form, words_left}
 use Rattle.job_text.specs.Bodies.{action_at, action_form, action_text, IsAction}
@@ -15,6 +16,7 @@ use Rattle.job_text.specs.Scripts.{step_at, step_form, step_text, IsStep}
 use Rattle.job_text.specs.Scopes.{is_second}
 use Rattle.job_text.specs.declared.scope.Scope.{Scope}
 use Rattle.job_text.specs.declared.job.Action.{Action}
+use Rattle.job_text.specs.declared.job.CollectArea.{CollectArea}
 use Rattle.job_text.specs.declared.job.HandlerText.{HandlerText}
 use Rattle.job_text.specs.declared.job.NodeScript.{NodeScript}
 use Rattle.job_text.specs.declared.job.ScriptStep.{ScriptStep}
@@ -44,6 +46,7 @@ pub data Place : Type 0 where
   AtSieve : Place
   AtPairs : Place  -- a pair, or what may stand instead
   AtAtomics : Place  -- the line of atomics, or what may stand instead
+  AtCollect : Place  -- the line of collectives, or what may stand instead
   AtHandlers : Place  -- a handler, or what may stand instead
   AtBody : HandlerText → Place  -- an action of this handler, whose former actions it has, or its end
   AtScripts : Place  -- a script, the schedule, or the end of the text
@@ -57,13 +60,27 @@ pub data NamedOr (A B : Type 0) : Type 0 where
   Named : A → NamedOr A B
   Other : B → NamedOr A B
 
+-- what begins a handler or another part; that or the line of collectives; that or the line of atomics; that or a pair
+abbrev pub HandlerItem : Type 0
+HandlerItem = NamedOr HandlerHeader Section
+
+abbrev pub CollectItem : Type 0
+CollectItem = NamedOr CollectArea HandlerItem
+
+abbrev pub AtomicsItem : Type 0
+AtomicsItem = NamedOr (Unit {0}) CollectItem
+
+abbrev pub PairItem : Type 0
+PairItem = NamedOr PairCredits AtomicsItem
+
 -- what a line there says: one of several where it may be, and none for the line `end`
 abbrev pub Item : Place → Type 0
 Item (AtSetting setting) = ℕ
 Item AtSieve = SieveRule
-Item AtPairs = NamedOr PairCredits (NamedOr (Unit {0}) (NamedOr HandlerHeader Section))
-Item AtAtomics = NamedOr (Unit {0}) (NamedOr HandlerHeader Section)
-Item AtHandlers = NamedOr HandlerHeader Section
+Item AtPairs = PairItem
+Item AtAtomics = AtomicsItem
+Item AtCollect = CollectItem
+Item AtHandlers = HandlerItem
 Item (AtBody handler) = Option Action
 Item AtScripts = Section
 Item (AtSteps script) = Option ScriptStep
@@ -170,6 +187,27 @@ atomics_fit scope line = is_second scope
 -- what reads the line of atomics
 unfoldable pub atomics_at : Scope → List ℕ → Option (Unit {0} × List ℕ)
 atomics_at scope bytes = table_at none_at (atomics_row ∷ []) (atomics_fit scope) bytes
+
+-- ---- collectives
+
+-- where the area begins, and the room of a part
+abbrev pub collect_row : Row ⊥ CollectArea
+collect_row = record {
+  name = codes "collect";
+  shape = U64 ▸ U64 ▸ End;
+  make = λ base room. record { base = base; room = room };
+}
+
+abbrev pub collect_entry : CollectArea → Entry ⊥ CollectArea
+collect_entry area = record { row = collect_row; values = (area.base, (area.room, tt)) }
+
+-- nodes run collectives where the datagrams have the second version, and the segments have the area
+abbrev pub collect_fits : Scope → CollectArea → Bool
+collect_fits scope area = is_second scope && is_area scope.settings.segment (area_of scope.settings.nodes area)
+
+-- what reads the line of collectives
+unfoldable pub collect_at : Scope → List ℕ → Option (CollectArea × List ℕ)
+collect_at scope bytes = table_at none_at (collect_row ∷ []) (collect_fits scope) bytes
 
 -- ---- handlers
 
@@ -287,6 +325,12 @@ atomics_text line = entry_text none_text (atomics_entry line)
 abbrev pub IsAtomicsLine : Scope → Unit {0} → Type 0
 IsAtomicsLine scope line = IsOf none_fits atomics_entry (atomics_fit scope) line
 
+abbrev pub collect_text : CollectArea → List ℕ
+collect_text area = entry_text none_text (collect_entry area)
+
+abbrev pub IsCollectLine : Scope → CollectArea → Type 0
+IsCollectLine scope area = IsOf none_fits collect_entry (collect_fits scope) area
+
 abbrev pub IsHeader : HandlerHeader → Type 0
 IsHeader header = IsOf none_fits header_entry header_fits header
 
@@ -294,34 +338,48 @@ abbrev pub IsSection : (nodes threads : ℕ) → Section → Type 0
 IsSection nodes threads section = IsOf none_fits section_entry (section_fits nodes threads) section
 
 -- a handler, or what begins another part
-abbrev pub header_or_section_at : Parameters → List ℕ → Option (NamedOr HandlerHeader Section × List ℕ)
+abbrev pub header_or_section_at : Parameters → List ℕ → Option (HandlerItem × List ℕ)
 header_or_section_at settings bytes =
     named_or (codes "handler") header_at (section_at settings.nodes settings.threads) bytes
 
 abbrev pub header_or_section_form : List ℕ → Bool
 header_or_section_form bytes = named_or_form (codes "handler") (λ n. nat_le 2 n) section_form bytes
 
-abbrev pub header_or_section_text : NamedOr HandlerHeader Section → List ℕ
+abbrev pub header_or_section_text : HandlerItem → List ℕ
 header_or_section_text item = named_or_text header_text section_text item
 
-abbrev pub IsHeaderOrSection : Parameters → NamedOr HandlerHeader Section → Type 0
+abbrev pub IsHeaderOrSection : Parameters → HandlerItem → Type 0
 IsHeaderOrSection settings item = named_or_fits IsHeader (IsSection settings.nodes settings.threads) item
 
+-- the line of collectives, or one of these
+abbrev pub collect_or_later_at : Scope → List ℕ → Option (CollectItem × List ℕ)
+collect_or_later_at scope bytes =
+    named_or (codes "collect") (collect_at scope) (header_or_section_at scope.settings) bytes
+
+abbrev pub collect_or_later_form : Scope → List ℕ → Bool
+collect_or_later_form scope bytes =
+    named_or_form (codes "collect") (λ n. is_second scope && (n == 2)) header_or_section_form bytes
+
+abbrev pub collect_or_later_text : CollectItem → List ℕ
+collect_or_later_text item = named_or_text collect_text header_or_section_text item
+
+abbrev pub IsCollectOrLater : Scope → CollectItem → Type 0
+IsCollectOrLater scope item = named_or_fits (IsCollectLine scope) (IsHeaderOrSection scope.settings) item
+
 -- the line of atomics, or one of these
-abbrev pub atomics_or_later_at : Scope → List ℕ
-    → Option (NamedOr (Unit {0}) (NamedOr HandlerHeader Section) × List ℕ)
+abbrev pub atomics_or_later_at : Scope → List ℕ → Option (AtomicsItem × List ℕ)
 atomics_or_later_at scope bytes =
-    named_or (codes "atomics") (atomics_at scope) (header_or_section_at scope.settings) bytes
+    named_or (codes "atomics") (atomics_at scope) (collect_or_later_at scope) bytes
 
 abbrev pub atomics_or_later_form : Scope → List ℕ → Bool
 atomics_or_later_form scope bytes =
-    named_or_form (codes "atomics") (λ n. is_second scope && (n == 0)) header_or_section_form bytes
+    named_or_form (codes "atomics") (λ n. is_second scope && (n == 0)) (collect_or_later_form scope) bytes
 
-abbrev pub atomics_or_later_text : NamedOr (Unit {0}) (NamedOr HandlerHeader Section) → List ℕ
-atomics_or_later_text item = named_or_text atomics_text header_or_section_text item
+abbrev pub atomics_or_later_text : AtomicsItem → List ℕ
+atomics_or_later_text item = named_or_text atomics_text collect_or_later_text item
 
-abbrev pub IsAtomicsOrLater : Scope → NamedOr (Unit {0}) (NamedOr HandlerHeader Section) → Type 0
-IsAtomicsOrLater scope item = named_or_fits (IsAtomicsLine scope) (IsHeaderOrSection scope.settings) item
+abbrev pub IsAtomicsOrLater : Scope → AtomicsItem → Type 0
+IsAtomicsOrLater scope item = named_or_fits (IsAtomicsLine scope) (IsCollectOrLater scope) item
 
 -- whether a line among the pairs has a form
 abbrev pub pairs_form : Scope → List ℕ → Bool
@@ -339,6 +397,7 @@ item_at AtSieve scope bytes = table_at none_at (sieve_row ∷ []) (λ rule. true
 item_at AtPairs scope bytes =
     named_or (codes "pair") (pair_at scope.settings) (atomics_or_later_at scope) bytes
 item_at AtAtomics scope bytes = atomics_or_later_at scope bytes
+item_at AtCollect scope bytes = collect_or_later_at scope bytes
 item_at AtHandlers scope bytes = header_or_section_at scope.settings bytes
 item_at (AtBody handler) scope bytes = end_or action_at bytes
 item_at AtScripts scope bytes = section_at scope.settings.nodes scope.settings.threads bytes
@@ -353,6 +412,7 @@ item_form (AtSetting setting) scope bytes = table_form (λ b. false) (setting_ro
 item_form AtSieve scope bytes = table_form (λ b. false) (sieve_row ∷ []) bytes
 item_form AtPairs scope bytes = pairs_form scope bytes
 item_form AtAtomics scope bytes = atomics_or_later_form scope bytes
+item_form AtCollect scope bytes = collect_or_later_form scope bytes
 item_form AtHandlers scope bytes = header_or_section_form bytes
 item_form (AtBody handler) scope bytes = action_form bytes
 item_form AtScripts scope bytes = section_form bytes
@@ -367,6 +427,7 @@ item_text (AtSetting setting) scope number = entry_text none_text (setting_entry
 item_text AtSieve scope rule = entry_text none_text (sieve_entry rule)
 item_text AtPairs scope item = named_or_text pair_text atomics_or_later_text item
 item_text AtAtomics scope item = atomics_or_later_text item
+item_text AtCollect scope item = collect_or_later_text item
 item_text AtHandlers scope item = header_or_section_text item
 item_text (AtBody handler) scope item = end_or_text action_text item
 item_text AtScripts scope section = section_text section
@@ -383,6 +444,7 @@ IsItem (AtSetting setting) scope number =
 IsItem AtSieve scope rule = IsOf none_fits sieve_entry (λ r. true) rule
 IsItem AtPairs scope item = named_or_fits (IsPairLine scope.settings) (IsAtomicsOrLater scope) item
 IsItem AtAtomics scope item = IsAtomicsOrLater scope item
+IsItem AtCollect scope item = IsCollectOrLater scope item
 IsItem AtHandlers scope item = IsHeaderOrSection scope.settings item
 IsItem (AtBody handler) scope item = end_or_fits IsAction item
 IsItem AtScripts scope section = IsSection scope.settings.nodes scope.settings.threads section

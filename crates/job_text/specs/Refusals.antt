@@ -1,6 +1,6 @@
 -- What a refusal means, apart from the reader.
 use Rattle.std.specs.Prelude.{◌≡◌, ◌≢◌, ◌⊎◌, ℕ, zero, suc, ◌+◌, ◌-◌, ◌<◌, ◌≤◌, List, [], ◌∷◌, ◌++◌, length, map, codes}
-use Rattle.std.specs.Prelude.{Some, None, true, false, ◌==◌, ◌||◌, if◌then◌else◌, Result, Ok, Err}
+use Rattle.std.specs.Prelude.{Some, None, is_some, true, false, ◌==◌, ◌||◌, if◌then◌else◌, Result, Ok, Err}
 use Rattle.job_text.specs.Reasons.{is_text}
 use Rattle.job_text.specs.Scopes.{scope_of}
 use Rattle.job_text.specs.declared.scope.Scope.{Scope}
@@ -8,7 +8,8 @@ use Rattle.job_text.specs.Bodies.{action_text}
 use Rattle.job_text.specs.Scripts.{step_text}
 use Rattle.job_text.specs.Places as places
 use Rattle.job_text.specs.Places.{Setting, Version, Nodes, Credits, Threads, Segment, Last, Resend, Patience}
-use Rattle.job_text.specs.Places.{Place, AtSetting, AtSieve, AtPairs, AtAtomics, AtHandlers, AtBody, AtScripts, AtSteps}
+use Rattle.job_text.specs.Places.{Place, AtSetting, AtSieve, AtPairs, AtAtomics, AtCollect, AtHandlers, AtBody}
+use Rattle.job_text.specs.Places.{AtScripts, AtSteps, HandlerItem, CollectItem, AtomicsItem}
 use Rattle.job_text.specs.Places.{AtSchedule, AtDone, Over, NamedOr, Named, Other, Item, item_form, item_text, IsItem}
 use Rattle.job_text.specs.JobReading.{limit, job_of, front_of, with_handler, with_script, lines_of, amounts_of}
 use Rattle.job_text.specs.PlanPieces.{scripts_pieces}
@@ -19,7 +20,8 @@ use Rattle.job_text.specs.declared.sections.HandlerHeader.{HandlerHeader}
 use Rattle.job_text.specs.declared.sections.Section.{Section}
 use Rattle.job_text.specs.declared.sections.Section.TheVariants as section
 use Rattle.job_text.specs.JobText.{Line, spell, setting_line, all_settings, header_line, script_line, timed_lines}
-use Rattle.job_text.specs.JobText.{schedule_lines, lines_with_pairs, lines_with_handlers, lines_with_scripts}
+use Rattle.job_text.specs.JobText.{schedule_lines, lines_with_pairs, lines_with_atomics}
+use Rattle.job_text.specs.JobText.{lines_with_handlers, lines_with_scripts}
 use Rattle.job_text.specs.JobText.{job_lines, IsJob, job_text}
 use Rattle.job_text.specs.declared.fault.JobFault.{JobFault}
 use Rattle.job_text.specs.declared.fault.JobFault.TheVariants as faults
@@ -78,6 +80,7 @@ so_far (AtSetting setting) job = map (setting_line job) (settings_before setting
 so_far AtSieve job = map (setting_line job) all_settings
 so_far AtPairs job = lines_with_pairs job
 so_far AtAtomics job = lines_with_pairs job
+so_far AtCollect job = lines_with_atomics job
 so_far AtHandlers job = lines_with_handlers job
 so_far (AtBody handler) job = lines_with_handlers job ++ (header_line handler ∷ map action_text handler.body)
 so_far AtScripts job = lines_with_scripts job
@@ -89,11 +92,16 @@ so_far Over job = job_lines job
 -- what no line has said yet isn't there
 abbrev pub IsUnread : Place → Job → Type 0
 IsUnread (AtSetting setting) job =
-    (job.settings.pairs ≡ []) × (job.atomics ≡ false) × (job.handlers ≡ []) × (job.scripts ≡ []) × (job.schedule ≡ None)
+    (job.settings.pairs ≡ []) × (job.atomics ≡ false) × (job.collect ≡ None) × (job.handlers ≡ []) × (job.scripts ≡ [])
+    × (job.schedule ≡ None)
 IsUnread AtSieve job =
-    (job.settings.pairs ≡ []) × (job.atomics ≡ false) × (job.handlers ≡ []) × (job.scripts ≡ []) × (job.schedule ≡ None)
-IsUnread AtPairs job = (job.atomics ≡ false) × (job.handlers ≡ []) × (job.scripts ≡ []) × (job.schedule ≡ None)
-IsUnread AtAtomics job = (job.atomics ≡ false) × (job.handlers ≡ []) × (job.scripts ≡ []) × (job.schedule ≡ None)
+    (job.settings.pairs ≡ []) × (job.atomics ≡ false) × (job.collect ≡ None) × (job.handlers ≡ []) × (job.scripts ≡ [])
+    × (job.schedule ≡ None)
+IsUnread AtPairs job =
+    (job.atomics ≡ false) × (job.collect ≡ None) × (job.handlers ≡ []) × (job.scripts ≡ []) × (job.schedule ≡ None)
+IsUnread AtAtomics job =
+    (job.atomics ≡ false) × (job.collect ≡ None) × (job.handlers ≡ []) × (job.scripts ≡ []) × (job.schedule ≡ None)
+IsUnread AtCollect job = (job.collect ≡ None) × (job.handlers ≡ []) × (job.scripts ≡ []) × (job.schedule ≡ None)
 IsUnread AtHandlers job = (job.scripts ≡ []) × (job.schedule ≡ None)
 IsUnread (AtBody handler) job = (job.scripts ≡ []) × (job.schedule ≡ None)
 IsUnread AtScripts job = job.schedule ≡ None
@@ -102,11 +110,13 @@ IsUnread AtSchedule job = (lines : List TimedEvent) × (job.schedule ≡ Some li
 IsUnread AtDone job = (lines : List TimedEvent) × (job.schedule ≡ Some lines)
 IsUnread Over job = Unit {0}
 
--- lines lead there: behind the pairs, before a handler or another part, the line of atomics came, or a handler; before
--- a script or another part a script came
+-- lines lead there: behind the pairs, before the line of collectives or what may stand instead, the line of atomics
+-- came; before a handler or another part, the line of collectives came, or a handler; before a script or another part a
+-- script came
 abbrev pub IsReached : Place → Job → Type 0
 IsReached AtAtomics job = ⊥
-IsReached AtHandlers job = (job.atomics ≡ true) ⊎ (job.handlers ≢ [])
+IsReached AtCollect job = job.atomics ≡ true
+IsReached AtHandlers job = (is_some job.collect ≡ true) ⊎ (job.handlers ≢ [])
 IsReached AtScripts job = job.scripts ≢ []
 IsReached place job = Unit {0}
 
@@ -125,41 +135,52 @@ abbrev pub Says : (place : Place) → Scope → List ℕ → Item place → Type
 Says place scope rest item =
     IsItem place scope item × ((more : List ℕ) × (rest ≡ item_text place scope item ++ 10 ∷ more))
 
--- the thread has a script, or the index or the pair stood in a line before, or the index is one of batches
+-- the thread has a script, or the index or the pair stood in a line before, or the index is one of batches or that of
+-- collectives
 abbrev pub IsTakenThread : Job → Section → Type 0
 IsTakenThread job (section.Script node thread) = has_thread job.scripts node thread ≡ true
 IsTakenThread job other = ⊥
 
-abbrev pub IsTakenIndex : Job → NamedOr HandlerHeader Section → Type 0
+abbrev pub IsTakenIndex : Job → HandlerItem → Type 0
 IsTakenIndex job (Named header) =
-    (has_index job.handlers header.index || is_reserved job.atomics header.index) ≡ true
+    (has_index job.handlers header.index || is_reserved (scope_of job) header.index) ≡ true
 IsTakenIndex job (Other section) = IsTakenThread job section
 
-abbrev pub IsTakenLater : Job → NamedOr (Unit {0}) (NamedOr HandlerHeader Section) → Type 0
+abbrev pub IsTakenBehind : Job → CollectItem → Type 0
+IsTakenBehind job (Named area) = ⊥
+IsTakenBehind job (Other item) = IsTakenIndex job item
+
+abbrev pub IsTakenLater : Job → AtomicsItem → Type 0
 IsTakenLater job (Named line) = ⊥
-IsTakenLater job (Other item) = IsTakenIndex job item
+IsTakenLater job (Other item) = IsTakenBehind job item
 
 abbrev pub IsTaken : (place : Place) → Job → Item place → Type 0
 IsTaken AtPairs job (Named pair) = has_pair job.settings.pairs pair ≡ true
 IsTaken AtPairs job (Other item) = IsTakenLater job item
 IsTaken AtAtomics job item = IsTakenLater job item
+IsTaken AtCollect job item = IsTakenBehind job item
 IsTaken AtHandlers job item = IsTakenIndex job item
 IsTaken AtScripts job section = IsTakenThread job section
 IsTaken place job item = ⊥
 
 -- there is no room for one more
-abbrev pub IsFullOfHandlers : Job → NamedOr HandlerHeader Section → Type 0
-IsFullOfHandlers job (Named header) = most_handlers job.atomics ≤ length job.handlers
+abbrev pub IsFullOfHandlers : Job → HandlerItem → Type 0
+IsFullOfHandlers job (Named header) = most_handlers (scope_of job) ≤ length job.handlers
 IsFullOfHandlers job (Other section) = ⊥
 
-abbrev pub IsFullLater : Job → NamedOr (Unit {0}) (NamedOr HandlerHeader Section) → Type 0
+abbrev pub IsFullBehind : Job → CollectItem → Type 0
+IsFullBehind job (Named area) = ⊥
+IsFullBehind job (Other item) = IsFullOfHandlers job item
+
+abbrev pub IsFullLater : Job → AtomicsItem → Type 0
 IsFullLater job (Named line) = ⊥
-IsFullLater job (Other item) = IsFullOfHandlers job item
+IsFullLater job (Other item) = IsFullBehind job item
 
 abbrev pub IsFull : (place : Place) → Job → Item place → Type 0
 IsFull AtPairs job (Named pair) = 64 ≤ length job.settings.pairs
 IsFull AtPairs job (Other item) = IsFullLater job item
 IsFull AtAtomics job item = IsFullLater job item
+IsFull AtCollect job item = IsFullBehind job item
 IsFull AtHandlers job item = IsFullOfHandlers job item
 IsFull (AtBody handler) job (Some action) = 64 ≤ length handler.body
 IsFull (AtSteps script) job (Some step) =

@@ -2,11 +2,12 @@
 use Rattle.std.specs.Prelude.{ℕ, List, [], ◌∷◌, Option, Some, Bool, true, false, not, ◌&&◌, ◌||◌, codes}
 use Rattle.std.specs.Str.{bytes_eq}
 use Rattle.job_text.specs.Lines.{Word, ◌>>=◌, ◌<|>◌, front}
-use Rattle.job_text.specs.Forms.{Value, Integer, Implicit, Shape, End, ◌▸◌, Many, Maker, Values, Row, Entry}
-use Rattle.job_text.specs.Forms.{table_at, entry_text, IsOf, none_at, none_text, none_fits, U64, U8}
+use Rattle.job_text.specs.Forms.{Value, Integer, Implicit, Collective, Shape, End, ◌▸◌, Many, Maker, Values, Row, Entry}
+use Rattle.job_text.specs.Forms.{table_at, entry_text, IsOf, none_at, none_text, none_fits, U64, U16, U8}
 use Rattle.job_text.specs.Reasons.{table_form}
 use Rattle.job_text.specs.Calls.{move_shape, fill_shape, call_text, IsCall}
 use Rattle.job_text.specs.VisLines.{vis_text, IsVis}
+use Rattle.job_text.specs.CollectiveLines.{collective_text, shape_of, IsCollective}
 use Rattle.job_text.specs.ThreadActions.{thread_action_at, thread_action_form}
 use Rattle.job_text.specs.declared.thread_actions.ThreadAction.{ThreadAction}
 use Rattle.job_text.specs.declared.thread_actions.ThreadAction.TheVariants as does
@@ -72,9 +73,19 @@ wait_implicit_row = form (codes "wait-nbi") (Implicit ▸ End) waiting.WaitImpli
 abbrev pub barrier_wait_row : Row ⊥ WaitingStep
 barrier_wait_row = form (codes "barrier-wait") (Integer ▸ U8 ▸ End) waiting.BarrierWait
 
+-- a whole collective (this project's profile): the kind, the root, the first byte that the node gives, how many bytes it
+-- gives, and where the result goes
+abbrev pub coll_row : Row ⊥ WaitingStep
+coll_row = form (codes "coll") (Collective ▸ U16 ▸ U64 ▸ U64 ▸ U64 ▸ End)
+    (λ kind root from len dest. waiting.Collective (shape_of kind root len) from dest)
+
+-- from `until-word` on
+unfoldable pub later_waits : List (Row ⊥ WaitingStep)
+later_waits = until_word_row ∷ coll_row ∷ []
+
 -- from `wait` on
 unfoldable pub sync_waits : List (Row ⊥ WaitingStep)
-sync_waits = wait_row ∷ wait_all_row ∷ wait_some_row ∷ wait_implicit_row ∷ barrier_wait_row ∷ until_word_row ∷ []
+sync_waits = wait_row ∷ wait_all_row ∷ wait_some_row ∷ wait_implicit_row ∷ barrier_wait_row ∷ later_waits
 
 -- the forms of steps that wait
 unfoldable pub waits : List (Row ⊥ WaitingStep)
@@ -104,10 +115,14 @@ waiting_entry (waiting.WaitSome registers) = words wait_some_row registers
 waiting_entry (waiting.WaitImplicit which) = words wait_implicit_row (which, tt)
 waiting_entry (waiting.BarrierWait id flags) = words barrier_wait_row (id, (flags, tt))
 waiting_entry (waiting.UntilWord offset number) = words until_word_row (offset, (number, tt))
+waiting_entry (waiting.Collective shape from dest) =
+    words coll_row (shape.kind, (shape.root, (from, (shape.len, (dest, tt)))))
 
--- whether such a step may stand in a job: to wait for a word, where the datagrams have the second version
+-- whether such a step may stand in a job: to wait for a word, where the datagrams have the second version; a collective,
+-- where the job has an area of collectives
 abbrev pub waiting_fits : Scope → WaitingStep → Bool
 waiting_fits scope (waiting.UntilWord offset number) = is_second scope
+waiting_fits scope (waiting.Collective shape from dest) = scope.collect
 waiting_fits scope step = true
 
 -- what reads a step that waits
@@ -116,7 +131,9 @@ waiting_at scope bytes = table_at none_at waits (waiting_fits scope) bytes
 
 -- a word names a step that waits of the job, if it names one
 abbrev pub is_waiting_name : Scope → Word → Bool
-is_waiting_name scope name = is_second scope || not (bytes_eq name (codes "until-word"))
+is_waiting_name scope name =
+    (is_second scope || not (bytes_eq name (codes "until-word")))
+    && (scope.collect || not (bytes_eq name (codes "coll")))
 
 -- whether bytes have the form of one
 unfoldable pub waiting_form : Scope → List ℕ → Bool
@@ -132,10 +149,11 @@ IsWaiting scope step = IsOf none_fits waiting_entry (waiting_fits scope) step
 
 -- ---- steps
 
--- the step that a call is, or the beginning of a transfer of many pieces
+-- the step that a call is, or the beginning of a transfer of many pieces, or a call of collectives
 abbrev pub step_of : ThreadAction → ScriptStep
 step_of (does.Call call) = step.Call call
 step_of (does.Vis vis) = step.Vis vis
+step_of (does.Collective call) = step.Collective call
 
 -- what reads a step: one of these, or what scripts alone have; no two of these forms have the same name
 unfoldable pub step_at : Scope → List ℕ → Option (ScriptStep × List ℕ)
@@ -151,10 +169,12 @@ step_form scope bytes = thread_action_form scope bytes || waiting_form scope byt
 abbrev pub step_text : ScriptStep → List ℕ
 step_text (step.Call call) = call_text call
 step_text (step.Vis vis) = vis_text vis
+step_text (step.Collective call) = collective_text call
 step_text (step.Waiting waiting) = waiting_text waiting
 
 -- a step whose words can be said, and which may stand in the job
 abbrev pub IsStep : Scope → ScriptStep → Type 0
 IsStep scope (step.Call call) = IsCall scope call
 IsStep scope (step.Vis vis) = IsVis scope vis
+IsStep scope (step.Collective call) = IsCollective scope call
 IsStep scope (step.Waiting waiting) = IsWaiting scope waiting

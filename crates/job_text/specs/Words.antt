@@ -15,6 +15,8 @@ use Rattle.job_text.specs.declared.job.Operand.{Operand}
 use Rattle.job_text.specs.declared.job.Operand.TheVariants as operand
 use Rattle.job_text.specs.declared.operands.NumberPlace.{NumberPlace}
 use Rattle.job_text.specs.declared.operands.NumberPlace.TheVariants.{Schedule, Body}
+use Rattle.collective_area.specs.declared.shape.CollectiveKind.{CollectiveKind}
+use Rattle.collective_area.specs.declared.shape.CollectiveKind.TheVariants as collective
 use Rattle.gas_atomic.specs.declared.word.Op.{Op}
 use Rattle.gas_atomic.specs.declared.word.Op.TheVariants as op
 use Rattle.handler_rules.specs.declared.rules.CallKind.{CallKind}
@@ -206,3 +208,28 @@ op_of word =
     if bytes_eq word (codes "xor") then Some op.Xor else (
     if bytes_eq word (codes "min") then Some op.Min else (
     if bytes_eq word (codes "max") then Some op.Max else None)))))))))
+
+-- the word of a kind of collective
+abbrev pub collective_word : CollectiveKind → Word
+collective_word collective.Broadcast = codes "broadcast"
+collective_word collective.Gather = codes "gather"
+collective_word collective.AllGather = codes "all-gather"
+collective_word collective.Sum = codes "sum"
+collective_word collective.Min = codes "min"
+collective_word collective.Max = codes "max"
+collective_word collective.AllSum = codes "all-sum"
+collective_word collective.AllMin = codes "all-min"
+collective_word collective.AllMax = codes "all-max"
+
+-- a kind of collective by its word
+unfoldable pub collective_of : Word → Option CollectiveKind
+collective_of word =
+    if bytes_eq word (codes "broadcast") then Some collective.Broadcast else (
+    if bytes_eq word (codes "gather") then Some collective.Gather else (
+    if bytes_eq word (codes "all-gather") then Some collective.AllGather else (
+    if bytes_eq word (codes "sum") then Some collective.Sum else (
+    if bytes_eq word (codes "min") then Some collective.Min else (
+    if bytes_eq word (codes "max") then Some collective.Max else (
+    if bytes_eq word (codes "all-sum") then Some collective.AllSum else (
+    if bytes_eq word (codes "all-min") then Some collective.AllMin else (
+    if bytes_eq word (codes "all-max") then Some collective.AllMax else None))))))))

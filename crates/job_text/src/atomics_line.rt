@@ -4,7 +4,7 @@ ghost use Rattle.std.specs.Prelude.{◌≡◌, ◌≤◌, ◌+◌, codes, IfOk, 
 ghost use Rattle.std.specs.Str.{bytes_eq};
 ghost use Rattle.job_text.specs.Lines.{front};
 ghost use Rattle.job_text.specs.JobReading.{State, job_of_head, lined, read};
-ghost use Rattle.job_text.specs.Places.{AtAtomics, AtHandlers, atomics_at, atomics_or_later_form};
+ghost use Rattle.job_text.specs.Places.{AtAtomics, AtCollect, atomics_at, atomics_or_later_form};
 ghost use Rattle.job_text.specs.Reading.{Continues, Finds};
 ghost use Rattle.job_text.specs.Reasons.{reason};
 ghost use Rattle.job_text.specs.Scopes.{is_second};
@@ -12,7 +12,7 @@ ghost use Rattle.job_text.specs.Scopes.{is_second};
 use crate::fault::{JobFault, JobWhy, Other};
 use crate::job::Head;
 use crate::reasons::{reason_of, words_left};
-use crate::scope::Scope;
+use crate::scope::{Scope, scope_of};
 use crate::words::{begins, ended, is_name, name_of};
 
 /// Whether the datagrams have the second version.
@@ -58,17 +58,14 @@ fn atomics_why(scope: &Scope, bytes: &[u8]) -> JobWhy
 pub fn atomics_from(head: Head, line: u32, bytes: &[u8]) -> Result<(Head, u32, &[u8]), JobFault>
     requires { line ≤ 75 }
     ensures value { Continues
-        (λ x. read (record { place = AtHandlers; job = job_of_head x.0 }) x.1 x.2.now)
+        (λ x. read (record { place = AtCollect; job = job_of_head x.0 }) x.1 x.2.now)
         result (read (record { place = AtAtomics; job = job_of_head head }) line bytes.now) }
     ensures later { IfOk result (λ x. x.1 ≤ 76) }
 {
     if !begins(b"atomics", bytes) {
         return Ok((head, line, bytes));
     }
-    let scope = Scope {
-        settings: head.settings,
-        atomics: head.atomics,
-    };
+    let scope = scope_of(&head);
     match atomics_line(&scope, bytes) {
         Ok(rest) => {
             let head = Head {

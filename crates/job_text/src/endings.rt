@@ -23,6 +23,7 @@ pub fn job_with(head: Head, handlers: HandlerTexts, scripts: NodeScripts) -> Job
         patience: head.patience,
         sieve: head.sieve,
         atomics: head.atomics,
+        collect: head.collect,
         handlers,
         scripts,
         schedule: None,
@@ -76,6 +77,7 @@ pub fn tail_at(
     let scope = Scope {
         settings: job.settings,
         atomics: job.atomics,
+        collect: job.collect.is_some(),
     };
     let before = job.scripts.pieces();
     let (lines, line, rest) = match schedule_at(alloc, &scope, before, line, bytes) {

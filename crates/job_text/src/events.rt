@@ -50,6 +50,7 @@ fn event_of(node: u16, thread: u16, action: ThreadAction) -> ScheduledEvent
     match action {
         ThreadAction::Call { call } => ScheduledEvent::Call { node, thread, call },
         ThreadAction::Vis { vis } => ScheduledEvent::Vis { node, thread, vis },
+        ThreadAction::Collective { call } => ScheduledEvent::Collective { node, thread, call },
     }
 }
 

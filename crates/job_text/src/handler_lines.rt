@@ -4,8 +4,9 @@ ghost use Rattle.std.specs.Prelude.{◌≡◌, ◌+◌, ◌≤◌, ◌<◌, ◌=
 ghost use Rattle.job_text.specs.Places.{AtHandlers, AtBody, AtScripts, end_or};
 ghost use Rattle.job_text.specs.Bodies.{action_at, action_form};
 ghost use Rattle.job_text.specs.HeadReading.{told};
-ghost use Rattle.job_text.specs.JobReading.{State, begun, lined, has_index, is_reserved, most_handlers, with_body};
-ghost use Rattle.job_text.specs.JobReading.{with_handler, handler_why, read};
+ghost use Rattle.job_text.specs.JobReading.{State, begun, lined, has_index, is_reserved, most_beside};
+ghost use Rattle.job_text.specs.JobReading.{most_handlers, with_body, with_handler, handler_why, read};
+ghost use Rattle.job_text.specs.Scopes.{scope_of};
 ghost use Rattle.job_text.specs.Lines.{front};
 ghost use Rattle.job_text.specs.Reading.{Reads, GivesAt, Continues};
 ghost use Rattle.job_text.specs.Reasons.{reason};
@@ -20,15 +21,15 @@ use crate::fault::{JobFault, JobWhy, Miss, Other};
 use crate::job::{Action, Body, HandlerText, HandlerTexts};
 use crate::operands::starts;
 use crate::reasons::reason_of;
+use crate::scope::Scope;
 use crate::sections::{HandlerHeader, header_line, header_why};
 use crate::words::{begins, ended, is_name, name_of};
 use gas_atomic::{BATCH_HANDLER, BLOCK_HANDLER};
 use std::alloc::Global;
 
-/// The most handlers of a job, and of one whose nodes serve batches.
-const HANDLERS: usize = 128;
+/// The handler of collectives.
+const COLLECTIVE_HANDLER: u8 = 254;
 
-const BESIDE_BATCHES: usize = 126;
 /// The most actions of a handler.
 const ACTIONS: usize = 64;
 
@@ -137,28 +138,41 @@ fn has_index(handlers: &[HandlerText], index: u8) -> bool
     index != 0 && is_taken(handlers, index)
 }
 
-/// Whether the handlers of batches have this index.
-fn is_reserved(atomics: bool, index: u8) -> bool
-    ensures { result ≡ is_reserved atomics index }
+/// Whether the handlers of batches have this index, or that of collectives has it, where the job has these.
+fn is_reserved(scope: &Scope, index: u8) -> bool
+    ensures { result ≡ is_reserved scope.now index }
 {
-    atomics && (index == BATCH_HANDLER || index == BLOCK_HANDLER)
+    (scope.atomics && (index == BATCH_HANDLER || index == BLOCK_HANDLER))
+        || (scope.collect && index == COLLECTIVE_HANDLER)
 }
 
-/// How many handlers a job may have beside those of batches.
-fn most_handlers(atomics: bool) -> usize
-    ensures { result ≡ most_handlers atomics }
+/// How many handlers a job may have beside those of batches and that of collectives, where it has these.
+fn most_beside(atomics: bool, collect: bool) -> usize
+    ensures { result ≡ most_beside atomics collect }
 {
-    if atomics { BESIDE_BATCHES } else { HANDLERS }
+    match (atomics, collect) {
+        (true, true) => 125,
+        (true, false) => 126,
+        (false, true) => 127,
+        (false, false) => 128,
+    }
+}
+
+/// How many handlers a job of such a scope may have of its own.
+fn most_handlers(scope: &Scope) -> usize
+    ensures { result ≡ most_handlers scope.now }
+{
+    most_beside(scope.atomics, scope.collect)
 }
 
 /// Why a handler with this index may not stand behind these.
-fn why_not(atomics: bool, handlers: &[HandlerText], index: u8) -> Option<JobWhy>
-    ensures { result ≡ handler_why atomics handlers.now index }
+fn why_not(scope: &Scope, handlers: &[HandlerText], index: u8) -> Option<JobWhy>
+    ensures { result ≡ handler_why scope.now handlers.now index }
 {
-    if has_index(handlers, index) || is_reserved(atomics, index) {
+    if has_index(handlers, index) || is_reserved(scope, index) {
         return Some(JobWhy::Entry);
     }
-    if handlers.len() >= most_handlers(atomics) {
+    if handlers.len() >= most_handlers(scope) {
         return Some(JobWhy::Count);
     }
     None
@@ -167,13 +181,13 @@ fn why_not(atomics: bool, handlers: &[HandlerText], index: u8) -> Option<JobWhy>
 /// The first line of a handler that may stand behind these, and the bytes after it.
 fn next_header<'a>(
     alloc: Global,
-    atomics: bool,
+    scope: &Scope,
     before: &[HandlerText],
     line: u32,
     bytes: &'a [u8],
 ) -> Result<(HandlerHeader, &'a [u8]), JobFault>
     requires { bytes_eq (front bytes.now) (codes "handler") ≡ true }
-    ensures value { (job : JobState) → job.atomics ≡ atomics → job.handlers ≡ before.now →
+    ensures value { (job : JobState) → scope_of job ≡ scope.now → job.handlers ≡ before.now →
         Continues (λ x. read (record { place = AtBody (begun x.0); job = job }) (line + 1) x.1.now)
         result (read (record { place = AtHandlers; job = job }) line bytes.now) }
     ensures room { IfOk result (λ x. length before.now < 128) }
@@ -186,21 +200,21 @@ fn next_header<'a>(
             return Err(JobFault::Bad { line, why });
         }
     };
-    match why_not(atomics, before, header.index) {
+    match why_not(scope, before, header.index) {
         Some(why) => Err(JobFault::Bad { line, why }),
         None => Ok((header, rest)),
     }
 }
 
 /// The handlers up to the first line of another kind, with its number and the bytes from it on.
-pub fn handlers_at(
+pub fn handlers_at<'a>(
     alloc: Global,
-    atomics: bool,
+    scope: &Scope,
     first: u32,
-    bytes: &[u8],
-) -> Result<(HandlerTexts, u32, &[u8]), JobFault>
+    bytes: &'a [u8],
+) -> Result<(HandlerTexts, u32, &'a [u8]), JobFault>
     requires { first ≤ 1000 }
-    ensures value { (job : JobState) → job.atomics ≡ atomics →
+    ensures value { (job : JobState) → scope_of job ≡ scope.now →
         Continues (λ x. read (record {
           place = AtScripts;
           job = record job { handlers = x.0 };
@@ -213,7 +227,7 @@ pub fn handlers_at(
     let mut rest = bytes;
     let mut line = first;
     while begins(b"handler", rest) {
-        let (header, after) = match next_header(alloc, atomics, &texts, line, rest) {
+        let (header, after) = match next_header(alloc, scope, &texts, line, rest) {
             Ok(read) => read,
             Err(fault) => return Err(fault),
         };

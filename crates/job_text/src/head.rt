@@ -270,6 +270,7 @@ pub fn head_at(bytes: &[u8]) -> Result<(Head, &[u8]), JobFault>
                     patience,
                     sieve,
                     atomics: false,
+                    collect: None,
                 },
                 rest,
             ))

@@ -1,6 +1,7 @@
 //! What the text of a job says, as values.
 
 ghost use Rattle.std.specs.Prelude.{◌≡◌, ◌≤◌, length, true};
+ghost use Rattle.std.specs.Option.{option_map};
 ghost use Rattle.datagram_grammar.specs.Parameters.{upgraded};
 ghost use Rattle.gas_atomic.specs.BatchRequests.{batch_arguments, spelled_ops};
 ghost use Rattle.job_text.specs.Locks.{are_listed, listed_by};
@@ -10,6 +11,7 @@ ghost use Rattle.job_text.specs.StepPieces.{steps_pieces};
 
 use crate::locks::listed_by;
 use crate::vis::BoxedVis;
+use collective_area::Shape;
 use datagram_grammar::Settings;
 use gas_atomic::WordOp;
 use handler_rules::{CallKind, Role};
@@ -421,6 +423,27 @@ pub enum ScheduledCall {
     },
 }
 
+/// What a line or a step asks of the collectives of its node (this project's profile).
+#[derive(Clone, Copy)]
+pub enum CollectiveText {
+    /// Starts a collective, to which the node gives the bytes from `from` on of its own segment.
+    Start { shape: Shape, from: u64 },
+    /// Sends to one node more.
+    Step,
+    /// Tries to end it, with the result at `dest` of the own segment.
+    Try { dest: u64 },
+}
+
+/// Where the area of collectives is in each segment: where it begins, and the room for data of each of its parts, in
+/// bytes.
+#[derive(Clone, Copy)]
+pub struct CollectArea {
+    /// Where it begins, a multiple of 8 where the job was read.
+    pub base: u64,
+    /// The room of a part, a multiple of 8 from 8 to 8,192 where the job was read.
+    pub room: u64,
+}
+
 /// What a line of the schedule asks for.
 #[derive(Drop)]
 pub enum ScheduledEvent {
@@ -435,6 +458,12 @@ pub enum ScheduledEvent {
         node: u16,
         thread: u16,
         vis: BoxedVis,
+    },
+    /// A thread of a node makes a call of collectives, in a job that has an area of them where it was read.
+    Collective {
+        node: u16,
+        thread: u16,
+        call: CollectiveText,
     },
     /// The delivery of a request.
     Request {
@@ -505,6 +534,9 @@ pub enum WaitingStep {
     WaitImplicit { which: ImplicitKind },
     /// Waits at the barrier (gasnet_barrier_wait).
     BarrierWait { id: i32, flags: u8 },
+    /// Starts a collective, sends to all nodes, and waits until it ends with the result at `dest` (this project's
+    /// profile).
+    Collective { shape: Shape, from: u64, dest: u64 },
 }
 
 /// A step of a script.
@@ -514,6 +546,8 @@ pub enum ScriptStep {
     Call { call: ScheduledCall },
     /// Begins a transfer of many pieces.
     Vis { vis: BoxedVis },
+    /// Makes a call of collectives.
+    Collective { call: CollectiveText },
     /// What scripts alone have.
     Waiting { step: WaitingStep },
 }
@@ -647,6 +681,8 @@ pub struct Job {
     pub sieve: SieveRule,
     /// Whether the nodes serve batches of remote atomics: their two handlers are registered before all others.
     pub atomics: bool,
+    /// The area of collectives, where the nodes run them: their handler is registered before the job's own.
+    pub collect: Option<CollectArea>,
     /// The handlers, in the order in which they stand in the text.
     pub handlers: HandlerTexts,
     /// The scripts, in the order in which they stand in the text.
@@ -666,6 +702,8 @@ pub(crate) struct Head {
     pub sieve: SieveRule,
     /// Whether the nodes serve batches of remote atomics.
     pub atomics: bool,
+    /// The area of collectives, where the nodes run them.
+    pub collect: Option<CollectArea>,
 }
 
 impl Operands {
@@ -862,6 +900,17 @@ impl Job {
         match &self.schedule {
             Some(schedule) => schedule.lines.len(),
             None => 0,
+        }
+    }
+
+    /// Where the area of collectives begins in each segment, and the room for data of each of its parts, in bytes. None
+    /// exactly where the job has no line `collect`.
+    pub fn collect(&self) -> Option<(u64, u64)>
+        ensures { result ≡ option_map (λ area. (area.base, area.room)) self.now.collect }
+    {
+        match self.collect {
+            Some(area) => Some((area.base, area.room)),
+            None => None,
         }
     }
 

@@ -1,13 +1,15 @@
-//! Kinds of calls and of implicit operations, roles, and operations of remote atomics, as words of a line.
+//! Kinds of calls, of implicit operations and of collectives, roles, and operations of remote atomics, as words of a
+//! line.
 
 ghost use Rattle.std.specs.Prelude.{◌≡◌};
-ghost use Rattle.job_text.specs.Words.{implicit_of, kind_of, op_of, role_of};
-ghost use Rattle.job_text.specs.Forms.{Implicit, Kind, Operation, Role as RolePart, part_at};
+ghost use Rattle.job_text.specs.Words.{collective_of, implicit_of, kind_of, op_of, role_of};
+ghost use Rattle.job_text.specs.Forms.{Collective, Implicit, Kind, Operation, Role as RolePart, part_at};
 ghost use Rattle.job_text.specs.Reading.{Finds};
 
 use crate::fault::Other;
 use crate::job::ImplicitKind;
 use crate::words::{is_name, name_of, spaced};
+use collective_area::CollectiveKind;
 use gas_atomic::Op;
 use handler_rules::{CallKind, Role};
 
@@ -162,4 +164,52 @@ pub fn op_at(bytes: &[u8]) -> Result<(Op, &[u8]), Other>
         return Err(Other);
     };
     Ok((op, rest))
+}
+
+/// The kind of collective that a word names.
+#[tactic(auto, unfolding(crate::specs::Words::collective_of))]
+fn collective_of(word: &[u8]) -> Option<CollectiveKind>
+    ensures { result ≡ collective_of word.now }
+{
+    if is_name(word, b"broadcast") {
+        return Some(CollectiveKind::Broadcast);
+    }
+    if is_name(word, b"gather") {
+        return Some(CollectiveKind::Gather);
+    }
+    if is_name(word, b"all-gather") {
+        return Some(CollectiveKind::AllGather);
+    }
+    if is_name(word, b"sum") {
+        return Some(CollectiveKind::Sum);
+    }
+    if is_name(word, b"min") {
+        return Some(CollectiveKind::Min);
+    }
+    if is_name(word, b"max") {
+        return Some(CollectiveKind::Max);
+    }
+    if is_name(word, b"all-sum") {
+        return Some(CollectiveKind::AllSum);
+    }
+    if is_name(word, b"all-min") {
+        return Some(CollectiveKind::AllMin);
+    }
+    if is_name(word, b"all-max") {
+        return Some(CollectiveKind::AllMax);
+    }
+    None
+}
+
+/// A kind of collective behind a space.
+#[tactic(auto, unfolding(crate::specs::Forms::part_at, crate::specs::Forms::word_at))]
+pub fn collective_kind_at(bytes: &[u8]) -> Result<(CollectiveKind, &[u8]), Other>
+    ensures { Finds (λ x. (x.0, x.1.now)) result (part_at Collective bytes.now) }
+{
+    let bytes = spaced(bytes)?;
+    let (word, rest) = name_of(bytes);
+    let Some(kind) = collective_of(word) else {
+        return Err(Other);
+    };
+    Ok((kind, rest))
 }

@@ -21,6 +21,8 @@ mod atomics_line;
 mod batches;
 mod bodies;
 mod calls;
+mod collect_line;
+mod collectives;
 mod digits;
 mod endings;
 mod events;
@@ -49,11 +51,12 @@ mod vis_lines;
 mod waiting_steps;
 mod words;
 
+pub use collective_area::{CollectiveKind, Shape};
 pub use fault::{JobFault, JobWhy};
 pub use gas_strided::Vis;
 pub use job::{
-    Action, BatchText, Body, BoxedBatch, BoxedLong, BoxedMedium, BoxedTransfer, Bytes, HandlerText,
-    HandlerTexts, ImplicitKind, Job, ListedLocks, LongText, MediumText, NodeScript, NodeScripts,
+    Action, BatchText, Body, BoxedBatch, BoxedLong, BoxedMedium, BoxedTransfer, Bytes, CollectArea,
+    CollectiveText, HandlerText, HandlerTexts, ImplicitKind, Job, ListedLocks, LongText, MediumText, NodeScript, NodeScripts,
     Operand, Operands, Payload, PutText, Registers, ReplyAction, Schedule, ScheduledCall,
     ScheduledEvent, ScriptStep, ScriptSteps, SieveRule, TimedEvent, TransferText, WaitingStep,
 };

@@ -9,14 +9,14 @@ ghost use Rattle.job_text.specs.declared.job.Job.{Job as JobState};
 ghost use Rattle.job_text.specs.JobReading.{front_of, front_with, job_of, read, start};
 ghost use Rattle.job_text.specs.Reading.{GivesAt};
 
-use crate::atomics_line::atomics_from;
+use crate::collect_line::services_from;
 use crate::endings::{job_with, tail_at};
 use crate::fault::{JobFault, JobWhy};
 use crate::handler_lines::handlers_at;
 use crate::head::head_at;
 use crate::job::Job;
 use crate::pair_lines::pairs_at;
-use crate::scope::Scope;
+use crate::scope::scope_of;
 use crate::script_lines::scripts_at;
 use std::alloc::Global;
 
@@ -35,17 +35,14 @@ fn front_at(alloc: Global, bytes: &[u8]) -> Result<(Job, u32, &[u8]), JobFault>
         Ok(read) => read,
         Err(fault) => return Err(fault),
     };
-    let (head, line, rest) = match atomics_from(head, line, rest) {
+    let (head, line, rest) = match services_from(head, line, rest) {
         Ok(read) => read,
         Err(fault) => return Err(fault),
     };
-    let (handlers, line, rest) = match handlers_at(alloc, head.atomics, line, rest) {
+    let scope = scope_of(&head);
+    let (handlers, line, rest) = match handlers_at(alloc, &scope, line, rest) {
         Ok(read) => read,
         Err(fault) => return Err(fault),
-    };
-    let scope = Scope {
-        settings: head.settings,
-        atomics: head.atomics,
     };
     let (scripts, schedule, line, rest) = match scripts_at(alloc, &scope, line, rest) {
         Ok(read) => read,

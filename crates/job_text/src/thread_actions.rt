@@ -2,11 +2,12 @@
 
 ghost use Rattle.std.specs.Prelude.{◌≡◌};
 ghost use Rattle.job_text.specs.Reading.{Reads};
-ghost use Rattle.job_text.specs.ThreadActions.{thread_action_at, thread_action_form};
+ghost use Rattle.job_text.specs.ThreadActions.{other_action_at, thread_action_at, thread_action_form};
 
 use crate::calls::{call_at, call_form};
+use crate::collectives::{collective_at, collective_form};
 use crate::fault::Miss;
-use crate::job::ScheduledCall;
+use crate::job::{CollectiveText, ScheduledCall};
 use crate::scope::Scope;
 use crate::vis::BoxedVis;
 use crate::vis_lines::{vis_at, vis_form};
@@ -19,6 +20,26 @@ pub enum ThreadAction {
     Call { call: ScheduledCall },
     /// It begins a transfer of many pieces.
     Vis { vis: BoxedVis },
+    /// It makes a call of collectives.
+    Collective { call: CollectiveText },
+}
+
+/// What a thread does by a line that is no call, and the bytes after it.
+fn other_action_at<'a>(
+    alloc: Global,
+    scope: &Scope,
+    bytes: &'a [u8],
+) -> Result<(ThreadAction, &'a [u8]), Miss>
+    ensures { Reads (λ x. (x.0, x.1.now)) result (other_action_at scope.now bytes.now) }
+{
+    match vis_at(alloc, scope, bytes) {
+        Ok((vis, rest)) => Ok((ThreadAction::Vis { vis }, rest)),
+        Err(Miss::NoMemory) => Err(Miss::NoMemory),
+        Err(Miss::Unlike) => {
+            let (call, rest) = collective_at(scope, bytes)?;
+            Ok((ThreadAction::Collective { call }, rest))
+        }
+    }
 }
 
 /// What a thread does by a line, and the bytes after it.
@@ -33,10 +54,7 @@ pub fn thread_action_at<'a>(
     match call_at(alloc, scope, bytes) {
         Ok((call, rest)) => Ok((ThreadAction::Call { call }, rest)),
         Err(Miss::NoMemory) => Err(Miss::NoMemory),
-        Err(Miss::Unlike) => {
-            let (vis, rest) = vis_at(alloc, scope, bytes)?;
-            Ok((ThreadAction::Vis { vis }, rest))
-        }
+        Err(Miss::Unlike) => other_action_at(alloc, scope, bytes),
     }
 }
 
@@ -45,5 +63,5 @@ pub fn thread_action_at<'a>(
 pub fn thread_action_form(scope: &Scope, bytes: &[u8]) -> bool
     ensures { result ≡ thread_action_form scope.now bytes.now }
 {
-    call_form(scope, bytes) || vis_form(scope, bytes)
+    call_form(scope, bytes) || vis_form(scope, bytes) || collective_form(scope, bytes)
 }

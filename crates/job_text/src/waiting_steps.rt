@@ -4,10 +4,11 @@ ghost use Rattle.std.specs.Prelude.{◌≡◌, false};
 ghost use Rattle.job_text.specs.Forms.{named_at, none_at};
 ghost use Rattle.job_text.specs.Reading.{Reads};
 ghost use Rattle.job_text.specs.Reasons.{named_form};
-ghost use Rattle.job_text.specs.Scripts.{put, step_at, step_form, sync_waits, waiting_at, waiting_fits};
-ghost use Rattle.job_text.specs.Scripts.{step_of, waiting_form, waits};
+ghost use Rattle.job_text.specs.Scripts.{is_waiting_name, later_waits, put, step_at, step_form, sync_waits};
+ghost use Rattle.job_text.specs.Scripts.{step_of, waiting_at, waiting_fits, waiting_form, waits};
 
 use crate::atomics_line::is_second;
+use crate::collectives::coll_at;
 use crate::fault::Miss;
 use crate::job::{PutText, ScriptStep, WaitingStep};
 use crate::kinds::implicit_at;
@@ -31,6 +32,23 @@ fn put_text(words: Move) -> PutText
         local: words.local,
         len: words.len,
     }
+}
+
+/// The step that a line says, by its name and the bytes after it, from `until-word` on.
+#[tactic(auto, unfolding(crate::specs::Scripts::later_waits))]
+fn later_wait_at<'a>(name: &[u8], rest: &'a [u8]) -> Result<(WaitingStep, &'a [u8]), Miss>
+    ensures { Reads (λ x. (x.0, x.1.now)) result (named_at none_at later_waits name.now rest.now) }
+{
+    if is_name(name, b"until-word") {
+        let (offset, rest) = number_at(rest, 0, u64::MAX)?;
+        let (number, rest) = number_at(rest, 0, u64::MAX)?;
+        return Ok((WaitingStep::UntilWord { offset, number }, rest));
+    }
+    if is_name(name, b"coll") {
+        let (step, rest) = coll_at(rest)?;
+        return Ok((step, rest));
+    }
+    Err(Miss::Unlike)
 }
 
 /// The step that a line says, by its name and the bytes after it, from `wait` on.
@@ -63,12 +81,7 @@ fn sync_wait_at<'a>(
         let (flags, rest) = byte_at(rest, 255)?;
         return Ok((WaitingStep::BarrierWait { id, flags }, rest));
     }
-    if is_name(name, b"until-word") {
-        let (offset, rest) = number_at(rest, 0, u64::MAX)?;
-        let (number, rest) = number_at(rest, 0, u64::MAX)?;
-        return Ok((WaitingStep::UntilWord { offset, number }, rest));
-    }
-    Err(Miss::Unlike)
+    later_wait_at(name, rest)
 }
 
 /// The step that a line says, by its name and the bytes after it.
@@ -120,6 +133,7 @@ fn waiting_fits(scope: &Scope, step: &WaitingStep) -> bool
 {
     match step {
         WaitingStep::UntilWord { .. } => is_second(scope),
+        WaitingStep::Collective { .. } => scope.collect,
         _ => true,
     }
 }
@@ -149,6 +163,7 @@ fn step_of(action: ThreadAction) -> ScriptStep
     match action {
         ThreadAction::Call { call } => ScriptStep::Call { call },
         ThreadAction::Vis { vis } => ScriptStep::Vis { vis },
+        ThreadAction::Collective { call } => ScriptStep::Collective { call },
     }
 }
 
@@ -171,8 +186,38 @@ pub fn step_at<'a>(
     }
 }
 
+/// Whether so many words after a name are a form of step that scripts alone have, from `wait` on.
+#[tactic(auto, unfolding(crate::specs::Scripts::sync_waits, crate::specs::Scripts::later_waits))]
+fn sync_wait_form(name: &[u8], rest: &[u8]) -> bool
+    ensures { result ≡ named_form (λ b. false) sync_waits name.now rest.now }
+{
+    let count = words_left(rest);
+    if is_name(name, b"wait") {
+        return count == 1;
+    }
+    if is_name(name, b"wait-all") {
+        return is_between(count, 1, 16);
+    }
+    if is_name(name, b"wait-some") {
+        return is_between(count, 1, 16);
+    }
+    if is_name(name, b"wait-nbi") {
+        return count == 1;
+    }
+    if is_name(name, b"barrier-wait") {
+        return count == 2;
+    }
+    if is_name(name, b"until-word") {
+        return count == 2;
+    }
+    if is_name(name, b"coll") {
+        return count == 5;
+    }
+    false
+}
+
 /// Whether the words after a name are a form of step that scripts alone have.
-#[tactic(auto, unfolding(crate::specs::Scripts::waits, crate::specs::Scripts::sync_waits))]
+#[tactic(auto, unfolding(crate::specs::Scripts::waits))]
 fn named_wait_form(name: &[u8], rest: &[u8]) -> bool
     ensures { result ≡ named_form (λ b. false) waits name.now rest.now }
 {
@@ -195,25 +240,15 @@ fn named_wait_form(name: &[u8], rest: &[u8]) -> bool
     if is_name(name, b"put-nbi") {
         return count == 4;
     }
-    if is_name(name, b"wait") {
-        return count == 1;
-    }
-    if is_name(name, b"wait-all") {
-        return is_between(count, 1, 16);
-    }
-    if is_name(name, b"wait-some") {
-        return is_between(count, 1, 16);
-    }
-    if is_name(name, b"wait-nbi") {
-        return count == 1;
-    }
-    if is_name(name, b"barrier-wait") {
-        return count == 2;
-    }
-    if is_name(name, b"until-word") {
-        return count == 2;
-    }
-    false
+    sync_wait_form(name, rest)
+}
+
+/// Whether a word names a step that waits of the job, if it names one.
+fn is_waiting_name(scope: &Scope, name: &[u8]) -> bool
+    ensures { result ≡ is_waiting_name scope.now name.now }
+{
+    (is_second(scope) || !is_name(name, b"until-word"))
+        && (scope.collect || !is_name(name, b"coll"))
 }
 
 /// Whether bytes have the form of a step that scripts alone have.
@@ -222,7 +257,7 @@ fn waiting_form(scope: &Scope, bytes: &[u8]) -> bool
     ensures { result ≡ waiting_form scope.now bytes.now }
 {
     let (name, rest) = name_of(bytes);
-    named_wait_form(name, rest) && (is_second(scope) || !is_name(name, b"until-word"))
+    named_wait_form(name, rest) && is_waiting_name(scope, name)
 }
 
 /// Whether bytes have the form of a step.

@@ -9,6 +9,7 @@ use Rattle.raw_segment.specs.Image.{Write, overwritten, written_by}
 use Rattle.datagram_grammar.specs.Content.{Content, short_reply, medium_reply, long_reply}
 use Rattle.handler_rules.specs.Runs.{Arrival, Frame, Start, Outcome, untouched, attempted, took_lock, gave_lock}
 use Rattle.handler_rules.specs.Runs.{writing, replying}
+use Rattle.collective_area.specs.Served.{collective_handler, stamped}
 use Rattle.gas_atomic.specs.BatchRequests.{batch_handler, block_handler}
 use Rattle.gas_atomic.specs.Served.{served}
 use Rattle.job_text.specs.declared.job.Operand.{Operand}
@@ -130,8 +131,19 @@ acts frame start outcome actions = fold (act frame start) outcome actions
 abbrev pub is_for_batches : JobHandlers → (index : ℕ) → Bool
 is_for_batches handlers index = handlers.atomics && ((index == batch_handler) || (index == block_handler))
 
--- what the run of a handler of a job gives: one of batches serves them, and another one does what its text says
+-- the handler of this index is that of collectives
+abbrev pub is_for_collectives : JobHandlers → (index : ℕ) → Bool
+is_for_collectives handlers index = handlers.collect && (index == collective_handler)
+
+-- what the run of a handler gives that isn't one of batches: that of collectives writes what its message says, and
+-- another one does what its text says
+abbrev pub other_meaning : JobHandlers → (index : ℕ) → Frame → Start → Outcome
+other_meaning handlers index frame start =
+    if is_for_collectives handlers index then stamped frame start (untouched start)
+    else acts frame start (untouched start) (body_for handlers index)
+
+-- what the run of a handler of a job gives: one of batches serves them
 abbrev pub script_meaning : JobHandlers → (index : ℕ) → Frame → Start → Outcome
 script_meaning handlers index frame start =
     if is_for_batches handlers index then served index frame start (untouched start)
-    else acts frame start (untouched start) (body_for handlers index)
+    else other_meaning handlers index frame start

@@ -2,6 +2,7 @@ pub mod Lines
 pub mod Registration
 pub mod Bodies
 pub mod AnswerWords
+pub mod CollectiveWords
 pub mod AnswersTold
 pub mod ScheduledCalls
 pub mod ActionResult

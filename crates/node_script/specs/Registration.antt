@@ -1,25 +1,29 @@
 -- Which handler of a job has which index.
 -- Origin: GASNet 1.8.1, core API, the table of handlers; in which order the indexes are given is this project's
 -- profile.
-use Rattle.std.specs.Prelude.{ℕ, ◌==◌, Bool, true, false, not, List, [], ◌∷◌, ◌++◌, Option, Result, Ok, Err}
+use Rattle.std.specs.Prelude.{ℕ, ◌==◌, is_some, Bool, true, false, not, List, [], ◌∷◌, ◌++◌, Option, Result, Ok, Err}
 use Rattle.std.specs.Prelude.{if◌then◌else◌}
 use Rattle.std.specs.List.{filter, fold}
 use Rattle.handler_rules.specs.declared.table.Entry.{Entry}
 use Rattle.handler_rules.specs.declared.table.EntryFault.{EntryFault}
 use Rattle.handler_rules.specs.Registered.{no_entries, index_for, only, registering}
+use Rattle.collective_area.specs.Served.{collective_handler}
+use Rattle.handler_rules.specs.declared.serves.Serves.TheVariants as serves
 use Rattle.gas_atomic.specs.Served.{batch_entry, block_entry}
 use Rattle.job_text.specs.Locks.{listed_by}
 use Rattle.job_text.specs.declared.job.Action.{Action}
 use Rattle.job_text.specs.declared.job.HandlerText.{HandlerText}
 use Rattle.job_text.specs.declared.job.Job.{Job}
 
--- the handlers of a job: whether those of batches of atomic operations are among them, and the texts of its own
+-- the handlers of a job: whether those of batches of atomic operations are among them, whether that of collectives is,
+-- and the texts of its own
 pub record JobHandlers : Type 0 where
   pub atomics : Bool
+  pub collect : Bool
   pub texts : List HandlerText
 
 abbrev pub handlers_of : Job → JobHandlers
-handlers_of job = record { atomics = job.atomics; texts = job.handlers }
+handlers_of job = record { atomics = job.atomics; collect = is_some job.collect; texts = job.handlers }
 
 -- a table of handlers, and the bodies of those that are registered, with their indexes
 pub record Registry : Type 0 where
@@ -32,14 +36,23 @@ pub record Registry : Type 0 where
 abbrev pub with_entry : List (Option Entry) → Entry → List (Option Entry)
 with_entry table entry = registering table entry (index_for table entry.index)
 
--- the table at first: both handlers of batches are registered, where the job has atomics
-abbrev pub entries_first : (atomics : Bool) → List (Option Entry)
-entries_first false = no_entries
-entries_first true = with_entry (with_entry no_entries batch_entry) block_entry
+-- both handlers of batches are registered, where the job has atomics
+abbrev pub batch_entries : (atomics : Bool) → List (Option Entry)
+batch_entries false = no_entries
+batch_entries true = with_entry (with_entry no_entries batch_entry) block_entry
+
+-- the entry that the handler of collectives asks for
+abbrev pub collective_entry : Entry
+collective_entry = record { index = collective_handler; serves = serves.Requests; locks = 0 }
+
+-- the table at first: then that of collectives is registered, where the job has an area of them
+abbrev pub entries_first : (atomics collect : Bool) → List (Option Entry)
+entries_first atomics false = batch_entries atomics
+entries_first atomics true = with_entry (batch_entries atomics) collective_entry
 
 -- no handler of the job's own is registered
-abbrev pub registered_first : (atomics : Bool) → Registry
-registered_first atomics = record { table = entries_first atomics; bodies = [] }
+abbrev pub registered_first : (atomics collect : Bool) → Registry
+registered_first atomics collect = record { table = entries_first atomics collect; bodies = [] }
 
 -- ---- a job's own handlers
 
@@ -65,7 +78,7 @@ in_turn texts = filter (λ text. not (text.index == 0)) texts ++ filter (λ text
 
 -- all handlers of a job
 abbrev pub registered : JobHandlers → Registry
-registered handlers = fold register (registered_first handlers.atomics) (in_turn handlers.texts)
+registered handlers = fold register (registered_first handlers.atomics handlers.collect) (in_turn handlers.texts)
 
 -- the body of this index; none, which does nothing, for another one
 abbrev pub body_among : List (ℕ × List Action) → (index : ℕ) → List Action

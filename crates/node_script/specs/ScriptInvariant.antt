@@ -1,9 +1,11 @@
 -- What holds of each job that was made.
-use Rattle.std.specs.Prelude.{◌≡◌, ℕ, ◌<◌, ◌≤◌, length, List, Option, Some, slice_get}
+use Rattle.std.specs.Prelude.{◌≡◌, true, is_some, ℕ, ◌<◌, ◌≤◌, length, List, Option, Some, slice_get}
 use Rattle.datagram_grammar.specs.Parameters.{Parameters}
 use Rattle.handler_rules.specs.declared.table.Entry.{Entry}
 use Rattle.node_script.specs.Registration.{JobHandlers, registered}
 use Rattle.node_script.specs.ScheduledCalls.{IsGiven}
+use Rattle.job_text.specs.CollectAreas.{IsCollectOrNone}
+use Rattle.job_text.specs.declared.job.CollectArea.{CollectArea}
 use Rattle.job_text.specs.JobReading.{lines_of}
 use Rattle.job_text.specs.declared.job.ScheduledEvent.{ScheduledEvent}
 use Rattle.job_text.specs.declared.job.ScheduledEvent.TheVariants as scheduled
@@ -23,6 +25,7 @@ abbrev pub IsWithin : Parameters → ScheduledEvent → Type 0
 IsWithin settings (scheduled.Call node thread call) =
     (node < settings.nodes) × (thread < settings.threads) × IsGiven call
 IsWithin settings (scheduled.Vis node thread vis) = (node < settings.nodes) × MayBegin settings thread vis
+IsWithin settings (scheduled.Collective node thread call) = (node < settings.nodes) × (thread < settings.threads)
 IsWithin settings (scheduled.Request from to number) = (from < settings.nodes) × (to < settings.nodes)
 IsWithin settings (scheduled.Reply from to number) = (from < settings.nodes) × (to < settings.nodes)
 IsWithin settings (scheduled.Tick node) = node < settings.nodes
@@ -33,9 +36,22 @@ abbrev pub AreWithin : Parameters → List TimedEvent → Type 0
 AreWithin settings events =
     (place : ℕ) (timed : TimedEvent) → slice_get events place ≡ Some timed → IsWithin settings timed.event
 
--- the table is the one in which the handlers are registered, and the nodes and threads that the lines of the schedule
--- name are there
-pub record IsMade (settings : Parameters) (handlers : JobHandlers) (table : List (Option Entry))
-    (schedule : Option (List TimedEvent)) : Type 0 where
+-- a call of collectives stands only where the job has an area of them
+abbrev pub MayCollect : Option CollectArea → ScheduledEvent → Type 0
+MayCollect collect (scheduled.Collective node thread call) = is_some collect ≡ true
+MayCollect collect event = Unit {0}
+
+-- so it is in each line
+abbrev pub AllMayCollect : Option CollectArea → List TimedEvent → Type 0
+AllMayCollect collect events =
+    (place : ℕ) (timed : TimedEvent) → slice_get events place ≡ Some timed → MayCollect collect timed.event
+
+-- the table is the one in which the handlers are registered, that of collectives exactly where the job has an area of
+-- them, which it may have; and the nodes and threads that the lines of the schedule name are there
+pub record IsMade (settings : Parameters) (collect : Option CollectArea) (handlers : JobHandlers)
+    (table : List (Option Entry)) (schedule : Option (List TimedEvent)) : Type 0 where
   pub table_is : table ≡ (registered handlers).table
+  pub collect_is : handlers.collect ≡ is_some collect
+  pub area : IsCollectOrNone settings collect
+  pub may_collect : AllMayCollect collect (lines_of schedule)
   pub within : AreWithin settings (lines_of schedule)

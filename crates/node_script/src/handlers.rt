@@ -3,12 +3,13 @@
 ghost use Rattle.std.specs.Prelude.{◌≡◌, IfOk, List, None, Some, length, replicate, slice_get};
 ghost use Rattle.job_text.specs.declared.job.HandlerText.{HandlerText};
 ghost use Rattle.handler_rules.specs.Registered.{no_entries};
-ghost use Rattle.node_script.specs.Bodies.{is_for_batches};
-ghost use Rattle.node_script.specs.Registration.{JobHandlers, body_for, entries_first, entry_of, register};
-ghost use Rattle.node_script.specs.Registration.{registered};
+ghost use Rattle.node_script.specs.Bodies.{is_for_batches, is_for_collectives};
+ghost use Rattle.node_script.specs.Registration.{JobHandlers, batch_entries, body_for, entries_first, entry_of};
+ghost use Rattle.node_script.specs.Registration.{register, registered};
 ghost use Rattle.node_script.specs.Places.{ArePlaced, AtRegistering, body_at, place_at, placing, register_turn};
 
 use crate::body::do_all;
+use collective_area::{entry, serve as serve_collective};
 use gas_atomic::{BATCH_HANDLER, BLOCK_HANDLER, entries, serve};
 use handler_rules::{Cells, Desk, Entry, Handlers, Serves, Table};
 use job_text::{Action, HandlerText, HandlerTexts};
@@ -22,11 +23,24 @@ const LOWEST: u8 = 128;
 /// How many indexes a client's handlers have.
 const PLACES: usize = 128;
 
-/// The handlers of a job, each with the actions of its body; and those of batches of atomic operations, where the job
-/// has them.
+/// The index of the handler of collectives.
+const COLLECTIVE_HANDLER: u8 = 254;
+
+/// Which handlers of services a job has.
+#[derive(Clone, Copy)]
+pub(crate) struct Services {
+    /// Those of batches of atomic operations.
+    pub atomics: bool,
+    /// That of collectives.
+    pub collect: bool,
+}
+
+/// The handlers of a job, each with the actions of its body; those of batches of atomic operations and that of
+/// collectives, where the job has them.
 #[derive(Drop)]
 pub struct ScriptHandlers {
     atomics: bool,
+    collect: bool,
     texts: HandlerTexts,
     /// For each index from 128 to 255 the place among the texts of the one that is registered for it.
     places: Vec<Option<usize>>,
@@ -38,36 +52,40 @@ impl Model for ScriptHandlers {
 
     ghost Value = { JobHandlers };
 
-    ghost view = { λ h. record { atomics = h.atomics; texts = h.texts } };
+    ghost view = { λ h. record { atomics = h.atomics; collect = h.collect; texts = h.texts } };
 
     ghost invariant = { λ h.
-        AreBodies (record { atomics = h.atomics; texts = h.texts }) h.places.items };
+        AreBodies (record { atomics = h.atomics; collect = h.collect; texts = h.texts })
+        h.places.items };
 }
 
 impl ScriptHandlers {
     /// These handlers, and the table in which they are registered: first those of batches, where the job has atomics,
-    /// then those with an index of their own, in order, and then those that ask for any. One whose index is refused
-    /// isn't registered, and never runs.
+    /// and that of collectives, where it has an area of them; then those with an index of their own, in order, and then
+    /// those that ask for any. One whose index is refused isn't registered, and never runs.
     ///
     /// It is refused for want of memory alone.
     pub(crate) fn new(
         alloc: Global,
-        atomics: bool,
+        services: Services,
         texts: HandlerTexts,
     ) -> Result<(ScriptHandlers, Table), AllocError>
-        ensures handlers { IfOk result (λ made.
-            made.0 ≡ record { atomics = atomics; texts = texts }) }
-        ensures table { let handlers : JobHandlers = record { atomics = atomics; texts = texts } in
+        ensures handlers { IfOk result (λ made. made.0
+            ≡ record { atomics = services.atomics; collect = services.collect; texts = texts }) }
+        ensures table { let handlers : JobHandlers =
+            record { atomics = services.atomics; collect = services.collect; texts = texts } in
             IfOk result (λ made. made.1 ≡ (registered handlers).table) }
     {
         let mut table = Table::new(alloc)?;
         let mut places = [None; PLACES];
-        register_first(atomics, &mut table);
-        register_all(atomics, texts.texts(), &mut table, &mut places);
+        register_first(services, &mut table);
+        register_all(services, texts.texts(), &mut table, &mut places);
         let places = Vec::from_array(alloc, places)?;
+        let Services { atomics, collect } = services;
         Ok((
             ScriptHandlers {
                 atomics,
+                collect,
                 texts,
                 places,
             },
@@ -80,6 +98,13 @@ impl ScriptHandlers {
         ensures { result ≡ is_for_batches self.now index }
     {
         self.atomics && (index == BATCH_HANDLER || index == BLOCK_HANDLER)
+    }
+
+    /// Whether the handler of this index is that of collectives.
+    fn is_for_collectives(&self, index: u8) -> bool
+        ensures { result ≡ is_for_collectives self.now index }
+    {
+        self.collect && index == COLLECTIVE_HANDLER
     }
 
     /// The actions of the handler of the job's own of this index; none where there is no such handler.
@@ -115,9 +140,9 @@ fn actions_at(texts: &[HandlerText], place: Option<usize>) -> &[Action]
 }
 
 /// Registers both handlers of batches, where the job has atomics.
-fn register_first(atomics: bool, table: &mut Table)
+fn register_batches(atomics: bool, table: &mut Table)
     requires { table.old ≡ no_entries }
-    ensures { table.new ≡ entries_first atomics }
+    ensures { table.new ≡ batch_entries atomics }
 {
     if atomics {
         let entries = entries();
@@ -126,18 +151,32 @@ fn register_first(atomics: bool, table: &mut Table)
     }
 }
 
+/// Registers the handlers of the services that the job has.
+fn register_first(services: Services, table: &mut Table)
+    requires { table.old ≡ no_entries }
+    ensures { table.new ≡ entries_first services.atomics services.collect }
+{
+    register_batches(services.atomics, table);
+    if services.collect {
+        let _ = table.register(entry());
+    }
+}
+
 /// Registers all of the job's own in their turns: first those with an index of their own, and then those that ask for
 /// any.
 fn register_all(
-    atomics: bool,
+    services: Services,
     texts: &[HandlerText],
     table: &mut Table,
     places: &mut [Option<usize>],
 )
-    requires table { table.old ≡ entries_first atomics }
+    requires table { table.old ≡ entries_first services.atomics services.collect }
     requires places { places.old ≡ replicate 128 None }
-    ensures { ArePlaced texts.now (registered (record { atomics = atomics; texts = texts.now }))
-        table.new places.new }
+    ensures { ArePlaced texts.now (registered (record {
+          atomics = services.atomics;
+          collect = services.collect;
+          texts = texts.now;
+        })) table.new places.new }
 {
     register_those(texts, false, table, places);
     register_those(texts, true, table, places);
@@ -192,6 +231,8 @@ impl Handlers for ScriptHandlers {
     fn run(&self, handler: u8, segment: &mut Segment, cells: &mut Cells, desk: &mut Desk<'_>) {
         if self.is_for_batches(handler) {
             serve(handler, segment, desk);
+        } else if self.is_for_collectives(handler) {
+            serve_collective(segment, desk);
         } else {
             do_all(self.actions(handler), segment, cells, desk);
         }

@@ -11,7 +11,8 @@
 //!   theirs, and a reply is one that was let through.
 //! - `write_answer` writes a line: a number, and the words of an answer (`answer_words`) by the numbers at the
 //!   endpoint's slots and its segment, for every record for which the endpoint stands; at a fault of the sink a prefix
-//!   of it; `write_vis` that of how a transfer of many pieces began (`vis_words`). `write_line` writes any line.
+//!   of it; `write_vis` that of how a transfer of many pieces began (`vis_words`), `write_collective` that of a call of
+//!   collectives (`collective_words`). `write_line` writes any line.
 #![tactic(auto)]
 
 mod answer_texts;
@@ -21,6 +22,7 @@ mod body;
 mod body_bytes;
 mod body_numbers;
 mod body_replies;
+mod collective_texts;
 mod handlers;
 mod line;
 mod line_text;
@@ -32,6 +34,7 @@ mod transfer_texts;
 pub use answer_words::{lock_fault_word, rule_word};
 pub use answers::{write_answer, write_vis};
 pub use body_numbers::value_of;
+pub use collective_texts::{CollectiveAnswer, write_collective};
 pub use handlers::ScriptHandlers;
 pub use line::{call_of, some_of, transfer_of};
 pub use line_writer::write_line;

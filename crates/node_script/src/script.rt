@@ -1,16 +1,17 @@
 //! A job as it is run.
 
-ghost use Rattle.std.specs.Prelude.{◌≡◌, IfOk, IfSome, length, slice_get};
+ghost use Rattle.std.specs.Prelude.{◌≡◌, IfOk, IfSome, length, slice_get, is_some};
 ghost use Rattle.std.specs.Option.{option_map};
+ghost use Rattle.collective_area.specs.Area.{IsArea};
 ghost use Rattle.job_text.specs.JobReading.{lines_of};
 ghost use Rattle.job_text.specs.JobText.{IsJob};
 ghost use Rattle.node_script.specs.Registration.{handlers_of, registered};
-ghost use Rattle.node_script.specs.ScriptInvariant.{IsWithin};
+ghost use Rattle.node_script.specs.ScriptInvariant.{IsWithin, MayCollect};
 
-use crate::handlers::ScriptHandlers;
+use crate::handlers::{ScriptHandlers, Services};
 use datagram_grammar::Settings;
 use handler_rules::Table;
-use job_text::{Job, NodeScript, NodeScripts, Schedule, SieveRule, TimedEvent};
+use job_text::{CollectArea, Job, NodeScript, NodeScripts, Schedule, SieveRule, TimedEvent};
 use std::alloc::{AllocError, Global};
 use std::marker::Model;
 
@@ -20,6 +21,7 @@ pub struct Script {
     settings: Settings,
     patience: u32,
     sieve: SieveRule,
+    collect: Option<CollectArea>,
     handlers: ScriptHandlers,
     /// The table in which the handlers are registered.
     table: Table,
@@ -38,13 +40,14 @@ impl Model for Script {
       patience = script.patience;
       sieve = script.sieve;
       atomics = script.handlers.atomics;
+      collect = script.collect;
       handlers = script.handlers.texts;
       scripts = script.scripts;
       schedule = script.schedule;
     } };
 
     ghost invariant = { λ script.
-        IsMade script.settings script.handlers script.table script.schedule };
+        IsMade script.settings script.collect script.handlers script.table script.schedule };
 }
 
 impl Script {
@@ -60,15 +63,21 @@ impl Script {
             patience,
             sieve,
             atomics,
+            collect,
             handlers,
             scripts,
             schedule,
         } = job;
-        let (handlers, table) = ScriptHandlers::new(alloc, atomics, handlers)?;
+        let services = Services {
+            atomics,
+            collect: collect.is_some(),
+        };
+        let (handlers, table) = ScriptHandlers::new(alloc, services, handlers)?;
         Ok(Script {
             settings,
             patience,
             sieve,
+            collect,
             handlers,
             table,
             scripts,
@@ -95,6 +104,19 @@ impl Script {
         ensures { result ≡ self.now.sieve }
     {
         self.sieve
+    }
+
+    /// Where the area of collectives begins in each segment, and the room for data of each of its parts, in bytes; none
+    /// exactly where the job has no area of them. Each segment has the area.
+    pub fn collect(&self) -> Option<(u64, u64)>
+        ensures area { result ≡ option_map (λ area. (area.base, area.room)) self.now.collect }
+        ensures inside { IfSome result (λ at. IsArea self.now.settings.segment
+            (record { nodes = self.now.settings.nodes; base = at.0; room = at.1 })) }
+    {
+        match self.collect {
+            Some(area) => Some((area.base, area.room)),
+            None => None,
+        }
     }
 
     /// The handlers.
@@ -132,6 +154,7 @@ impl Script {
     pub fn timed(&self, i: usize) -> Option<&TimedEvent>
         ensures line { option_map (λ e. e.now) result ≡ slice_get (lines_of self.now.schedule) i }
         ensures within { IfSome result (λ e. IsWithin self.now.settings e.now.event) }
+        ensures collect { IfSome result (λ e. MayCollect self.now.collect e.now.event) }
     {
         line_at(&self.schedule, i)
     }

@@ -18,3 +18,6 @@ returns-in-Tick g c = λ nodes threads. rw c.in-Tick.is c.write-in-Tick.ensures
 
 pub returns-in-Settle : goal.returns-in-Settle
 returns-in-Settle g c = λ nodes threads. rw c.in-Settle.is c.write-in-Settle.ensures
+
+pub returns-in-Collective : goal.returns-in-Collective
+returns-in-Collective g c = λ nodes threads. rw c.in-Collective.is (c.write_thread_collective.ensures nodes threads)

@@ -27,8 +27,8 @@ returns-in-Fault-write_atomics g c =
     (rw c.pairs.ensures at c.in_default-write_pairs.ensures))
     c.in-Fault-write_atomics.ensures
 
-pub returns-in-Fault-write_handlers : goal.returns-in-Fault-write_handlers
-returns-in-Fault-write_handlers g c =
+pub returns-in-Fault-write_collect : goal.returns-in-Fault-write_collect
+returns-in-Fault-write_collect g c =
     past_fault _ _ _ _ _ _ _ refl
     (past_done _ _ _ _ _ _ _ refl
     (past_done _ _ _ _ _ _ _ refl
@@ -37,6 +37,20 @@ returns-in-Fault-write_handlers g c =
     c.in_default.ensures)
     (rw c.pairs.ensures at c.in_default-write_pairs.ensures))
     c.in_default-write_atomics.ensures)
+    c.in-Fault-write_collect.ensures
+
+pub returns-in-Fault-write_handlers : goal.returns-in-Fault-write_handlers
+returns-in-Fault-write_handlers g c =
+    past_fault _ _ _ _ _ _ _ refl
+    (past_done _ _ _ _ _ _ _ refl
+    (past_done _ _ _ _ _ _ _ refl
+    (past_done _ _ _ _ _ _ _ refl
+    (past_done _ _ _ _ _ _ _ (text_parts c.args.job.now)
+    (nothing_yet _ _)
+    c.in_default.ensures)
+    (rw c.pairs.ensures at c.in_default-write_pairs.ensures))
+    c.in_default-write_atomics.ensures)
+    c.in_default-write_collect.ensures)
     (rw c.texts.ensures at c.in-Fault-write_handlers.ensures)
 
 pub returns-in-Fault-write_scripts : goal.returns-in-Fault-write_scripts
@@ -45,11 +59,13 @@ returns-in-Fault-write_scripts g c =
     (past_done _ _ _ _ _ _ _ refl
     (past_done _ _ _ _ _ _ _ refl
     (past_done _ _ _ _ _ _ _ refl
+    (past_done _ _ _ _ _ _ _ refl
     (past_done _ _ _ _ _ _ _ (text_parts c.args.job.now)
     (nothing_yet _ _)
     c.in_default.ensures)
     (rw c.pairs.ensures at c.in_default-write_pairs.ensures))
     c.in_default-write_atomics.ensures)
+    c.in_default-write_collect.ensures)
     (rw c.texts.ensures at c.in_default-write_handlers.ensures))
     (rw c.scripts.ensures at c.in-Fault-write_scripts.ensures)
 
@@ -60,11 +76,13 @@ returns-in-Fault-write_schedule g c =
     (past_done _ _ _ _ _ _ _ refl
     (past_done _ _ _ _ _ _ _ refl
     (past_done _ _ _ _ _ _ _ refl
+    (past_done _ _ _ _ _ _ _ refl
     (past_done _ _ _ _ _ _ _ (text_parts c.args.job.now)
     (nothing_yet _ _)
     c.in_default.ensures)
     (rw c.pairs.ensures at c.in_default-write_pairs.ensures))
     c.in_default-write_atomics.ensures)
+    c.in_default-write_collect.ensures)
     (rw c.texts.ensures at c.in_default-write_handlers.ensures))
     (rw c.scripts.ensures at c.in_default-write_scripts.ensures))
     (c.in-Fault-write_schedule.ensures (c.args.job.now).settings)
@@ -77,11 +95,13 @@ returns g c =
     (past_done _ _ _ _ _ _ _ refl
     (past_done _ _ _ _ _ _ _ refl
     (past_done _ _ _ _ _ _ _ refl
+    (past_done _ _ _ _ _ _ _ refl
     (past_done _ _ _ _ _ _ _ (text_parts c.args.job.now)
     (nothing_yet _ _)
     c.in_default.ensures)
     (rw c.pairs.ensures at c.in_default-write_pairs.ensures))
     c.in_default-write_atomics.ensures)
+    c.in_default-write_collect.ensures)
     (rw c.texts.ensures at c.in_default-write_handlers.ensures))
     (rw c.scripts.ensures at c.in_default-write_scripts.ensures))
     (c.in_default-write_schedule.ensures (c.args.job.now).settings))

@@ -40,3 +40,6 @@ returns-in-BarrierWait g c =
 
 pub returns-in-UntilWord : goal.returns-in-UntilWord
 returns-in-UntilWord g c = rw c.in-UntilWord.is c.write-in-UntilWord.ensures
+
+pub returns-in-Collective : goal.returns-in-Collective
+returns-in-Collective g c = rw c.in-Collective.is c.write_coll.ensures

@@ -1,0 +1,30 @@
+//! Lines that are calls of collectives.
+
+ghost use Rattle.gas_outside.specs.Buffered.{GathersAll, outbox};
+ghost use Rattle.job_text.specs.CollectiveLines.{collective_text};
+
+use crate::forms::write;
+use crate::words::Word;
+use gas_outside::{BufferedSink, Sink, Wrote};
+use job_text::CollectiveText;
+
+/// Writes the words of such a line.
+pub(crate) fn write_collective<K: Sink>(call: &CollectiveText, sink: &mut BufferedSink<K>) -> Wrote
+    ensures { GathersAll (outbox K.taken K.faults sink.old) (outbox K.taken K.faults sink.new)
+        (collective_text call.now) result }
+{
+    use Word::{Collective, U16, U64};
+    match *call {
+        CollectiveText::Start { shape, from } => {
+            let words = [
+                Collective(shape.kind),
+                U16(shape.root),
+                U64(from),
+                U64(shape.len),
+            ];
+            write(b"coll-start", &words, sink)
+        }
+        CollectiveText::Step => write(b"coll-step", &[], sink),
+        CollectiveText::Try { dest } => write(b"coll-try", &[U64(dest)], sink),
+    }
+}
