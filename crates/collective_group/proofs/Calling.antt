@@ -55,8 +55,15 @@ step_runs : (job : EndpointJob) (area : Area) (now node thread to many : ℕ) (g
     → (step_from job area group now node thread to many).1.records
     ≡ run job (calls_from job area group now node thread to many) group.records
 step_runs job area now node thread to zero group = refl
-step_runs job area now node thread to (suc many) group = by_left (is_left node to (group.progress node))
+step_runs job area now node thread to (suc many) group =
+    by_left (λ later. step_runs job area now node thread (suc to) many later) (is_left node to (group.progress node))
   where
+    -- what is known of the next nodes
+    Again : Type 0
+    Again =
+        (later : Group) → (step_from job area later now node thread (suc to) many).1.records
+        ≡ run job (calls_from job area later now node thread (suc to) many) later.records
+
     event : Timed OtherCall
     event = timed now (Asks node (step_ask area node thread to (group.progress node)))
 
@@ -77,20 +84,19 @@ step_runs job area now node thread to (suc many) group = by_left (is_left node t
           thread (suc to) many
     ]
 
-    by_goes : (goes : StepGoes) → (does goes).1.records ≡ run job (calls goes) records
-    by_goes (Stops answer progress) = refl
-    by_goes (GoesOn progress) =
-        step_runs job area now node thread (suc to) many (with_progress (record group { records = records }) node progress)
+    by_goes : Again → (goes : StepGoes) → (does goes).1.records ≡ run job (calls goes) records
+    by_goes again (Stops answer progress) = refl
+    by_goes again (GoesOn progress) = again (with_progress (record group { records = records }) node progress)
 
     goes_now : StepGoes
     goes_now = step_goes (group.progress node) to (asked_in (world_answer job group.records event))
 
-    by_left : (left : Bool)
+    by_left : Again → (left : Bool)
         → (if left then does goes_now else step_from job area group now node thread (suc to) many).1.records
         ≡ run job (if left then event ∷ calls goes_now else calls_from job area group now node thread (suc to) many)
         group.records
-    by_left true = by_goes goes_now
-    by_left false = step_runs job area now node thread (suc to) many group
+    by_left again true = by_goes again goes_now
+    by_left again false = again group
 
 step_whole : (job : EndpointJob) (area : Area) (group : Group) (now node thread among : ℕ) (opened : Bool)
     → (if opened then step_from job area group now node thread 0 among else (step_answers.Nothing, group)).1.records

@@ -122,7 +122,7 @@ started_others job group node shape from records (start_answers.Forbidden forbid
 started_others job group node shape from records (start_answers.LockBusy lock) other apart = refl
 started_others job group node shape from records start_answers.NoMemory other apart = refl
 
-started_records : (job : EndpointJob) (group : Group) (node : ℕ) (shape : Shape) (from : ℕ) (records : Records)
+pub started_records : (job : EndpointJob) (group : Group) (node : ℕ) (shape : Shape) (from : ℕ) (records : Records)
     (answer : StartAnswer) → (started_group job group node shape from answer records).records ≡ records
 started_records job group node shape from records start_answers.Started = refl
 started_records job group node shape from records start_answers.Busy = refl

@@ -4,7 +4,7 @@ use Rattle.std.specs.Prelude.{true}
 use Rattle.endpoint_rules.specs.EndpointLocal.{nothing_begun}
 use Rattle.endpoint_rules.specs.EndpointRules.{OtherCall, Records, RecordsEvent, at_the_opening, timed}
 use Rattle.std.specs.List.{AllByRecursion}
-use Rattle.plain_world.specs.World.{Timed, IsAmong, run}
+use Rattle.plain_world.specs.World.{Timed, IsAmong}
 use Rattle.gas_world.specs.Settling.{WorldJob}
 use Rattle.plain_world.specs.Headline.{Headline, IsGreatest, after_first}
 use Rattle.transfer_laws.specs.TransferLaws.{TransfersHold}
@@ -15,7 +15,7 @@ use Rattle.job_text.specs.declared.job.Job.{Job as JobState}
 use Rattle.node_script.specs.Bodies.{script_meaning}
 use Rattle.node_script.specs.Lines.{Line}
 use Rattle.node_script.specs.Registration.{handlers_of, registered}
-use Rattle.world_run.specs.Schedules.{line_events, scheduled_event, world_job}
+use Rattle.world_run.specs.Schedules.{Nodes, line_events, nodes_after, opening_nodes, scheduled_event, world_job}
 use Rattle.job_text.specs.JobReading.{lines_of}
 use Rattle.job_text.specs.declared.job.ScheduledEvent.{ScheduledEvent}
 use Rattle.job_text.specs.declared.job.ScheduledEvent.TheVariants as scheduled
@@ -29,16 +29,15 @@ abbrev pub records_at : JobState → (count : ℕ) → Records
 records_at job count = after_first (world_job job) (run_events job) (at_the_opening job.settings) count
 
 -- how many events the lines before that one have
-abbrev pub events_before : WorldJob → List TimedEvent → Records → (line : ℕ) → ℕ
-events_before job [] w line = 0
-events_before job (e ∷ es) w zero = 0
-events_before job (e ∷ es) w (suc line) =
-    let events = line_events job w e.time e.event in
-    length events + events_before job es (run job events w) line
+abbrev pub events_before : WorldJob → List TimedEvent → Nodes → (line : ℕ) → ℕ
+events_before job [] nodes line = 0
+events_before job (e ∷ es) nodes zero = 0
+events_before job (e ∷ es) nodes (suc line) =
+    length (line_events job nodes e.time e.event) + events_before job es (nodes_after job nodes e) line
 
 -- the place of the event of a line of a job's schedule among the events of its run
 abbrev pub event_place : JobState → (line : ℕ) → ℕ
-event_place j line = events_before (world_job j) (lines_of j.schedule) (at_the_opening j.settings) line
+event_place j line = events_before (world_job j) (lines_of j.schedule) (opening_nodes j) line
 
 -- a line of the schedule, counted from 0, that is one event: where the event stands in the run, and that the line of
 -- the output at its place says its number and the answer to it there
@@ -51,9 +50,11 @@ pub record IsTold (job : JobState) (line : ℕ) (entry : TimedEvent) : Type 0 wh
   pub told : slice_get (run_lines job) line
       ≡ Some (decimal (line + 1) ∷ event_words (world_job job) (records_at job place) (timed entry.time event))
 
--- the line is one event, and not rounds of them, nor the calls that begin a transfer of many pieces
+-- the line is one event, and not rounds of them, nor the calls that begin a transfer of many pieces or that a call of a
+-- collective makes
 abbrev pub IsOneEvent : ScheduledEvent → Type 0
 IsOneEvent (scheduled.Vis node thread vis) = ⊥
+IsOneEvent (scheduled.Collective node thread call) = ⊥
 IsOneEvent (scheduled.Settle rounds) = ⊥
 IsOneEvent _ = Unit {0}
 

@@ -1,6 +1,8 @@
 use Rattle.std.proofs.Common.{◌≡◌, ◌<◌, List, [], ◌∷◌, length, refl, ap, subst, ◌∙◌, arith}
 use Rattle.std.specs.Prelude.{slice_set}
 use Rattle.handler_rules.specs.Runs.{Meaning}
+use Rattle.gas_world.specs.Events.{job_in}
+use Rattle.plain_world.specs.MostHeld.{most_after}
 use Rattle.node_caller.specs.Making.{whole_after}
 use Rattle.node_caller.specs.Sites.{Site, ThreadCall}
 use Rattle.world_caller.specs.Wholes.{WorldWhole, whole_then}
@@ -8,6 +10,8 @@ use Rattle.world_caller.specs.contracts.at_node.AtNodeCaller.TheImpl.{ghosts}
 use Rattle.gas_collectives.specs.Ends.{EndAsked}
 use Rattle.collective_laws.specs.Groups.{End, GroupEvent, OfEnd}
 use Rattle.collective_group.specs.GroupState.{GroupState}
+use Rattle.collective_group.specs.CallsOf.{calls_of}
+use Rattle.collective_group.specs.Histories.{left_by}
 use Rattle.collective_group.specs.Standing.{Does}
 use Rattle.collective_group.proofs.Ending.{after_calls, end_came, end_does, long_at}
 use Rattle.collective_group.proofs.Growing.{grows, tells}
@@ -89,8 +93,13 @@ returns-clause-history g c = λ history is.
           ∙ ap (λ (one : GroupState). one.world.settings) c.self.view_is;
       table = ap (λ (site : Site). site.table) c.try_end.ensures.same_site
           ∙ ap (λ (one : GroupState). one.world.table) c.self.view_is;
-    }) is c.requires.node
-    (_, (returns-clause-does g c history.area _ is.is_left.0 is.is_left.1).1)
+    }) is c.requires.node (
+      most_after (job_in meaning c.args.self.now.world)
+          (calls_of (job_in meaning c.args.self.now.world) history.area (left_by meaning c.args.self.now history)
+          (End c.args.now c.args.node c.args.thread c.args.dest)) (left_by meaning c.args.self.now history).records
+          is.is_left.0,
+      (returns-clause-does g c history.area (left_by meaning c.args.self.now history) is.is_left.0 is.is_left.1).1,
+    )
 
 pub returns-clause-law : goal.returns-clause-law
 returns-clause-law g c = λ history is there.
