@@ -1,7 +1,9 @@
 pub mod LinesWritten
+pub mod LinesRun
 pub mod Halfway
 pub mod ScheduleRuns
 pub mod CallsAmong
+pub mod CollectivesAmong
 pub mod ScheduleLines
 pub mod ScheduleAmong
 pub mod ToldAnswers
@@ -9,3 +11,5 @@ pub mod LinesTell
 pub mod RunLaws
 pub mod Newest
 pub mod EndText
+pub mod Collecting
+pub mod KeptNodes

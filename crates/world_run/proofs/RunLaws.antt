@@ -2,7 +2,6 @@
 use Rattle.datagram_grammar.specs.Parameters.{AreInRange}
 use Rattle.endpoint_rules.specs.EndpointLocal.{nothing_begun}
 use Rattle.plain_world.specs.Headline.{Headline}
-use Rattle.endpoint_rules.specs.EndpointRules.{at_the_opening}
 use Rattle.transfer_laws.proofs.Laws.{transfers_hold}
 use Rattle.barrier_laws.proofs.Laws.{barrier_holds}
 use Rattle.strided_laws.proofs.PairsDone.{pairs_are_done}
@@ -17,7 +16,7 @@ use Rattle.job_text.specs.declared.job.Job.{Job as JobState}
 use Rattle.node_script.specs.LawfulBodies.{lawful-script}
 use Rattle.node_script.specs.ScriptInvariant.{AreWithin}
 use Rattle.node_script.specs.Registration.{handlers_of, registered}
-use Rattle.world_run.specs.Schedules.{world_job}
+use Rattle.world_run.specs.Schedules.{opening_nodes, world_job}
 use Rattle.world_run.specs.RunText.{run_events}
 use Rattle.world_run.specs.RunLaws.{RunLaws}
 use Rattle.world_run.proofs.ScheduleAmong.{lines_among}
@@ -29,12 +28,12 @@ run_headline : (j : JobState) → AreInRange j.settings → AreWithin j.settings
 run_headline j range within =
     headline j.settings (registered (handlers_of j)).table (script_meaning (handlers_of j)) (run_events j) range
     (lawful-script (handlers_of j))
-    (lines_among (world_job j) (lines_of j.schedule) (at_the_opening j.settings) within)
+    (lines_among (world_job j) (lines_of j.schedule) (opening_nodes j) within)
 
 -- and all laws do
 pub laws_within : (j : JobState) → AreInRange j.settings → AreWithin j.settings (lines_of j.schedule) → RunLaws j
 laws_within j range within = record {
-  among = lines_among (world_job j) (lines_of j.schedule) (at_the_opening j.settings) within;
+  among = lines_among (world_job j) (lines_of j.schedule) (opening_nodes j) within;
   headline = run_headline j range within;
   told = lines_tell j;
   rise = places_rise j;

@@ -1,14 +1,14 @@
 //! The nodes of a run: their world, and the collectives of each.
 
-ghost use Rattle.std.specs.Prelude.{◌≡◌, ◌<◌, IfOk};
+ghost use Rattle.std.specs.Prelude.{◌≡◌, ◌<◌, IfOk, is_some, length, true};
 ghost use Rattle.gas_world.specs.Events.{job_in};
-ghost use Rattle.job_text.specs.JobText.{IsJob};
 ghost use Rattle.node_script.specs.Registration.{handlers_of, registered};
 ghost use Rattle.collective_laws.specs.Groups.{End, OfEnd, Start, Step};
-ghost use Rattle.collective_group.specs.GroupState.{IsGroup};
+ghost use Rattle.collective_group.specs.GroupState.{AreAt, IsGroup};
+ghost use Rattle.collective_group.specs.Opening.{AreIdle};
 ghost use Rattle.collective_group.specs.Standing.{Does, DoesStart, DoesStep, StandsFor};
 ghost use Rattle.world_run.specs.ScheduleRun.{Collects, HaveCollectives, kept};
-ghost use Rattle.world_run.specs.Schedules.{opening_nodes};
+ghost use Rattle.world_run.specs.Schedules.{area_in, opening_nodes};
 
 use crate::schedule_line::CollectiveCall;
 use collective_area::Shape;
@@ -30,20 +30,30 @@ pub struct Nodes {
     pub collectives: Vec<Collectives>,
 }
 
+/// The collectives of each node of a job, none of which has started one; none where the job has none.
+fn collectives_of(alloc: Global, script: &Script) -> Result<Vec<Collectives>, AllocError>
+    ensures count { IfOk result (λ nodes. is_some script.now.collect ≡ true
+        → length nodes.items ≡ script.now.settings.nodes) }
+    ensures at { IfOk result (λ nodes. AreAt script.now.settings nodes.items) }
+    ensures idle { IfOk result (λ nodes.
+        AreIdle (area_in script.now.settings.nodes script.now.collect) nodes.items) }
+{
+    match script.collect() {
+        Some((base, room)) => idle_nodes(alloc, script.settings(), base, room),
+        None => Ok(Vec::new(alloc)),
+    }
+}
+
 impl Nodes {
     /// The nodes of a job before its first line. Want of memory is the one error.
     pub fn new(alloc: Global, script: &Script) -> Result<Nodes, AllocError>
-        requires job { IsJob script.now }
         ensures settings { IfOk result (λ it. it.world.settings ≡ script.now.settings) }
         ensures table { IfOk result (λ it. it.world.table ≡ (registered (handlers_of script.now)).table) }
         ensures have { IfOk result (λ it. HaveCollectives script.now (kept it)) }
         ensures stands { IfOk result (λ it. StandsFor (kept it) (opening_nodes script.now).area
             (opening_nodes script.now).group (λ i. 0)) }
     {
-        let collectives = match script.collect() {
-            Some((base, room)) => idle_nodes(alloc, script.settings(), base, room)?,
-            None => Vec::new(alloc),
-        };
+        let collectives = collectives_of(alloc, script)?;
         let world = World::new(alloc, script.settings(), script.table())?;
         Ok(Nodes { world, collectives })
     }
