@@ -17,14 +17,15 @@ use Rattle.job_text.specs.Scripts.{step_text, IsStep}
 use Rattle.job_text.specs.Places.{Setting, Version, Nodes, Credits, Threads, Segment, Last, Resend, Patience}
 use Rattle.job_text.specs.Places as places
 use Rattle.job_text.specs.Places.{Place, AtSetting, AtSieve, AtPairs, AtHandlers, AtBody, AtScripts, AtSteps}
-use Rattle.job_text.specs.Places.{AtAtomics, atomics_text, AtSchedule, AtDone, Over}
+use Rattle.job_text.specs.Places.{AtAtomics, atomics_text, AtCollect, collect_text, AtSchedule, AtDone, Over}
+use Rattle.job_text.specs.CollectAreas.{IsCollect, IsCollectOrNone}
 use Rattle.job_text.specs.Scopes.{scope_of}
 use Rattle.job_text.specs.declared.scope.Scope.{Scope}
 use Rattle.job_text.specs.Places.{Named, Other, Item, item_text, IsItem, least, greatest, setting_fits, in_place}
 use Rattle.job_text.specs.JobReading.{State, least_job, start, with_number, behind_setting, with_body, with_handler}
 use Rattle.job_text.specs.JobReading.{with_steps, with_script, total_rounds, next, has_index, has_pair, has_thread}
 use Rattle.job_text.specs.JobReading.{rounds_of, is_full, is_reserved, most_handlers, with_atomics, front_with, read}
-use Rattle.job_text.specs.JobReading.{amounts_of, is_full_script, lines_of}
+use Rattle.job_text.specs.JobReading.{amounts_of, is_full_script, lines_of, with_collect}
 use Rattle.job_text.specs.PlanPieces.{most_pieces, event_pieces, schedule_pieces}
 use Rattle.job_text.specs.StepPieces.{step_pieces, steps_pieces}
 use Rattle.job_text.specs.PlanPieces.{scripts_pieces}
@@ -32,9 +33,11 @@ use Rattle.job_text.specs.JobText.{Line, spell, setting_line, sieve_line, pair_l
 use Rattle.job_text.specs.JobText.{script_lines, schedule_lines, head_lines, lines_with_pairs, lines_with_handlers}
 use Rattle.job_text.specs.JobText.{job_lines, job_text, IsHandler, IsNodeScript, AreThreads, IsScheduleOrNone}
 use Rattle.job_text.specs.JobText.{AreUnreserved, atomics_lines, lines_with_atomics, with_first_pairs, IsJob}
+use Rattle.job_text.specs.JobText.{collect_lines, lines_with_collect}
 use Rattle.job_text.specs.JobText.{number_of, all_settings, header_line, script_line, IsSchedule}
 use Rattle.job_text.specs.Refusals.{so_far}
 use Rattle.job_text.specs.declared.job.Action.{Action}
+use Rattle.job_text.specs.declared.job.CollectArea.{CollectArea}
 use Rattle.job_text.specs.declared.job.HandlerText.{HandlerText}
 use Rattle.job_text.specs.declared.job.Job.{Job}
 use Rattle.job_text.specs.declared.job.NodeScript.{NodeScript}
@@ -44,6 +47,7 @@ use Rattle.job_text.specs.declared.job.TimedEvent.{TimedEvent}
 use Rattle.job_text.specs.declared.schedules.Amounts.{Amounts}
 use Rattle.job_text.specs.declared.sections.Section.TheVariants as section
 use Rattle.job_text.proofs.Freshness.{AreFresh, AreNew, apart_fresh, fresh_to}
+use Rattle.job_text.proofs.AreaLaws.{collect_passes, collect_said}
 use Rattle.job_text.proofs.LockLaws.{AreLocks, listed_locks}
 use Rattle.job_text.proofs.LineRuns.{line_again, read_on, over_read}
 use Rattle.job_text.proofs.PlanPieces.{schedule_join, steps_join, scripts_join}
@@ -206,6 +210,7 @@ of_head job pairs = record {
   patience = job.patience;
   sieve = job.sieve;
   atomics = false;
+  collect = None;
   handlers = [];
   scripts = [];
   schedule = None;
@@ -399,7 +404,7 @@ pub record IsNext (settings : Parameters) (front : List PairCredits) (pair : Pai
   pub few : length front < 64
 
 pair_item : (settings : Parameters) (front : List PairCredits) (pair : PairCredits) → IsNext settings front pair
-    → IsItem AtPairs (record { settings = with_pairs settings front; atomics = false }) (Named pair)
+    → IsItem AtPairs (record { settings = with_pairs settings front; atomics = false; collect = false }) (Named pair)
 pair_item settings front pair n =
     let i = n.is in
     let sum : credits_in_all (in_place (with_pairs settings front) pair) ≤ 65536 = rw (← sum_beside
@@ -522,7 +527,7 @@ locks_said (lock ∷ locks) are = let high = are.0 in ((omega arith, omega arith
 
 -- a handler up to its end
 pub handler_begins : (h : HandlerText) (job : Job) → IsHandler h → has_index job.handlers h.index ≡ false
-    → is_reserved job.atomics h.index ≡ false → length job.handlers < most_handlers job.atomics
+    → is_reserved (scope_of job) h.index ≡ false → length job.handlers < most_handlers (scope_of job)
     → Reaches (record { place = AtHandlers; job = job }) (header_line h ∷ map action_text h.body)
     (record { place = AtBody h; job = job })
 handler_begins h job is new free few =
@@ -535,7 +540,7 @@ handler_begins h job is new free few =
         ((omega arith, high, omega arith), (tt, locks_said h.locks (listed_locks 0 h.locks is.locks))),
         and_from _ _ (index_test h.index is.index) is.locks,
       );
-      goes = rw (new, free, lt-leb (most_handlers job.atomics) (length job.handlers) few) refl;
+      goes = rw (new, free, lt-leb (most_handlers (scope_of job)) (length job.handlers) few) refl;
       behind = body_reach h [] h.body job is.actions is.count;
     }
 
@@ -543,17 +548,17 @@ abbrev pub with_handlers : Job → List HandlerText → Job
 with_handlers job handlers = record job { handlers = handlers }
 
 -- handlers of which the first ones stand
-abbrev pub MayFollow : (atomics : Bool) → (front rest : List HandlerText) → Type 0
-MayFollow atomics front rest = AllByRecursion IsHandler rest
-    × AreFresh (map (λ (x : HandlerText). x.index) front) rest × (length (front ++ rest) ≤ most_handlers atomics)
-    × AreUnreserved atomics rest
+abbrev pub MayFollow : Scope → (front rest : List HandlerText) → Type 0
+MayFollow scope front rest = AllByRecursion IsHandler rest
+    × AreFresh (map (λ (x : HandlerText). x.index) front) rest × (length (front ++ rest) ≤ most_handlers scope)
+    × AreUnreserved scope rest
 
 abbrev pub behind_front : Job → List HandlerText → State
 behind_front job front = record { place = AtHandlers; job = with_handlers job front }
 
 -- a handler behind others
 pub handler_opens : (job : Job) (front : List HandlerText) (h : HandlerText) (rest : List HandlerText)
-    → MayFollow job.atomics front (h ∷ rest)
+    → MayFollow (scope_of job) front (h ∷ rest)
     → Reaches (behind_front job front) (header_line h ∷ map action_text h.body)
     (record { place = AtBody h; job = with_handlers job front })
 handler_opens job front h rest may =
@@ -563,9 +568,9 @@ handler_opens job front h rest may =
     (omega (arith, many, few))
 
 next_handler : (job : Job) (front : List HandlerText) (h : HandlerText) (rest : List HandlerText)
-    → MayFollow job.atomics front (h ∷ rest)
+    → MayFollow (scope_of job) front (h ∷ rest)
     → Reaches (behind_front job front) (handler_lines h) (behind_front job (front ++ h ∷ []))
-    × MayFollow job.atomics (front ++ h ∷ []) rest
+    × MayFollow (scope_of job) (front ++ h ∷ []) rest
 next_handler job front h rest may =
     let begun : State = record { place = AtBody h; job = with_handlers job front } in
     let one = reach_join (behind_front job front) begun (behind_front job (front ++ h ∷ []))
@@ -574,22 +579,34 @@ next_handler job front h rest may =
     let indexes : map (λ (x : HandlerText). x.index) (front ++ h ∷ []) ≡ map (λ (x : HandlerText). x.index) front
     ++ h.index ∷ [] = map-append (λ (x : HandlerText). x.index) front (h ∷ []) in
     let fresh = subst (λ (t : List ℕ). AreFresh t rest) (sym indexes) may.1.1 in
-    let room = subst (λ (hs : List HandlerText). length hs ≤ most_handlers job.atomics)
+    let room = subst (λ (hs : List HandlerText). length hs ≤ most_handlers (scope_of job))
     (sym (append_assoc front (h ∷ []) rest)) may.2 in
     (one, (may.0.1, fresh, room, may.3.1))
 
-handlers_reach : (job : Job) (front hs rest : List HandlerText) → MayFollow job.atomics front (hs ++ rest)
+handlers_reach : (job : Job) (front hs rest : List HandlerText) → MayFollow (scope_of job) front (hs ++ rest)
     → Reaches (behind_front job front) (flat_map handler_lines hs) (behind_front job (front ++ hs))
-    × MayFollow job.atomics (front ++ hs) rest
+    × MayFollow (scope_of job) (front ++ hs) rest
 handlers_reach job front hs rest may =
-    parts_reach (behind_front job) handler_lines (MayFollow job.atomics) (next_handler job) front hs rest may
+    parts_reach (behind_front job) handler_lines (MayFollow (scope_of job)) (next_handler job) front hs rest may
 
--- ---- atomics
+-- ---- atomics and collectives
 
--- what may come behind handlers may come behind the line of atomics or in its place, and what may come there may come
--- behind pairs
+-- what may come behind handlers may come behind the line of collectives or in its place, what may come there may come
+-- behind the line of atomics or in its place, and what may come there may come behind pairs
+behind_collect : (job : Job) (line : Line) (lines : List Line) (end : State) → Reaches
+    (record { place = AtHandlers; job = job }) (line ∷ lines) end → Reaches (record { place = AtCollect; job = job })
+    (line ∷ lines) end
+behind_collect job line lines end h = record {
+  item = Other h.item;
+  to = h.to;
+  text = h.text;
+  is = h.is;
+  goes = h.goes;
+  behind = h.behind;
+}
+
 behind_atomics : (job : Job) (line : Line) (lines : List Line) (end : State) → Reaches
-    (record { place = AtHandlers; job = job }) (line ∷ lines) end → Reaches (record { place = AtAtomics; job = job })
+    (record { place = AtCollect; job = job }) (line ∷ lines) end → Reaches (record { place = AtAtomics; job = job })
     (line ∷ lines) end
 behind_atomics job line lines end h = record {
   item = Other h.item;
@@ -614,10 +631,10 @@ behind_pairs job line lines end h = record {
 
 -- the line of atomics
 atomics_reach : (job : Job) → job.settings.version ≡ 2 → Reaches (record { place = AtAtomics; job = job })
-    (atomics_text tt ∷ []) (record { place = AtHandlers; job = with_atomics job })
+    (atomics_text tt ∷ []) (record { place = AtCollect; job = with_atomics job })
 atomics_reach job second = record {
   item = Named tt;
-  to = record { place = AtHandlers; job = with_atomics job };
+  to = record { place = AtCollect; job = with_atomics job };
   text = refl;
   is = (tt, eq-eqb job.settings.version 2 second);
   goes = refl;
@@ -628,20 +645,65 @@ atomics_reach job second = record {
 abbrev pub with_flag : Job → Bool → Job
 with_flag job atomics = record job { atomics = atomics }
 
+-- the line of collectives
+collect_reach : (job : Job) (area : CollectArea) → job.settings.segment ≤ 67108864 → IsCollect job.settings area
+    → Reaches (record { place = AtCollect; job = job }) (collect_text area ∷ [])
+    (record { place = AtHandlers; job = with_collect area job })
+collect_reach job area few is =
+    let low = collect_said job.settings area few is in
+    let base = low.0 in
+    let room = low.1 in
+    record {
+      item = Named area;
+      to = record { place = AtHandlers; job = with_collect area job };
+      text = refl;
+      is = (
+        ((omega arith, omega (arith, base), base), ((omega arith, omega (arith, room), room), tt)),
+        collect_passes (scope_of job) area is,
+      );
+      goes = refl;
+      behind = refl;
+    }
+
+-- the job with an area of collectives or without
+abbrev pub with_area : Job → Option CollectArea → Job
+with_area job collect = record job { collect = collect }
+
+-- lines with the line of collectives before them or not
+collect_then : (job : Job) (collect : Option CollectArea) (lines : List Line) (end : State)
+    → job.settings.segment ≤ 67108864 → IsCollectOrNone job.settings collect → job.collect ≡ None
+    → (collect ≡ None → lines ≡ [] → ⊥)
+    → Reaches (record { place = AtHandlers; job = with_area job collect }) lines end
+    → Reaches (record { place = AtCollect; job = job }) (collect_lines collect ++ lines) end
+collect_then job (Some area) lines end few is none some h =
+    reach_join (record { place = AtCollect; job = job }) (record { place = AtHandlers; job = with_collect area job }) end
+    (collect_text area ∷ []) lines (collect_reach job area few is) h
+collect_then job None [] end few is none some h = absurd (some refl refl)
+collect_then job None (line ∷ lines) end few is none some h =
+    let same : with_area job None ≡ job = ap (with_area job) (sym none) in
+    behind_collect job line lines end
+    (subst (λ (j : Job). Reaches (record { place = AtHandlers; job = j }) (line ∷ lines) end) same h)
+
+-- some lines, behind the line of collectives or in its place
+some_collect : (collect : Option CollectArea) (lines : List Line) → (collect ≡ None → lines ≡ [] → ⊥)
+    → collect_lines collect ++ lines ≡ [] → ⊥
+some_collect None lines some h = some refl h
+some_collect (Some area) lines some h = absurd (cc)
+
 -- lines behind pairs, with the line of atomics before them or not
 atomics_then : (job : Job) (atomics : Bool) (lines : List Line) (end : State) → (atomics ≡ true
     → job.settings.version ≡ 2) → job.atomics ≡ false → (atomics ≡ false → lines ≡ [] → ⊥)
-    → Reaches (record { place = AtHandlers; job = with_flag job atomics }) lines end
+    → Reaches (record { place = AtCollect; job = with_flag job atomics }) lines end
     → Reaches (record { place = AtPairs; job = job }) (atomics_lines atomics ++ lines) end
 atomics_then job true lines end second none some h =
     behind_pairs job (atomics_text tt) lines end
-    (reach_join (record { place = AtAtomics; job = job }) (record { place = AtHandlers; job = with_atomics job }) end
+    (reach_join (record { place = AtAtomics; job = job }) (record { place = AtCollect; job = with_atomics job }) end
     (atomics_text tt ∷ []) lines (atomics_reach job (second refl)) h)
 atomics_then job false [] end second none some h = absurd (some refl refl)
 atomics_then job false (line ∷ lines) end second none some h =
     let same : with_flag job false ≡ job = ap (with_flag job) (sym none) in
     behind_pairs job line lines end (behind_atomics job line lines end
-    (subst (λ (j : Job). Reaches (record { place = AtHandlers; job = j }) (line ∷ lines) end) same h))
+    (subst (λ (j : Job). Reaches (record { place = AtCollect; job = j }) (line ∷ lines) end) same h))
 
 -- ---- scripts
 
@@ -926,20 +988,53 @@ fresh_all hs k h e n = refl
 
 -- what was read before the handlers of a job, and before its scripts
 abbrev pub before_handlers : Job → Job
-before_handlers job = with_flag (of_head job job.settings.pairs) job.atomics
+before_handlers job = with_area (with_flag (of_head job job.settings.pairs) job.atomics) job.collect
 
 abbrev pub before_scripts : Job → Job
 before_scripts job = with_handlers (before_handlers job) job.handlers
 
--- lines that come behind the first handlers of a job, where these and those are some, or the line of atomics is there
+-- lines that come behind the pairs of a job
+pairs_lead : (job : Job) → IsJob job → (lines : List Line) (end : State)
+    → Reaches (record { place = AtPairs; job = of_head job job.settings.pairs }) lines end
+    → Reaches start (lines_with_pairs job ++ lines) end
+pairs_lead job is lines end on =
+    let begun = of_head job job.settings.pairs in
+    let head = reach_join start (record { place = AtPairs; job = of_head job [] })
+    (record { place = AtPairs; job = begun }) (head_lines job) (map pair_line job.settings.pairs)
+    (head_reach job is) (pairs_reach job is [] job.settings.pairs refl) in
+    reach_join start (record { place = AtPairs; job = begun }) end (lines_with_pairs job) lines head on
+
+-- lines that come behind the line of atomics of a job or in its place, where these are some, or that line is there
+pub atomics_lead : (job : Job) → IsJob job → (lines : List Line) (end : State) → (job.atomics ≡ false → lines ≡ [] → ⊥)
+    → Reaches (record { place = AtCollect; job = with_flag (of_head job job.settings.pairs) job.atomics }) lines end
+    → Reaches start (lines_with_atomics job ++ lines) end
+atomics_lead job is lines end some on =
+    let begun = of_head job job.settings.pairs in
+    subst (λ (ls : List Line). Reaches start ls end)
+    (sym (append_assoc (lines_with_pairs job) (atomics_lines job.atomics) lines))
+    (pairs_lead job is (atomics_lines job.atomics ++ lines) end
+    (atomics_then begun job.atomics lines end is.atomics refl some on))
+
+-- the same of the line of collectives
+collect_lead : (job : Job) → IsJob job → (lines : List Line) (end : State) → (job.collect ≡ None → lines ≡ [] → ⊥)
+    → Reaches (record { place = AtHandlers; job = before_handlers job }) lines end
+    → Reaches start (lines_with_collect job ++ lines) end
+collect_lead job is lines end some on =
+    let begun = with_flag (of_head job job.settings.pairs) job.atomics in
+    subst (λ (ls : List Line). Reaches start ls end)
+    (sym (append_assoc (lines_with_atomics job) (collect_lines job.collect) lines))
+    (atomics_lead job is (collect_lines job.collect ++ lines) end (λ none. some_collect job.collect lines some)
+    (collect_then begun job.collect lines end is.segment is.collect refl some on))
+
+-- lines that come behind the first handlers of a job, where these and those are some, or the line of collectives is
+-- there
 pub handlers_lead : (job : Job) → IsJob job → (hs rest : List HandlerText) → job.handlers ≡ hs ++ rest
     → (lines : List Line) (end : State)
-    → (job.atomics ≡ false → flat_map handler_lines hs ++ lines ≡ [] → ⊥)
-    → (MayFollow job.atomics hs rest → Reaches (behind_front (before_handlers job) hs) lines end)
-    → Reaches start (lines_with_atomics job ++ (flat_map handler_lines hs ++ lines)) end
+    → (job.collect ≡ None → flat_map handler_lines hs ++ lines ≡ [] → ⊥)
+    → (MayFollow (scope_of job) hs rest → Reaches (behind_front (before_handlers job) hs) lines end)
+    → Reaches start (lines_with_collect job ++ (flat_map handler_lines hs ++ lines)) end
 handlers_lead job is hs rest all lines end some on =
-    let begun = of_head job job.settings.pairs in
-    let may : MayFollow job.atomics [] job.handlers = (
+    let may : MayFollow (scope_of job) [] job.handlers = (
       is.handlers,
       apart_fresh [] job.handlers is.apart (fresh_all job.handlers),
       is.few_handlers,
@@ -947,17 +1042,10 @@ handlers_lead job is hs rest all lines end some on =
     ) in
     let part = flat_map handler_lines hs in
     let first = handlers_reach (before_handlers job) [] hs rest
-    (subst (λ (all : List HandlerText). MayFollow job.atomics [] all) all may) in
+    (subst (λ (all : List HandlerText). MayFollow (scope_of job) [] all) all may) in
     let later = reach_join (behind_front (before_handlers job) []) (behind_front (before_handlers job) hs) end part lines
     first.0 (on first.1) in
-    let behind = atomics_then begun job.atomics (part ++ lines) end is.atomics refl some later in
-    let head = reach_join start (record { place = AtPairs; job = of_head job [] })
-    (record { place = AtPairs; job = begun }) (head_lines job) (map pair_line job.settings.pairs)
-    (head_reach job is) (pairs_reach job is [] job.settings.pairs refl) in
-    subst (λ (ls : List Line). Reaches start ls end)
-    (sym (append_assoc (lines_with_pairs job) (atomics_lines job.atomics) (part ++ lines)))
-    (reach_join start (record { place = AtPairs; job = begun }) end (lines_with_pairs job)
-    (atomics_lines job.atomics ++ (part ++ lines)) head behind)
+    collect_lead job is (part ++ lines) end some later
 
 -- lines that come behind the first scripts of a job, where these and those are some
 pub scripts_lead : (job : Job) → IsJob job → (ss rest : List NodeScript) → job.scripts ≡ ss ++ rest
@@ -975,7 +1063,7 @@ scripts_lead job is ss rest all lines end some on =
     (reach_join (behind_scripts_of (before_scripts job) []) (behind_scripts_of (before_scripts job) ss) end part lines
     first.0 (on first.1)) in
     subst (λ (ls : List Line). Reaches start ls end)
-    (sym (append_assoc (lines_with_atomics job) hs (part ++ lines)))
+    (sym (append_assoc (lines_with_collect job) hs (part ++ lines)))
     (handlers_lead job is job.handlers [] (sym (append-nil job.handlers)) (part ++ lines) end
     (λ none. some_behind hs (part ++ lines) some) (λ may. later))
 

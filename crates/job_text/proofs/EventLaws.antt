@@ -20,6 +20,7 @@ use Rattle.job_text.proofs.VisLaws.{thread_actions_exact}
 event_again : (nodes threads : ℕ) (e : ScheduledEvent) → IsEntryOf (events nodes threads) (event_entry nodes threads) e
 event_again nodes threads (event.Call node thread call) = entry_of refl refl refl
 event_again nodes threads (event.Vis node thread vis) = entry_of refl refl refl
+event_again nodes threads (event.Collective node thread call) = entry_of refl refl refl
 event_again nodes threads (event.Request from to number) = entry_of refl refl refl
 event_again nodes threads (event.Reply from to number) = entry_of refl refl refl
 event_again nodes threads (event.Tick node) = entry_of refl refl refl
@@ -30,6 +31,7 @@ action_makes : (nodes threads node thread : ℕ) (a : ThreadAction) → event_en
     ≡ record { row = call_row nodes threads; values = (node, (thread, a)) }
 action_makes nodes threads node thread (does.Call c) = refl
 action_makes nodes threads node thread (does.Vis vis) = refl
+action_makes nodes threads node thread (does.Collective c) = refl
 
 -- the rows make what the entries say
 events_are : (nodes threads : ℕ) → IsTable (events nodes threads) (event_entry nodes threads) is_apart

@@ -5,7 +5,8 @@ use Rattle.std.proofs.Common.{length-append}
 use Rattle.std.proofs.lemmas.Bool.{leb-false, ltb-false, ltb-true, lt-ltb, and_parts, and_from, or_parts}
 use Rattle.job_text.specs.Reasons.{reason, why_of}
 use Rattle.job_text.specs.Places.{section_fits}
-use Rattle.job_text.specs.JobReading.{has_thread, has_index, is_reserved, most_handlers, handler_why, section_why}
+use Rattle.job_text.specs.JobReading.{has_thread, has_index, is_reserved, most_beside, most_handlers, handler_why}
+use Rattle.job_text.specs.JobReading.{section_why}
 use Rattle.job_text.specs.JobReading.{behind_scripts, behind_section}
 use Rattle.job_text.specs.JobReading.{is_schedule, BadLine, amounts_of, with_event, is_full, admitted, total_rounds}
 use Rattle.job_text.specs.JobReading.{rounds_of, is_full_script}
@@ -19,6 +20,7 @@ use Rattle.job_text.specs.declared.job.NodeScript.{NodeScript}
 use Rattle.job_text.specs.declared.job.ScheduledEvent.{ScheduledEvent}
 use Rattle.job_text.specs.declared.job.ScriptStep.{ScriptStep}
 use Rattle.job_text.specs.declared.job.TimedEvent.{TimedEvent}
+use Rattle.job_text.specs.declared.scope.Scope.{Scope}
 use Rattle.job_text.specs.declared.schedules.Amounts.{Amounts}
 use Rattle.job_text.specs.declared.sections.Section.{Section}
 use Rattle.job_text.specs.declared.sections.Section.TheVariants as section
@@ -74,16 +76,21 @@ room_by true u a b h = absurd (cc)
 room_by false true a b h = absurd (cc)
 room_by false false a b h = refl
 
-pub most_few : (atomics : Bool) → most_handlers atomics ≤ 128
-most_few true = omega arith
-most_few false = omega arith
+pub most_few : (scope : Scope) → most_handlers scope ≤ 128
+most_few scope = few_of scope.atomics scope.collect
+  where
+    few_of : (atomics collect : Bool) → most_beside atomics collect ≤ 128
+    few_of true true = omega arith
+    few_of true false = omega arith
+    few_of false true = omega arith
+    few_of false false = omega arith
 
-pub room_for : (atomics : Bool) (handlers : List HandlerText) (index : ℕ) → handler_why atomics handlers index ≡ None
+pub room_for : (scope : Scope) (handlers : List HandlerText) (index : ℕ) → handler_why scope handlers index ≡ None
     → length handlers < 128
-room_for atomics handlers index h =
-    let few = leb-false (most_handlers atomics) (length handlers) (room_by (has_index handlers index
-    || is_reserved atomics index) (leb (most_handlers atomics) (length handlers)) Entry Count h) in
-    omega (arith, few, most_few atomics)
+room_for scope handlers index h =
+    let few = leb-false (most_handlers scope) (length handlers) (room_by (has_index handlers index
+    || is_reserved scope index) (leb (most_handlers scope) (length handlers)) Entry Count h) in
+    omega (arith, few, most_few scope)
 
 -- ---- the schedule
 

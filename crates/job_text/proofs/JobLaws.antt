@@ -15,7 +15,8 @@ use Rattle.job_text.specs.Places.{setting_fits, pair_fits}
 use Rattle.job_text.specs.JobReading.{with_number, with_own, with_handler, with_script, with_line, lines_of}
 use Rattle.job_text.specs.Scopes.{scope_of}
 use Rattle.job_text.specs.declared.scope.Scope.{Scope}
-use Rattle.job_text.specs.JobReading.{with_atomics, is_reserved, most_handlers}
+use Rattle.job_text.specs.JobReading.{with_atomics, with_collect, is_reserved, most_handlers}
+use Rattle.job_text.specs.CollectAreas.{IsCollect, IsCollectOrNone}
 use Rattle.job_text.specs.JobText.{AreUnreserved}
 use Rattle.job_text.specs.JobReading.{amounts_of, has_index, has_pair, has_thread, line_why, is_full}
 use Rattle.job_text.specs.PlanPieces.{most_pieces, schedule_pieces, scripts_pieces}
@@ -23,6 +24,7 @@ use Rattle.job_text.specs.StepPieces.{steps_pieces}
 use Rattle.job_text.specs.JobText.{IsHandler, IsNodeScript, AreThreads, IsSchedule, IsScheduleOrNone, IsSieve}
 use Rattle.job_text.specs.JobText.{with_first_pairs, all_pieces, IsJob}
 use Rattle.job_text.specs.declared.fault.JobWhy.{JobWhy}
+use Rattle.job_text.specs.declared.job.CollectArea.{CollectArea}
 use Rattle.job_text.specs.declared.job.HandlerText.{HandlerText}
 use Rattle.job_text.specs.declared.job.Job.{Job}
 use Rattle.job_text.specs.declared.job.NodeScript.{NodeScript}
@@ -102,6 +104,7 @@ pub record IsHead (job : Job) : Type 0 where
   pub sieve : IsSieve job.sieve
   pub pairs : job.settings.pairs ≡ []
   pub atomics : job.atomics ≡ false
+  pub collect : job.collect ≡ None
   pub handlers : job.handlers ≡ []
   pub scripts : job.scripts ≡ []
   pub schedule : job.schedule ≡ None
@@ -115,11 +118,10 @@ no_first count pairs e = ap (take count) e ∙ take_nil count
     take_nil (suc n) = refl
 
 -- no handler
-no_handler : (atomics : Bool) (hs : List HandlerText) → hs ≡ [] → (length hs ≤ most_handlers atomics)
-    × AllByRecursion IsHandler hs × AreFresh [] hs × AreUnreserved atomics hs
-no_handler true [] e = (omega arith, tt, tt, tt)
-no_handler false [] e = (omega arith, tt, tt, tt)
-no_handler atomics (h ∷ hs) e = absurd (cc)
+no_handler : (scope : Scope) (hs : List HandlerText) → hs ≡ [] → (length hs ≤ most_handlers scope)
+    × AllByRecursion IsHandler hs × AreFresh [] hs × AreUnreserved scope hs
+no_handler scope [] e = (omega arith, tt, tt, tt)
+no_handler scope (h ∷ hs) e = absurd (cc)
 
 -- no script
 no_script : (scope : Scope) (ss : List NodeScript) → ss ≡ [] → AllByRecursion (IsNodeScript scope) ss × AreThreads ss
@@ -135,6 +137,11 @@ no_batches : (atomics : Bool) (version : ℕ) → atomics ≡ false → atomics 
 no_batches true version h k = absurd (cc)
 no_batches false version h k = absurd (cc)
 
+-- no area of collectives
+no_collect : (settings : Parameters) (collect : Option CollectArea) → collect ≡ None → IsCollectOrNone settings collect
+no_collect settings None e = tt
+no_collect settings (Some area) e = absurd (cc)
+
 -- a job so far, whose handlers have each a fresh index
 pub record IsSound (job : Job) : Type 0 where
   pub settings : AreInRange job.settings
@@ -147,10 +154,11 @@ pub record IsSound (job : Job) : Type 0 where
   pub patience : job.patience ≤ 1000000
   pub sieve : IsSieve job.sieve
   pub atomics : job.atomics ≡ true → job.settings.version ≡ 2
-  pub few_handlers : length job.handlers ≤ most_handlers job.atomics
+  pub collect : IsCollectOrNone job.settings job.collect
+  pub few_handlers : length job.handlers ≤ most_handlers (scope_of job)
   pub handlers : AllByRecursion IsHandler job.handlers
   pub fresh : AreFresh [] job.handlers
-  pub unreserved : AreUnreserved job.atomics job.handlers
+  pub unreserved : AreUnreserved (scope_of job) job.handlers
   pub scripts : AllByRecursion (IsNodeScript (scope_of job)) job.scripts
   pub threads : AreThreads job.scripts
   pub schedule : IsScheduleOrNone (scope_of job) job.schedule
@@ -169,6 +177,7 @@ sound_job job is = record {
   patience = is.patience;
   sieve = is.sieve;
   atomics = is.atomics;
+  collect = is.collect;
   few_handlers = is.few_handlers;
   handlers = is.handlers;
   apart = fresh_apart [] job.handlers is.fresh;
@@ -190,7 +199,7 @@ no_pieces [] (Some lines) e f = absurd (cc)
 pub head_sound : (job : Job) → IsHead job → IsSound job
 head_sound job is =
     let all = is.numbers in
-    let none = no_handler job.atomics job.handlers is.handlers in
+    let none = no_handler (scope_of job) job.handlers is.handlers in
     let scripts = no_script (scope_of job) job.scripts is.scripts in
     record {
       settings = settings_range job is.pairs all;
@@ -205,6 +214,7 @@ head_sound job is =
       patience = (all Patience).high;
       sieve = is.sieve;
       atomics = no_batches job.atomics job.settings.version is.atomics;
+      collect = no_collect job.settings job.collect is.collect;
       few_handlers = none.0;
       handlers = none.1;
       fresh = none.2;
@@ -244,8 +254,9 @@ pair_free_by false false a b h = (refl, refl)
 -- one more pair
 pub pair_sound : (job : Job) (pair : PairCredits) → IsSound job → pair_fits job.settings pair ≡ true
     → 1 ≤ pair.credits → pair.credits ≤ 32 → has_pair job.settings.pairs pair ≡ false
-    → length job.settings.pairs < 64 → job.scripts ≡ [] → job.schedule ≡ None → IsSound (with_own pair job)
-pair_sound job pair is fits low high new few unscripted none =
+    → length job.settings.pairs < 64 → job.collect ≡ None → job.scripts ≡ [] → job.schedule ≡ None
+    → IsSound (with_own pair job)
+pair_sound job pair is fits low high new few uncollected unscripted none =
     let s = job.settings in
     let fit = fitting s pair fits in
     let one = is_pair s pair fit low high in
@@ -261,6 +272,7 @@ pair_sound job pair is fits low high new few unscripted none =
       patience = is.patience;
       sieve = is.sieve;
       atomics = is.atomics;
+      collect = no_collect (with_pair s pair) job.collect uncollected;
       few_handlers = is.few_handlers;
       handlers = is.handlers;
       fresh = is.fresh;
@@ -283,8 +295,8 @@ all_more P (y ∷ ys) x h p = (h.0, all_more P ys x h.1 p)
 pub atomics_sound : (job : Job) → IsSound job → job.settings.version ≡ 2 → job.handlers ≡ [] → job.scripts ≡ []
     → job.schedule ≡ None → IsSound (with_atomics job)
 atomics_sound job is second unhandled unscripted none =
-    let handlers = no_handler true job.handlers unhandled in
     let scope = scope_of (with_atomics job) in
+    let handlers = no_handler scope job.handlers unhandled in
     record {
       settings = is.settings;
       segment = is.segment;
@@ -296,6 +308,35 @@ atomics_sound job is second unhandled unscripted none =
       patience = is.patience;
       sieve = is.sieve;
       atomics = λ h. second;
+      collect = is.collect;
+      few_handlers = handlers.0;
+      handlers = is.handlers;
+      fresh = is.fresh;
+      unreserved = handlers.3;
+      scripts = (no_script scope job.scripts unscripted).0;
+      threads = is.threads;
+      schedule = none_is scope job.schedule none;
+      pieces = is.pieces;
+    }
+
+-- the line of collectives, behind which there is nothing yet
+pub collect_sound : (job : Job) (area : CollectArea) → IsSound job → IsCollect job.settings area → job.handlers ≡ []
+    → job.scripts ≡ [] → job.schedule ≡ None → IsSound (with_collect area job)
+collect_sound job area is there unhandled unscripted none =
+    let scope = scope_of (with_collect area job) in
+    let handlers = no_handler scope job.handlers unhandled in
+    record {
+      settings = is.settings;
+      segment = is.segment;
+      segments = is.segments;
+      job_fits = is.job_fits;
+      last_fits = is.last_fits;
+      sums = is.sums;
+      some_patience = is.some_patience;
+      patience = is.patience;
+      sieve = is.sieve;
+      atomics = is.atomics;
+      collect = there;
       few_handlers = handlers.0;
       handlers = is.handlers;
       fresh = is.fresh;
@@ -307,8 +348,8 @@ atomics_sound job is second unhandled unscripted none =
     }
 
 pub handler_sound : (job : Job) (handler : HandlerText) → IsSound job → IsHandler handler
-    → has_index job.handlers handler.index ≡ false → is_reserved job.atomics handler.index ≡ false
-    → length job.handlers < most_handlers job.atomics → IsSound (with_handler handler job)
+    → has_index job.handlers handler.index ≡ false → is_reserved (scope_of job) handler.index ≡ false
+    → length job.handlers < most_handlers (scope_of job) → IsSound (with_handler handler job)
 handler_sound job handler is one new free few = record {
   settings = is.settings;
   segment = is.segment;
@@ -320,10 +361,11 @@ handler_sound job handler is one new free few = record {
   patience = is.patience;
   sieve = is.sieve;
   atomics = is.atomics;
+  collect = is.collect;
   few_handlers = simp length-append (omega arith);
   handlers = all_more IsHandler job.handlers handler is.handlers one;
   fresh = fresh_more [] job.handlers handler is.fresh (fresh_from job.handlers handler.index new);
-  unreserved = all_more (λ (h : HandlerText). is_reserved job.atomics h.index ≡ false) job.handlers handler
+  unreserved = all_more (λ (h : HandlerText). is_reserved (scope_of job) h.index ≡ false) job.handlers handler
       is.unreserved free;
   scripts = is.scripts;
   threads = is.threads;
@@ -351,6 +393,7 @@ script_sound job script is one new none room =
       patience = is.patience;
       sieve = is.sieve;
       atomics = is.atomics;
+      collect = is.collect;
       few_handlers = is.few_handlers;
       handlers = is.handlers;
       fresh = is.fresh;
@@ -378,6 +421,7 @@ empty_sound job is =
       patience = is.patience;
       sieve = is.sieve;
       atomics = is.atomics;
+      collect = is.collect;
       few_handlers = is.few_handlers;
       handlers = is.handlers;
       fresh = is.fresh;
@@ -432,6 +476,7 @@ line_sound job t is some one free =
       patience = is.patience;
       sieve = is.sieve;
       atomics = is.atomics;
+      collect = is.collect;
       few_handlers = is.few_handlers;
       handlers = is.handlers;
       fresh = is.fresh;

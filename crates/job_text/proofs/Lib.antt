@@ -11,12 +11,14 @@ pub mod FormLaws
 pub mod WholeNumbers
 pub mod Names
 pub mod CallLaws
+pub mod CollectiveLaws
 pub mod VisLaws
 pub mod EventLaws
 pub mod BodyLaws
 pub mod ScriptLaws
 pub mod FirstBytes
 pub mod Runs
+pub mod AreaLaws
 pub mod PlaceLaws
 pub mod LineRuns
 pub mod PairSums

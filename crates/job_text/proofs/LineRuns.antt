@@ -5,7 +5,7 @@ use Rattle.job_text.specs.Scopes.{scope_of}
 use Rattle.job_text.specs.declared.scope.Scope.{Scope}
 use Rattle.job_text.specs.Reasons.{reason}
 use Rattle.job_text.specs.HeadReading.{told}
-use Rattle.job_text.specs.Places.{AtAtomics}
+use Rattle.job_text.specs.Places.{AtAtomics, AtCollect}
 use Rattle.job_text.specs.Places.{Place, AtSetting, AtSieve, AtPairs, AtHandlers, AtBody, AtScripts, AtSteps}
 use Rattle.job_text.specs.Places.{AtSchedule, AtDone, Over, Item, item_form, item_text, IsItem}
 use Rattle.job_text.specs.JobReading.{State, BadLine, front_with, line_at, next, step, from_later_lines}
@@ -77,6 +77,7 @@ goes_on (AtSetting setting) over other open_ = refl
 goes_on AtSieve over other open_ = refl
 goes_on AtPairs over other open_ = refl
 goes_on AtAtomics over other open_ = refl
+goes_on AtCollect over other open_ = refl
 goes_on AtHandlers over other open_ = refl
 goes_on (AtBody handler) over other open_ = refl
 goes_on AtScripts over other open_ = refl
@@ -91,6 +92,7 @@ open_of (AtSetting setting) item = tt
 open_of AtSieve item = tt
 open_of AtPairs item = tt
 open_of AtAtomics item = tt
+open_of AtCollect item = tt
 open_of AtHandlers item = tt
 open_of (AtBody handler) item = tt
 open_of AtScripts item = tt
@@ -105,6 +107,7 @@ open_or_over (AtSetting setting) = inl tt
 open_or_over AtSieve = inl tt
 open_or_over AtPairs = inl tt
 open_or_over AtAtomics = inl tt
+open_or_over AtCollect = inl tt
 open_or_over AtHandlers = inl tt
 open_or_over (AtBody handler) = inl tt
 open_or_over AtScripts = inl tt

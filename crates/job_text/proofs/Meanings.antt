@@ -7,9 +7,9 @@ use Rattle.std.specs.Prelude.{IfOk, IfErr}
 use Rattle.datagram_grammar.specs.declared.pairs.PairCredits.{PairCredits}
 use Rattle.job_text.specs.Reasons.{is_text, is_plain, goes_on_as_text, reason}
 use Rattle.job_text.specs.Places.{Place, AtSetting, AtSieve, AtPairs, AtHandlers, AtBody, AtScripts, AtSteps}
-use Rattle.job_text.specs.Places.{AtAtomics, AtSchedule, AtDone, Over}
+use Rattle.job_text.specs.Places.{AtAtomics, AtCollect, AtSchedule, AtDone, Over}
 use Rattle.job_text.specs.Scopes.{scope_of}
-use Rattle.job_text.specs.Places.{NamedOr, Named, Other, Item, item_text, item_form}
+use Rattle.job_text.specs.Places.{Named, Other, Item, item_text, item_form, HandlerItem, CollectItem, AtomicsItem, PairItem}
 use Rattle.job_text.specs.JobReading.{State, BadLine, Front, start, limit, line_at, why_at, next, onward, stepped}
 use Rattle.job_text.specs.JobReading.{step, unless, opened, headed, paired, has_index, has_pair, has_thread}
 use Rattle.job_text.specs.JobReading.{handler_why, section_why, pair_why, action_why, step_why, line_why, is_full}
@@ -17,7 +17,7 @@ use Rattle.job_text.specs.JobReading.{amounts_of, is_full_script, lines_of, fron
 use Rattle.job_text.specs.JobReading.{job_of}
 use Rattle.job_text.specs.PlanPieces.{scripts_pieces}
 use Rattle.job_text.specs.StepPieces.{steps_pieces}
-use Rattle.job_text.specs.JobReading.{front_of, served, is_reserved, most_handlers}
+use Rattle.job_text.specs.JobReading.{front_of, collected, served, is_reserved, most_handlers}
 use Rattle.job_text.specs.JobText.{spell, job_lines, job_text, IsJob, JobText, BeginsWith}
 use Rattle.job_text.specs.Reading.{GivesAt}
 use Rattle.job_text.specs.Refusals.{first_lines, after_lines, IsNoFront, Before, so_far, completed, IsWrong, Means}
@@ -186,22 +186,26 @@ from_scripts : (job : Job) (s : Section) (why : JobWhy) → IsCounted AtScripts 
 from_scripts job s why (inl taken) = inl taken
 from_scripts job s why (inr full) = absurd full.2
 
-headed_kind : (job : Job) (item : NamedOr HandlerHeader Section) (why : JobWhy) → headed job item ≡ Err why
+headed_kind : (job : Job) (item : HandlerItem) (why : JobWhy) → headed job item ≡ Err why
     → IsCounted AtHandlers job item why
 headed_kind job (Named header) why h =
-    let most = most_handlers job.atomics in
-    either (two_by (has_index job.handlers header.index || is_reserved job.atomics header.index)
-    (leb most (length job.handlers)) why (unless_err (handler_why job.atomics job.handlers header.index) _ why h))
+    let most = most_handlers (scope_of job) in
+    either (two_by (has_index job.handlers header.index || is_reserved (scope_of job) header.index)
+    (leb most (length job.handlers)) why (unless_err (handler_why (scope_of job) job.handlers header.index) _ why h))
     (λ t. t) (λ u. (u.0, u.1, leb-true most (length job.handlers) u.2))
 headed_kind job (Other s) why h = from_scripts job s why (opened_kind job s why h)
 
-served_kind : (job : Job) (item : NamedOr (Unit {0}) (NamedOr HandlerHeader Section)) (why : JobWhy)
-    → served job item ≡ Err why → IsCounted AtAtomics job item why
-served_kind job (Named line) why h = absurd (cc)
-served_kind job (Other item) why h = headed_kind job item why h
+collected_kind : (job : Job) (item : CollectItem) (why : JobWhy) → collected job item ≡ Err why
+    → IsCounted AtCollect job item why
+collected_kind job (Named area) why h = absurd (cc)
+collected_kind job (Other item) why h = headed_kind job item why h
 
-paired_kind : (job : Job) (item : NamedOr PairCredits (NamedOr (Unit {0}) (NamedOr HandlerHeader Section)))
-    (why : JobWhy) → paired job item ≡ Err why → IsCounted AtPairs job item why
+served_kind : (job : Job) (item : AtomicsItem) (why : JobWhy) → served job item ≡ Err why
+    → IsCounted AtAtomics job item why
+served_kind job (Named line) why h = absurd (cc)
+served_kind job (Other item) why h = collected_kind job item why h
+
+paired_kind : (job : Job) (item : PairItem) (why : JobWhy) → paired job item ≡ Err why → IsCounted AtPairs job item why
 paired_kind job (Named pair) why h =
     either (two_by (has_pair job.settings.pairs pair) (leb 64 (length job.settings.pairs)) why
     (unless_err (pair_why job.settings.pairs pair) _ why h)) (λ t. t) (λ u.
@@ -214,6 +218,7 @@ next_kind (AtSetting setting) job item why h = absurd (cc)
 next_kind AtSieve job item why h = absurd (cc)
 next_kind AtPairs job item why h = paired_kind job item why h
 next_kind AtAtomics job item why h = served_kind job item why h
+next_kind AtCollect job item why h = collected_kind job item why h
 next_kind AtHandlers job item why h = headed_kind job item why h
 next_kind (AtBody handler) job None why h = absurd (cc)
 next_kind (AtBody handler) job (Some a) why h =

@@ -9,14 +9,16 @@ use Rattle.job_text.specs.Scopes.{scope_of}
 use Rattle.job_text.specs.Places.{Setting, Version, Nodes, Credits, Threads, Segment, Last, Resend, Patience}
 use Rattle.job_text.specs.Places as places
 use Rattle.job_text.specs.Places.{Place, AtSetting, AtSieve, AtPairs, AtAtomics, AtHandlers, AtBody, AtScripts, AtSteps}
-use Rattle.job_text.specs.Places.{AtSchedule, AtDone, Over, NamedOr, Named, Other, Item, item_form}
-use Rattle.job_text.specs.JobReading.{BadLine, start, limit, line_at, next, opened, headed, served}
+use Rattle.job_text.specs.Places.{AtCollect, AtSchedule, AtDone, Over, Named, Other, Item, item_form}
+use Rattle.job_text.specs.Places.{HandlerItem, CollectItem, AtomicsItem}
+use Rattle.job_text.specs.JobReading.{BadLine, start, limit, line_at, next, opened, headed, collected, served}
 use Rattle.job_text.specs.JobReading.{front_with, of_front, alone, sized, from_lines, run, read, job_of, front_of}
 use Rattle.job_text.specs.JobReading.{most_handlers}
 use Rattle.job_text.specs.JobReading.{has_pair, has_index, is_reserved}
 use Rattle.job_text.specs.JobText.{spell, job_lines, job_text}
 use Rattle.job_text.specs.Reading.{GivesAt}
-use Rattle.job_text.specs.Refusals.{first_lines, after_lines, so_far, Says, SaysNothing, IsTaken, IsTakenIndex, IsTakenLater}
+use Rattle.job_text.specs.Refusals.{first_lines, after_lines, so_far, Says, SaysNothing, IsTaken, IsTakenIndex}
+use Rattle.job_text.specs.Refusals.{IsTakenBehind, IsTakenLater, IsFullBehind}
 use Rattle.job_text.specs.Refusals.{IsTakenThread, IsFull, IsFullOfHandlers, IsFullLater, HasNoText, HasNoForm}
 use Rattle.job_text.specs.Refusals.{HasBadValue, IsAtFault, Before, IsWrong, Means}
 use Rattle.job_text.specs.Refusals.{IsTold, IsTooLong, FrontMeans}
@@ -120,14 +122,17 @@ opened_taken job (section.Script node thread) h = rw h refl
 opened_taken job section.Schedule h = absurd h
 opened_taken job section.Done h = absurd h
 
-headed_taken : (job : Job) (item : NamedOr HandlerHeader Section) → IsTakenIndex job item → headed job item ≡ Err Entry
+headed_taken : (job : Job) (item : HandlerItem) → IsTakenIndex job item → headed job item ≡ Err Entry
 headed_taken job (Named header) h = rw h refl
 headed_taken job (Other s) h = opened_taken job s h
 
-served_taken : (job : Job) (item : NamedOr (Unit {0}) (NamedOr HandlerHeader Section)) → IsTakenLater job item
-    → served job item ≡ Err Entry
+collected_taken : (job : Job) (item : CollectItem) → IsTakenBehind job item → collected job item ≡ Err Entry
+collected_taken job (Named area) h = absurd h
+collected_taken job (Other item) h = headed_taken job item h
+
+served_taken : (job : Job) (item : AtomicsItem) → IsTakenLater job item → served job item ≡ Err Entry
 served_taken job (Named line) h = absurd h
-served_taken job (Other item) h = headed_taken job item h
+served_taken job (Other item) h = collected_taken job item h
 
 next_taken : (place : Place) (job : Job) (item : Item place) → IsTaken place job item → next place job item ≡ Err Entry
 next_taken (AtSetting setting) job item h = absurd h
@@ -135,6 +140,7 @@ next_taken AtSieve job item h = absurd h
 next_taken AtPairs job (Named pair) h = rw h refl
 next_taken AtPairs job (Other item) h = served_taken job item h
 next_taken AtAtomics job item h = served_taken job item h
+next_taken AtCollect job item h = collected_taken job item h
 next_taken AtHandlers job item h = headed_taken job item h
 next_taken (AtBody handler) job item h = absurd h
 next_taken AtScripts job item h = opened_taken job item h
@@ -148,19 +154,24 @@ is_false : (b : Bool) → (b ≡ true → ⊥) → b ≡ false
 is_false true other = absurd (other refl)
 is_false false other = refl
 
-headed_full : (job : Job) (item : NamedOr HandlerHeader Section) → (IsTakenIndex job item → ⊥)
+headed_full : (job : Job) (item : HandlerItem) → (IsTakenIndex job item → ⊥)
     → IsFullOfHandlers job item → headed job item ≡ Err Count
 headed_full job (Named header) is_new h =
     rw (
-      is_false (has_index job.handlers header.index || is_reserved job.atomics header.index) is_new,
-      le-leb (most_handlers job.atomics) (length job.handlers) h,
+      is_false (has_index job.handlers header.index || is_reserved (scope_of job) header.index) is_new,
+      le-leb (most_handlers (scope_of job)) (length job.handlers) h,
     ) refl
 headed_full job (Other s) is_new h = absurd h
 
-served_full : (job : Job) (item : NamedOr (Unit {0}) (NamedOr HandlerHeader Section)) → (IsTakenLater job item → ⊥)
-    → IsFullLater job item → served job item ≡ Err Count
+collected_full : (job : Job) (item : CollectItem) → (IsTakenBehind job item → ⊥) → IsFullBehind job item
+    → collected job item ≡ Err Count
+collected_full job (Named area) is_new h = absurd h
+collected_full job (Other item) is_new h = headed_full job item is_new h
+
+served_full : (job : Job) (item : AtomicsItem) → (IsTakenLater job item → ⊥) → IsFullLater job item
+    → served job item ≡ Err Count
 served_full job (Named line) is_new h = absurd h
-served_full job (Other item) is_new h = headed_full job item is_new h
+served_full job (Other item) is_new h = collected_full job item is_new h
 
 next_full : (place : Place) (job : Job) (item : Item place) → (IsTaken place job item → ⊥) → IsFull place job item
     → next place job item ≡ Err Count
@@ -170,6 +181,7 @@ next_full AtPairs job (Named pair) is_new h =
     rw (is_false (has_pair job.settings.pairs pair) is_new, le-leb 64 (length job.settings.pairs) h) refl
 next_full AtPairs job (Other item) is_new h = served_full job item is_new h
 next_full AtAtomics job item is_new h = served_full job item is_new h
+next_full AtCollect job item is_new h = collected_full job item is_new h
 next_full AtHandlers job item is_new h = headed_full job item is_new h
 next_full (AtBody handler) job None is_new h = absurd h
 next_full (AtBody handler) job (Some action) is_new h = rw (le-leb 64 (length handler.body) h) refl
@@ -265,6 +277,7 @@ fault_known why AtSieve job rest h =
     head_known why AtSieve job rest sieve_back refl (λ item t. t) (λ item f. f) h
 fault_known why AtPairs job rest h = h
 fault_known why AtAtomics job rest h = h
+fault_known why AtCollect job rest h = h
 fault_known why AtHandlers job rest h = h
 fault_known why (AtBody handler) job rest h = h
 fault_known why AtScripts job rest h = h

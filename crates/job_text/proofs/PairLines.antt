@@ -8,11 +8,14 @@ use Rattle.datagram_grammar.specs.declared.pairs.PairCredits.{PairCredits}
 use Rattle.job_text.specs.Lines.{◌>>=◌, front, ended}
 use Rattle.job_text.specs.Reasons.{reason, why_of}
 use Rattle.job_text.specs.Places.{NamedOr, Named, Other, AtAtomics, atomics_at, atomics_or_later_at}
-use Rattle.job_text.specs.Places.{atomics_or_later_form}
+use Rattle.job_text.specs.Places.{atomics_or_later_form, AtCollect, collect_at, collect_or_later_at}
+use Rattle.job_text.specs.Places.{collect_or_later_form}
 use Rattle.job_text.specs.Places.{Place, AtPairs, AtHandlers, AtBody, AtScripts, Item, item_form, named_or, header_at}
 use Rattle.job_text.specs.Places.{section_at, pair_at, header_or_section_at, header_or_section_form, pairs_form}
-use Rattle.job_text.specs.JobReading.{State, lined, line_at, next, begun, handler_why, pair_why, with_atomics, with_own, read}
+use Rattle.job_text.specs.JobReading.{State, lined, line_at, next, begun, handler_why, pair_why, with_atomics}
+use Rattle.job_text.specs.JobReading.{with_collect, with_own, read}
 use Rattle.job_text.specs.declared.fault.JobWhy.{JobWhy}
+use Rattle.job_text.specs.declared.job.CollectArea.{CollectArea}
 use Rattle.job_text.specs.declared.job.Job.{Job}
 use Rattle.job_text.specs.declared.sections.HandlerHeader.{HandlerHeader}
 use Rattle.job_text.proofs.LineRuns.{Refuses, read_on, read_full, line_bad}
@@ -50,7 +53,12 @@ pair_line scope bytes b =
 atomics_line : (scope : Scope) (bytes : List ℕ) → bytes_eq (front bytes) (codes "atomics") ≡ true
     → line_at AtAtomics scope bytes ≡ (lined (atomics_at scope) bytes >>= λ x. Some (Named x.0, x.1))
 atomics_line scope bytes b =
-    named_line (codes "atomics") (atomics_at scope) (header_or_section_at scope.settings) bytes b
+    named_line (codes "atomics") (atomics_at scope) (collect_or_later_at scope) bytes b
+
+collect_line : (scope : Scope) (bytes : List ℕ) → bytes_eq (front bytes) (codes "collect") ≡ true
+    → line_at AtCollect scope bytes ≡ (lined (collect_at scope) bytes >>= λ x. Some (Named x.0, x.1))
+collect_line scope bytes b =
+    named_line (codes "collect") (collect_at scope) (header_or_section_at scope.settings) bytes b
 
 header_line : (scope : Scope) (bytes : List ℕ) → bytes_eq (front bytes) (codes "handler") ≡ true
     → line_at AtHandlers scope bytes ≡ (lined header_at bytes >>= λ x. Some (Named x.0, x.1))
@@ -90,9 +98,9 @@ pair_bad job line bytes b h = line_bad AtPairs tt job line bytes (pair_line (sco
 pub atomics_read : (job : Job) (line : ℕ) (bytes rest : List ℕ) → bytes_eq (front bytes) (codes "atomics") ≡ true
     → lined (atomics_at (scope_of job)) bytes ≡ Some (tt, rest)
     → read (record { place = AtAtomics; job = job }) line bytes ≡ read
-    (record { place = AtHandlers; job = with_atomics job }) (line + 1) rest
+    (record { place = AtCollect; job = with_atomics job }) (line + 1) rest
 atomics_read job line bytes rest b h =
-    read_on AtAtomics job line bytes rest (Named tt) (record { place = AtHandlers; job = with_atomics job })
+    read_on AtAtomics job line bytes rest (Named tt) (record { place = AtCollect; job = with_atomics job })
     (atomics_line (scope_of job) bytes b ∙ rw h refl) refl
 
 -- it isn't read
@@ -103,11 +111,30 @@ pub atomics_bad : (job : Job) (line : ℕ) (bytes : List ℕ) → bytes_eq (fron
 atomics_bad job line bytes b h =
     line_bad AtAtomics tt job line bytes (atomics_line (scope_of job) bytes b ∙ rw h refl)
 
+-- ---- collectives
+
+-- the line of collectives is read
+pub collect_read : (job : Job) (line : ℕ) (bytes rest : List ℕ) (area : CollectArea)
+    → bytes_eq (front bytes) (codes "collect") ≡ true → lined (collect_at (scope_of job)) bytes ≡ Some (area, rest)
+    → read (record { place = AtCollect; job = job }) line bytes ≡ read
+    (record { place = AtHandlers; job = with_collect area job }) (line + 1) rest
+collect_read job line bytes rest area b h =
+    read_on AtCollect job line bytes rest (Named area) (record { place = AtHandlers; job = with_collect area job })
+    (collect_line (scope_of job) bytes b ∙ rw h refl) refl
+
+-- it isn't read
+pub collect_bad : (job : Job) (line : ℕ) (bytes : List ℕ) → bytes_eq (front bytes) (codes "collect") ≡ true
+    → lined (collect_at (scope_of job)) bytes ≡ None
+    → read (record { place = AtCollect; job = job }) line bytes ≡ Err
+    (record { line = line; why = reason (collect_or_later_form (scope_of job)) bytes })
+collect_bad job line bytes b h =
+    line_bad AtCollect tt job line bytes (collect_line (scope_of job) bytes b ∙ rw h refl)
+
 -- ---- handlers
 
 -- the first line of a handler is read, and there is room for it
 pub handler_read : (job : Job) (line : ℕ) (bytes rest : List ℕ) (header : HandlerHeader) → bytes_eq (front bytes)
-    (codes "handler") ≡ true → lined header_at bytes ≡ Some (header, rest) → handler_why job.atomics job.handlers header.index
+    (codes "handler") ≡ true → lined header_at bytes ≡ Some (header, rest) → handler_why (scope_of job) job.handlers header.index
     ≡ None
     → read (record { place = AtHandlers; job = job }) line bytes ≡ read
     (record { place = AtBody (begun header); job = job }) (line + 1) rest
@@ -118,7 +145,7 @@ handler_read job line bytes rest header b h w =
 -- it is read, and may not stand there
 pub handler_full : (job : Job) (line : ℕ) (bytes rest : List ℕ) (header : HandlerHeader) (why : JobWhy) → bytes_eq
     (front bytes) (codes "handler") ≡ true → lined header_at bytes ≡ Some (header, rest)
-    → handler_why job.atomics job.handlers header.index ≡ Some why
+    → handler_why (scope_of job) job.handlers header.index ≡ Some why
     → read (record { place = AtHandlers; job = job }) line bytes ≡ Err (record { line = line; why = why })
 handler_full job line bytes rest header why b h w =
     read_full AtHandlers job line bytes rest (Named header) why (header_line (scope_of job) bytes b ∙ rw h refl)
@@ -177,14 +204,26 @@ pairs_over job line bytes b = same_by AtPairs AtAtomics job line bytes (line_at 
     }) refl
 
 pub atomics_over : (job : Job) (line : ℕ) (bytes : List ℕ) → bytes_eq (front bytes) (codes "atomics") ≡ false → read
-    (record { place = AtAtomics; job = job }) line bytes ≡ read (record { place = AtHandlers; job = job }) line bytes
-atomics_over job line bytes b = same_by AtAtomics AtHandlers job line bytes (line_at AtHandlers (scope_of job) bytes)
+    (record { place = AtAtomics; job = job }) line bytes ≡ read (record { place = AtCollect; job = job }) line bytes
+atomics_over job line bytes b = same_by AtAtomics AtCollect job line bytes (line_at AtCollect (scope_of job) bytes)
     (record {
       here_as = λ item. Other item;
       next_is = λ item. refl;
-      line_is = other_line (codes "atomics") (atomics_at (scope_of job)) (header_or_section_at job.settings) bytes b;
+      line_is = other_line (codes "atomics") (atomics_at (scope_of job)) (collect_or_later_at (scope_of job)) bytes b;
       form_is = rw b refl;
       bad_here = line_bad AtAtomics tt;
+      bad_there = line_bad AtCollect tt;
+    }) refl
+
+pub collect_over : (job : Job) (line : ℕ) (bytes : List ℕ) → bytes_eq (front bytes) (codes "collect") ≡ false → read
+    (record { place = AtCollect; job = job }) line bytes ≡ read (record { place = AtHandlers; job = job }) line bytes
+collect_over job line bytes b = same_by AtCollect AtHandlers job line bytes (line_at AtHandlers (scope_of job) bytes)
+    (record {
+      here_as = λ item. Other item;
+      next_is = λ item. refl;
+      line_is = other_line (codes "collect") (collect_at (scope_of job)) (header_or_section_at job.settings) bytes b;
+      form_is = rw b refl;
+      bad_here = line_bad AtCollect tt;
       bad_there = line_bad AtHandlers tt;
     }) refl
 

@@ -21,7 +21,9 @@ use Rattle.job_text.specs.declared.vis.VisShape.TheVariants as shapes
 use Rattle.job_text.specs.Places.{Setting, Version, Nodes, Credits, Threads, Segment, Last, Resend, Patience}
 use Rattle.job_text.specs.Places as places
 use Rattle.job_text.specs.Places.{Place, AtSetting, AtSieve, AtPairs, AtHandlers, AtBody, AtScripts, AtSteps}
-use Rattle.job_text.specs.Places.{AtAtomics, AtSchedule, AtDone, Over}
+use Rattle.job_text.specs.Places.{AtAtomics, AtCollect, AtSchedule, AtDone, Over}
+use Rattle.job_text.specs.Places.{collect_row, collect_entry, collect_fits, collect_at, collect_text, IsCollectLine}
+use Rattle.job_text.specs.Places.{collect_or_later_at, collect_or_later_text, IsCollectOrLater}
 use Rattle.job_text.specs.Places.{atomics_row, atomics_entry, atomics_fit, atomics_at, atomics_text, IsAtomicsLine}
 use Rattle.job_text.specs.Places.{atomics_or_later_at, atomics_or_later_text, IsAtomicsOrLater}
 use Rattle.job_text.specs.declared.scope.Scope.{Scope}
@@ -34,6 +36,8 @@ use Rattle.job_text.specs.Places.{section_text, IsPairLine, IsHeader, IsSection,
 use Rattle.job_text.specs.Places.{header_or_section_text, IsHeaderOrSection}
 use Rattle.job_text.specs.Places.{done_at, Item, item_at, item_text, IsItem}
 use Rattle.job_text.specs.declared.job.Action.TheVariants as action
+use Rattle.job_text.specs.declared.job.CollectArea.{CollectArea}
+use Rattle.job_text.specs.declared.job.CollectiveText.TheVariants as collective
 use Rattle.job_text.specs.declared.job.ScheduledCall.TheVariants as call
 use Rattle.job_text.specs.declared.job.ScriptStep.TheVariants as step
 use Rattle.job_text.specs.declared.job.SieveRule.{SieveRule}
@@ -85,6 +89,12 @@ atomics_again line = record { makes = refl; first = refl; runs = refl }
 atomics_table : (scope : Scope) → IsTable (atomics_row ∷ []) atomics_entry (atomics_fit scope)
 atomics_table scope = record { makes = (λ v. refl, tt); again = λ line h. atomics_again line }
 
+collect_again : (area : CollectArea) → IsEntryOf (collect_row ∷ []) collect_entry area
+collect_again area = record { makes = refl; first = refl; runs = refl }
+
+collect_table : (scope : Scope) → IsTable (collect_row ∷ []) collect_entry (collect_fits scope)
+collect_table scope = record { makes = (λ v. refl, tt); again = λ area h. collect_again area }
+
 header_again : (header : HandlerHeader) → IsEntryOf (header_row ∷ []) header_entry header
 header_again header = record { makes = refl; first = refl; runs = refl }
 
@@ -111,6 +121,11 @@ atomics_exact : (scope : Scope) → IsExact (atomics_at scope) atomics_text (IsA
 unfolding atomics_at
 atomics_exact scope = table_exact none_at none_text none_fits (atomics_row ∷ []) atomics_entry
     (atomics_fit scope) none_exact (atomics_table scope)
+
+collect_exact : (scope : Scope) → IsExact (collect_at scope) collect_text (IsCollectLine scope)
+unfolding collect_at
+collect_exact scope = table_exact none_at none_text none_fits (collect_row ∷ []) collect_entry
+    (collect_fits scope) none_exact (collect_table scope)
 
 headers_exact : IsExact header_at header_text IsHeader
 unfolding header_at
@@ -169,24 +184,32 @@ named_or_exact name at text fits other_at other other_fits one two begins other_
   flat = named_or_flat at text fits other_at other other_fits one two;
 }
 
--- a line that begins with no `handler`, with no `atomics`, and with no `pair`
+-- a line that begins with no `handler`, with no `collect`, with no `atomics`, and with no `pair`
 section_unnamed : Begins section_text (codes "handler") false
 section_unnamed (section.Script node thread) rest = refl
 section_unnamed section.Schedule rest = refl
 section_unnamed section.Done rest = refl
 
-later_unnamed : Begins header_or_section_text (codes "atomics") false
+later_unnamed : Begins header_or_section_text (codes "collect") false
 later_unnamed (Named header) rest = refl
 later_unnamed (Other (section.Script node thread)) rest = refl
 later_unnamed (Other section.Schedule) rest = refl
 later_unnamed (Other section.Done) rest = refl
 
+collect_unnamed : Begins collect_or_later_text (codes "atomics") false
+collect_unnamed (Named area) rest = refl
+collect_unnamed (Other (Named header)) rest = refl
+collect_unnamed (Other (Other (section.Script node thread))) rest = refl
+collect_unnamed (Other (Other section.Schedule)) rest = refl
+collect_unnamed (Other (Other section.Done)) rest = refl
+
 other_unnamed : Begins atomics_or_later_text (codes "pair") false
 other_unnamed (Named line) rest = refl
-other_unnamed (Other (Named header)) rest = refl
-other_unnamed (Other (Other (section.Script node thread))) rest = refl
-other_unnamed (Other (Other section.Schedule)) rest = refl
-other_unnamed (Other (Other section.Done)) rest = refl
+other_unnamed (Other (Named area)) rest = refl
+other_unnamed (Other (Other (Named header))) rest = refl
+other_unnamed (Other (Other (Other (section.Script node thread)))) rest = refl
+other_unnamed (Other (Other (Other section.Schedule))) rest = refl
+other_unnamed (Other (Other (Other section.Done))) rest = refl
 
 headers_or_sections_exact : (settings : Parameters) → IsExact (header_or_section_at settings) header_or_section_text
     (IsHeaderOrSection settings)
@@ -195,12 +218,19 @@ headers_or_sections_exact settings =
     section_text (IsSection settings.nodes settings.threads) headers_exact
     (sections_exact settings.nodes settings.threads) (λ header rest. refl) section_unnamed
 
+collect_or_later_exact : (scope : Scope) → IsExact (collect_or_later_at scope) collect_or_later_text
+    (IsCollectOrLater scope)
+collect_or_later_exact scope =
+    named_or_exact (codes "collect") (collect_at scope) collect_text (IsCollectLine scope)
+    (header_or_section_at scope.settings) header_or_section_text (IsHeaderOrSection scope.settings)
+    (collect_exact scope) (headers_or_sections_exact scope.settings) (λ area rest. refl) later_unnamed
+
 atomics_or_later_exact : (scope : Scope) → IsExact (atomics_or_later_at scope) atomics_or_later_text
     (IsAtomicsOrLater scope)
 atomics_or_later_exact scope =
     named_or_exact (codes "atomics") (atomics_at scope) atomics_text (IsAtomicsLine scope)
-    (header_or_section_at scope.settings) header_or_section_text (IsHeaderOrSection scope.settings)
-    (atomics_exact scope) (headers_or_sections_exact scope.settings) (λ line rest. refl) later_unnamed
+    (collect_or_later_at scope) collect_or_later_text (IsCollectOrLater scope)
+    (atomics_exact scope) (collect_or_later_exact scope) (λ line rest. refl) collect_unnamed
 
 -- the bytes of a word that was found, and those after it
 found_word : (bytes name : List ℕ) → bytes_eq (front bytes) name ≡ true → bytes ≡ name ++ back bytes
@@ -262,6 +292,9 @@ step_other scope (step.Call (call.BeginImplicit (transfer.Memset to remote len b
 step_other scope (step.Call _) rest h = refl
 step_other scope (step.Vis vis) rest h =
     let words = vis.words in vis_other words.way words.shape words.register words.from words.to rest
+step_other scope (step.Collective (collective.Start shape from)) rest h = refl
+step_other scope (step.Collective collective.Step) rest h = refl
+step_other scope (step.Collective (collective.Try dest)) rest h = refl
 step_other scope (step.Waiting (waiting.Until cell operand)) rest h = refl
 step_other scope (step.Waiting (waiting.Transfer (transfer.Put to remote local len))) rest h = refl
 step_other scope (step.Waiting (waiting.Transfer (transfer.Get to remote local len))) rest h = refl
@@ -274,6 +307,7 @@ step_other scope (step.Waiting (waiting.WaitSome registers)) rest h = refl
 step_other scope (step.Waiting (waiting.WaitImplicit which)) rest h = refl
 step_other scope (step.Waiting (waiting.BarrierWait id flags)) rest h = refl
 step_other scope (step.Waiting (waiting.UntilWord offset number)) rest h = refl
+step_other scope (step.Waiting (waiting.Collective shape from dest)) rest h = refl
 
 -- by whether a word ends at the first byte
 front_by : (t : Bool) (b : ℕ) (w : List ℕ) → eqb b 101 ≡ false → bytes_eq (cond t [] (b ∷ w)) (codes "end") ≡ false
@@ -321,6 +355,7 @@ place_exact AtPairs scope =
     (atomics_or_later_at scope) atomics_or_later_text (IsAtomicsOrLater scope) (pairs_exact scope.settings)
     (atomics_or_later_exact scope) (λ pair rest. refl) other_unnamed
 place_exact AtAtomics scope = atomics_or_later_exact scope
+place_exact AtCollect scope = collect_or_later_exact scope
 place_exact AtHandlers scope = headers_or_sections_exact scope.settings
 place_exact AtScripts scope = sections_exact scope.settings.nodes scope.settings.threads
 place_exact (AtSteps script) scope =

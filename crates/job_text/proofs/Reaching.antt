@@ -1,5 +1,5 @@
 -- The lines before a place lead there.
-use Rattle.std.proofs.Common.{◌≡◌, ◌≢◌, inl, inr, List, [], ◌∷◌, ◌++◌, map, Option, Some, None, Bool, false, refl, sym, ap}
+use Rattle.std.proofs.Common.{◌≡◌, ◌≢◌, inl, inr, List, [], ◌∷◌, ◌++◌, map, Option, Some, None, Bool, true, false, refl, sym, ap}
 use Rattle.std.proofs.Common.{subst, ◌∙◌, codes, append_assoc, append-nil}
 use Rattle.std.specs.List.{flat_map}
 use Rattle.job_text.specs.Bodies.{action_text}
@@ -7,12 +7,15 @@ use Rattle.job_text.specs.Scripts.{step_text}
 use Rattle.job_text.specs.Places.{Setting, Version, Nodes, Credits, Threads, Segment, Last, Resend, Patience}
 use Rattle.job_text.specs.Places as places
 use Rattle.job_text.specs.Places.{Place, AtSetting, AtSieve, AtPairs, AtAtomics, AtHandlers, AtBody, AtScripts, AtSteps}
-use Rattle.job_text.specs.Places.{AtSchedule, AtDone, Over}
+use Rattle.job_text.specs.Places.{AtCollect, AtSchedule, AtDone, Over}
 use Rattle.job_text.specs.JobReading.{State, least_job, start, with_handler, with_script}
 use Rattle.job_text.specs.JobText.{Line, handler_lines, header_line, script_lines, script_line, timed_lines}
-use Rattle.job_text.specs.JobText.{schedule_lines, lines_with_pairs, lines_with_atomics, lines_with_handlers}
+use Rattle.job_text.specs.JobText.{schedule_lines, lines_with_pairs, lines_with_atomics, lines_with_collect}
+use Rattle.job_text.specs.JobText.{lines_with_handlers}
 use Rattle.job_text.specs.JobText.{lines_with_scripts, IsJob, pair_line, head_lines}
 use Rattle.job_text.specs.Refusals.{completed, so_far, IsUnread, IsReached}
+use Rattle.std.specs.Prelude.{is_some}
+use Rattle.job_text.specs.declared.job.CollectArea.{CollectArea}
 use Rattle.job_text.specs.declared.job.HandlerText.{HandlerText}
 use Rattle.job_text.specs.declared.job.Job.{Job}
 use Rattle.job_text.specs.declared.job.NodeScript.{NodeScript}
@@ -23,6 +26,7 @@ use Rattle.job_text.proofs.Completeness.{to_nodes, to_credits, to_threads, to_se
 use Rattle.job_text.proofs.Completeness.{to_sieve, head_reach, pairs_reach, before_handlers, before_scripts, handlers_lead}
 use Rattle.job_text.proofs.Completeness.{scripts_lead, handler_opens, script_opens, schedule_begins, schedule_whole}
 use Rattle.job_text.proofs.Completeness.{whole_reach, with_scripts, with_schedule, some_behind}
+use Rattle.job_text.proofs.Completeness.{with_flag, atomics_lead}
 
 -- what a reader knows of the job there: in the head, all that no line has said is as small as it can be
 abbrev pub numbers_said : Setting → Job → Job
@@ -49,11 +53,23 @@ known_at place job = record { place = place; job = known place job }
 unread_pairs : (job : Job) → IsUnread AtPairs job → of_head job job.settings.pairs ≡ job
 unread_pairs job u =
     let with_schedule_of : of_head job job.settings.pairs ≡ record (of_head job job.settings.pairs) { schedule = job.schedule } =
-    ap (λ (s : Option (List TimedEvent)). record (of_head job job.settings.pairs) { schedule = s }) (sym u.3) in
+    ap (λ (s : Option (List TimedEvent)). record (of_head job job.settings.pairs) { schedule = s }) (sym u.4) in
     with_schedule_of
-    ∙ ap (λ (ss : List NodeScript). record job { atomics = false; handlers = []; scripts = ss }) (sym u.2)
-    ∙ ap (λ (hs : List HandlerText). record job { atomics = false; handlers = hs }) (sym u.1)
+    ∙ ap (λ (ss : List NodeScript). record job { atomics = false; collect = None; handlers = []; scripts = ss }) (sym u.3)
+    ∙ ap (λ (hs : List HandlerText). record job { atomics = false; collect = None; handlers = hs }) (sym u.2)
+    ∙ ap (λ (c : Option CollectArea). record job { atomics = false; collect = c }) (sym u.1)
     ∙ ap (λ (b : Bool). record job { atomics = b }) (sym u.0)
+
+-- the same behind the line of atomics
+unread_collect : (job : Job) → IsUnread AtCollect job
+    → with_flag (of_head job job.settings.pairs) job.atomics ≡ job
+unread_collect job u =
+    ap (λ (s : Option (List TimedEvent)). record (with_flag (of_head job job.settings.pairs) job.atomics) {
+      schedule = s;
+    }) (sym u.3)
+    ∙ ap (λ (ss : List NodeScript). record job { collect = None; handlers = []; scripts = ss }) (sym u.2)
+    ∙ ap (λ (hs : List HandlerText). record job { collect = None; handlers = hs }) (sym u.1)
+    ∙ ap (λ (c : Option CollectArea). record job { collect = c }) (sym u.0)
 
 unread_scripts : (job : Job) → job.scripts ≡ [] → job.schedule ≡ None → before_scripts job ≡ job
 unread_scripts job none last =
@@ -76,10 +92,19 @@ some_scripts (x ∷ ss) lines some h = absurd (cc)
 one_line : (line : Line) (lines : List Line) → ◌≡◌ {A = List Line} (line ∷ lines) [] → ⊥
 one_line line lines h = cc
 
-atomics_or_handlers : (job : Job) → IsReached AtHandlers job → job.atomics ≡ false
+collect_or_handlers : (job : Job) → IsReached AtHandlers job → job.collect ≡ None
     → flat_map handler_lines job.handlers ++ [] ≡ [] → ⊥
-atomics_or_handlers job (inl there) none = absurd (cc)
-atomics_or_handlers job (inr some) none = some_handlers job.handlers [] some
+collect_or_handlers job (inl there) none = not_both job.collect there none
+  where
+    not_both : {lines : List Line} (collect : Option CollectArea) → is_some collect ≡ true → collect ≡ None
+        → lines ≡ [] → ⊥
+    not_both None there none = absurd (cc)
+    not_both (Some area) there none = absurd (cc)
+collect_or_handlers job (inr some) none = some_handlers job.handlers [] some
+
+not_without : (atomics : Bool) → atomics ≡ true → {lines : List Line} → atomics ≡ false → lines ≡ [] → ⊥
+not_without true there none = absurd (cc)
+not_without false there none = absurd (cc)
 
 -- ---- each place
 
@@ -109,14 +134,23 @@ to_pairs job u is =
     (head_lines job) (map pair_line job.settings.pairs) (head_reach job is)
     (pairs_reach job is [] job.settings.pairs refl))
 
+to_collect : (job : Job) → job.atomics ≡ true → IsUnread AtCollect job → IsJob job
+    → Reaches start (so_far AtCollect job) (known_at AtCollect job)
+to_collect job r u is =
+    let found = with_flag (of_head job job.settings.pairs) job.atomics in
+    arrive (lines_with_atomics job) AtCollect found job (unread_collect job u)
+    (subst (λ (ls : List Line). Reaches start ls (record { place = AtCollect; job = found }))
+    (append-nil (lines_with_atomics job))
+    (atomics_lead job is [] (record { place = AtCollect; job = found }) (not_without job.atomics r) refl))
+
 to_handlers : (job : Job) → IsReached AtHandlers job → IsUnread AtHandlers job → IsJob job
     → Reaches start (so_far AtHandlers job) (known_at AtHandlers job)
 to_handlers job r u is =
     arrive (lines_with_handlers job) AtHandlers (before_scripts job) job (unread_scripts job u.0 u.1)
-    (subst (λ (ls : List Line). Reaches start (lines_with_atomics job ++ ls)
+    (subst (λ (ls : List Line). Reaches start (lines_with_collect job ++ ls)
     (record { place = AtHandlers; job = before_scripts job })) (append-nil (flat_map handler_lines job.handlers))
     (handlers_lead job is job.handlers [] (sym (append-nil job.handlers)) []
-    (record { place = AtHandlers; job = before_scripts job }) (atomics_or_handlers job r) (λ may. refl)))
+    (record { place = AtHandlers; job = before_scripts job }) (collect_or_handlers job r) (λ may. refl)))
 
 to_body : (handler : HandlerText) (job : Job) → IsUnread (AtBody handler) job → IsJob (with_handler handler job)
     → Reaches start (so_far (AtBody handler) job) (known_at (AtBody handler) job)
@@ -125,7 +159,7 @@ to_body handler job u is =
     let hs = flat_map handler_lines job.handlers in
     arrive (lines_with_handlers job ++ lines) (AtBody handler) (before_scripts job) job (unread_scripts job u.0 u.1)
     (subst (λ (ls : List Line). Reaches start ls (record { place = AtBody handler; job = before_scripts job }))
-    (sym (append_assoc (lines_with_atomics job) hs lines))
+    (sym (append_assoc (lines_with_collect job) hs lines))
     (handlers_lead (with_handler handler job) is job.handlers (handler ∷ []) refl lines
     (record { place = AtBody handler; job = before_scripts job })
     (λ none. some_behind hs lines (one_line (header_line handler) (map action_text handler.body)))
@@ -192,6 +226,7 @@ reach_place (AtSetting setting) job is u r = to_setting setting job is
 reach_place AtSieve job is u r = to_sieve job is
 reach_place AtPairs job is u r = to_pairs job u is
 reach_place AtAtomics job is u r = absurd r
+reach_place AtCollect job is u r = to_collect job r u is
 reach_place AtHandlers job is u r = to_handlers job r u is
 reach_place (AtBody handler) job is u r = to_body handler job u is
 reach_place AtScripts job is u r = to_scripts job r u is

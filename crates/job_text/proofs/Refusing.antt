@@ -8,13 +8,13 @@ use Rattle.std.proofs.lemmas.Bool.{ltb-false}
 use Rattle.job_text.specs.Places.{Setting, Nodes, Credits, Threads, Segment, Last, Resend, Patience}
 use Rattle.job_text.specs.Places as places
 use Rattle.job_text.specs.Places.{Place, AtSetting, AtSieve, AtPairs, AtHandlers, AtBody, AtScripts, AtSteps}
-use Rattle.job_text.specs.Places.{AtAtomics, AtSchedule, AtDone, Over}
+use Rattle.job_text.specs.Places.{AtAtomics, AtCollect, AtSchedule, AtDone, Over}
 use Rattle.job_text.specs.Places.{Version}
 use Rattle.job_text.specs.JobReading.{State, BadLine, Front, start, limit, of_front, alone, sized, read, job_of}
 use Rattle.job_text.specs.JobReading.{front_of}
 use Rattle.job_text.specs.JobText.{Line, spell, setting_line, sieve_line, pair_line, handler_lines, schedule_lines}
 use Rattle.job_text.specs.JobText.{script_lines, lines_with_pairs, lines_with_handlers, lines_with_scripts, job_lines}
-use Rattle.job_text.specs.JobText.{atomics_lines, lines_with_atomics, job_text, IsJob, JobText, BeginsWith}
+use Rattle.job_text.specs.JobText.{atomics_lines, collect_lines, lines_with_atomics, lines_with_collect, job_text, IsJob, JobText, BeginsWith}
 use Rattle.job_text.specs.Refusals.{first_lines, after_lines, IsFront}
 use Rattle.job_text.specs.Reading.{GivesAt}
 use Rattle.std.specs.Prelude.{IfOk}
@@ -87,12 +87,15 @@ behind_pairs job = flat_map handler_lines job.handlers ++ behind_handlers job
 
 abbrev pub later_lines : Job → List Line
 later_lines job =
-    (((map pair_line job.settings.pairs ++ atomics_lines job.atomics) ++ flat_map handler_lines job.handlers)
-    ++ flat_map script_lines job.scripts) ++ last_lines job
+    ((((map pair_line job.settings.pairs ++ atomics_lines job.atomics) ++ collect_lines job.collect)
+    ++ flat_map handler_lines job.handlers) ++ flat_map script_lines job.scripts) ++ last_lines job
 
--- behind pairs there is the line of atomics before these
+-- before these there is the line of collectives, and before that the line of atomics
+abbrev pub with_collect_before : Job → List Line
+with_collect_before job = collect_lines job.collect ++ behind_pairs job
+
 abbrev pub with_atomics_before : Job → List Line
-with_atomics_before job = atomics_lines job.atomics ++ behind_pairs job
+with_atomics_before job = atomics_lines job.atomics ++ with_collect_before job
 
 -- the lines that were read and others are all
 pub record IsPart (place : Place) (job : Job) : Type 0 where
@@ -129,18 +132,23 @@ some_between : (front : List Line) (line : Line) (lines : List Line) → spell (
 some_between [] line lines h = some_line line lines h
 some_between (first ∷ front) line lines h = some_line first (front ++ line ∷ lines) h
 
+some_collect : (job : Job) → spell (with_collect_before job) ≡ [] → ⊥
+some_collect job =
+    some_front (collect_lines job.collect) (behind_pairs job)
+    (some_front (flat_map handler_lines job.handlers) (behind_handlers job)
+    (some_last (flat_map script_lines job.scripts) (schedule_lines job.settings job.schedule)))
+
 pairs_part : (place : Place) (job : Job) → so_far place job ≡ lines_with_pairs job → completed place job ≡ job
     → IsPart place job
 pairs_part place job same done = record {
   others = with_atomics_before job;
   all = ap job_lines done
       ∙ append_assoc (lines_with_handlers job) (flat_map script_lines job.scripts) (last_lines job)
-      ∙ append_assoc (lines_with_atomics job) (flat_map handler_lines job.handlers) (behind_handlers job)
-      ∙ append_assoc (lines_with_pairs job) (atomics_lines job.atomics) (behind_pairs job)
+      ∙ append_assoc (lines_with_collect job) (flat_map handler_lines job.handlers) (behind_handlers job)
+      ∙ append_assoc (lines_with_atomics job) (collect_lines job.collect) (behind_pairs job)
+      ∙ append_assoc (lines_with_pairs job) (atomics_lines job.atomics) (with_collect_before job)
       ∙ ap (λ (ls : List Line). ls ++ with_atomics_before job) (sym same);
-  some = λ o. some_front (atomics_lines job.atomics) (behind_pairs job)
-      (some_front (flat_map handler_lines job.handlers) (behind_handlers job)
-      (some_last (flat_map script_lines job.scripts) (schedule_lines job.settings job.schedule)));
+  some = λ o. some_front (atomics_lines job.atomics) (with_collect_before job) (some_collect job);
 }
 
 pub part_of : (place : Place) (job : Job) → IsUnread place job → IsPart place job
@@ -159,6 +167,13 @@ part_of AtSieve job u = record {
 }
 part_of AtPairs job u = pairs_part AtPairs job refl refl
 part_of AtAtomics job u = pairs_part AtAtomics job refl refl
+part_of AtCollect job u = record {
+  others = with_collect_before job;
+  all = append_assoc (lines_with_handlers job) (flat_map script_lines job.scripts) (last_lines job)
+      ∙ append_assoc (lines_with_collect job) (flat_map handler_lines job.handlers) (behind_handlers job)
+      ∙ append_assoc (lines_with_atomics job) (collect_lines job.collect) (behind_pairs job);
+  some = λ o. some_collect job;
+}
 part_of AtHandlers job u = record {
   others = behind_handlers job;
   all = append_assoc (lines_with_handlers job) (flat_map script_lines job.scripts) (last_lines job);
@@ -168,7 +183,7 @@ part_of (AtBody handler) job u = record {
   others = end_line ∷ behind_handlers job;
   all = append_assoc (lines_with_handlers (completed (AtBody handler) job)) (flat_map script_lines job.scripts)
       (last_lines job)
-      ∙ ap (λ (ls : List Line). ls ++ behind_handlers job) (handler_more job.handlers handler (lines_with_atomics job))
+      ∙ ap (λ (ls : List Line). ls ++ behind_handlers job) (handler_more job.handlers handler (lines_with_collect job))
       ∙ append_assoc (so_far (AtBody handler) job) (end_line ∷ []) (behind_handlers job);
   some = λ o. some_line end_line (behind_handlers job);
 }

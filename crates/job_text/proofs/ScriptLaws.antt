@@ -9,10 +9,11 @@ use Rattle.job_text.specs.declared.job.WaitingStep.TheVariants as waiting
 use Rattle.job_text.specs.Forms.{none_at, none_text, none_fits}
 use Rattle.job_text.specs.Calls.{calls, later_calls, own_calls, segment_calls, transfer_calls, implicit_calls}
 use Rattle.job_text.specs.Calls.{sync_calls, barrier_calls, call_at}
-use Rattle.job_text.specs.Scripts.{waits, sync_waits, waiting_entry, waiting_at, waiting_fits, waiting_text}
+use Rattle.job_text.specs.Scripts.{waits, sync_waits, later_waits, waiting_entry, waiting_at, waiting_fits, waiting_text}
 use Rattle.job_text.specs.Scripts.{IsWaiting}
 use Rattle.job_text.specs.Scripts.{step_at, step_of, step_text, IsStep}
 use Rattle.job_text.specs.ThreadActions.{thread_action_at, thread_action_text, IsThreadAction}
+use Rattle.job_text.specs.CollectiveLines.{collective_at, collective_rows}
 use Rattle.job_text.specs.VisLines.{vis_at, vis_rows}
 use Rattle.job_text.specs.declared.thread_actions.ThreadAction.{ThreadAction}
 use Rattle.job_text.specs.declared.thread_actions.ThreadAction.TheVariants as does
@@ -22,7 +23,7 @@ use Rattle.job_text.proofs.VisLaws.{thread_actions_exact}
 
 -- an entry makes its step, by the first row of its name
 waiting_again : (w : WaitingStep) → IsEntryOf waits waiting_entry w
-unfolding waits sync_waits
+unfolding waits sync_waits later_waits
 waiting_again (waiting.Until cell operand) = entry_of refl refl refl
 waiting_again (waiting.Transfer (transfer.Put to remote local len)) = entry_of refl refl refl
 waiting_again (waiting.Transfer (transfer.Get to remote local len)) = entry_of refl refl refl
@@ -35,11 +36,12 @@ waiting_again (waiting.WaitSome registers) = entry_of refl refl refl
 waiting_again (waiting.WaitImplicit which) = entry_of refl refl refl
 waiting_again (waiting.BarrierWait id flags) = entry_of refl refl refl
 waiting_again (waiting.UntilWord offset number) = entry_of refl refl refl
+waiting_again (waiting.Collective shape from dest) = entry_of refl refl refl
 
 -- from `wait` on
 sync_waits_are : AreMade waiting_entry sync_waits
-unfolding sync_waits
-sync_waits_are = (λ v. refl, (λ v. refl, (λ v. refl, (λ v. refl, (λ v. refl, (λ v. refl, tt))))))
+unfolding sync_waits later_waits
+sync_waits_are = (λ v. refl, (λ v. refl, (λ v. refl, (λ v. refl, (λ v. refl, (λ v. refl, (λ v. refl, tt)))))))
 
 -- all of them
 waits_are : (scope : Scope) → IsTable waits waiting_entry (waiting_fits scope)
@@ -72,6 +74,7 @@ no_call scope (waiting.WaitSome registers) rest = refl
 no_call scope (waiting.WaitImplicit which) rest = refl
 no_call scope (waiting.BarrierWait id flags) rest = refl
 no_call scope (waiting.UntilWord offset number) rest = refl
+no_call scope (waiting.Collective shape from dest) rest = refl
 
 -- nor does it begin a transfer of many pieces
 no_vis : (scope : Scope) (w : WaitingStep) (rest : List ℕ) → vis_at scope (waiting_text w ++ 10 ∷ rest) ≡ None
@@ -88,11 +91,30 @@ no_vis scope (waiting.WaitSome registers) rest = refl
 no_vis scope (waiting.WaitImplicit which) rest = refl
 no_vis scope (waiting.BarrierWait id flags) rest = refl
 no_vis scope (waiting.UntilWord offset number) rest = refl
+no_vis scope (waiting.Collective shape from dest) rest = refl
+
+-- nor is it a call of collectives
+no_collective : (scope : Scope) (w : WaitingStep) (rest : List ℕ)
+    → collective_at scope (waiting_text w ++ 10 ∷ rest) ≡ None
+unfolding collective_at collective_rows
+no_collective scope (waiting.Until cell operand) rest = refl
+no_collective scope (waiting.Transfer (transfer.Put to remote local len)) rest = refl
+no_collective scope (waiting.Transfer (transfer.Get to remote local len)) rest = refl
+no_collective scope (waiting.Transfer (transfer.Memset to remote len byte)) rest = refl
+no_collective scope (waiting.PutBegin register put) rest = refl
+no_collective scope (waiting.PutImplicit put) rest = refl
+no_collective scope (waiting.Wait register) rest = refl
+no_collective scope (waiting.WaitAll registers) rest = refl
+no_collective scope (waiting.WaitSome registers) rest = refl
+no_collective scope (waiting.WaitImplicit which) rest = refl
+no_collective scope (waiting.BarrierWait id flags) rest = refl
+no_collective scope (waiting.UntilWord offset number) rest = refl
+no_collective scope (waiting.Collective shape from dest) rest = refl
 
 no_action : (scope : Scope) (w : WaitingStep) (rest : List ℕ)
     → thread_action_at scope (waiting_text w ++ 10 ∷ rest) ≡ None
 unfolding thread_action_at
-no_action scope w rest = rw (no_call scope w rest, no_vis scope w rest) refl
+no_action scope w rest = rw (no_call scope w rest, no_vis scope w rest, no_collective scope w rest) refl
 
 -- the bytes are the text of a step, and the bytes after it
 abbrev pub IsStepOf : Scope → List ℕ → ScriptStep × List ℕ → Type 0
@@ -103,6 +125,7 @@ action_step : (scope : Scope) (bytes : List ℕ) (a : ThreadAction) (rest : List
     → (bytes ≡ thread_action_text a ++ rest) × IsThreadAction scope a → IsStepOf scope bytes (step_of a, rest)
 action_step scope bytes (does.Call c) rest h = h
 action_step scope bytes (does.Vis vis) rest h = h
+action_step scope bytes (does.Collective c) rest h = h
 
 -- a step that was read
 step_takes : (scope : Scope) (bytes : List ℕ) → Takes (IsStepOf scope bytes) (step_at scope bytes)
@@ -120,12 +143,14 @@ step_again : (scope : Scope) (s : ScriptStep) (rest : List ℕ) → IsStep scope
 unfolding step_at
 step_again scope (step.Call c) rest h = rw ((thread_actions_exact scope).again (does.Call c) rest h) refl
 step_again scope (step.Vis vis) rest h = rw ((thread_actions_exact scope).again (does.Vis vis) rest h) refl
+step_again scope (step.Collective c) rest h = rw ((thread_actions_exact scope).again (does.Collective c) rest h) refl
 step_again scope (step.Waiting w) rest h = rw (no_action scope w rest, (waits_exact scope).again w rest h) refl
 
 -- a step ends no line
 step_flat : (scope : Scope) (s : ScriptStep) → IsStep scope s → IsFlat (step_text s)
 step_flat scope (step.Call c) h = (thread_actions_exact scope).flat (does.Call c) h
 step_flat scope (step.Vis vis) h = (thread_actions_exact scope).flat (does.Vis vis) h
+step_flat scope (step.Collective c) h = (thread_actions_exact scope).flat (does.Collective c) h
 step_flat scope (step.Waiting w) h = (waits_exact scope).flat w h
 
 -- reading a step is the inverse of writing it

@@ -3,14 +3,15 @@ use Rattle.std.proofs.Common.{◌≡◌, ◌≢◌, inl, inr, ℕ, zero, suc, Li
 use Rattle.job_text.specs.Places.{Setting, Version, Nodes, Credits, Threads, Segment, Last, Resend, Patience}
 use Rattle.job_text.specs.Places as places
 use Rattle.job_text.specs.Places.{Place, AtSetting, AtSieve, AtPairs, AtAtomics, AtHandlers, AtBody, AtScripts, AtSteps}
-use Rattle.job_text.specs.Places.{AtSchedule, AtDone, Over, NamedOr, Named, Other, Item}
-use Rattle.job_text.specs.JobReading.{State, behind_setting, next, opened, headed, served, pair_why}
+use Rattle.job_text.specs.Places.{AtCollect, AtSchedule, AtDone, Over, Named, Other, Item, HandlerItem, CollectItem}
+use Rattle.job_text.specs.Places.{AtomicsItem}
+use Rattle.job_text.specs.Scopes.{scope_of}
+use Rattle.job_text.specs.JobReading.{State, behind_setting, next, opened, headed, collected, served, pair_why}
 use Rattle.job_text.specs.JobReading.{handler_why, section_why, action_why, step_why, line_why, lines_of}
 use Rattle.job_text.specs.PlanPieces.{scripts_pieces}
 use Rattle.job_text.specs.Refusals.{IsReached}
 use Rattle.job_text.specs.declared.fault.JobWhy.{JobWhy}
 use Rattle.job_text.specs.declared.job.Job.{Job}
-use Rattle.job_text.specs.declared.sections.HandlerHeader.{HandlerHeader}
 use Rattle.job_text.specs.declared.sections.Section.{Section}
 use Rattle.job_text.specs.declared.sections.Section.TheVariants as section
 use Rattle.job_text.proofs.LineRuns.{IsOpen}
@@ -49,16 +50,19 @@ opened_stands job (section.Script node thread) state h =
 opened_stands job section.Schedule state h = by_ok _ state h tt
 opened_stands job section.Done state h = by_ok _ state h tt
 
-headed_stands : (job : Job) (item : NamedOr HandlerHeader Section) (state : State) → headed job item ≡ Ok state
+headed_stands : (job : Job) (item : HandlerItem) (state : State) → headed job item ≡ Ok state
     → Stands state
 headed_stands job (Named header) state h =
-    subst Stands (unless_ok (handler_why job.atomics job.handlers header.index) _ state h).1 tt
+    subst Stands (unless_ok (handler_why (scope_of job) job.handlers header.index) _ state h).1 tt
 headed_stands job (Other s) state h = opened_stands job s state h
 
-served_stands : (job : Job) (item : NamedOr (Unit {0}) (NamedOr HandlerHeader Section)) (state : State)
-    → served job item ≡ Ok state → Stands state
-served_stands job (Named line) state h = by_ok _ state h (inl refl)
-served_stands job (Other item) state h = headed_stands job item state h
+collected_stands : (job : Job) (item : CollectItem) (state : State) → collected job item ≡ Ok state → Stands state
+collected_stands job (Named area) state h = by_ok _ state h (inl refl)
+collected_stands job (Other item) state h = headed_stands job item state h
+
+served_stands : (job : Job) (item : AtomicsItem) (state : State) → served job item ≡ Ok state → Stands state
+served_stands job (Named line) state h = by_ok _ state h refl
+served_stands job (Other item) state h = collected_stands job item state h
 
 -- the place behind a line that was read
 pub next_stands : (place : Place) (job : Job) (item : Item place) (state : State) → next place job item ≡ Ok state
@@ -68,6 +72,7 @@ next_stands AtSieve job rule state h = by_ok _ state h tt
 next_stands AtPairs job (Named pair) state h = subst Stands (unless_ok (pair_why job.settings.pairs pair) _ state h).1 tt
 next_stands AtPairs job (Other item) state h = served_stands job item state h
 next_stands AtAtomics job item state h = served_stands job item state h
+next_stands AtCollect job item state h = collected_stands job item state h
 next_stands AtHandlers job item state h = headed_stands job item state h
 next_stands (AtBody handler) job None state h = by_ok _ state h (inr (some_more job.handlers handler))
 next_stands (AtBody handler) job (Some a) state h =

@@ -11,23 +11,25 @@ use Rattle.job_text.specs.Events.{timed_text}
 use Rattle.job_text.specs.Scripts.{step_text}
 use Rattle.job_text.specs.Places.{Setting, Version, Nodes, Credits, Threads, Segment, Last, Resend, Patience}
 use Rattle.job_text.specs.Places as places
-use Rattle.job_text.specs.Places.{AtAtomics, atomics_text}
+use Rattle.job_text.specs.Places.{AtAtomics, AtCollect, atomics_text, collect_text, HandlerItem, CollectItem}
+use Rattle.job_text.specs.Places.{AtomicsItem, PairItem}
 use Rattle.job_text.specs.Scopes.{scope_of}
 use Rattle.job_text.specs.Places.{Place, AtSetting, AtSieve, AtPairs, AtHandlers, AtBody, AtScripts, AtSteps}
 use Rattle.job_text.specs.Places.{AtSchedule, AtDone, Over}
-use Rattle.job_text.specs.Places.{NamedOr, Named, Other, Item, item_text}
+use Rattle.job_text.specs.Places.{Named, Other, Item, item_text}
 use Rattle.job_text.specs.JobReading.{State, with_number, behind_setting, lines_of, unless, next}
-use Rattle.job_text.specs.JobReading.{served, with_atomics}
+use Rattle.job_text.specs.JobReading.{collected, served, with_atomics, with_collect}
 use Rattle.job_text.specs.JobReading.{opened, headed, paired, acted, scripted, scheduled, pair_why, handler_why}
 use Rattle.job_text.specs.JobReading.{section_why, action_why, step_why, line_why}
 use Rattle.job_text.specs.PlanPieces.{scripts_pieces}
 use Rattle.job_text.specs.JobText.{Line, all_settings, pair_line, header_line}
 use Rattle.job_text.specs.JobText.{handler_lines, timed_lines, schedule_lines, head_lines, lines_with_pairs}
-use Rattle.job_text.specs.JobText.{atomics_lines, lines_with_atomics}
+use Rattle.job_text.specs.JobText.{atomics_lines, collect_lines, lines_with_atomics, lines_with_collect}
 use Rattle.job_text.specs.JobText.{script_line, script_lines, lines_with_handlers, lines_with_scripts}
 use Rattle.job_text.specs.Refusals.{so_far, IsUnread}
 use Rattle.job_text.specs.declared.fault.JobWhy.{JobWhy}
 use Rattle.job_text.specs.declared.job.Action.{Action}
+use Rattle.job_text.specs.declared.job.CollectArea.{CollectArea}
 use Rattle.job_text.specs.declared.job.HandlerText.{HandlerText}
 use Rattle.job_text.specs.declared.job.Job.{Job}
 use Rattle.job_text.specs.declared.job.NodeScript.{NodeScript}
@@ -145,10 +147,10 @@ opened_more job section.Done state u h = subst (λ (x : State). SaysMore AtScrip
     (none_schedule job.settings job.schedule (lines_with_scripts job) u, tt)
 
 -- what has these lines has them by another place
-headed_more : (job : Job) (item : NamedOr HandlerHeader Section) (state : State) → IsUnread AtHandlers job
+headed_more : (job : Job) (item : HandlerItem) (state : State) → IsUnread AtHandlers job
     → headed job item ≡ Ok state → SaysMore AtHandlers job item state
 headed_more job (Named header) state u h =
-    let p = unless_ok (handler_why job.atomics job.handlers header.index) _ state h in
+    let p = unless_ok (handler_why (scope_of job) job.handlers header.index) _ state h in
     subst (λ (x : State). SaysMore AtHandlers job (Named header) x) p.1 (refl, u)
 headed_more job (Other s) state u h =
     let m = opened_more job s state u.1 h in (
@@ -162,26 +164,43 @@ no_atomics : (atomics : Bool) (front : List Line) → atomics ≡ false → fron
 no_atomics true front e = absurd (cc)
 no_atomics false front e = append-nil front
 
--- the lines behind the line of atomics, behind which there is no handler
-with_line_of_atomics : (job : Job) → job.handlers ≡ []
-    → lines_with_handlers (with_atomics job) ≡ lines_with_pairs job ++ atomics_text tt ∷ []
-with_line_of_atomics job none = no_parts handler_lines job.handlers (lines_with_atomics (with_atomics job)) none
+-- nor is the line of collectives
+no_collect : (collect : Option CollectArea) (front : List Line) → collect ≡ None → front ++ collect_lines collect ≡ front
+no_collect None front e = append-nil front
+no_collect (Some area) front e = absurd (cc)
 
-served_more : (job : Job) (item : NamedOr (Unit {0}) (NamedOr HandlerHeader Section)) (state : State)
-    → IsUnread AtAtomics job → served job item ≡ Ok state → SaysMore AtAtomics job item state
-served_more job (Named line) state u h =
-    subst (λ (x : State). SaysMore AtAtomics job (Named line) x) (ok_same h)
-    (with_line_of_atomics job u.1, (u.2, u.3))
-served_more job (Other item) state u h =
+-- the lines behind the line of collectives, behind which there is no handler
+with_line_of_collectives : (job : Job) (area : CollectArea) → job.handlers ≡ []
+    → lines_with_handlers (with_collect area job) ≡ lines_with_atomics job ++ collect_text area ∷ []
+with_line_of_collectives job area none =
+    no_parts handler_lines job.handlers (lines_with_collect (with_collect area job)) none
+
+collected_more : (job : Job) (item : CollectItem) (state : State) → IsUnread AtCollect job
+    → collected job item ≡ Ok state → SaysMore AtCollect job item state
+collected_more job (Named area) state u h =
+    subst (λ (x : State). SaysMore AtCollect job (Named area) x) (ok_same h)
+    (with_line_of_collectives job area u.1, (u.2, u.3))
+collected_more job (Other item) state u h =
     let m = headed_more job item state (u.2, u.3) h in (
       m.0 ∙ ap (λ (ls : List Line). ls ++ item_text AtHandlers (scope_of job) item ∷ [])
-          (no_parts handler_lines job.handlers (lines_with_atomics job) u.1
-          ∙ no_atomics job.atomics (lines_with_pairs job) u.0),
+          (no_parts handler_lines job.handlers (lines_with_collect job) u.1
+          ∙ no_collect job.collect (lines_with_atomics job) u.0),
       m.1,
     )
 
-paired_more : (job : Job) (item : NamedOr PairCredits (NamedOr (Unit {0}) (NamedOr HandlerHeader Section)))
-    (state : State) → IsUnread AtPairs job → paired job item ≡ Ok state → SaysMore AtPairs job item state
+served_more : (job : Job) (item : AtomicsItem) (state : State) → IsUnread AtAtomics job → served job item ≡ Ok state
+    → SaysMore AtAtomics job item state
+served_more job (Named line) state u h =
+    subst (λ (x : State). SaysMore AtAtomics job (Named line) x) (ok_same h) (refl, (u.1, u.2, u.3, u.4))
+served_more job (Other item) state u h =
+    let m = collected_more job item state (u.1, u.2, u.3, u.4) h in (
+      m.0 ∙ ap (λ (ls : List Line). ls ++ item_text AtCollect (scope_of job) item ∷ [])
+          (no_atomics job.atomics (lines_with_pairs job) u.0),
+      m.1,
+    )
+
+paired_more : (job : Job) (item : PairItem) (state : State) → IsUnread AtPairs job → paired job item ≡ Ok state
+    → SaysMore AtPairs job item state
 paired_more job (Named pair) state u h =
     let p = unless_ok (pair_why job.settings.pairs pair) _ state h in
     subst (λ (x : State). SaysMore AtPairs job (Named pair) x) p.1 (
@@ -194,7 +213,7 @@ paired_more job (Other item) state u h = served_more job item state u h
 acted_more : (handler : HandlerText) (job : Job) (item : Option Action) (state : State) → IsUnread
     (AtBody handler) job → acted handler job item ≡ Ok state → SaysMore (AtBody handler) job item state
 acted_more handler job None state u h = subst (λ (x : State). SaysMore (AtBody handler) job None x) (ok_same h)
-    (handler_more job.handlers handler (lines_with_atomics job), u)
+    (handler_more job.handlers handler (lines_with_collect job), u)
 acted_more handler job (Some a) state u h =
     let p = unless_ok (action_why handler.body) _ state h in
     subst (λ (x : State). SaysMore (AtBody handler) job (Some a) x) p.1 (
@@ -242,9 +261,10 @@ pub says_more : (place : Place) (job : Job) (item : Item place) (state : State) 
 says_more (AtSetting setting) job number state u h = subst (λ (x : State). SaysMore (AtSetting setting) job number x)
     (ok_same h) (setting_more setting number job u)
 says_more AtSieve job rule state u h = subst (λ (x : State). SaysMore AtSieve job rule x) (ok_same h)
-    (no_lines pair_line job.settings.pairs (head_lines (record job { sieve = rule })) u.0, (u.1, u.2, u.3, u.4))
+    (no_lines pair_line job.settings.pairs (head_lines (record job { sieve = rule })) u.0, (u.1, u.2, u.3, u.4, u.5))
 says_more AtPairs job item state u h = paired_more job item state u h
 says_more AtAtomics job item state u h = served_more job item state u h
+says_more AtCollect job item state u h = collected_more job item state u h
 says_more AtHandlers job item state u h = headed_more job item state u h
 says_more (AtBody handler) job item state u h = acted_more handler job item state u h
 says_more AtScripts job item state u h = opened_more job item state u h

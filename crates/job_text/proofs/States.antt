@@ -10,12 +10,13 @@ use Rattle.job_text.specs.Scripts.{IsStep}
 use Rattle.job_text.specs.Places.{Setting, Version, Nodes, Credits, Threads, Segment, Last, Resend, Patience}
 use Rattle.job_text.specs.Places as places
 use Rattle.job_text.specs.Places.{Place, AtSetting, AtSieve, AtPairs, AtHandlers, AtBody, AtScripts, AtSteps}
-use Rattle.job_text.specs.Places.{AtAtomics, AtSchedule, AtDone, Over}
+use Rattle.job_text.specs.Places.{AtAtomics, AtCollect, AtSchedule, AtDone, Over}
+use Rattle.job_text.specs.Places.{HandlerItem, CollectItem, AtomicsItem, PairItem}
 use Rattle.job_text.specs.Scopes.{scope_of}
-use Rattle.job_text.specs.Places.{NamedOr, Named, Other, Item, IsItem}
+use Rattle.job_text.specs.Places.{Named, Other, Item, IsItem}
 use Rattle.job_text.specs.JobReading.{State, least_job, with_number, behind_setting, with_action, lines_of, next}
 use Rattle.job_text.specs.JobReading.{with_step, begun_script, begun, opened, headed, paired, acted, scripted}
-use Rattle.job_text.specs.JobReading.{scheduled, served, is_reserved, most_handlers}
+use Rattle.job_text.specs.JobReading.{scheduled, collected, served, is_reserved, most_handlers}
 use Rattle.job_text.specs.JobReading.{has_index, has_pair, has_thread, pair_why, handler_why, section_why, action_why}
 use Rattle.job_text.specs.JobReading.{is_full_script, step_why, line_why}
 use Rattle.job_text.specs.PlanPieces.{most_pieces, scripts_pieces}
@@ -36,7 +37,9 @@ use Rattle.job_text.proofs.HandlerRuns.{few_steps}
 use Rattle.job_text.proofs.PlanPieces.{steps_more}
 use Rattle.job_text.proofs.Ranges.{IsNumber, AreNumbers}
 use Rattle.job_text.proofs.JobLaws.{AreLeast, numbers_more, IsHead, head_sound, IsSound, pair_sound, pair_free_by}
-use Rattle.job_text.proofs.JobLaws.{atomics_sound, handler_sound, script_sound, all_more, empty_sound, line_sound}
+use Rattle.job_text.proofs.AreaLaws.{collect_is}
+use Rattle.job_text.proofs.JobLaws.{atomics_sound, collect_sound, handler_sound, script_sound, all_more, empty_sound}
+use Rattle.job_text.proofs.JobLaws.{line_sound}
 use Rattle.job_text.specs.Refusals.{completed, IsUnread}
 use Rattle.job_text.proofs.StateLaws.{unless_ok, ok_same}
 
@@ -44,8 +47,8 @@ use Rattle.job_text.proofs.StateLaws.{unless_ok, ok_same}
 pub record IsBegun (handler : HandlerText) (job : Job) : Type 0 where
   pub is : IsHandler handler
   pub new : has_index job.handlers handler.index ≡ false
-  pub free : is_reserved job.atomics handler.index ≡ false
-  pub few : length job.handlers < most_handlers job.atomics
+  pub free : is_reserved (scope_of job) handler.index ≡ false
+  pub few : length job.handlers < most_handlers (scope_of job)
 
 -- a script so far
 pub record IsBegunScript (script : NodeScript) (job : Job) : Type 0 where
@@ -57,9 +60,13 @@ abbrev pub IsState : Place → Job → Type 0
 IsState (AtSetting setting) job = IsHead job × AreLeast setting job.settings
 IsState AtSieve job = IsHead job
 IsState AtPairs job =
-    IsSound job × (job.atomics ≡ false) × (job.handlers ≡ []) × (job.scripts ≡ []) × (job.schedule ≡ None)
+    IsSound job × (job.atomics ≡ false) × (job.collect ≡ None) × (job.handlers ≡ []) × (job.scripts ≡ [])
+    × (job.schedule ≡ None)
 IsState AtAtomics job =
-    IsSound job × (job.atomics ≡ false) × (job.handlers ≡ []) × (job.scripts ≡ []) × (job.schedule ≡ None)
+    IsSound job × (job.atomics ≡ false) × (job.collect ≡ None) × (job.handlers ≡ []) × (job.scripts ≡ [])
+    × (job.schedule ≡ None)
+IsState AtCollect job =
+    IsSound job × (job.collect ≡ None) × (job.handlers ≡ []) × (job.scripts ≡ []) × (job.schedule ≡ None)
 IsState AtHandlers job = IsSound job × (job.scripts ≡ []) × (job.schedule ≡ None)
 IsState (AtBody handler) job = IsSound job × (job.scripts ≡ []) × (job.schedule ≡ None) × IsBegun handler job
 IsState AtScripts job = IsSound job × (job.schedule ≡ None)
@@ -69,10 +76,12 @@ IsState AtDone job = IsSound job × ((lines : List TimedEvent) × (job.schedule 
 IsState Over job = IsSound job
 
 pub unread : (place : Place) (job : Job) → IsState place job → IsUnread place job
-unread (AtSetting setting) job is = (is.0.pairs, is.0.atomics, is.0.handlers, is.0.scripts, is.0.schedule)
-unread AtSieve job is = (is.pairs, is.atomics, is.handlers, is.scripts, is.schedule)
-unread AtPairs job is = (is.1, is.2, is.3, is.4)
-unread AtAtomics job is = (is.1, is.2, is.3, is.4)
+unread (AtSetting setting) job is =
+    (is.0.pairs, is.0.atomics, is.0.collect, is.0.handlers, is.0.scripts, is.0.schedule)
+unread AtSieve job is = (is.pairs, is.atomics, is.collect, is.handlers, is.scripts, is.schedule)
+unread AtPairs job is = (is.1, is.2, is.3, is.4, is.5)
+unread AtAtomics job is = (is.1, is.2, is.3, is.4, is.5)
+unread AtCollect job is = (is.1, is.2, is.3, is.4)
 unread AtHandlers job is = (is.1, is.2)
 unread (AtBody handler) job is = (is.1, is.2)
 unread AtScripts job is = is.1
@@ -87,6 +96,7 @@ sound_completed (AtSetting setting) job is = head_sound job is.0
 sound_completed AtSieve job is = head_sound job is
 sound_completed AtPairs job is = is.0
 sound_completed AtAtomics job is = is.0
+sound_completed AtCollect job is = is.0
 sound_completed AtHandlers job is = is.0
 sound_completed (AtBody handler) job is = handler_sound job handler is.0 is.3.is is.3.new is.3.free is.3.few
 sound_completed AtScripts job is = is.0
@@ -114,6 +124,7 @@ start_is = (
     sieve = record { lose = omega arith; repeat = omega arith; swap = omega arith };
     pairs = refl;
     atomics = refl;
+    collect = refl;
     handlers = refl;
     scripts = refl;
     schedule = refl;
@@ -131,6 +142,7 @@ head_more Version number job is all = record {
   sieve = is.sieve;
   pairs = is.pairs;
   atomics = is.atomics;
+  collect = is.collect;
   handlers = is.handlers;
   scripts = is.scripts;
   schedule = is.schedule;
@@ -140,6 +152,7 @@ head_more Patience number job is all = record {
   sieve = is.sieve;
   pairs = is.pairs;
   atomics = is.atomics;
+  collect = is.collect;
   handlers = is.handlers;
   scripts = is.scripts;
   schedule = is.schedule;
@@ -149,6 +162,7 @@ head_more setting number job is all = record {
   sieve = is.sieve;
   pairs = is.pairs;
   atomics = is.atomics;
+  collect = is.collect;
   handlers = is.handlers;
   scripts = is.scripts;
   schedule = is.schedule;
@@ -177,6 +191,7 @@ sieve_head job rule is one = record {
   sieve = one;
   pairs = is.pairs;
   atomics = is.atomics;
+  collect = is.collect;
   handlers = is.handlers;
   scripts = is.scripts;
   schedule = is.schedule;
@@ -223,14 +238,14 @@ opened_state job section.Schedule state is item h = subst (λ (x : State). IsSta
     (empty_sound job is.0, ([], refl))
 opened_state job section.Done state is item h = subst (λ (x : State). IsState x.place x.job) (ok_same h) is.0
 
-headed_state : (job : Job) (item : NamedOr HandlerHeader Section) (state : State) → IsState AtHandlers job
+headed_state : (job : Job) (item : HandlerItem) (state : State) → IsState AtHandlers job
     → IsItem AtHandlers (scope_of job) item → headed job item ≡ Ok state → IsState state.place state.job
 headed_state job (Named header) state is item h =
-    let p = unless_ok (handler_why job.atomics job.handlers header.index) _ state h in
-    let most = most_handlers job.atomics in
-    let free = pair_free_by (has_index job.handlers header.index || is_reserved job.atomics header.index)
+    let p = unless_ok (handler_why (scope_of job) job.handlers header.index) _ state h in
+    let most = most_handlers (scope_of job) in
+    let free = pair_free_by (has_index job.handlers header.index || is_reserved (scope_of job) header.index)
     (leb most (length job.handlers)) Entry Count p.0 in
-    let new = or_parts (has_index job.handlers header.index) (is_reserved job.atomics header.index) free.0 in
+    let new = or_parts (has_index job.handlers header.index) (is_reserved (scope_of job) header.index) free.0 in
     let tests = and_parts (eqb header.index 0 || leb 128 header.index) (are_listed 0 header.locks) item.1 in
     let one : IsBegun (begun header) job = record {
       is = record {
@@ -246,28 +261,36 @@ headed_state job (Named header) state is item h =
     subst (λ (x : State). IsState x.place x.job) p.1 (is.0, is.1, is.2, one)
 headed_state job (Other s) state is item h = opened_state job s state (is.0, is.2) item h
 
-served_state : (job : Job) (item : NamedOr (Unit {0}) (NamedOr HandlerHeader Section)) (state : State)
-    → IsState AtAtomics job → IsItem AtAtomics (scope_of job) item → served job item ≡ Ok state
-    → IsState state.place state.job
+collected_state : (job : Job) (item : CollectItem) (state : State) → IsState AtCollect job
+    → IsItem AtCollect (scope_of job) item → collected job item ≡ Ok state → IsState state.place state.job
+collected_state job (Named area) state is one h =
+    let there = collect_is (scope_of job) area one.1 in
+    subst (λ (x : State). IsState x.place x.job) (ok_same h)
+    (collect_sound job area is.0 there is.2 is.3 is.4, is.3, is.4)
+collected_state job (Other item) state is one h = headed_state job item state (is.0, is.3, is.4) one h
+
+served_state : (job : Job) (item : AtomicsItem) (state : State) → IsState AtAtomics job
+    → IsItem AtAtomics (scope_of job) item → served job item ≡ Ok state → IsState state.place state.job
 served_state job (Named line) state is one h =
     let second = eqb-true job.settings.version 2 one.1 in
     subst (λ (x : State). IsState x.place x.job) (ok_same h)
-    (atomics_sound job is.0 second is.2 is.3 is.4, is.3, is.4)
-served_state job (Other item) state is one h = headed_state job item state (is.0, is.3, is.4) one h
+    (atomics_sound job is.0 second is.3 is.4 is.5, is.2, is.3, is.4, is.5)
+served_state job (Other item) state is one h =
+    collected_state job item state (is.0, is.2, is.3, is.4, is.5) one h
 
-paired_state : (job : Job) (item : NamedOr PairCredits (NamedOr (Unit {0}) (NamedOr HandlerHeader Section)))
-    (state : State) → IsState AtPairs job → IsItem AtPairs (scope_of job) item → paired job item ≡ Ok state
+paired_state : (job : Job) (item : PairItem) (state : State) → IsState AtPairs job → IsItem AtPairs (scope_of job) item → paired job item ≡ Ok state
     → IsState state.place state.job
 paired_state job (Named pair) state is item h =
     let p = unless_ok (pair_why job.settings.pairs pair) _ state h in
     let free = pair_free_by (has_pair job.settings.pairs pair) (leb 64 (length job.settings.pairs)) Entry Count p.0 in
     subst (λ (x : State). IsState x.place x.job) p.1 (
       pair_sound job pair is.0 item.1 item.0.1.1.0.0 item.0.1.1.0.1
-          free.0 (leb-false 64 (length job.settings.pairs) free.1) is.3 is.4,
+          free.0 (leb-false 64 (length job.settings.pairs) free.1) is.2 is.4 is.5,
       is.1,
       is.2,
       is.3,
       is.4,
+      is.5,
     )
 paired_state job (Other item) state is one h = served_state job item state is one h
 
@@ -347,12 +370,14 @@ state_more AtSieve job rule state is item h =
     subst (λ (x : State). IsState x.place x.job) (ok_same h) (
       head_sound (record job { sieve = rule }) head,
       is.atomics,
+      is.collect,
       is.handlers,
       is.scripts,
       is.schedule,
     )
 state_more AtPairs job item state is one h = paired_state job item state is one h
 state_more AtAtomics job item state is one h = served_state job item state is one h
+state_more AtCollect job item state is one h = collected_state job item state is one h
 state_more AtHandlers job item state is one h = headed_state job item state is one h
 state_more (AtBody handler) job item state is one h = acted_state handler job item state is one h
 state_more AtScripts job item state is one h = opened_state job item state is one h

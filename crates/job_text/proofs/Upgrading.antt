@@ -2,7 +2,9 @@
 use Rattle.std.proofs.Common.{◌≡◌, ℕ, true, List, [], ◌∷◌, Option, Some, None, refl, ap, subst}
 use Rattle.std.proofs.lemmas.Bool.{eqb-true}
 use Rattle.std.specs.List.{AllByRecursion}
-use Rattle.datagram_grammar.specs.Parameters.{upgraded}
+use Rattle.datagram_grammar.specs.Parameters.{Parameters, upgraded}
+use Rattle.job_text.specs.CollectAreas.{IsCollectOrNone}
+use Rattle.job_text.specs.declared.job.CollectArea.{CollectArea}
 use Rattle.job_text.specs.Calls.{IsCall}
 use Rattle.job_text.specs.Events.{IsEvent, IsTimed}
 use Rattle.job_text.specs.JobText.{IsNodeScript, IsScheduleOrNone}
@@ -54,6 +56,7 @@ vis_upgraded scope vis is =
 step_upgraded : (scope : Scope) (s : ScriptStep) → IsStep scope s → IsStep (upgraded_scope scope) s
 step_upgraded scope (step.Call c) is = call_upgraded scope c is
 step_upgraded scope (step.Vis vis) is = vis_upgraded scope vis is
+step_upgraded scope (step.Collective c) is = is
 step_upgraded scope (step.Waiting w) is = waiting_upgraded scope w is
 
 script_upgraded : (scope : Scope) (s : NodeScript) → IsNodeScript scope s → IsNodeScript (upgraded_scope scope) s
@@ -77,6 +80,11 @@ event_upgraded scope _ is = is
 
 timed_upgraded : (scope : Scope) (t : TimedEvent) → IsTimed scope t → IsTimed (upgraded_scope scope) t
 timed_upgraded scope t is = record { time = is.time; event = event_upgraded scope t.event is.event }
+
+pub collect_upgraded : (settings : Parameters) (collect : Option CollectArea) → IsCollectOrNone settings collect
+    → IsCollectOrNone (upgraded settings) collect
+collect_upgraded settings None is = tt
+collect_upgraded settings (Some area) is = record { second = refl; area = is.area }
 
 pub schedule_upgraded : (scope : Scope) (schedule : Option (List TimedEvent)) → IsScheduleOrNone scope schedule
     → IsScheduleOrNone (upgraded_scope scope) schedule

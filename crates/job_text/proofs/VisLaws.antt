@@ -13,7 +13,9 @@ use Rattle.job_text.specs.Calls.{sync_calls, barrier_calls, call_at, call_text, 
 use Rattle.job_text.specs.VisLines.{vis_rows, words_of, entry_by, vis_entry, with_plan, vis_fits, vis_at, vis_text, IsVis}
 use Rattle.job_text.specs.VisLines.{shape_fault, shape_plan, vis_plan}
 use Rattle.job_text.specs.Scopes.{is_second}
-use Rattle.job_text.specs.ThreadActions.{thread_action_at, thread_action_text, IsThreadAction}
+use Rattle.job_text.specs.CollectiveLines.{collective_at, collective_text, IsCollective}
+use Rattle.job_text.specs.ThreadActions.{thread_action_at, other_action_at, thread_action_text, IsThreadAction}
+use Rattle.job_text.specs.declared.job.CollectiveText.{CollectiveText}
 use Rattle.job_text.specs.declared.scope.Scope.{Scope}
 use Rattle.job_text.specs.declared.job.ScheduledCall.{ScheduledCall}
 use Rattle.job_text.specs.declared.vis.VisShape.{VisShape}
@@ -25,6 +27,7 @@ use Rattle.job_text.specs.declared.thread_actions.ThreadAction.TheVariants as do
 use Rattle.job_text.proofs.Takes.{Takes, takes_some, takes_then, takes_or}
 use Rattle.job_text.proofs.FormLaws.{IsExact, IsTable, IsEntryOf, IsFlat, entry_of, table_exact, none_exact}
 use Rattle.job_text.proofs.CallLaws.{calls_exact}
+use Rattle.job_text.proofs.CollectiveLaws.{collectives_exact, other_call, other_vis}
 
 -- an entry makes its words, by the first row of its name
 again_by : (way : Way) (shape : VisShape) (register from to : ℕ)
@@ -92,23 +95,33 @@ no_call scope vis rest =
 abbrev pub IsThreadActionOf : Scope → List ℕ → ThreadAction × List ℕ → Type 0
 IsThreadActionOf scope bytes x = (bytes ≡ thread_action_text x.0 ++ x.1) × IsThreadAction scope x.0
 
+other_takes : (scope : Scope) (bytes : List ℕ) → Takes (IsThreadActionOf scope bytes) (other_action_at scope bytes)
+other_takes scope bytes = takes_or {P = IsThreadActionOf scope bytes}
+    (takes_then (IsVisOf scope bytes) (vis_takes scope bytes) (λ x h.
+    takes_some {P = IsThreadActionOf scope bytes} {x = (does.Vis x.0, x.1)} h))
+    (takes_then (λ (x : CollectiveText × List ℕ). (bytes ≡ collective_text x.0 ++ x.1) × IsCollective scope x.0)
+    ((collectives_exact scope).takes bytes) (λ x h.
+    takes_some {P = IsThreadActionOf scope bytes} {x = (does.Collective x.0, x.1)} h))
+
 action_takes : (scope : Scope) (bytes : List ℕ) → Takes (IsThreadActionOf scope bytes) (thread_action_at scope bytes)
 unfolding thread_action_at
 action_takes scope bytes = takes_or {P = IsThreadActionOf scope bytes}
     (takes_then (λ (x : ScheduledCall × List ℕ). (bytes ≡ call_text x.0 ++ x.1) × IsCall scope x.0)
     ((calls_exact scope).takes bytes) (λ x h. takes_some {P = IsThreadActionOf scope bytes} {x = (does.Call x.0, x.1)} h))
-    (takes_then (IsVisOf scope bytes) (vis_takes scope bytes) (λ x h.
-    takes_some {P = IsThreadActionOf scope bytes} {x = (does.Vis x.0, x.1)} h))
+    (other_takes scope bytes)
 
 action_again : (scope : Scope) (a : ThreadAction) (rest : List ℕ) → IsThreadAction scope a
     → thread_action_at scope (thread_action_text a ++ 10 ∷ rest) ≡ Some (a, 10 ∷ rest)
 unfolding thread_action_at
 action_again scope (does.Call c) rest h = rw ((calls_exact scope).again c rest h) refl
 action_again scope (does.Vis vis) rest h = rw (no_call scope vis rest, vis_again scope vis rest h) refl
+action_again scope (does.Collective c) rest h =
+    rw (other_call scope c rest, other_vis scope c rest, (collectives_exact scope).again c rest h) refl
 
 action_flat : (scope : Scope) (a : ThreadAction) → IsThreadAction scope a → IsFlat (thread_action_text a)
 action_flat scope (does.Call c) h = (calls_exact scope).flat c h
 action_flat scope (does.Vis vis) h = (vis_exact scope).flat vis h
+action_flat scope (does.Collective c) h = (collectives_exact scope).flat c h
 
 -- reading it is the inverse of writing it
 pub thread_actions_exact : (scope : Scope) → IsExact (thread_action_at scope) thread_action_text (IsThreadAction scope)

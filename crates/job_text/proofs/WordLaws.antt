@@ -9,6 +9,8 @@ use Rattle.std.proofs.lemmas.Str.Parse.{digit_from_value}
 use Rattle.std.proofs.lemmas.Fmt.{digits_decimal}
 use Rattle.std.proofs.lemmas.Slice.Eq.{bytes_eq-Decides}
 use Rattle.std.proofs.lemmas.Bool.{and_parts, and_from, leb-true, le-leb, ne_eqb, eqb-true}
+use Rattle.collective_area.specs.declared.shape.CollectiveKind.{CollectiveKind}
+use Rattle.collective_area.specs.declared.shape.CollectiveKind.TheVariants as collective
 use Rattle.gas_atomic.specs.declared.word.Op.{Op}
 use Rattle.gas_atomic.specs.declared.word.Op.TheVariants as op
 use Rattle.handler_rules.specs.declared.rules.CallKind.{CallKind}
@@ -22,9 +24,9 @@ use Rattle.job_text.specs.declared.job.Operand.TheVariants as operand
 use Rattle.job_text.specs.Lines.{Word}
 use Rattle.job_text.specs.Words.{number_in, schedule_operand, body_operand, operand_word, IsOperand}
 use Rattle.job_text.specs.Words.{kind_of, kind_word, IsNamed, role_of, role_word}
-use Rattle.job_text.specs.Words.{implicit_of, implicit_word, op_of, op_word}
+use Rattle.job_text.specs.Words.{implicit_of, implicit_word, op_of, op_word, collective_of, collective_word}
 use Rattle.job_text.specs.declared.operands.NumberPlace.TheVariants.{Schedule, Body}
-use Rattle.job_text.specs.Forms.{Bytes, Payload, BodyPayload, Integer, Implicit, Operation}
+use Rattle.job_text.specs.Forms.{Bytes, Payload, BodyPayload, Integer, Implicit, Operation, Collective}
 use Rattle.job_text.specs.Forms.{Part, Number, NumberOf, Kind, Role, Meaning, word_text, IsSaid, word_says}
 use Rattle.job_text.proofs.Fronts.{cond_yes, cond_no}
 use Rattle.job_text.proofs.Decimals.{own, number_of-decimal}
@@ -255,6 +257,41 @@ op_run op.Xor = (refl, (refl, (refl, tt)))
 op_run op.Min = (refl, (refl, (refl, tt)))
 op_run op.Max = (refl, (refl, (refl, tt)))
 
+-- ---- kinds of collectives
+
+-- a word that was read as a kind of collective
+collective_takes : (word : Word) → Takes (λ k. (word ≡ collective_word k) × Unit {0}) (collective_of word)
+unfolding collective_of
+collective_takes word =
+    one_of _ (λ e. (e, tt)) (one_of _ (λ e. (e, tt)) (one_of _ (λ e. (e, tt)) (one_of _ (λ e. (e, tt))
+    (one_of _ (λ e. (e, tt)) (one_of _ (λ e. (e, tt)) (one_of _ (λ e. (e, tt)) (one_of _ (λ e. (e, tt))
+    (one_of _ (λ e. (e, tt)) takes_none))))))))
+
+-- it is read again
+collective_again : (k : CollectiveKind) → collective_of (collective_word k) ≡ Some k
+unfolding collective_of
+collective_again collective.Broadcast = refl
+collective_again collective.Gather = refl
+collective_again collective.AllGather = refl
+collective_again collective.Sum = refl
+collective_again collective.Min = refl
+collective_again collective.Max = refl
+collective_again collective.AllSum = refl
+collective_again collective.AllMin = refl
+collective_again collective.AllMax = refl
+
+-- its word ends nowhere within
+collective_run : (k : CollectiveKind) → IsRun (collective_word k)
+collective_run collective.Broadcast = (refl, (refl, (refl, (refl, (refl, (refl, (refl, (refl, (refl, tt)))))))))
+collective_run collective.Gather = (refl, (refl, (refl, (refl, (refl, (refl, tt))))))
+collective_run collective.AllGather = (refl, (refl, (refl, (refl, (refl, (refl, (refl, (refl, (refl, (refl, tt))))))))))
+collective_run collective.Sum = (refl, (refl, (refl, tt)))
+collective_run collective.Min = (refl, (refl, (refl, tt)))
+collective_run collective.Max = (refl, (refl, (refl, tt)))
+collective_run collective.AllSum = (refl, (refl, (refl, (refl, (refl, (refl, (refl, tt)))))))
+collective_run collective.AllMin = (refl, (refl, (refl, (refl, (refl, (refl, (refl, tt)))))))
+collective_run collective.AllMax = (refl, (refl, (refl, (refl, (refl, (refl, (refl, tt)))))))
+
 -- ---- words of each kind
 
 -- a word that was read
@@ -270,6 +307,7 @@ word_takes BodyPayload word = body_payload_takes word
 word_takes Integer word = takes_weaker (IsInteger word) (integer_takes word) (λ z h. (h.spells, h.fits))
 word_takes Implicit word = takes_weaker (λ w. word ≡ implicit_word w) (implicit_takes word) (λ w h. (h, tt))
 word_takes Operation word = op_takes word
+word_takes Collective word = collective_takes word
 
 -- a word is read again
 pub word_again : (p : Part) (x : Meaning p) → IsSaid p x → word_says p (word_text p x) ≡ Some x
@@ -284,6 +322,7 @@ word_again BodyPayload x h = body_payload_again x h
 word_again Integer x h = integer_again x h
 word_again Implicit x h = implicit_again x
 word_again Operation x h = op_again x
+word_again Collective x h = collective_again x
 
 -- no word ends within it
 pub word_run : (p : Part) (x : Meaning p) → IsSaid p x → IsRun (word_text p x)
@@ -298,3 +337,4 @@ word_run BodyPayload x h = payload_run x h
 word_run Integer x h = integer_run x h
 word_run Implicit x h = implicit_run x
 word_run Operation x h = op_run x
+word_run Collective x h = collective_run x

@@ -37,32 +37,34 @@ entry_stays registry text index entry at = by_answer (index_for registry.table t
         ∙ at
 
 -- so it does where all of them ask
-entry_kept : (texts : List HandlerText) (registry : Registry) (index : ℕ) (entry : Entry)
+pub entry_kept : (texts : List HandlerText) (registry : Registry) (index : ℕ) (entry : Entry)
     → entry_at registry.table index ≡ Some entry → entry_at (fold register registry texts).table index ≡ Some entry
 entry_kept [] registry index entry at = at
 entry_kept (text ∷ texts) registry index entry at =
     entry_kept texts (register registry text) index entry (entry_stays registry text index entry at)
 
 -- both handlers of batches are there at first
-requests_first : (atomics : Bool) → atomics ≡ true
-    → entry_at (entries_first atomics) batch_handler ≡ Some batch_entry
-requests_first true is = refl
-requests_first false is = cc
+requests_first : (atomics collect : Bool) → atomics ≡ true
+    → entry_at (entries_first atomics collect) batch_handler ≡ Some batch_entry
+requests_first true false is = refl
+requests_first true true is = refl
+requests_first false collect is = absurd (cc)
 
-replies_first : (atomics : Bool) → atomics ≡ true
-    → entry_at (entries_first atomics) block_handler ≡ Some block_entry
-replies_first true is = refl
-replies_first false is = cc
+replies_first : (atomics collect : Bool) → atomics ≡ true
+    → entry_at (entries_first atomics collect) block_handler ≡ Some block_entry
+replies_first true false is = refl
+replies_first true true is = refl
+replies_first false collect is = absurd (cc)
 
 -- so they are when all handlers are registered
 pub has_batches : (handlers : JobHandlers) → handlers.atomics ≡ true → HasBatches (registered handlers).table
 has_batches handlers is = record {
   requests = ap is_for_requests
-      (entry_kept (in_turn handlers.texts) (registered_first handlers.atomics) batch_handler batch_entry
-      (requests_first handlers.atomics is));
+      (entry_kept (in_turn handlers.texts) (registered_first handlers.atomics handlers.collect) batch_handler
+      batch_entry (requests_first handlers.atomics handlers.collect is));
   replies = ap is_for_replies
-      (entry_kept (in_turn handlers.texts) (registered_first handlers.atomics) block_handler block_entry
-      (replies_first handlers.atomics is));
+      (entry_kept (in_turn handlers.texts) (registered_first handlers.atomics handlers.collect) block_handler
+      block_entry (replies_first handlers.atomics handlers.collect is));
 }
 
 -- and they serve batches

@@ -4,3 +4,4 @@ mod LineTexts
 pub mod SentNumbers
 mod RepliesAsked
 pub mod Batches
+pub mod Collectives

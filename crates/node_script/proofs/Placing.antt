@@ -311,17 +311,19 @@ bodies_placed handlers table places P = record {
 }
 
 -- the table has 128 rows at first
-rows_first : (atomics : Bool) → length (entries_first atomics) ≡ 128
-rows_first false = refl
-rows_first true = refl
+rows_first : (atomics collect : Bool) → length (entries_first atomics collect) ≡ 128
+rows_first false false = refl
+rows_first false true = refl
+rows_first true false = refl
+rows_first true true = refl
 
 -- none of the job's own is placed at first
-pub none_placed : (atomics : Bool) (texts : List HandlerText)
-    → ArePlaced texts (registered_first atomics) (entries_first atomics) (replicate 128 None)
-none_placed atomics texts = record {
+pub none_placed : (atomics collect : Bool) (texts : List HandlerText)
+    → ArePlaced texts (registered_first atomics collect) (entries_first atomics collect) (replicate 128 None)
+none_placed atomics collect texts = record {
   table_is = refl;
   long = refl;
-  rows = rows_first atomics;
+  rows = rows_first atomics collect;
   found = λ index low. sym (ap (option_map (λ p. body_at texts (Some p))) (nothing index low));
   known = λ index low e. nothing index low;
 }
@@ -334,17 +336,18 @@ none_placed atomics texts = record {
     ]
 
 -- both turns, one after the other, are all
-pub both_turns : (atomics : Bool) (texts : List HandlerText) (first second third : Placing) →
+pub both_turns : (atomics collect : Bool) (texts : List HandlerText) (first second third : Placing) →
     AtRegistering texts (register_turn false texts) first second
     → AtRegistering texts (register_turn true texts) second third →
-    first.table ≡ entries_first atomics → first.places ≡ replicate 128 None
-    → ArePlaced texts (registered (record { atomics = atomics; texts = texts })) third.table third.places
-both_turns atomics texts first second third one two table_is places_are =
-    let none = registered_first atomics in
+    first.table ≡ entries_first atomics collect → first.places ≡ replicate 128 None
+    → ArePlaced texts (registered (record { atomics = atomics; collect = collect; texts = texts })) third.table
+    third.places
+both_turns atomics collect texts first second third one two table_is places_are =
+    let none = registered_first atomics collect in
     let start : ArePlaced texts none first.table first.places =
     subst (λ (t : List (Option Entry)). ArePlaced texts none t first.places) (sym table_is)
-    (subst (λ (p : List (Option ℕ)). ArePlaced texts none (entries_first atomics) p) (sym places_are)
-    (none_placed atomics texts)) in
+    (subst (λ (p : List (Option ℕ)). ArePlaced texts none (entries_first atomics collect) p) (sym places_are)
+    (none_placed atomics collect texts)) in
     subst (λ (s : Registry). ArePlaced texts s third.table third.places)
     (sym (fold-append register none (filter (is_in_turn false) texts) (filter (is_in_turn true) texts)))
     (two (register_turn false texts none) (one none start))

@@ -24,7 +24,7 @@ use Rattle.job_text.specs.Way.{Way}
 use Rattle.datagram_grammar.specs.Parameters.{Parameters}
 use Rattle.job_text.specs.declared.scope.Scope.{Scope}
 use Rattle.node_script.specs.ScheduledCalls.{IsGiven}
-use Rattle.node_script.specs.ScriptInvariant.{IsWithin, AreWithin, MayBegin}
+use Rattle.node_script.specs.ScriptInvariant.{IsWithin, AreWithin, MayBegin, MayCollect, AllMayCollect}
 
 -- a number up to one less than some is below them
 below : (n count : ℕ) → 1 ≤ count → n ≤ count - 1 → n < count
@@ -71,6 +71,8 @@ event_within scope (event.Vis node thread vis) some thread_there h = (
   below node scope.settings.nodes some h.0.0.1,
   may_begin scope thread vis (below thread scope.settings.threads thread_there h.0.1.0.1) h.0.1.1,
 )
+event_within scope (event.Collective node thread call) some thread_there h =
+    (below node scope.settings.nodes some h.0.0.1, below thread scope.settings.threads thread_there h.0.1.0.1)
 event_within scope (event.Request from to number) some thread_there h =
     (below from scope.settings.nodes some h.0.0.1, below to scope.settings.nodes some h.0.1.0.1)
 event_within scope (event.Reply from to number) some thread_there h =
@@ -100,3 +102,33 @@ schedule_within scope (Some es) some thread_there h i e at =
 pub job_within : (job : JobState) → IsJob job → AreWithin job.settings (lines_of job.schedule)
 job_within job h =
     schedule_within (scope_of job) job.schedule h.settings.some_node h.settings.some_thread h.schedule
+
+-- ---- calls of collectives
+
+-- an event in range is none, where the job has no area of them
+event_may : (job : JobState) (e : ScheduledEvent) → IsEvent (scope_of job) e → MayCollect job.collect e
+event_may job (event.Collective node thread call) h = h.0.1.1.1
+event_may job (event.Call node thread call) h = tt
+event_may job (event.Vis node thread vis) h = tt
+event_may job (event.Request from to number) h = tt
+event_may job (event.Reply from to number) h = tt
+event_may job (event.Tick node) h = tt
+event_may job (event.Settle rounds) h = tt
+
+-- so it is in each line of a schedule
+lines_may : (job : JobState) (es : List TimedEvent) → AllByRecursion (IsTimed (scope_of job)) es
+    → AllMayCollect job.collect es
+lines_may job [] h i e at = absurd (cc)
+lines_may job (x ∷ xs) h zero e at =
+    let same : x ≡ e = cc in
+    subst (λ (y : TimedEvent). MayCollect job.collect y.event) same (event_may job x.event h.0.event)
+lines_may job (x ∷ xs) h (suc i) e at = lines_may job xs h.1 i e at
+
+schedule_may : (job : JobState) (schedule : Option (List TimedEvent)) → IsScheduleOrNone (scope_of job) schedule
+    → AllMayCollect job.collect (lines_of schedule)
+schedule_may job None h i e at = absurd (cc)
+schedule_may job (Some es) h i e at = lines_may job es h.events_are i e at
+
+-- and of a job
+pub job_may_collect : (job : JobState) → IsJob job → AllMayCollect job.collect (lines_of job.schedule)
+job_may_collect job h = schedule_may job job.schedule h.schedule

@@ -9,6 +9,8 @@ use Rattle.handler_rules.proofs.Lawful.{lawful-attempted, lawful-cells, lawful-g
 use Rattle.handler_rules.proofs.Lawful.{lawful-took_lock, lawful-untouched, lawful-writing, long_reply-content}
 use Rattle.handler_rules.proofs.Lawful.{medium_reply-content, short_reply-content}
 use Rattle.raw_segment.specs.Image.{Write}
+use Rattle.collective_area.specs.Served.{stamped}
+use Rattle.collective_area.proofs.Stamping.{lawful-stamped}
 use Rattle.gas_atomic.specs.Served.{served}
 use Rattle.gas_atomic.proofs.Lawful.{lawful-served}
 use Rattle.job_text.specs.declared.job.Action.{Action}
@@ -16,7 +18,7 @@ use Rattle.job_text.specs.declared.job.Action.TheVariants as action
 use Rattle.job_text.specs.declared.job.ReplyAction.{ReplyAction}
 use Rattle.job_text.specs.declared.job.ReplyAction.TheVariants as reply
 use Rattle.node_script.specs.Bodies.{act, acts, operand_at, payload_bytes, replied, replying_if, segment_at}
-use Rattle.node_script.specs.Bodies.{script_meaning, is_for_batches, writing_if}
+use Rattle.node_script.specs.Bodies.{script_meaning, other_meaning, is_for_batches, is_for_collectives, writing_if}
 use Rattle.node_script.specs.Registration.{JobHandlers, body_for}
 
 -- a payload that is kept fits
@@ -73,6 +75,19 @@ lawful-acts frame start outcome [] lawful = lawful
 lawful-acts frame start outcome (first ∷ rest) lawful =
     lawful-acts frame start (act frame start outcome first) rest (lawful-act frame start outcome first lawful)
 
+-- each run of a handler that isn't one of batches is lawful
+lawful-other : (handlers : JobHandlers) (handler : ℕ) (frame : Frame) (start : Start)
+    → IsLawfulRun frame start (other_meaning handlers handler frame start)
+lawful-other handlers handler frame start = by_handler (is_for_collectives handlers handler)
+  where
+    by_handler : (collective : Bool)
+        → IsLawfulRun frame start
+        (if collective then stamped frame start (untouched start)
+        else acts frame start (untouched start) (body_for handlers handler))
+    by_handler true = lawful-stamped frame start (untouched start) (lawful-untouched frame start)
+    by_handler false =
+        lawful-acts frame start (untouched start) (body_for handlers handler) (lawful-untouched frame start)
+
 -- each run of a handler of a job is lawful
 pub lawful-script : (handlers : JobHandlers) (handler : ℕ) (frame : Frame) (start : Start)
     → IsLawfulRun frame start (script_meaning handlers handler frame start)
@@ -81,7 +96,6 @@ lawful-script handlers handler frame start = by_handler (is_for_batches handlers
     by_handler : (batches : Bool)
         → IsLawfulRun frame start
         (if batches then served handler frame start (untouched start)
-        else acts frame start (untouched start) (body_for handlers handler))
+        else other_meaning handlers handler frame start)
     by_handler true = lawful-served handler frame start (untouched start) (lawful-untouched frame start)
-    by_handler false =
-        lawful-acts frame start (untouched start) (body_for handlers handler) (lawful-untouched frame start)
+    by_handler false = lawful-other handlers handler frame start

@@ -22,6 +22,7 @@ together pair two nodes that differ, and at most 65536 credits of all pairs
 together handler locks that rise strictly
 together request two nodes that differ
 together reply two nodes that differ
+together collect an area: BASE and ROOM multiples of 8, its 2N(16+ROOM) bytes within the segment
 together atomic a batch: TO is a node, each OFF and LOCAL a multiple of 8 within the segment
 together put-s a plan: TO is a node, as many bytes there as here, in the segments, none written \
 twice
@@ -34,13 +35,14 @@ twice
 together _ other words
 entry pair a pair that no line before has
 entry script a thread that no script before is of
-entry _ an index that no handler before has, and behind atomics neither 252 nor 253
+entry _ an index that no handler before has, behind atomics neither 252 nor 253, and behind collect \
+not 254
 count body at most 64 actions of a handler
 count steps at most 4096 steps of a script, and 65536 pieces of all plans
 count schedule at most 65536 lines of the schedule and pieces of plans, 4096 rounds, 262144 \
 rounds times nodes
-count pairs at most 64 pairs, and 128 handlers, 126 behind atomics
-count _ at most 128 handlers, 126 behind atomics
+count pairs at most 64 pairs, and 128 handlers, 2 fewer behind atomics, 1 fewer behind collect
+count _ at most 128 handlers, 2 fewer behind atomics, 1 fewer behind collect
 line 0 `trace VERSION`, as the job has it
 line 1 `job J`, as the job has it
 line 2 `rank RANK`
@@ -159,6 +161,8 @@ fn name_fault(alloc: Global, reading: &Reading, words: &Words<'_>) -> Result<Tol
         "no line that may stand here has this word here"
     } else if other.part == "batch" {
         "this word stands behind the line atomics alone"
+    } else if other.part == "collective" || other.part == "whole" {
+        "this word stands behind the line collect alone"
     } else {
         "this word stands in version 2 alone"
     };

@@ -23,6 +23,7 @@ head8 2 2 patience P
 head9 4 4 sieve D E F
 pair 4 4 pair I J C
 2atomics 1 1 atomics
+2collect 3 3 collect BASE ROOM
 handler 3 4194304 handler INDEX ROLE K ..
 script 3 3 script NODE THREAD
 schedule 1 1 schedule
@@ -86,6 +87,10 @@ call 2 2 region-end R
 call 3 3 notify ID FLAGS
 call 3 3 try-barrier ID FLAGS
 batch 8 68 atomic TO LOCAL TAG OP OFF A B ..
+collective 5 5 coll-start KIND ROOT FROM LEN
+collective 1 1 coll-step
+collective 2 2 coll-try DEST
+whole 6 6 coll KIND ROOT FROM LEN DEST
 event 4 4 request I J K
 event 4 4 reply I J K
 event 2 2 tick I
@@ -126,6 +131,11 @@ event J :0:RANK
 event T :0:THREAD
 event K :1:18446744073709551615
 2call K :1:16
+collect ROOM :8:8192
+collective KIND collective
+collective FROM :0:18446744073709551615
+whole KIND collective
+whole FROM :0:18446744073709551615
 show LEN :0:8192
 action V body-value
 action PAY body-payload
@@ -137,6 +147,9 @@ _ BYTE :0:255
 _ FLAGS :0:255
 _ FROM :0:1024
 _ TO :0:65535
+_ ROOT :0:65535
+_ BASE :0:18446744073709551615
+_ DEST :0:18446744073709551615
 _ OFF :0:18446744073709551615
 _ LEN :0:18446744073709551615
 _ REMOTE :0:18446744073709551615

@@ -29,6 +29,8 @@ request, reply, poll, transfer, sync, region, barrier or source
 kind implicit puts gets all|puts, gets or all
 kind operation get swap cas add sub and or xor min max|get, swap, cas, add, sub, and, or, xor, \
 min or max
+kind collective broadcast gather all-gather sum min max all-sum all-min all-max|broadcast, gather, \
+all-gather, sum, min, max, all-sum, all-min or all-max
 parameter RANK :0:255|RANK|a number from 0 to 255
 parameter PORT :1024:65472|PORT|a number from 1024 to 65472
 parameter [PORT] :1024:65472|PORT|a number from 1024 to 65472

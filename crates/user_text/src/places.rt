@@ -17,15 +17,16 @@ comes head6 head6
 comes head7 head7
 comes head8 head8
 comes head9 head9
-comes pairs pair 2atomics handler script schedule done
+comes pairs pair 2atomics 2collect handler script schedule done
+comes collect 2collect handler script schedule done
 comes handlers handler script schedule done
 comes body action end
 comes scripts script schedule done
-comes steps wait 2wait call 2call batch end
+comes steps wait 2wait call 2call batch collective whole end
 comes schedule event end
 comes done done
 comes round event also
-comes call call 2call batch
+comes call call 2call batch collective
 head0 _ head1
 head1 _ head2
 head2 _ head3
@@ -43,7 +44,8 @@ steps _ steps
 schedule end done
 schedule _ schedule
 _ pair pairs
-_ atomics handlers
+_ atomics collect
+_ collect handlers
 _ handler body
 _ script steps
 _ schedule schedule
@@ -77,6 +79,8 @@ pub struct Reading {
     pub limits: Limits,
     /// Whether the line of atomics was read.
     pub atomics: bool,
+    /// Whether the line of collectives was read.
+    pub collect: bool,
     /// The outputs of nodes that were read behind the job.
     pub outputs: u64,
     /// The lines of the next output that were read.
@@ -90,6 +94,7 @@ impl Reading {
             place: "head0",
             limits: NO_LIMITS,
             atomics: false,
+            collect: false,
             outputs: 0,
             lines: 0,
         }
@@ -112,6 +117,9 @@ impl Reading {
         if name == "atomics" {
             self.atomics = true;
         }
+        if name == "collect" {
+            self.collect = true;
+        }
         if self.place != "behind" {
             self.place = row(PLACES, self.place, "", name);
         } else if name == "status" {
@@ -129,6 +137,9 @@ impl Reading {
         }
         if part == "batch" {
             return self.atomics == here;
+        }
+        if part == "collective" || part == "whole" {
+            return self.collect == here;
         }
         here == (!part.starts_with('2') || self.limits.version == 2)
     }

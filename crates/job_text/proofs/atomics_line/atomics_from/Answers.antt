@@ -12,11 +12,11 @@ returns-then-not-begins-clause-value c =
 pub returns-in-Ok-clause-value : goal.returns-in-Ok-clause-value
 returns-in-Ok-clause-value c =
     atomics_read (job_of_head c.args.head) c.args.line c.args.bytes.now c.in-Ok.rest.now
-    (sym c.begins.ensures ∙ c.if-not-begins.false) c.in-Ok.ensures
+    (sym c.begins.ensures ∙ c.if-not-begins.false) (rw c.scope_of-scope.ensures at c.in-Ok.ensures)
 
 pub returns-in-Err-clause-value : goal.returns-in-Err-clause-value
 returns-in-Err-clause-value c =
     told_by _ c.args.line _ c.atomics_why-why.result
     (atomics_bad (job_of_head c.args.head) c.args.line c.args.bytes.now
-    (sym c.begins.ensures ∙ c.if-not-begins.false) c.in-Err.ensures)
-    c.atomics_why-why.ensures
+    (sym c.begins.ensures ∙ c.if-not-begins.false) (rw c.scope_of-scope.ensures at c.in-Err.ensures))
+    (rw c.scope_of-scope.ensures at c.atomics_why-why.ensures)

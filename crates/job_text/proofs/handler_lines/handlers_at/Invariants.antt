@@ -1,12 +1,13 @@
 use Rattle.std.proofs.Common.{◌≡◌, ◌≤◌, ◌+◌, ◌*◌, ◌-◌, length, []}
 use Rattle.job_text.specs.JobReading.{read}
 use Rattle.job_text.specs.Places.{AtHandlers}
+use Rattle.job_text.specs.Scopes.{scope_of}
 use Rattle.job_text.specs.declared.job.Job.{Job}
 use Rattle.job_text.proofs.handler_lines.handlers_at.Given as goal
 
 abbrev pub invariant-loop-alloc : goal.invariant-loop-alloc
 invariant-loop-alloc l = record {
-  so_far : (job : Job) → job.atomics ≡ l.atomics →
+  so_far : (job : Job) → scope_of job ≡ l.scope.now →
       read (record { place = AtHandlers; job = record job { handlers = l.texts.items } }) l.line l.rest
       ≡ read (record { place = AtHandlers; job = record job { handlers = [] } }) l.first l.bytes;
   line : l.line ≤ l.first + 66 * length l.texts.items;

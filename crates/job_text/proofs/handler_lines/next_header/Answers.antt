@@ -1,6 +1,7 @@
-use Rattle.std.proofs.Common.{◌∙◌, sym, ap, Bool, List}
+use Rattle.std.proofs.Common.{◌∙◌, sym, ap, List}
 use Rattle.job_text.specs.JobReading.{handler_why}
 use Rattle.job_text.specs.declared.job.HandlerText.{HandlerText}
+use Rattle.job_text.specs.declared.scope.Scope.{Scope}
 use Rattle.job_text.proofs.HandlerRuns.{told_by, room_for}
 use Rattle.job_text.proofs.PairLines.{handler_read, handler_full, handler_bad}
 use Rattle.job_text.proofs.handler_lines.next_header.Goals as goal
@@ -14,17 +15,17 @@ returns-in-Err-Unlike-clause-value c = λ job flag same.
 pub returns-in-Some-clause-value : goal.returns-in-Some-clause-value
 returns-in-Some-clause-value c = λ job flag same.
     handler_full job c.args.line c.args.bytes.now c.in-Ok.read.1.now c.in-Ok.read.0 c.in-Some.why c.requires
-    c.in-Ok.ensures (ap (λ (atomics : Bool). handler_why atomics job.handlers c.in-Ok.read.0.index) flag
-    ∙ ap (λ (texts : List HandlerText). handler_why c.args.atomics texts c.in-Ok.read.0.index) same
+    c.in-Ok.ensures (ap (λ (scope : Scope). handler_why scope job.handlers c.in-Ok.read.0.index) flag
+    ∙ ap (λ (texts : List HandlerText). handler_why c.args.scope.now texts c.in-Ok.read.0.index) same
     ∙ sym c.why_not.ensures ∙ c.in-Some.is)
 
 pub returns-in-None-clause-value : goal.returns-in-None-clause-value
 returns-in-None-clause-value c = λ job flag same.
     handler_read job c.args.line c.args.bytes.now c.in-Ok.read.1.now c.in-Ok.read.0 c.requires c.in-Ok.ensures
-    (ap (λ (atomics : Bool). handler_why atomics job.handlers c.in-Ok.read.0.index) flag
-    ∙ ap (λ (texts : List HandlerText). handler_why c.args.atomics texts c.in-Ok.read.0.index) same ∙ sym c.why_not.ensures
+    (ap (λ (scope : Scope). handler_why scope job.handlers c.in-Ok.read.0.index) flag
+    ∙ ap (λ (texts : List HandlerText). handler_why c.args.scope.now texts c.in-Ok.read.0.index) same ∙ sym c.why_not.ensures
     ∙ c.in-None.is)
 
 pub returns-in-None-clause-room : goal.returns-in-None-clause-room
 returns-in-None-clause-room c =
-    room_for c.args.atomics c.args.before.now c.in-Ok.read.0.index (sym c.why_not.ensures ∙ c.in-None.is)
+    room_for c.args.scope.now c.args.before.now c.in-Ok.read.0.index (sym c.why_not.ensures ∙ c.in-None.is)

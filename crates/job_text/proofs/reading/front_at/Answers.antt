@@ -18,37 +18,37 @@ returns-in-Err-pairs_at c =
     (λ (r : Result (Job × List ℕ) BadLine). ◌>>=◌ {B = Front} r pairs_on) c.in-Ok.ensures.value in
     subst (λ (r : Result Front BadLine). FailsAt c.in-Err-pairs_at.fault r) (sym same) c.in-Err-pairs_at.ensures.value
 
-pub returns-in-Err-atomics_from : goal.returns-in-Err-atomics_from
-returns-in-Err-atomics_from c =
+pub returns-in-Err-services_from : goal.returns-in-Err-services_from
+returns-in-Err-services_from c =
     let same = head_reads c.args.bytes.now ∙ ap
     (λ (r : Result (Job × List ℕ) BadLine). ◌>>=◌ {B = Front} r pairs_on) c.in-Ok.ensures.value
     ∙ c.in-Ok-pairs_at.ensures.value in
-    subst (λ (r : Result Front BadLine). FailsAt c.in-Err-atomics_from.fault r) (sym same)
-    c.in-Err-atomics_from.ensures.value
+    subst (λ (r : Result Front BadLine). FailsAt c.in-Err-services_from.fault r) (sym same)
+    c.in-Err-services_from.ensures.value
 
 pub returns-in-Err-handlers_at : goal.returns-in-Err-handlers_at
 returns-in-Err-handlers_at c =
     let same = head_reads c.args.bytes.now ∙ ap
     (λ (r : Result (Job × List ℕ) BadLine). ◌>>=◌ {B = Front} r pairs_on) c.in-Ok.ensures.value
-    ∙ c.in-Ok-pairs_at.ensures.value ∙ c.in-Ok-atomics_from.ensures.value in
+    ∙ c.in-Ok-pairs_at.ensures.value ∙ c.in-Ok-services_from.ensures.value in
     subst (λ (r : Result Front BadLine). FailsAt c.in-Err-handlers_at.fault r) (sym same)
-    (c.in-Err-handlers_at.ensures.value (job_of_head c.in-Ok-atomics_from.read.0) refl)
+    (c.in-Err-handlers_at.ensures.value (job_of_head c.in-Ok-services_from.read.0) refl)
 
 pub returns-in-Err-scripts_at : goal.returns-in-Err-scripts_at
 returns-in-Err-scripts_at c =
-    let head = job_of_head c.in-Ok-atomics_from.read.0 in
+    let head = job_of_head c.in-Ok-services_from.read.0 in
     let same = head_reads c.args.bytes.now ∙ ap
     (λ (r : Result (Job × List ℕ) BadLine). ◌>>=◌ {B = Front} r pairs_on) c.in-Ok.ensures.value
-    ∙ c.in-Ok-pairs_at.ensures.value ∙ c.in-Ok-atomics_from.ensures.value ∙ c.in-Ok-handlers_at.ensures.value head refl in
+    ∙ c.in-Ok-pairs_at.ensures.value ∙ c.in-Ok-services_from.ensures.value ∙ c.in-Ok-handlers_at.ensures.value head refl in
     subst (λ (r : Result Front BadLine). FailsAt c.in-Err-scripts_at.fault r) (sym same)
     (c.in-Err-scripts_at.ensures.value (record head { handlers = c.in-Ok-handlers_at.read.0 }) refl)
 
 pub returns : goal.returns
 returns c =
-    let head = job_of_head c.in-Ok-atomics_from.read.0 in
+    let head = job_of_head c.in-Ok-services_from.read.0 in
     let same = head_reads c.args.bytes.now ∙ ap
     (λ (r : Result (Job × List ℕ) BadLine). ◌>>=◌ {B = Front} r pairs_on) c.in-Ok.ensures.value
-    ∙ c.in-Ok-pairs_at.ensures.value ∙ c.in-Ok-atomics_from.ensures.value ∙ c.in-Ok-handlers_at.ensures.value head refl
+    ∙ c.in-Ok-pairs_at.ensures.value ∙ c.in-Ok-services_from.ensures.value ∙ c.in-Ok-handlers_at.ensures.value head refl
     ∙ c.in-Ok-scripts_at.ensures.value (record head { handlers = c.in-Ok-handlers_at.read.0 }) refl
     ∙ ap (λ (j : Job). read (behind_scripts c.in-Ok-scripts_at.read.1 j) c.in-Ok-scripts_at.read.2
     c.in-Ok-scripts_at.read.3.now) (sym c.job_with.ensures) in

@@ -34,7 +34,7 @@ pub returns-in-None-clause-there : goal.returns-in-None-clause-there
 returns-in-None-clause-there c =
     let found = rw (c.nodes.ensures.nodes, c.threads.ensures) at c.in-Ok.ensures in
     let settings = c.args.settings.now in
-    let said = (line_takes AtScripts (record { settings = settings; atomics = false }) c.args.bytes.now).so (c.in-Ok.read.0, c.in-Ok.read.1.now) found in
+    let said = (line_takes AtScripts (record { settings = settings; atomics = false; collect = false }) c.args.bytes.now).so (c.in-Ok.read.0, c.in-Ok.read.1.now) found in
     there_among settings.nodes settings.threads c.in-Ok.read.0 said.1.1 c.nodes.ensures.range.nodes
     c.nodes.ensures.range.threads
 

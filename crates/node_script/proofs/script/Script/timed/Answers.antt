@@ -2,8 +2,9 @@ use Rattle.std.proofs.Common.{◌≡◌, ℕ, List, Option, Some, None, Bor, sym
 use Rattle.std.specs.Option.{IfSome, option_map}
 use Rattle.datagram_grammar.specs.Parameters.{Parameters}
 use Rattle.job_text.specs.declared.job.Job.{Job as JobState}
-use Rattle.node_script.specs.ScriptInvariant.{IsWithin, AreWithin}
+use Rattle.node_script.specs.ScriptInvariant.{IsWithin, AreWithin, MayCollect, AllMayCollect}
 use Rattle.job_text.specs.JobReading.{lines_of}
+use Rattle.job_text.specs.declared.job.CollectArea.{CollectArea}
 use Rattle.job_text.specs.declared.job.TimedEvent.{TimedEvent}
 use Rattle.node_script.proofs.script.Script.timed.Goals as goal
 
@@ -14,10 +15,25 @@ line_within : (settings : Parameters) (es : List TimedEvent) (i : ℕ) (r : Opti
 line_within settings es i None e h = tt
 line_within settings es i (Some x) e h = h i x.now (sym e)
 
+-- so it is with calls of collectives
+line_may : (collect : Option CollectArea) (es : List TimedEvent) (i : ℕ) (r : Option (Bor TimedEvent))
+    → option_map (λ e. e.now) r ≡ slice_get es i → AllMayCollect collect es
+    → IfSome r (λ e. MayCollect collect e.now.event)
+line_may collect es i None e h = tt
+line_may collect es i (Some x) e h = h i x.now (sym e)
+
 pub returns-clause-within : goal.returns-clause-within
 returns-clause-within c =
     let h : AreWithin c.args.self.now.settings (lines_of c.self.inside.schedule) =
     subst (λ (j : JobState). AreWithin j.settings (lines_of c.self.inside.schedule)) c.self.view_is
     c.self.invariant.within in
     line_within c.args.self.now.settings (lines_of c.self.inside.schedule) c.args.i c.line_at.result
+    c.line_at.ensures h
+
+pub returns-clause-collect : goal.returns-clause-collect
+returns-clause-collect c =
+    let h : AllMayCollect c.args.self.now.collect (lines_of c.self.inside.schedule) =
+    subst (λ (j : JobState). AllMayCollect j.collect (lines_of c.self.inside.schedule)) c.self.view_is
+    c.self.invariant.may_collect in
+    line_may c.args.self.now.collect (lines_of c.self.inside.schedule) c.args.i c.line_at.result
     c.line_at.ensures h
