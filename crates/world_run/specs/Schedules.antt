@@ -129,6 +129,11 @@ line_group job nodes time event =
 abbrev pub nodes_after : WorldJob → Nodes → TimedEvent → Nodes
 nodes_after job nodes line = record { area = nodes.area; group = line_group job nodes line.time line.event }
 
+-- the nodes behind all lines of a schedule
+abbrev pub nodes_behind : WorldJob → List TimedEvent → Nodes → Nodes
+nodes_behind job [] nodes = nodes
+nodes_behind job (line ∷ lines) nodes = nodes_behind job lines (nodes_after job nodes line)
+
 -- the events of all lines of a schedule, in order
 abbrev pub schedule_events : WorldJob → List TimedEvent → Nodes → List (Timed OtherCall)
 schedule_events job [] nodes = []
