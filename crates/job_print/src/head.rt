@@ -114,10 +114,7 @@ pub(crate) fn write_atomics<K: Sink>(atomics: bool, sink: &mut BufferedSink<K>) 
 }
 
 /// Writes the line of collectives, where nodes run them.
-pub(crate) fn write_collect<K: Sink>(
-    area: Option<CollectArea>,
-    sink: &mut BufferedSink<K>,
-) -> Wrote
+pub(crate) fn write_collect<K: Sink>(area: Option<CollectArea>, sink: &mut BufferedSink<K>) -> Wrote
     ensures { GathersAll (outbox K.taken K.faults sink.old) (outbox K.taken K.faults sink.new)
         (spell (collect_lines area)) result }
 {

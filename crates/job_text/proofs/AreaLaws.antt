@@ -1,6 +1,7 @@
 -- The test of an area says whether segments have it.
-use Rattle.std.proofs.Common.{◌≡◌, ℕ, ◌+◌, ◌*◌, ◌%◌, ◌≤◌, ◌<◌, ◌^◌, ◌&&◌, true, leb, eqb, arith}
-use Rattle.std.proofs.lemmas.Bool.{and_parts, and_from, leb-true, le-leb, eqb-true, eq-eqb}
+use Rattle.std.proofs.Common.{◌≡◌, ◌∙◌, ℕ, ◌+◌, ◌*◌, ◌-◌, ◌%◌, ◌≤◌, ◌<◌, ◌^◌, ◌&&◌, Bool, true, false, leb, eqb, refl}
+use Rattle.std.proofs.Common.{sym, arith}
+use Rattle.std.proofs.lemmas.Bool.{and_parts, and_from, leb-true, leb-false, le-leb, lt-leb, eqb-true, eq-eqb}
 use Rattle.collective_area.specs.Area.{Area, IsArea, area_end}
 use Rattle.datagram_grammar.specs.Parameters.{Parameters}
 use Rattle.job_text.specs.CollectAreas.{area_of, is_area, IsCollect}
@@ -60,3 +61,19 @@ collect_said settings at few is =
   where
     low : (size : ℕ) → at.base + size ≤ settings.segment → at.base < 2 ^ 64
     low size h = omega (arith, h, few)
+
+-- ---- so many bytes behind an offset, where a segment has so many, and where it has fewer
+
+pub moved : (base size segment : ℕ) → size ≤ segment → leb base (segment - size) ≡ leb (base + size) segment
+moved base size segment fits = by_test (leb base (segment - size)) refl
+  where
+    by_test : (b : Bool) → leb base (segment - size) ≡ b → leb base (segment - size) ≡ leb (base + size) segment
+    by_test true e =
+        let le = leb-true base (segment - size) e in
+        e ∙ sym (le-leb (base + size) segment (omega (arith, le, fits)))
+    by_test false e =
+        let gt = leb-false base (segment - size) e in
+        e ∙ sym (lt-leb (base + size) segment (omega (arith, gt, fits)))
+
+pub beyond : (base size segment : ℕ) → segment < size → leb (base + size) segment ≡ false
+beyond base size segment lt = lt-leb (base + size) segment (omega (arith, lt))

@@ -32,6 +32,7 @@ fn is_room(room: u64) -> bool
 }
 
 /// Whether so many bytes behind an offset end inside a segment.
+#[tactic(auto, using(crate::proofs::AreaLaws::moved, crate::proofs::AreaLaws::beyond))]
 fn ends_inside(base: u64, size: u64, segment: u64) -> bool
     ensures { result ≡ nat_le (base + size) segment }
 {

@@ -43,10 +43,7 @@ pub fn coll_at(bytes: &[u8]) -> Result<(WaitingStep, &[u8]), Other>
 
 /// The call that a line says, by its name and the bytes after it.
 #[tactic(auto, unfolding(crate::specs::CollectiveLines::collective_rows))]
-fn named_collective_at<'a>(
-    name: &[u8],
-    rest: &'a [u8],
-) -> Result<(CollectiveText, &'a [u8]), Other>
+fn named_collective_at<'a>(name: &[u8], rest: &'a [u8]) -> Result<(CollectiveText, &'a [u8]), Other>
     ensures { Finds (λ x. (x.0, x.1.now)) result
         (named_at none_at collective_rows name.now rest.now) }
 {

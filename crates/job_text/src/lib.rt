@@ -56,9 +56,10 @@ pub use fault::{JobFault, JobWhy};
 pub use gas_strided::Vis;
 pub use job::{
     Action, BatchText, Body, BoxedBatch, BoxedLong, BoxedMedium, BoxedTransfer, Bytes, CollectArea,
-    CollectiveText, HandlerText, HandlerTexts, ImplicitKind, Job, ListedLocks, LongText, MediumText, NodeScript, NodeScripts,
-    Operand, Operands, Payload, PutText, Registers, ReplyAction, Schedule, ScheduledCall,
-    ScheduledEvent, ScriptStep, ScriptSteps, SieveRule, TimedEvent, TransferText, WaitingStep,
+    CollectiveText, HandlerText, HandlerTexts, ImplicitKind, Job, ListedLocks, LongText,
+    MediumText, NodeScript, NodeScripts, Operand, Operands, Payload, PutText, Registers,
+    ReplyAction, Schedule, ScheduledCall, ScheduledEvent, ScriptStep, ScriptSteps, SieveRule,
+    TimedEvent, TransferText, WaitingStep,
 };
 pub use reading::{read_job, read_job_front};
 pub use vis::{BoxedVis, Levels, SegmentRanges, VisShape, VisText, VisWords};

@@ -173,10 +173,10 @@ fn register_all(
     requires table { table.old ≡ entries_first services.atomics services.collect }
     requires places { places.old ≡ replicate 128 None }
     ensures { ArePlaced texts.now (registered (record {
-          atomics = services.atomics;
-          collect = services.collect;
-          texts = texts.now;
-        })) table.new places.new }
+      atomics = services.atomics;
+      collect = services.collect;
+      texts = texts.now;
+    })) table.new places.new }
 {
     register_those(texts, false, table, places);
     register_those(texts, true, table, places);

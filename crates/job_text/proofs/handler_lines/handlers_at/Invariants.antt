@@ -7,7 +7,7 @@ use Rattle.job_text.proofs.handler_lines.handlers_at.Given as goal
 
 abbrev pub invariant-loop-alloc : goal.invariant-loop-alloc
 invariant-loop-alloc l = record {
-  so_far : (job : Job) → scope_of job ≡ l.scope.now →
+  so_far : (job : Job) → scope_of job ≡ l.scope →
       read (record { place = AtHandlers; job = record job { handlers = l.texts.items } }) l.line l.rest
       ≡ read (record { place = AtHandlers; job = record job { handlers = [] } }) l.first l.bytes;
   line : l.line ≤ l.first + 66 * length l.texts.items;

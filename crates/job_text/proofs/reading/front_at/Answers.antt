@@ -32,24 +32,24 @@ returns-in-Err-handlers_at c =
     (λ (r : Result (Job × List ℕ) BadLine). ◌>>=◌ {B = Front} r pairs_on) c.in-Ok.ensures.value
     ∙ c.in-Ok-pairs_at.ensures.value ∙ c.in-Ok-services_from.ensures.value in
     subst (λ (r : Result Front BadLine). FailsAt c.in-Err-handlers_at.fault r) (sym same)
-    (c.in-Err-handlers_at.ensures.value (job_of_head c.in-Ok-services_from.read.0) refl)
+    (c.in-Err-handlers_at.ensures.value (job_of_head c.in-Ok-services_from.read.0) (sym c.scope_of-scope.ensures))
 
 pub returns-in-Err-scripts_at : goal.returns-in-Err-scripts_at
 returns-in-Err-scripts_at c =
     let head = job_of_head c.in-Ok-services_from.read.0 in
     let same = head_reads c.args.bytes.now ∙ ap
     (λ (r : Result (Job × List ℕ) BadLine). ◌>>=◌ {B = Front} r pairs_on) c.in-Ok.ensures.value
-    ∙ c.in-Ok-pairs_at.ensures.value ∙ c.in-Ok-services_from.ensures.value ∙ c.in-Ok-handlers_at.ensures.value head refl in
+    ∙ c.in-Ok-pairs_at.ensures.value ∙ c.in-Ok-services_from.ensures.value ∙ c.in-Ok-handlers_at.ensures.value head (sym c.scope_of-scope.ensures) in
     subst (λ (r : Result Front BadLine). FailsAt c.in-Err-scripts_at.fault r) (sym same)
-    (c.in-Err-scripts_at.ensures.value (record head { handlers = c.in-Ok-handlers_at.read.0 }) refl)
+    (c.in-Err-scripts_at.ensures.value (record head { handlers = c.in-Ok-handlers_at.read.0 }) (sym c.scope_of-scope.ensures))
 
 pub returns : goal.returns
 returns c =
     let head = job_of_head c.in-Ok-services_from.read.0 in
     let same = head_reads c.args.bytes.now ∙ ap
     (λ (r : Result (Job × List ℕ) BadLine). ◌>>=◌ {B = Front} r pairs_on) c.in-Ok.ensures.value
-    ∙ c.in-Ok-pairs_at.ensures.value ∙ c.in-Ok-services_from.ensures.value ∙ c.in-Ok-handlers_at.ensures.value head refl
-    ∙ c.in-Ok-scripts_at.ensures.value (record head { handlers = c.in-Ok-handlers_at.read.0 }) refl
+    ∙ c.in-Ok-pairs_at.ensures.value ∙ c.in-Ok-services_from.ensures.value ∙ c.in-Ok-handlers_at.ensures.value head (sym c.scope_of-scope.ensures)
+    ∙ c.in-Ok-scripts_at.ensures.value (record head { handlers = c.in-Ok-handlers_at.read.0 }) (sym c.scope_of-scope.ensures)
     ∙ ap (λ (j : Job). read (behind_scripts c.in-Ok-scripts_at.read.1 j) c.in-Ok-scripts_at.read.2
     c.in-Ok-scripts_at.read.3.now) (sym c.job_with.ensures) in
     subst (λ (r : Result Front BadLine). GivesAt (λ x. front_with x.0 x.1 x.2.now) c.tail_at.result r) (sym same)
