@@ -92,6 +92,7 @@ bare_is = record {
   patience = lit≤ tt;
   sieve = record { lose = lit≤ tt; repeat = lit≤ tt; swap = lit≤ tt };
   atomics = λ has. absurd (false≢true has);
+  collect = tt;
   few_handlers = lit≤ tt;
   handlers = (request_is, (reply_is, tt));
   apart = are_apart;

@@ -2,7 +2,7 @@
 use Rattle.std.proofs.Common.{◌≡◌, inl, inr, ℕ, zero, suc, ◌+◌, ◌++◌, ◌<◌, ◌^◌, ◌||◌, Bool, true, false, List, []}
 use Rattle.std.proofs.Common.{◌∷◌, map, length, Option, None, Some, Result, Ok, Err, refl, ◌∙◌, arith}
 use Rattle.std.proofs.Common.{rules, ℤ, nat_lt}
-use Rattle.std.specs.Prelude.{◌==◌, if◌then◌else◌, pos, slice_index_or}
+use Rattle.std.specs.Prelude.{◌==◌, ◌&&◌, ◌%◌, nat_le, if◌then◌else◌, pos, slice_index_or}
 use Rattle.std.specs.List.{AllByRecursion, flat_map, fold, filter}
 use Rattle.std.specs.Int.{w32, w64, int_wrap, to_le_bytes}
 use Rattle.std.specs.Int.RustNames.{FitsSigned}
@@ -18,6 +18,7 @@ use Rattle.handler_rules.specs.declared.message.Replied.TheVariants as replies_a
 use Rattle.handler_rules.specs.declared.table.EntryFault.{EntryFault}
 use Rattle.handler_rules.specs.Registered.{index_for}
 use Rattle.handler_rules.specs.Runs.{Arrival, Frame, Start, Outcome, answer, after_answer, untouched}
+use Rattle.collective_area.specs.Served.{header_at, header_for, number_at as header_number, stamped}
 use Rattle.gas_atomic.specs.declared.word.WordOp.{WordOp}
 use Rattle.gas_atomic.specs.BatchRequests.{BatchRequest, batch_handler}
 use Rattle.gas_atomic.specs.Served.{after_batch, after_request, block_reply, change_of, changes_of, olds_of}
@@ -40,7 +41,7 @@ use Rattle.job_text.specs.declared.job.ReplyAction.TheVariants as reply
 use Rattle.node_script.specs.Bodies.{operand_value, operand_at, with_cell, segment_at, placed_bytes}
 use Rattle.node_script.specs.Bodies.{range_bytes, payload_bytes, kept_write, writing_if, reply_content, replying_if}
 use Rattle.node_script.specs.Bodies.{act}
-use Rattle.node_script.specs.Bodies.{acts, is_for_batches, script_meaning}
+use Rattle.node_script.specs.Bodies.{acts, is_for_batches, is_for_collectives, other_meaning, script_meaning}
 use Rattle.node_script.specs.LawfulBodies.{lawful-script}
 use Rattle.node_script.specs.Registration.{JobHandlers, Registry, with_index, register, in_turn, registered}
 use Rattle.node_script.specs.Registration.{body_among, body_for, registered_first}
@@ -244,16 +245,18 @@ all_filtered P test (x ∷ xs) all = elim (cases_Bool (test x)) [
 ]
 
 -- no body is there at first
-first_is : (atomics : Bool) → IsRegistry (registered_first atomics)
-first_is true = record { bodies = tt; places = refl }
-first_is false = record { bodies = tt; places = refl }
+first_is : (atomics collect : Bool) → IsRegistry (registered_first atomics collect)
+first_is true true = record { bodies = tt; places = refl }
+first_is true false = record { bodies = tt; places = refl }
+first_is false true = record { bodies = tt; places = refl }
+first_is false false = record { bodies = tt; places = refl }
 
 registered_is : (handlers : JobHandlers) → AllByRecursion IsHandler handlers.texts → IsRegistry (registered handlers)
 registered_is handlers is =
-    all_are (registered_first handlers.atomics) (in_turn handlers.texts)
+    all_are (registered_first handlers.atomics handlers.collect) (in_turn handlers.texts)
     (all_append IsHandler (filter _ handlers.texts) (filter _ handlers.texts)
     (all_filtered IsHandler _ handlers.texts is) (all_filtered IsHandler _ handlers.texts is))
-    (first_is handlers.atomics)
+    (first_is handlers.atomics handlers.collect)
 
 body_is : (bodies : List (ℕ × List Action)) (index : ℕ)
     → AllByRecursion (λ (body : ℕ × List Action). AllByRecursion IsAction body.1) bodies
@@ -303,7 +306,43 @@ served_fits handler frame start outcome leaves = by_handler (handler == batch_ha
         outcome leaves
     by_handler false = leaves
 
+-- ---- collectives
+
+header_fits : (segment : ℕ) (args : List ℤ) (place : Option (ℕ × ℕ)) → WriteBytes (header_for segment args place)
+header_fits segment args None = tt
+header_fits segment args (Some place) =
+    by_test ((length args == 4) && (nat_le 16 place.0 && ((place.0 % 8 == 0) && nat_le place.0 segment)))
+  where
+    by_test : (good : Bool)
+        → WriteBytes (if good then header_at place.0 (header_number args 0) (header_number args 2) else [])
+    by_test true = (bytes_word (header_number args 0), (bytes_word (header_number args 2), tt))
+    by_test false = tt
+
+stamped_fits : (frame : Frame) (start : Start) (outcome : Outcome) → LeavesFitting outcome
+    → LeavesFitting (stamped frame start outcome)
+stamped_fits frame start outcome leaves = record {
+  cells = leaves.cells;
+  writes = all_append (λ (write : Write). AreBytes write.bytes) outcome.writes
+      (header_for (length start.segment) frame.arrival.args frame.arrival.place) leaves.writes
+      (header_fits (length start.segment) frame.arrival.args frame.arrival.place);
+  reply = leaves.reply;
+}
+
 -- ---- handlers
+
+other_fits : (handlers : JobHandlers) → AllByRecursion IsHandler handlers.texts → (index : ℕ) (frame : Frame)
+    (start : Start) → FindsFitting frame start → LeavesFitting (untouched start)
+    → LeavesFitting (other_meaning handlers index frame start)
+other_fits handlers is index frame start finds nothing = by_handler (is_for_collectives handlers index)
+  where
+    by_handler : (collective : Bool)
+        → LeavesFitting
+        (if collective then stamped frame start (untouched start)
+        else acts frame start (untouched start) (body_for handlers index))
+    by_handler true = stamped_fits frame start (untouched start) nothing
+    by_handler false =
+        acts_fit frame start (untouched start) (body_for handlers index)
+        (body_is (registered handlers).bodies index (registered_is handlers is).bodies) finds nothing
 
 pub handlers_fit : (handlers : JobHandlers) → AllByRecursion IsHandler handlers.texts
     → IsFittingMeaning (script_meaning handlers)
@@ -314,12 +353,9 @@ handlers_fit handlers is index frame start finds = by_handler (is_for_batches ha
 
     by_handler : (batches : Bool)
         → LeavesFitting
-        (if batches then served index frame start (untouched start)
-        else acts frame start (untouched start) (body_for handlers index))
+        (if batches then served index frame start (untouched start) else other_meaning handlers index frame start)
     by_handler true = served_fits index frame start (untouched start) nothing
-    by_handler false =
-        acts_fit frame start (untouched start) (body_for handlers index)
-        (body_is (registered handlers).bodies index (registered_is handlers is).bodies) finds nothing
+    by_handler false = other_fits handlers is index frame start finds nothing
 
 pub job_fits : (settings : Parameters) (handlers : JobHandlers)
     → AreInRange settings → settings.job < 2 ^ 64 → settings.last < 2 ^ 64

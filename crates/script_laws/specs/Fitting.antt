@@ -3,6 +3,7 @@
 use Rattle.std.specs.Prelude.{ℤ, ◌≡◌, ◌<◌, ◌^◌, List, true}
 use Rattle.std.specs.List.{AllByRecursion}
 use Rattle.datagram_grammar.specs.Parameters.{Parameters, AreInRange}
+use Rattle.collective_area.specs.Served.{HasCollectives, ServesCollectives}
 use Rattle.gas_atomic.specs.Served.{HasBatches, ServesBatches}
 use Rattle.atomic_laws.specs.AtomicLaws.{AtomicsHold}
 use Rattle.job_text.specs.Calls.{IsCall}
@@ -44,3 +45,9 @@ abbrev pub BatchesHold : Type 0
 BatchesHold =
     (settings : Parameters) (handlers : JobHandlers) → AreInRange settings → handlers.atomics ≡ true
     → AtomicsHold settings (registered handlers).table (script_meaning handlers)
+
+-- where a job has an area of collectives, their handler is registered, and run as collectives are served
+abbrev pub CollectivesAreServed : Type 0
+CollectivesAreServed =
+    (handlers : JobHandlers) → handlers.collect ≡ true
+    → HasCollectives (registered handlers).table × ServesCollectives (script_meaning handlers)

@@ -11,7 +11,7 @@ use Rattle.job_text.specs.declared.job.Job.{Job as JobState}
 use Rattle.job_text.specs.declared.job.TimedEvent.{TimedEvent}
 use Rattle.job_text.specs.Scopes.{scope_of}
 use Rattle.job_text.specs.JobText.{IsJob, JobText, Line, job_lines, job_text}
-use Rattle.job_text.proofs.Upgrading.{schedule_upgraded, scripts_upgraded}
+use Rattle.job_text.proofs.Upgrading.{collect_upgraded, schedule_upgraded, scripts_upgraded}
 use Rattle.job_text.specs.JobText.{lines_with_scripts}
 use Rattle.job_text.specs.JobText.{schedule_lines, spell}
 use Rattle.node_script.specs.Lines.{Line as Words}
@@ -37,6 +37,7 @@ job_in_range job is = record {
   patience = is.patience;
   sieve = is.sieve;
   atomics = λ has. refl;
+  collect = collect_upgraded job.settings job.collect is.collect;
   pieces = is.pieces;
   few_handlers = is.few_handlers;
   handlers = is.handlers;

@@ -9,7 +9,8 @@ use Rattle.gas_atomic.specs.Served.{after_batch, after_request, request_for, ser
 use Rattle.job_text.specs.declared.job.Action.{Action}
 use Rattle.job_text.specs.declared.job.Action.TheVariants as action
 use Rattle.node_script.specs.Bodies.{act, acts, is_for_batches, operand_at, reply_content, replying_if, script_meaning}
-use Rattle.node_script.specs.Bodies.{segment_at}
+use Rattle.node_script.specs.Bodies.{is_for_collectives, other_meaning, segment_at}
+use Rattle.collective_area.specs.Served.{stamped}
 use Rattle.node_script.specs.Registration.{JobHandlers, body_for}
 use Rattle.upgrade_law.specs.Respelled.{IgnoresVersion}
 
@@ -61,13 +62,24 @@ served_alike version handler frame start outcome = by_handler (handler == batch_
         (request_for (length start.segment) frame.arrival) outcome
     by_handler false = refl
 
+other_ignores : (version : ℕ) (handlers : JobHandlers) (index : ℕ) (frame : Frame) (start : Start)
+    → other_meaning handlers index (framed version frame) start ≡ other_meaning handlers index frame start
+other_ignores version handlers index frame start = by_handler (is_for_collectives handlers index)
+  where
+    by_handler : (collective : Bool)
+        → (if collective then stamped (framed version frame) start (untouched start)
+        else acts (framed version frame) start (untouched start) (body_for handlers index))
+        ≡ (if collective then stamped frame start (untouched start)
+        else acts frame start (untouched start) (body_for handlers index))
+    by_handler true = refl
+    by_handler false = acts_alike version frame start (body_for handlers index) (untouched start)
+
 pub script_ignores : (version : ℕ) (handlers : JobHandlers) → IgnoresVersion version (script_meaning handlers)
 script_ignores version handlers index frame start = by_handler (is_for_batches handlers index)
   where
     by_handler : (batches : Bool)
         → (if batches then served index (framed version frame) start (untouched start)
-        else acts (framed version frame) start (untouched start) (body_for handlers index))
-        ≡ (if batches then served index frame start (untouched start)
-        else acts frame start (untouched start) (body_for handlers index))
+        else other_meaning handlers index (framed version frame) start)
+        ≡ (if batches then served index frame start (untouched start) else other_meaning handlers index frame start)
     by_handler true = served_alike version index frame start (untouched start)
-    by_handler false = acts_alike version frame start (body_for handlers index) (untouched start)
+    by_handler false = other_ignores version handlers index frame start

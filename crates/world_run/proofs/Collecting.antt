@@ -18,7 +18,7 @@ use Rattle.node_script.specs.declared.collective_texts.CollectiveAnswer.{Collect
 use Rattle.node_script.specs.declared.collective_texts.CollectiveAnswer.TheVariants as answers
 use Rattle.job_text.specs.declared.job.CollectiveText.{CollectiveText}
 use Rattle.job_text.specs.declared.job.CollectiveText.TheVariants as text
-use Rattle.world_run.specs.Schedules.{Nodes, collective_answer, collective_event}
+use Rattle.world_run.specs.Schedules.{collective_answer, collective_event, nodes_of}
 use Rattle.world_run.specs.ScheduleRun.{CollectiveAsked, Collects}
 
 -- the answer of a group, as that of a call of a line
@@ -33,9 +33,8 @@ pub does_collect : (meaning : Meaning) (old new : GroupState) (area : Area) (gro
     (asked : CollectiveAsked) (answer : GroupAnswer)
     → DoesOf meaning old area group most
     (collective_event old.world.settings.nodes asked.time asked.node asked.thread asked.call) answer new
-    → let nodes = record { area = area; group = group } in
-    (as_told answer
-    ≡ collective_answer (job_in meaning old.world) nodes asked.time asked.node asked.thread asked.call)
+    → (as_told answer
+    ≡ collective_answer (job_in meaning old.world) (nodes_of area group) asked.time asked.node asked.thread asked.call)
     × IsLeft (job_in meaning old.world) area group most
     (collective_event old.world.settings.nodes asked.time asked.node asked.thread asked.call) new
 does_collect meaning old new area group most asked answer does = (by_call asked.call answer does.0, does.1)
@@ -44,8 +43,7 @@ does_collect meaning old new area group most asked answer does = (by_call asked.
         → one ≡ (group_does (job_in meaning old.world) area group
         (collective_event old.world.settings.nodes asked.time asked.node asked.thread call)).0
         → as_told one
-        ≡ collective_answer (job_in meaning old.world) (record { area = area; group = group }) asked.time asked.node
-        asked.thread call
+        ≡ collective_answer (job_in meaning old.world) (nodes_of area group) asked.time asked.node asked.thread call
     by_call (text.Start shape from) one is = ap as_told is
     by_call text.Step one is = ap as_told is
     by_call (text.Try dest) one is = ap as_told is

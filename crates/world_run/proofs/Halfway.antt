@@ -40,7 +40,7 @@ stand_after job now line = record {
 }
 
 -- one line more was run
-pub halfway_more : (job : WorldJob) (old new : GroupState) (from : Stand) (all rest : List TimedEvent)
+abbrev pub halfway_more : (job : WorldJob) (old new : GroupState) (from : Stand) (all rest : List TimedEvent)
     (line : TimedEvent) (h : Halfway job old from all (line ∷ rest))
     → StandsFor new (stand_after job h.now line).nodes.area (stand_after job h.now line).nodes.group
     (stand_after job h.now line).most

@@ -30,7 +30,7 @@ use Rattle.gas_collectives.specs.declared.answers.StepAnswer.TheVariants as step
 use Rattle.gas_collectives.specs.declared.answers.EndAnswer.TheVariants as ended
 use Rattle.job_text.specs.declared.job.CollectiveText.{CollectiveText}
 use Rattle.world_run.specs.Schedules.{Nodes, begin_answer, begin_events, collective_answer, collective_event}
-use Rattle.world_run.specs.Schedules.{line_events, nodes_after, schedule_events}
+use Rattle.world_run.specs.Schedules.{line_events, nodes_after, nodes_of, schedule_events}
 use Rattle.world_run.specs.declared.nodes.Nodes.{Nodes as KeptNodes}
 use Rattle.job_text.specs.declared.job.TimedEvent.{TimedEvent}
 use Rattle.world_run.specs.RunText.{world_words, event_words, line_words, answer_lines, any_violation, lines_of_node}
@@ -156,8 +156,7 @@ abbrev pub Collects : WorldJob → (old : GroupState) → CollectiveAsked → Co
 Collects job old asked answer new =
     is_lacking answer ≡ false
     → ForItsGroups old (λ area group most.
-    let nodes = record { area = area; group = group } in
-    (answer ≡ collective_answer job nodes asked.time asked.node asked.thread asked.call)
+    (answer ≡ collective_answer job (nodes_of area group) asked.time asked.node asked.thread asked.call)
     × IsLeft job area group most
     (collective_event job.settings.nodes asked.time asked.node asked.thread asked.call) new)
 
@@ -175,19 +174,17 @@ nodes_stage taken faults nodes sink = record { nodes = kept nodes; out = outbox 
 abbrev pub RunsLine : WorldJob → (number : ℕ) → TimedEvent → (old new : NodesStage) → Said → Type 0
 RunsLine job number line old new said =
     ForItsGroups old.nodes (λ area group most.
-    let nodes = record { area = area; group = group } in
-    Says old.out new.out ((decimal number ∷ line_words job nodes line) ∷ []) said
-    × OnDone said (StandsFor new.nodes area (nodes_after job nodes line).group
-    (most_after job (line_events job nodes line.time line.event) group.records most)))
+    Says old.out new.out ((decimal number ∷ line_words job (nodes_of area group) line) ∷ []) said
+    × OnDone said (StandsFor new.nodes area (nodes_after job (nodes_of area group) line).group
+    (most_after job (line_events job (nodes_of area group) line.time line.event) group.records most)))
 
 -- of all groups for which the nodes stood: the answers to these lines were said, numbered from 1, and where they all
 -- were, the world stands for the records after them
 abbrev pub RunsLines : WorldJob → List TimedEvent → (old new : NodesStage) → Said → Type 0
 RunsLines job lines old new said =
     ForItsGroups old.nodes (λ area group most.
-    let nodes = record { area = area; group = group } in
-    Says old.out new.out (answer_lines job 1 lines nodes) said
-    × OnDone said (StandsAfter job new.nodes.world (schedule_events job lines nodes) group.records most))
+    Says old.out new.out (answer_lines job 1 lines (nodes_of area group)) said
+    × OnDone said (StandsAfter job new.nodes.world (schedule_events job lines (nodes_of area group)) group.records most))
 
 -- ---- what is written
 

@@ -66,6 +66,9 @@ pub record Nodes : Type 0 where
   pub area : Area
   pub group : Group
 
+abbrev pub nodes_of : Area → Group → Nodes
+nodes_of area group = record { area = area; group = group }
+
 -- the area of a job's collectives. Without one no line calls for them, and it is any
 abbrev pub area_in : (nodes : ℕ) → Option CollectArea → Area
 area_in nodes (Some at) = area_of nodes at

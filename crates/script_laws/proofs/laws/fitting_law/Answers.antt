@@ -4,6 +4,7 @@ use Rattle.node_script.specs.Bodies.{script_meaning}
 use Rattle.node_script.specs.LawfulBodies.{lawful-script}
 use Rattle.node_script.specs.Registration.{registered}
 use Rattle.node_script.proofs.Batches.{has_batches, serves_batches}
+use Rattle.node_script.proofs.Collectives.{has_collectives, serves_collectives}
 use Rattle.script_laws.proofs.Bodies.{handlers_fit, job_fits}
 use Rattle.script_laws.proofs.Calls.{calls_fit}
 use Rattle.script_laws.proofs.laws.fitting_law.Goals as goal
@@ -16,4 +17,5 @@ returns c = record {
   batches = λ handlers has. (has_batches handlers has, serves_batches handlers has);
   atomics = λ settings handlers range has. atomics_hold settings (registered handlers).table (script_meaning handlers)
       range (lawful-script handlers) (has_batches handlers has) (serves_batches handlers has);
+  collectives = λ handlers has. (has_collectives handlers has, serves_collectives handlers has);
 }

@@ -33,9 +33,9 @@ returns-then-is_for_collectives c =
     let frame = frame_of c.args.desk.now in
     let start = start_of opening in
     let handlers = c.args.self.now in
-    let after = stage c.serve.new.segment c.args.cells.now c.serve.new.desk in
+    let after = stage c.serve-then-is_for_collectives.new.segment c.args.cells.now c.serve-then-is_for_collectives.new.desk in
     let ran : At opening (stamped frame start (untouched start)) after =
-    c.serve.ensures.served c.args.cells.now opening (untouched start) (record {
+    c.serve-then-is_for_collectives.ensures.served c.args.cells.now opening (untouched start) (record {
       segment_is = refl;
       same_length = refl;
       cells_are = refl;
