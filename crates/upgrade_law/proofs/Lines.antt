@@ -117,15 +117,26 @@ left_alike v sound nodes events others stood same among =
 line_alike : (v : Versions) (sound : AreSound v) (nodes : Nodes) (time : ℕ) (event : ScheduledEvent)
     → Stood v nodes.group.records → IsWithin v.settings event → LineAlike v nodes time event
 line_alike v sound nodes time (scheduled.Call node thread call) stood within =
-    let among = (call_among v.settings node thread (meant_by (nodes.group.records node).local.core.cells call) within.0, tt)
-    in
-    record { same = refl; among = among; left = left_alike v sound nodes _ _ stood refl among }
+    let among : AreAmong v.settings (timed time (call_event nodes.group.records node thread call) ∷ []) =
+    (call_among v.settings node thread (meant_by (nodes.group.records node).local.core.cells call) within.0, tt) in
+    record {
+      same = refl;
+      among = among;
+      left = left_alike v sound nodes (timed time (call_event nodes.group.records node thread call) ∷ [])
+          (timed time (call_event nodes.group.records node thread call) ∷ []) stood refl among;
+    }
 line_alike v sound nodes time (scheduled.Request from to number) stood within =
-    record { same = refl; among = (within, tt); left = left_alike v sound nodes _ _ stood refl (within, tt) }
+    let events : List (Timed OtherCall) = timed time (RequestComes from to number) ∷ [] in
+    let among : AreAmong v.settings events = (within, tt) in
+    record { same = refl; among = among; left = left_alike v sound nodes events events stood refl among }
 line_alike v sound nodes time (scheduled.Reply from to number) stood within =
-    record { same = refl; among = (within, tt); left = left_alike v sound nodes _ _ stood refl (within, tt) }
+    let events : List (Timed OtherCall) = timed time (ReplyComes from to number) ∷ [] in
+    let among : AreAmong v.settings events = (within, tt) in
+    record { same = refl; among = among; left = left_alike v sound nodes events events stood refl among }
 line_alike v sound nodes time (scheduled.Tick node) stood within =
-    record { same = refl; among = (within, tt); left = left_alike v sound nodes _ _ stood refl (within, tt) }
+    let events : List (Timed OtherCall) = timed time (Ticks node) ∷ [] in
+    let among : AreAmong v.settings events = (within, tt) in
+    record { same = refl; among = among; left = left_alike v sound nodes events events stood refl among }
 line_alike v sound nodes time (scheduled.Vis node thread vis) stood within =
     let asked = begin_asked thread vis in
     let same = ap (λ (answer : Vis). call_events time node (calls_made asked answer))
