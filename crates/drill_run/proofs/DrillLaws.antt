@@ -62,4 +62,4 @@ schedule_within seed =
     (rounds_within (world_job bare_job) seed 20000 (opening_nodes bare_job))
 
 pub drill_laws : (seed : ℕ) → RunLaws (drill_job seed)
-drill_laws seed = laws_within (drill_job seed) settings_in_range (schedule_within seed)
+drill_laws seed = laws_within (drill_job seed) settings_in_range tt (schedule_within seed)

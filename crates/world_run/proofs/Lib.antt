@@ -8,6 +8,7 @@ pub mod ScheduleLines
 pub mod ScheduleAmong
 pub mod ToldAnswers
 pub mod LinesTell
+pub mod Results
 pub mod RunLaws
 pub mod Newest
 pub mod EndText

@@ -25,7 +25,9 @@
 //!     (`StridedHolds`), and a try of the barrier that ends a phase tells the outcome of the nodes' notifies
 //!     (`BarrierHolds`);
 //!   - where the job has atomics, each batch of operations acts at most once, at one moment, in the one history of its
-//!     words (`AtomicsHold`).
+//!     words (`AtomicsHold`);
+//!   - where it has collectives, a line that is told that it ended one tells that all nodes have started that phase with
+//!     one shape, and that the node has its result (`ResultsHold`).
 //!
 //! The crate uses the public clauses of the world alone, and knows nothing of buffers and slots. What a sink took is
 //! said of its outbox in one clause: the bytes in order, up to where, and that a fault comes only where its count of
