@@ -209,6 +209,18 @@ settle_told job old new number now rounds wrote moves line = λ records most sta
       (moves records most stands),
 )
 
+-- so by the handlers of a job, where those that ran are its own
+pub settled_told : (handlers own : JobHandlers) → own ≡ handlers → (old new : Stage) (number now rounds : ℕ)
+    (wrote : Wrote) (said : Said) → said ≡ said_of wrote
+    → Moves (job_in (script_meaning own) old.world) (settle_events (job_in (script_meaning own) old.world) now rounds)
+    old.world new.world
+    → GathersAll old.out new.out (line_text (decimal number ∷ codes "settled" ∷ [])) wrote
+    → RunsPlan (job_in (script_meaning handlers) old.world) (settle_plan number now rounds) old new said
+settled_told handlers own same old new number now rounds wrote said said_is moves line =
+    subst₂ (λ (mine : JobHandlers) (how : Said). RunsPlan (job_in (script_meaning mine) old.world)
+    (settle_plan number now rounds) old new how) same (sym said_is)
+    (settle_told (job_in (script_meaning own) old.world) old new number now rounds wrote moves line)
+
 -- memory ran out before a line was written
 pub nothing_told : (job : WorldJob) (plan : Plan) (old new : WorldState) (out : Outbox)
     → RunsPlan job plan (record { world = old; out = out }) (record { world = new; out = out }) NoMemory
@@ -246,6 +258,20 @@ collected job number asked answer old new wrote line time_is event_is lacks coll
     subst₂ (λ (t : ℕ) (e : ScheduledEvent).
     RunsLine job number (record { time = t; event = e }) old new (said_of wrote)) (sym time_is) (sym event_is)
     (collected_at job number asked answer old new wrote lacks collects written)
+
+-- so by the handlers of a job, where those that ran are its own
+pub collected_by : (handlers own : JobHandlers) → own ≡ handlers → (world : WorldState) (number : ℕ)
+    (asked : CollectiveAsked) (answer : CollectiveAnswer) (old new : NodesStage) (wrote : Wrote) (said : Said)
+    (line : TimedEvent) → said ≡ said_of wrote → line.time ≡ asked.time
+    → line.event ≡ scheduled.Collective asked.node asked.thread asked.call
+    → is_lacking answer ≡ false → Collects (job_in (script_meaning own) world) old.nodes asked answer new.nodes
+    → GathersAll old.out new.out (line_text (decimal number ∷ collective_words answer)) wrote
+    → RunsLine (job_in (script_meaning handlers) world) number line old new said
+collected_by handlers own same world number asked answer old new wrote said line said_is time_is event_is lacks collects written =
+    subst₂ (λ (mine : JobHandlers) (how : Said). RunsLine (job_in (script_meaning mine) world) number line old new how)
+    same (sym said_is)
+    (collected (job_in (script_meaning own) world) number asked answer old new wrote line time_is event_is lacks collects
+    written)
 
 -- memory ran out before its line was written
 pub nothing_collected : (job : WorldJob) (number : ℕ) (line : TimedEvent) (old new : GroupState) (out : Outbox)
