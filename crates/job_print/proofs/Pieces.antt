@@ -1,12 +1,14 @@
 -- What is left of a text begins with the piece that is written next.
 use Rattle.std.proofs.Common.{◌≡◌, ℕ, ◌+◌, ◌<◌, List, [], ◌∷◌, ◌++◌, length, map, drop, get_or, refl, sym, ap, ◌∙◌}
-use Rattle.std.proofs.Common.{append_assoc, append-nil, codes, decimal}
+use Rattle.std.proofs.Common.{append_assoc, append-nil, codes, decimal, Option, Some}
 use Rattle.std.specs.List.{flat_map}
 use Rattle.std.proofs.lemmas.List.{drop_more}
 use Rattle.std.proofs.lemmas.List.Concat.{flat_map-append}
 use Rattle.job_text.specs.JobText.{Line, handler_lines, head_lines, job_text, lines_with_collect, pair_line}
 use Rattle.job_text.specs.JobText.{schedule_lines, script_lines}
 use Rattle.job_text.specs.JobText.{atomics_lines, collect_lines, spell}
+use Rattle.job_text.specs.Places.{collect_text}
+use Rattle.job_text.specs.declared.job.CollectArea.{CollectArea}
 use Rattle.job_text.specs.declared.job.Job.{Job}
 use Rattle.gas_strided.specs.declared.shapes.Level.{Level}
 use Rattle.gas_strided.specs.declared.shapes.Way.{Way}
@@ -24,6 +26,12 @@ end_line = 101 ∷ 110 ∷ 100 ∷ 10 ∷ []
 
 abbrev pub last_line : List ℕ
 last_line = 100 ∷ 111 ∷ 110 ∷ 101 ∷ 10 ∷ []
+
+-- the line of collectives, where there is one
+pub collect_parts : (found : Option CollectArea) (area : CollectArea) → found ≡ Some area
+    → spell (collect_lines found) ≡ collect_text area ++ 10 ∷ []
+collect_parts found area is =
+    ap (λ (o : Option CollectArea). spell (collect_lines o)) is ∙ append-nil (collect_text area ++ 10 ∷ [])
 
 -- a space and the next word
 pub next_spaced : {A : Type 0} (text : A → List ℕ) (words : List A) (i : ℕ) (d : A) → i < length words
