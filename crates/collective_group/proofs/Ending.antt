@@ -1,9 +1,10 @@
 -- A try to end at a node of a group of the code, as that of a group.
-use Rattle.std.proofs.Common.{◌≡◌, ℕ, List, Option, Some, None, refl, sym, ap, ◌∙◌, subst}
+use Rattle.std.proofs.Common.{◌≡◌, ℕ, List, [], Option, Some, None, refl, sym, ap, ◌∙◌, subst}
 use Rattle.std.specs.Prelude.{slice_set}
 use Rattle.handler_rules.specs.Runs.{Meaning}
 use Rattle.node_record.specs.Record.{Node}
 use Rattle.plain_world.specs.World.{run}
+use Rattle.plain_world.specs.MostHeld.{most_after}
 use Rattle.endpoint_rules.specs.EndpointLocal.{EndpointLocal}
 use Rattle.endpoint_rules.specs.EndpointRules.{Records}
 use Rattle.endpoint_rules.proofs.CoreKept.{segment_long}
@@ -21,9 +22,9 @@ use Rattle.gas_collectives.specs.Ends.{EndAsked, Ends, IsLong, Tries, end_calls,
 use Rattle.collective_area.specs.Area.{Area}
 use Rattle.collective_laws.specs.Groups.{End, Group, GroupEvent, OfEnd, does_end}
 use Rattle.collective_group.specs.GroupState.{GroupState}
-use Rattle.collective_group.specs.Standing.{Does, DoesOf, IsOf, StandsFor}
-use Rattle.collective_group.proofs.Tries.{end_is_of_group}
-use Rattle.collective_group.proofs.Starting.{IsNode, node_at, of_set, site_in}
+use Rattle.collective_group.specs.Standing.{Does, DoesOf, StandsFor}
+use Rattle.collective_group.proofs.Tries.{all_called, end_is_of_group, none_called}
+use Rattle.collective_group.proofs.Starting.{IsNode, is_left_by, left_set, node_at, site_in}
 
 -- ---- what came of it, of a whole for which the caller stood
 
@@ -69,6 +70,13 @@ end_came {K} caller it old asked answer next new ends whole stands long = by_ref
 
 -- ---- a try
 
+-- the whole that calls leave
+abbrev pub after_calls : Site → WorldWhole → List ThreadCall → WorldWhole
+after_calls site whole calls = record {
+  records = run (job_at site) (events_of site calls) whole.records;
+  most = most_after (job_at site) (events_of site calls) whole.records whole.most;
+}
+
 -- the segment of each node has the length of the settings
 pub long_at : (meaning : Meaning) (world : WorldState) (node now : ℕ) (records : Records) (most : ℕ → ℕ)
     → WorldStands world records most → IsLong (site_in meaning world node now) (records node)
@@ -78,22 +86,23 @@ long_at meaning world node now records most stands =
 pub end_done : (meaning : Meaning) (old : GroupState) (world : WorldState) (now node : ℕ)
     (it next : CollectivesState) (asked : EndAsked) (answer : EndAnswer) (group : Group) (most : ℕ → ℕ)
     (left : List ThreadCall → WorldWhole)
-    → ((calls : List ThreadCall) → (left calls).records
-    ≡ run (job_at (site_in meaning old.world node now)) (events_of (site_in meaning old.world node now) calls)
-    group.records)
+    → ((calls : List ThreadCall) → left calls
+    ≡ after_calls (site_in meaning old.world node now) (record { records = group.records; most = most }) calls)
     → IsNode meaning old node it → StandsFor old it.area group most → next.area ≡ it.area
     → EndCame WorldWhole (λ (whole : WorldWhole). WorldStands world whole.records whole.most)
     (record { records = group.records; most = most }) (site_in meaning old.world node now) (group.records node) left it
     asked answer next
-    → DoesOf meaning old it.area group (End now node asked.thread asked.dest) (OfEnd answer)
+    → DoesOf meaning old it.area group most (End now node asked.thread asked.dest) (OfEnd answer)
     (record { world = world; nodes = slice_set old.nodes node next })
 end_done meaning old world now node it next asked answer group most left run_is is stands area_is (Refused refusal first answer_is next_is stood) =
+    let site = site_in meaning old.world node now in
     let at = node_at meaning old node now it it.area group most is stands in
-    let same = (end_is_of_group (site_in meaning old.world node now) group it asked at).refused refusal first in
+    let same = (end_is_of_group site group it asked at).refused refusal first in
     let new : GroupState = record { world = world; nodes = slice_set old.nodes node next } in (
       ap OfEnd (answer_is ∙ sym (ap (λ (both : EndAnswer × Group). both.0) same)),
-      subst (IsOf new it.area) (sym (ap (λ (both : EndAnswer × Group). both.1) same))
-          (of_set old world node it next it.area group group most is.low stands.nodes area_is stood
+      is_left_by (job_at site) it.area group most (End now node asked.thread asked.dest) new group []
+          (ap (λ (both : EndAnswer × Group). both.1) same) (none_called site group it asked refusal at first)
+          (left_set old world node it next it.area group group most is.low stands.nodes area_is stood
           (at.progress_is ∙ ap progress_of (sym next_is)) (λ other apart. refl)),
     )
 end_done meaning old world now node it next asked answer group most left run_is is stands area_is (Tried none answer_is next_is stood) =
@@ -101,26 +110,32 @@ end_done meaning old world now node it next asked answer group most left run_is 
     let at = node_at meaning old node now it it.area group most is stands in
     let of_group = end_is_of_group site group it asked at in
     let next_group = (does_end (job_at site) it.area group now node asked.thread asked.dest).1 in
-    let calls = end_calls it (segment_in site (group.records node)) asked answer in
-    let records : (left calls).records ≡ next_group.records =
-    run_is calls
-    ∙ (ap (λ (one : EndAnswer). run (job_at site) (events_of site
-    (end_calls it (segment_in site (group.records node)) asked one)) group.records) answer_is
-    ∙ sym (of_group.left none)) in (
+    let tried = tried_answer site (group.records node) it asked.thread in
+    let calls = end_calls it (segment_in site (group.records node)) asked tried in
+    let made = events_of site calls in
+    let new : GroupState = record { world = world; nodes = slice_set old.nodes node next } in
+    let ran : WorldStands world (run (job_at site) made group.records)
+    (most_after (job_at site) made group.records most) =
+    subst (λ (whole : WorldWhole). WorldStands world whole.records whole.most) (run_is calls)
+    (subst (λ (one : EndAnswer). WorldStands world
+    (left (end_calls it (segment_in site (group.records node)) asked one)).records
+    (left (end_calls it (segment_in site (group.records node)) asked one)).most) answer_is stood) in (
       ap OfEnd (answer_is ∙ sym (of_group.answered none)),
-      of_set old world node it next it.area group next_group (left calls).most is.low stands.nodes area_is
-          (subst (λ (all : Records). WorldStands world all (left calls).most) records stood)
+      is_left_by (job_at site) it.area group most (End now node asked.thread asked.dest) new next_group made refl
+          (all_called site group it asked at none)
+          (left_set old world node it next it.area group next_group (most_after (job_at site) made group.records most)
+          is.low stands.nodes area_is (subst (λ (all : Records). WorldStands world all
+          (most_after (job_at site) made group.records most)) (sym (of_group.left none)) ran)
           (of_group.progress none ∙ sym (ap progress_of (next_is ∙ ap (λ (one : EndAnswer). ended_then one it) answer_is)))
-          (of_group.others none),
+          (of_group.others none)),
     )
 
 -- the try of a node at a place, of each group for which the code stood
 pub end_does : (meaning : Meaning) (old : GroupState) (world : WorldState) (now node place : ℕ)
     (it next : CollectivesState) (asked : EndAsked) (answer : EndAnswer)
     (left : WorldWhole → List ThreadCall → WorldWhole)
-    → ((whole : WorldWhole) (calls : List ThreadCall) → (left whole calls).records
-    ≡ run (job_at (site_in meaning old.world node now)) (events_of (site_in meaning old.world node now) calls)
-    whole.records)
+    → ((whole : WorldWhole) (calls : List ThreadCall)
+    → left whole calls ≡ after_calls (site_in meaning old.world node now) whole calls)
     → IsNode meaning old place it → place ≡ node → IsSameNode it next
     → ((group : Group) (most : ℕ → ℕ) → WorldStands old.world group.records most
     → EndCame WorldWhole (λ (whole : WorldWhole). WorldStands world whole.records whole.most)
@@ -128,17 +143,17 @@ pub end_does : (meaning : Meaning) (old : GroupState) (world : WorldState) (now 
     (λ calls. left (record { records = group.records; most = most }) calls) it asked answer next)
     → Does meaning old (End now node asked.thread asked.dest) (OfEnd answer)
     (record { world = world; nodes = slice_set old.nodes place next })
-end_does meaning old world now node place it next asked answer left run_is is place_is same came = λ area group of.
-    let area_is : it.area ≡ area = (of.1.nodes place it is.there).0 in
+end_does meaning old world now node place it next asked answer left run_is is place_is same came = λ area group most of.
+    let area_is : it.area ≡ area = (of.nodes place it is.there).0 in
     let here : IsNode meaning old node it = subst (λ (at : ℕ). IsNode meaning old at it) place_is is in
-    let stands : StandsFor old it.area group of.0 =
-    subst (λ (one : Area). StandsFor old one group of.0) (sym area_is) of.1 in
+    let stands : StandsFor old it.area group most =
+    subst (λ (one : Area). StandsFor old one group most) (sym area_is) of in
     let event : GroupEvent = End now node asked.thread asked.dest in
-    subst (λ (one : Area). DoesOf meaning old one group event (OfEnd answer)
+    subst (λ (one : Area). DoesOf meaning old one group most event (OfEnd answer)
     (record { world = world; nodes = slice_set old.nodes place next })) area_is
-    (subst (λ (at : ℕ). DoesOf meaning old it.area group event (OfEnd answer)
+    (subst (λ (at : ℕ). DoesOf meaning old it.area group most event (OfEnd answer)
     (record { world = world; nodes = slice_set old.nodes at next })) (sym place_is)
-    (end_done meaning old world now node it next asked answer group of.0
-    (λ calls. left (record { records = group.records; most = of.0 }) calls)
-    (λ calls. run_is (record { records = group.records; most = of.0 }) calls) here stands same.area_is
-    (came group of.0 stands.world)))
+    (end_done meaning old world now node it next asked answer group most
+    (λ calls. left (record { records = group.records; most = most }) calls)
+    (λ calls. run_is (record { records = group.records; most = most }) calls) here stands same.area_is
+    (came group most stands.world)))

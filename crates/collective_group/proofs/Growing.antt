@@ -112,25 +112,26 @@ pub start_grows : (meaning : Meaning) (old new : GroupState) (event : GroupEvent
     → ((area : Area) (group : Group) → IsGroupEvent (job_in meaning old.world) area group event)
     → DoesStart meaning old event answer new → GrowsByStart meaning old event answer new
 start_grows meaning old new event start_answers.NoMemory same may does =
-    λ history is. stays meaning old new history same is (does history.area (left_by meaning old history) is.is_left)
+    λ history is. stays meaning old new history same is
+    (is.is_left.0, does history.area (left_by meaning old history) is.is_left.0 is.is_left.1)
 start_grows meaning old new event start_answers.Started same may does = λ history is.
     grows meaning old new history event same is (may history.area (left_by meaning old history))
-    (does history.area (left_by meaning old history) is.is_left).1
+    (_, (does history.area (left_by meaning old history) is.is_left.0 is.is_left.1).1)
 start_grows meaning old new event start_answers.Busy same may does = λ history is.
     grows meaning old new history event same is (may history.area (left_by meaning old history))
-    (does history.area (left_by meaning old history) is.is_left).1
+    (_, (does history.area (left_by meaning old history) is.is_left.0 is.is_left.1).1)
 start_grows meaning old new event (start_answers.BadArg argument) same may does = λ history is.
     grows meaning old new history event same is (may history.area (left_by meaning old history))
-    (does history.area (left_by meaning old history) is.is_left).1
+    (_, (does history.area (left_by meaning old history) is.is_left.0 is.is_left.1).1)
 start_grows meaning old new event start_answers.WornOut same may does = λ history is.
     grows meaning old new history event same is (may history.area (left_by meaning old history))
-    (does history.area (left_by meaning old history) is.is_left).1
+    (_, (does history.area (left_by meaning old history) is.is_left.0 is.is_left.1).1)
 start_grows meaning old new event (start_answers.Forbidden forbidden) same may does = λ history is.
     grows meaning old new history event same is (may history.area (left_by meaning old history))
-    (does history.area (left_by meaning old history) is.is_left).1
+    (_, (does history.area (left_by meaning old history) is.is_left.0 is.is_left.1).1)
 start_grows meaning old new event (start_answers.LockBusy lock) same may does = λ history is.
     grows meaning old new history event same is (may history.area (left_by meaning old history))
-    (does history.area (left_by meaning old history) is.is_left).1
+    (_, (does history.area (left_by meaning old history) is.is_left.0 is.is_left.1).1)
 
 pub step_grows : (meaning : Meaning) (old new : GroupState) (trying : ℕ → GroupEvent) (answer : StepAnswer)
     → IsSameJob old new
@@ -138,24 +139,24 @@ pub step_grows : (meaning : Meaning) (old new : GroupState) (trying : ℕ → Gr
     → IsGroupEvent (job_in meaning old.world) area group (trying among))
     → DoesStep meaning old trying answer new → GrowsByStep meaning old trying answer new
 step_grows meaning old new trying step_answers.NoMemory same may does = λ history is.
-    let left = does history.area (left_by meaning old history) is.is_left in (
+    let left = does history.area (left_by meaning old history) is.is_left.0 is.is_left.1 in (
       left.0,
       left.1,
       grows meaning old new history (trying left.0) same is (may left.0 left.1 history.area (left_by meaning old history))
-          left.2,
+          (_, left.2),
     )
 step_grows meaning old new trying (step_answers.Sent to) same may does = λ history is.
     grows meaning old new history (trying old.world.settings.nodes) same is
     (may old.world.settings.nodes (omega arith) history.area (left_by meaning old history))
-    (does history.area (left_by meaning old history) is.is_left).1
+    (_, (does history.area (left_by meaning old history) is.is_left.0 is.is_left.1).1)
 step_grows meaning old new trying step_answers.Nothing same may does = λ history is.
     grows meaning old new history (trying old.world.settings.nodes) same is
     (may old.world.settings.nodes (omega arith) history.area (left_by meaning old history))
-    (does history.area (left_by meaning old history) is.is_left).1
+    (_, (does history.area (left_by meaning old history) is.is_left.0 is.is_left.1).1)
 step_grows meaning old new trying (step_answers.Forbidden forbidden) same may does = λ history is.
     grows meaning old new history (trying old.world.settings.nodes) same is
     (may old.world.settings.nodes (omega arith) history.area (left_by meaning old history))
-    (does history.area (left_by meaning old history) is.is_left).1
+    (_, (does history.area (left_by meaning old history) is.is_left.0 is.is_left.1).1)
 
 -- an event of the world
 pub beside_grows : (meaning : Meaning) (old new : GroupState) (event : Timed OtherCall) (answer : WorldAnswer)
@@ -241,7 +242,7 @@ tells meaning old new at answer lawful does history is there = by_answer answer 
     answered : OfEnd answer
         ≡ (group_does (job_in meaning old.world) history.area (left_by meaning old history)
         (End at.now at.node at.thread at.dest)).0
-    answered = (does history.area (left_by meaning old history) is.is_left).0
+    answered = (does history.area (left_by meaning old history) is.is_left.0 is.is_left.1).0
 
     by_answer : (one : EndAnswer) → OfEnd one
         ≡ (group_does (job_in meaning old.world) history.area (left_by meaning old history)

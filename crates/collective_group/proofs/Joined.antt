@@ -72,7 +72,7 @@ both_ways site group area asked me progress =
           (world_after (job_at site) group.records event),
     )) (sym (same_told answer))
 
-first_is : (site : Site) (group : Group) (it : CollectivesState) (asked : StartAsked) → IsAt site group it
+pub first_is : (site : Site) (group : Group) (it : CollectivesState) (asked : StartAsked) → IsAt site group it
     → start_refusal it.area site.settings.segment (group.progress site.node) asked.shape asked.from
     ≡ start_refusal it.area it.settings.segment (progress_of it) asked.shape asked.from
 first_is site group it asked at =

@@ -5,3 +5,4 @@ pub mod Starting
 pub mod Stepping
 pub mod Ending
 pub mod Growing
+pub mod Calling

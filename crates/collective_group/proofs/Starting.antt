@@ -1,12 +1,14 @@
 -- A start at a node of a group of the code, as the start of a group.
-use Rattle.std.proofs.Common.{◌≡◌, ℕ, ◌<◌, Bool, length, Option, Some, None, refl, sym, ap, ◌∙◌, subst}
+use Rattle.std.proofs.Common.{◌≡◌, ℕ, ◌<◌, Bool, List, [], ◌∷◌, length, Option, Some, None, refl, sym, ap, ap₂, ◌∙◌, subst}
+use Rattle.std.proofs.Common.{subst₂}
 use Rattle.std.specs.Prelude.{◌≢◌, slice_get, slice_set}
 use Rattle.lists.proofs.Put.{put_same, put_other}
 use Rattle.handler_rules.specs.Runs.{Meaning}
 use Rattle.node_record.specs.declared.answer.Asked.{Asked as Told}
 use Rattle.node_record.specs.declared.answer.Asked.TheVariants as told
-use Rattle.plain_world.specs.World.{Asks, world_answer}
-use Rattle.endpoint_rules.specs.EndpointRules.{Records, asked_answer, timed}
+use Rattle.plain_world.specs.World.{Asks, Timed, world_answer}
+use Rattle.plain_world.specs.MostHeld.{most_after}
+use Rattle.endpoint_rules.specs.EndpointRules.{OtherCall, Records, asked_answer, timed}
 use Rattle.endpoint_rules.specs.declared.answer.Answer.{Answer}
 use Rattle.transfer_laws.specs.Chunks.{EndpointJob}
 use Rattle.gas_world.specs.Stands.{Stands as WorldStands}
@@ -14,19 +16,21 @@ use Rattle.gas_world.specs.WorldState.{WorldState}
 use Rattle.node_caller.specs.declared.caller.Caller.{Ghosts}
 use Rattle.node_caller.specs.Making.{MakesOne}
 use Rattle.node_caller.specs.Sites.{Site, answer_at, job_at}
-use Rattle.world_caller.specs.Wholes.{WorldWhole, whole_then}
+use Rattle.world_caller.specs.Wholes.{WorldWhole, event_of_call, whole_then}
 use Rattle.collective_area.specs.Area.{Area}
 use Rattle.collective_area.specs.declared.shape.Shape.{Shape}
 use Rattle.gas_collectives.specs.declared.answers.StartAnswer.{StartAnswer}
 use Rattle.gas_collectives.specs.declared.answers.StartAnswer.TheVariants as start_answers
 use Rattle.gas_collectives.specs.Progress.{Progress, after_start, start_ask, start_refusal}
 use Rattle.gas_collectives.specs.CollectivesState.{CollectivesState, IsSameNode, Stands, progress_of}
-use Rattle.gas_collectives.specs.Starts.{Calls, Refuses, StartAsked, Starts, start_call, start_told, started_then}
-use Rattle.collective_laws.specs.Groups.{Group, GroupEvent, OfStart, Start, asked_in, started_group}
+use Rattle.gas_collectives.specs.Starts.{Calls, Refuses, StartAsked, Starts, call_of, start_call, start_told}
+use Rattle.gas_collectives.specs.Starts.{started_then}
+use Rattle.collective_laws.specs.Groups.{Group, GroupEvent, OfStart, Start, asked_in, group_does, started_group}
+use Rattle.collective_group.specs.CallsOf.{calls_of, calls_of_start}
 use Rattle.collective_group.specs.GroupState.{GroupState, IsGroup}
 use Rattle.collective_group.specs.OfGroups.{IsAt}
-use Rattle.collective_group.specs.Standing.{AreAsFar, DoesOf, DoesStart, IsOf, StandsFor, StartsOf}
-use Rattle.collective_group.proofs.Joined.{start_is_of_group}
+use Rattle.collective_group.specs.Standing.{AreAsFar, DoesOf, DoesStart, IsLeft, StandsFor, StartsOf}
+use Rattle.collective_group.proofs.Joined.{first_is, start_is_of_group}
 use Rattle.collective_group.proofs.Nodes.{far_set, none_has}
 
 -- ---- what came of it, of a whole for which the caller stood
@@ -118,7 +122,7 @@ started_others job group node shape from records (start_answers.Forbidden forbid
 started_others job group node shape from records (start_answers.LockBusy lock) other apart = refl
 started_others job group node shape from records start_answers.NoMemory other apart = refl
 
-started_records : (job : EndpointJob) (group : Group) (node : ℕ) (shape : Shape) (from : ℕ) (records : Records)
+pub started_records : (job : EndpointJob) (group : Group) (node : ℕ) (shape : Shape) (from : ℕ) (records : Records)
     (answer : StartAnswer) → (started_group job group node shape from answer records).records ≡ records
 started_records job group node shape from records start_answers.Started = refl
 started_records job group node shape from records start_answers.Busy = refl
@@ -140,16 +144,17 @@ never_lacks (told.LockBusy lock) is = cc
 never_lacks told.WornOut is = cc
 never_lacks told.NotYet is = cc
 
-does_then : (meaning : Meaning) (old new : GroupState) (area : Area) (group : Group) (event : GroupEvent)
-    (answer : StartAnswer) → (answer ≡ start_answers.NoMemory → IsOf new area group)
-    → DoesOf meaning old area group event (OfStart answer) new → StartsOf meaning old area group event answer new
-does_then meaning old new area group event start_answers.Started lacked does = does
-does_then meaning old new area group event start_answers.Busy lacked does = does
-does_then meaning old new area group event (start_answers.BadArg argument) lacked does = does
-does_then meaning old new area group event start_answers.WornOut lacked does = does
-does_then meaning old new area group event (start_answers.Forbidden forbidden) lacked does = does
-does_then meaning old new area group event (start_answers.LockBusy lock) lacked does = does
-does_then meaning old new area group event start_answers.NoMemory lacked does = lacked refl
+does_then : (meaning : Meaning) (old new : GroupState) (area : Area) (group : Group) (most : ℕ → ℕ)
+    (event : GroupEvent) (answer : StartAnswer) → (answer ≡ start_answers.NoMemory → StandsFor new area group most)
+    → DoesOf meaning old area group most event (OfStart answer) new
+    → StartsOf meaning old area group most event answer new
+does_then meaning old new area group most event start_answers.Started lacked does = does
+does_then meaning old new area group most event start_answers.Busy lacked does = does
+does_then meaning old new area group most event (start_answers.BadArg argument) lacked does = does
+does_then meaning old new area group most event start_answers.WornOut lacked does = does
+does_then meaning old new area group most event (start_answers.Forbidden forbidden) lacked does = does
+does_then meaning old new area group most event (start_answers.LockBusy lock) lacked does = does
+does_then meaning old new area group most event start_answers.NoMemory lacked does = lacked refl
 
 -- ---- a start
 
@@ -181,18 +186,48 @@ node_at meaning old node now it area group most is stands = record {
 }
 
 -- the node did something that left the group so
-pub of_set : (old : GroupState) (world : WorldState) (node : ℕ) (it next : CollectivesState) (area : Area)
+pub left_set : (old : GroupState) (world : WorldState) (node : ℕ) (it next : CollectivesState) (area : Area)
     (group left : Group) (most : ℕ → ℕ) → node < length old.nodes → AreAsFar area group.progress old.nodes
     → next.area ≡ area → WorldStands world left.records most → left.progress node ≡ progress_of next
     → ((other : ℕ) → other ≢ node → left.progress other ≡ group.progress other)
-    → IsOf (record { world = world; nodes = slice_set old.nodes node next }) area left
-of_set old world node it next area group left most low nodes area_is stands far others = (
-  most,
-  record {
-    world = stands;
-    nodes = far_set area group.progress left.progress old.nodes node next nodes low area_is far others;
-  },
-)
+    → StandsFor (record { world = world; nodes = slice_set old.nodes node next }) area left most
+left_set old world node it next area group left most low nodes area_is stands far others = record {
+  world = stands;
+  nodes = far_set area group.progress left.progress old.nodes node next nodes low area_is far others;
+}
+
+-- so it does for what an event leaves, by the group and the calls that the event comes to
+pub is_left_by : (job : EndpointJob) (area : Area) (group : Group) (most : ℕ → ℕ) (event : GroupEvent)
+    (new : GroupState) (left : Group) (calls : List (Timed OtherCall)) → (group_does job area group event).1 ≡ left
+    → calls_of job area group event ≡ calls → StandsFor new area left (most_after job calls group.records most)
+    → IsLeft job area group most event new
+is_left_by job area group most event new left calls same calls_are stands =
+    subst₂ (λ (one : Group) (made : List (Timed OtherCall)).
+    StandsFor new area one (most_after job made group.records most)) (sym same) (sym calls_are) stands
+
+-- ---- the calls of a start
+
+abbrev calls_by : Site → Group → Area → StartAsked → (me : ℕ) → Progress → Option StartAnswer
+    → List (Timed OtherCall)
+calls_by site group area asked me progress refusal = elim refusal [
+  | Some first ↦ []
+  | None ↦ event_of_call site (call_of (start_ask area me asked.thread progress asked.shape asked.from)) ∷ []
+]
+
+none_called : (site : Site) (group : Group) (it : CollectivesState) (asked : StartAsked) (refusal : StartAnswer)
+    → IsAt site group it → refusal_of it asked ≡ Some refusal
+    → calls_of_start (job_at site) it.area group site.now site.node asked.thread asked.shape asked.from ≡ []
+none_called site group it asked refusal at is =
+    ap (calls_by site group it.area asked site.node (group.progress site.node)) (first_is site group it asked at ∙ is)
+
+one_called : (site : Site) (group : Group) (it : CollectivesState) (asked : StartAsked) → IsAt site group it
+    → refusal_of it asked ≡ None
+    → calls_of_start (job_at site) it.area group site.now site.node asked.thread asked.shape asked.from
+    ≡ event_of_call site (start_call it asked) ∷ []
+one_called site group it asked at is =
+    ap (calls_by site group it.area asked site.node (group.progress site.node)) (first_is site group it asked at ∙ is)
+    ∙ ap₂ (λ (me : ℕ) (progress : Progress). calls_by site group it.area asked me progress None) (sym at.me_is)
+    at.progress_is
 
 pub start_done : (meaning : Meaning) (old : GroupState) (world : WorldState) (now node : ℕ)
     (it next : CollectivesState) (asked : StartAsked) (answer : StartAnswer) (group : Group) (most : ℕ → ℕ)
@@ -202,25 +237,28 @@ pub start_done : (meaning : Meaning) (old : GroupState) (world : WorldState) (no
     (answer_at (site_in meaning old.world node now) (group.records node) (start_call it asked))
     (whole_then (site_in meaning old.world node now) (record { records = group.records; most = most })
     (start_call it asked)) it asked answer next
-    → StartsOf meaning old it.area group (Start now node asked.thread asked.shape asked.from) answer
+    → StartsOf meaning old it.area group most (Start now node asked.thread asked.shape asked.from) answer
     (record { world = world; nodes = slice_set old.nodes node next })
 start_done meaning old world now node it next asked answer group most is stands area_is (Refused refusal first answer_is next_is stood) =
+    let site = site_in meaning old.world node now in
     let at = node_at meaning old node now it it.area group most is stands in
-    let same = (start_is_of_group (site_in meaning old.world node now) group it asked at).refused refusal first in
+    let same = (start_is_of_group site group it asked at).refused refusal first in
     let new : GroupState = record { world = world; nodes = slice_set old.nodes node next } in
-    let kept : IsOf new it.area group =
-    of_set old world node it next it.area group group most is.low stands.nodes area_is stood
+    let event = Start now node asked.thread asked.shape asked.from in
+    let kept : StandsFor new it.area group most =
+    left_set old world node it next it.area group group most is.low stands.nodes area_is stood
     (at.progress_is ∙ ap progress_of (sym next_is)) (λ other apart. refl) in
-    does_then meaning old new it.area group (Start now node asked.thread asked.shape asked.from) answer (λ lacked. kept) (
+    does_then meaning old new it.area group most event answer (λ lacked. kept) (
       ap OfStart (answer_is ∙ sym (ap (λ (both : StartAnswer × Group). both.0) same)),
-      subst (IsOf new it.area) (sym (ap (λ (both : StartAnswer × Group). both.1) same)) kept,
+      is_left_by (job_at site) it.area group most event new group []
+          (ap (λ (both : StartAnswer × Group). both.1) same) (none_called site group it asked refusal at first) kept,
     )
 start_done meaning old world now node it next asked answer group most is stands area_is (Lacked answer_is next_is stood) =
     let at = node_at meaning old node now it it.area group most is stands in
     let new : GroupState = record { world = world; nodes = slice_set old.nodes node next } in
-    subst (λ (one : StartAnswer). StartsOf meaning old it.area group
+    subst (λ (one : StartAnswer). StartsOf meaning old it.area group most
     (Start now node asked.thread asked.shape asked.from) one new) (sym answer_is)
-    (of_set old world node it next it.area group group most is.low stands.nodes area_is stood
+    (left_set old world node it next it.area group group most is.low stands.nodes area_is stood
     (at.progress_is ∙ ap progress_of (sym next_is)) (λ other apart. refl))
 start_done meaning old world now node it next asked answer group most is stands area_is (Called none answer_is next_is stood) =
     let site = site_in meaning old.world node now in
@@ -232,19 +270,21 @@ start_done meaning old world now node it next asked answer group most is stands 
     let next_group = started_group (job_at site) group node asked.shape asked.from said left.records in
     let new : GroupState = record { world = world; nodes = slice_set old.nodes node next } in
     let event = Start now node asked.thread asked.shape asked.from in
-    let of_next : IsOf new it.area next_group =
-    of_set old world node it next it.area group next_group left.most is.low stands.nodes area_is
+    let of_next : StandsFor new it.area next_group left.most =
+    left_set old world node it next it.area group next_group left.most is.low stands.nodes area_is
     (subst (λ (records : Records). WorldStands world records left.most)
     (sym (started_records (job_at site) group node asked.shape asked.from left.records said)) stood)
     (started_far (job_at site) group node asked.shape asked.from left.records it said at.progress_is
     ∙ sym (ap progress_of (next_is ∙ ap (λ (one : StartAnswer). started_then one it asked.shape) answer_is)))
     (started_others (job_at site) group node asked.shape asked.from left.records said) in
-    does_then meaning old new it.area group event answer
+    does_then meaning old new it.area group most event answer
     (λ lacked. absurd (never_lacks (asked_in (world_answer (job_at site) group.records (timed now (Asks node
     (start_ask it.area it.me asked.thread (progress_of it) asked.shape asked.from)))))
     (sym answer_is ∙ lacked))) (
       ap OfStart (answer_is ∙ sym (ap (λ (both : StartAnswer × Group). both.0) same)),
-      subst (IsOf new it.area) (sym (ap (λ (both : StartAnswer × Group). both.1) same)) of_next,
+      is_left_by (job_at site) it.area group most event new next_group
+          (event_of_call site (start_call it asked) ∷ []) (ap (λ (both : StartAnswer × Group). both.1) same)
+          (one_called site group it asked at none) of_next,
     )
 
 -- the start of a node at a place, of each group for which the code stood
@@ -259,15 +299,15 @@ pub start_does : (meaning : Meaning) (old : GroupState) (world : WorldState) (no
     (start_call it asked)) it asked answer next)
     → DoesStart meaning old (Start now node asked.thread asked.shape asked.from) answer
     (record { world = world; nodes = slice_set old.nodes place next })
-start_does meaning old world now node place it next asked answer is place_is same came = λ area group of.
-    let area_is : it.area ≡ area = (of.1.nodes place it is.there).0 in
+start_does meaning old world now node place it next asked answer is place_is same came = λ area group most of.
+    let area_is : it.area ≡ area = (of.nodes place it is.there).0 in
     let here : IsNode meaning old node it = subst (λ (at : ℕ). IsNode meaning old at it) place_is is in
-    let stands : StandsFor old it.area group of.0 =
-    subst (λ (one : Area). StandsFor old one group of.0) (sym area_is) of.1 in
+    let stands : StandsFor old it.area group most =
+    subst (λ (one : Area). StandsFor old one group most) (sym area_is) of in
     let event : GroupEvent = Start now node asked.thread asked.shape asked.from in
-    subst (λ (one : Area). StartsOf meaning old one group event answer
+    subst (λ (one : Area). StartsOf meaning old one group most event answer
     (record { world = world; nodes = slice_set old.nodes place next })) area_is
-    (subst (λ (at : ℕ). StartsOf meaning old it.area group event answer
+    (subst (λ (at : ℕ). StartsOf meaning old it.area group most event answer
     (record { world = world; nodes = slice_set old.nodes at next })) (sym place_is)
-    (start_done meaning old world now node it next asked answer group of.0 here stands same.area_is
-    (came group of.0 stands.world)))
+    (start_done meaning old world now node it next asked answer group most here stands same.area_is
+    (came group most stands.world)))

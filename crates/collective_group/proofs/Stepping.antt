@@ -1,5 +1,6 @@
 -- A step at a node of a group of the code, as the step of a group.
-use Rattle.std.proofs.Common.{◌≡◌, ℕ, zero, suc, ◌+◌, ◌<◌, ◌≤◌, Bool, true, false, List, length, Option, Some, None, refl, sym}
+use Rattle.std.proofs.Common.{◌≡◌, ℕ, zero, suc, ◌+◌, ◌<◌, ◌≤◌, Bool, true, false, List, [], ◌∷◌, length}
+use Rattle.std.proofs.Common.{Option, Some, None, refl, sym}
 use Rattle.std.proofs.Common.{ap, ap₂, ◌∙◌, subst, arith, length-set}
 use Rattle.std.proofs.Common.{inl, inr}
 use Rattle.std.specs.Prelude.{◌≢◌, ◌⊎◌, slice_set, if◌then◌else◌}
@@ -8,8 +9,9 @@ use Rattle.datagram_grammar.specs.Parameters.{Parameters}
 use Rattle.handler_rules.specs.Runs.{Meaning}
 use Rattle.node_record.specs.declared.answer.Asked.{Asked as Told}
 use Rattle.node_record.specs.declared.answer.Asked.TheVariants as told
-use Rattle.plain_world.specs.World.{Asks, world_answer, world_after}
-use Rattle.endpoint_rules.specs.EndpointRules.{Records, asked_answer, timed}
+use Rattle.plain_world.specs.World.{Asks, Timed, world_answer, world_after}
+use Rattle.plain_world.specs.MostHeld.{most_after}
+use Rattle.endpoint_rules.specs.EndpointRules.{OtherCall, Records, asked_answer, timed}
 use Rattle.endpoint_rules.specs.declared.answer.Answer.{Answer}
 use Rattle.transfer_laws.specs.Chunks.{EndpointJob}
 use Rattle.gas_world.specs.Stands.{Stands as WorldStands}
@@ -17,7 +19,7 @@ use Rattle.gas_world.specs.WorldState.{WorldState}
 use Rattle.node_caller.specs.declared.caller.Caller.{Ghosts}
 use Rattle.node_caller.specs.Making.{MakesOne}
 use Rattle.node_caller.specs.Sites.{Site, ThreadCall, answer_at, job_at}
-use Rattle.world_caller.specs.Wholes.{WorldWhole, records_then, whole_then}
+use Rattle.world_caller.specs.Wholes.{WorldWhole, event_of_call, records_then, whole_then}
 use Rattle.collective_area.specs.Area.{Area}
 use Rattle.gas_collectives.specs.declared.answers.StepAnswer.{StepAnswer}
 use Rattle.gas_collectives.specs.declared.answers.StepAnswer.TheVariants as step_answers
@@ -28,9 +30,10 @@ use Rattle.collective_laws.specs.Groups.{GoesOn, Group, OfStep, Step, StepGoes, 
 use Rattle.collective_laws.specs.Groups.{step_goes, with_progress}
 use Rattle.collective_group.specs.GroupState.{GroupState}
 use Rattle.collective_group.specs.OfGroups.{IsAt, goes_by}
-use Rattle.collective_group.specs.Standing.{DoesOf, DoesStep, IsOf, StandsFor, StepsOf}
+use Rattle.collective_group.specs.Standing.{DoesOf, DoesStep, IsLeft, StandsFor, StepsOf}
+use Rattle.collective_group.specs.CallsOf.{calls_from}
 use Rattle.collective_group.proofs.Joined.{step_is_of_group}
-use Rattle.collective_group.proofs.Starting.{IsNode, node_at, of_set, site_in}
+use Rattle.collective_group.proofs.Starting.{IsNode, is_left_by, left_set, node_at, site_in}
 
 -- ---- what came of it, of a whole for which the caller stood
 
@@ -216,10 +219,32 @@ asks_left : (job : EndpointJob) (area : Area) (group : Group) (now node thread t
     (step_goes (group.progress node) to (asked_in (world_answer job group.records event)))
 asks_left job area group now node thread to many is = rw is refl
 
+-- and the calls behind it
+abbrev calls_then : EndpointJob → Area → Group → (now node thread to many : ℕ) → Records → StepGoes
+    → List (Timed OtherCall)
+calls_then job area group now node thread to many records goes = elim goes [
+  | Stops answer progress ↦ []
+  | GoesOn progress ↦ calls_from job area (with_progress (record group { records = records }) node progress) now node
+      thread (suc to) many
+]
+
+calls_left : (job : EndpointJob) (area : Area) (group : Group) (now node thread to many : ℕ)
+    → is_left node to (group.progress node) ≡ true
+    → let event = timed now (Asks node (step_ask area node thread to (group.progress node))) in
+    calls_from job area group now node thread to (suc many)
+    ≡ event ∷ calls_then job area group now node thread to many (world_after job group.records event)
+    (step_goes (group.progress node) to (asked_in (world_answer job group.records event)))
+calls_left job area group now node thread to many is = rw is refl
+
 passes : (job : EndpointJob) (area : Area) (group : Group) (now node thread to many : ℕ)
     → is_left node to (group.progress node) ≡ false
     → step_from job area group now node thread to (suc many) ≡ step_from job area group now node thread (suc to) many
 passes job area group now node thread to many is = rw is refl
+
+none_called : (job : EndpointJob) (area : Area) (group : Group) (now node thread to many : ℕ)
+    → is_left node to (group.progress node) ≡ false
+    → calls_from job area group now node thread to (suc many) ≡ calls_from job area group now node thread (suc to) many
+none_called job area group now node thread to many is = rw is refl
 
 -- ---- a request that is answered
 
@@ -270,45 +295,69 @@ noted_stands it to told.NotYet good =
 -- ---- both, from a node on
 
 -- the caller stands for this group, in which only the node went on, as far as it is next
-record Left (site : Site) (stood : WorldWhole → Type 0) (group left : Group) (next : CollectivesState) : Type 0 where
-  most : ℕ → ℕ
+record Left (site : Site) (stood : WorldWhole → Type 0) (group left : Group) (most : ℕ → ℕ) (next : CollectivesState)
+    : Type 0 where
   stood_for : stood (record { records = left.records; most = most })
   far : left.progress site.node ≡ progress_of next
   others : (other : ℕ) → other ≢ site.node → left.progress other ≡ group.progress other
 
+-- what the group's step of so many nodes is answered and leaves, and what its nodes held at most by then
+record Trying : Type 0 where
+  does : StepAnswer × Group
+  most : ℕ → ℕ
+
+abbrev trying : StepAnswer × Group → (ℕ → ℕ) → Trying
+trying does most = record { does = does; most = most }
+
 -- the group's step of so many nodes ended so, or memory ran out behind some of them
-data StepLeft (site : Site) (stood : WorldWhole → Type 0) (group : Group) (tries : ℕ → StepAnswer × Group) (many : ℕ)
+data StepLeft (site : Site) (stood : WorldWhole → Type 0) (group : Group) (tries : ℕ → Trying) (many : ℕ)
     (answer : StepAnswer) (next : CollectivesState) : Type 0 where
-  Lacked : answer ≡ step_answers.NoMemory → (among : ℕ) → among ≤ many → Left site stood group (tries among).1 next
+  Lacked : answer ≡ step_answers.NoMemory → (among : ℕ) → among ≤ many
+      → Left site stood group (tries among).does.1 (tries among).most next
       → StepLeft site stood group tries many answer next
-  Done : (answer ≡ step_answers.NoMemory → ⊥) → answer ≡ (tries many).0 → Left site stood group (tries many).1 next
+  Done : (answer ≡ step_answers.NoMemory → ⊥) → answer ≡ (tries many).does.0
+      → Left site stood group (tries many).does.1 (tries many).most next
       → StepLeft site stood group tries many answer next
 
+-- from this node on, of a group whose nodes held at most so much
+abbrev tries_from : Site → Area → Group → (most : ℕ → ℕ) → (thread to among : ℕ) → Trying
+tries_from site area group most thread to among =
+    trying (step_from (job_at site) area group site.now site.node thread to among)
+    (most_after (job_at site) (calls_from (job_at site) area group site.now site.node thread to among) group.records
+    most)
+
+-- the same answer and group by the same calls
+same_tries : (does other : StepAnswer × Group) (calls later : List (Timed OtherCall)) (job : EndpointJob)
+    (records : Records) (most : ℕ → ℕ) → does ≡ other → calls ≡ later
+    → trying does (most_after job calls records most) ≡ trying other (most_after job later records most)
+same_tries does other calls later job records most same calls_are =
+    ap₂ (λ (one : StepAnswer × Group) (made : List (Timed OtherCall)). trying one (most_after job made records most)) same
+    calls_are
+
+-- the caller stands for the group that a step leaves which is the same
+left_same : (site : Site) (stood : WorldWhole → Type 0) (group between : Group) (one other : Trying)
+    (next : CollectivesState) → one ≡ other
+    → ((node : ℕ) → node ≢ site.node → between.progress node ≡ group.progress node)
+    → Left site stood between other.does.1 other.most next → Left site stood group one.does.1 one.most next
+left_same site stood group between one other next same others left = record {
+  stood_for = subst (λ (it : Trying). stood (record { records = it.does.1.records; most = it.most })) (sym same)
+      left.stood_for;
+  far = ap (λ (it : Trying). it.does.1.progress site.node) same ∙ left.far;
+  others = λ node apart.
+      ap (λ (it : Trying). it.does.1.progress node) same ∙ (left.others node apart ∙ others node apart);
+}
+
 -- one node more, at which the group's step goes on so
-one_more : (site : Site) (stood : WorldWhole → Type 0) (group between : Group) (tries later : ℕ → StepAnswer × Group)
+one_more : (site : Site) (stood : WorldWhole → Type 0) (group between : Group) (tries later : ℕ → Trying)
     (many : ℕ) (answer : StepAnswer) (next : CollectivesState) → ((among : ℕ) → tries (suc among) ≡ later among)
     → ((other : ℕ) → other ≢ site.node → between.progress other ≡ group.progress other)
     → StepLeft site stood between later many answer next → StepLeft site stood group tries (suc many) answer next
 one_more site stood group between tries later many answer next same others (Lacked lacks among low left) =
-    Lacked lacks (suc among) (omega (arith, low)) (record {
-      most = left.most;
-      stood_for = subst (λ (it : StepAnswer × Group). stood (record { records = it.1.records; most = left.most }))
-          (sym (same among)) left.stood_for;
-      far = ap (λ (it : StepAnswer × Group). it.1.progress site.node) (same among) ∙ left.far;
-      others = λ other apart.
-          ap (λ (it : StepAnswer × Group). it.1.progress other) (same among)
-          ∙ (left.others other apart ∙ others other apart);
-    })
+    Lacked lacks (suc among) (omega (arith, low))
+    (left_same site stood group between (tries (suc among)) (later among) next (same among) others left)
 one_more site stood group between tries later many answer next same others (Done has answer_is left) =
-    Done has (answer_is ∙ sym (ap (λ (it : StepAnswer × Group). it.0) (same many))) (record {
-      most = left.most;
-      stood_for = subst (λ (it : StepAnswer × Group). stood (record { records = it.1.records; most = left.most }))
-          (sym (same many)) left.stood_for;
-      far = ap (λ (it : StepAnswer × Group). it.1.progress site.node) (same many) ∙ left.far;
-      others = λ other apart.
-          ap (λ (it : StepAnswer × Group). it.1.progress other) (same many)
-          ∙ (left.others other apart ∙ others other apart);
-    })
+    Done has (answer_is ∙ sym (ap (λ (it : Trying). it.does.0) (same many)))
+    (left_same site stood group between (tries (suc many)) (later many) next (same many) others left)
 
 -- what came at a node of a world
 abbrev pub CameAt : Site → (stood : WorldWhole → Type 0) → (thread to many : ℕ) → WorldWhole → CollectivesState
@@ -323,8 +372,7 @@ abbrev DoneAgain : Site → (stood : WorldWhole → Type 0) → (thread to many 
 DoneAgain site stood thread to many answer next it =
     (group : Group) (most : ℕ → ℕ) → IsAt site group it
     → CameAt site stood thread to many (record { records = group.records; most = most }) it answer next
-    → StepLeft site stood group
-    (λ among. step_from (job_at site) it.area group site.now site.node thread to among) many answer next
+    → StepLeft site stood group (tries_from site it.area group most thread to) many answer next
 
 same_left : (site : Site) (group : Group) (it : CollectivesState) (to : ℕ) → IsAt site group it
     → is_left site.node to (group.progress site.node) ≡ is_left it.me to (progress_of it)
@@ -368,6 +416,31 @@ goes_so site group it thread to among stop at low left stop_is =
     (records_then site group.records (step_call it thread to))
     (goes_by one (progress_of (noted it to (said_in site group it thread to))))) stop_is)
 
+-- its calls, as those of the group
+first_call : (site : Site) (group : Group) (it : CollectivesState) (thread to : ℕ) → IsAt site group it
+    → timed site.now (Asks site.node (step_ask it.area site.node thread to (group.progress site.node)))
+    ≡ event_of_call site (step_call it thread to)
+first_call site group it thread to at =
+    ap₂ (λ (me : ℕ) (progress : Progress). timed site.now (Asks site.node (step_ask it.area me thread to progress)))
+    (sym at.me_is) at.progress_is
+
+calls_so : (site : Site) (group : Group) (it : CollectivesState) (thread to among : ℕ) (stop : Option StepAnswer)
+    → IsAt site group it → to < it.settings.nodes → is_left it.me to (progress_of it) ≡ true
+    → step_told to (said_in site group it thread to) ≡ stop
+    → calls_from (job_at site) it.area group site.now site.node thread to (suc among)
+    ≡ event_of_call site (step_call it thread to) ∷ calls_then (job_at site) it.area group site.now site.node thread to
+    among (records_then site group.records (step_call it thread to))
+    (goes_by stop (progress_of (noted it to (said_in site group it thread to))))
+calls_so site group it thread to among stop at low left stop_is =
+    let is = step_is_of_group site group it thread to at low in
+    calls_left (job_at site) it.area group site.now site.node thread to among (same_left site group it to at ∙ left)
+    ∙ ap₂ (λ (one : Timed OtherCall) (later : List (Timed OtherCall)). one ∷ later) (first_call site group it thread to at)
+    (ap₂ (λ (records : Records) (goes : StepGoes). calls_then (job_at site) it.area group site.now site.node thread to
+    among records goes) (sym is.event) is.goes
+    ∙ ap (λ (one : Option StepAnswer). calls_then (job_at site) it.area group site.now site.node thread to among
+    (records_then site group.records (step_call it thread to))
+    (goes_by one (progress_of (noted it to (said_in site group it thread to))))) stop_is)
+
 behind_at : (site : Site) (group : Group) (it : CollectivesState) (thread to : ℕ) → IsAt site group it
     → IsAt site (behind site group it thread to) (noted it to (said_in site group it thread to))
 behind_at site group it thread to at = record {
@@ -391,29 +464,30 @@ done_behind : (site : Site) (stood : WorldWhole → Type 0) (thread to many : �
     (noted it to (said_in site group it thread to)) next
     (CameAt site stood thread (suc to) many (left_whole site group most it thread to)
     (noted it to (said_in site group it thread to)) answer next) stop
-    → StepLeft site stood group
-    (λ among. step_from (job_at site) it.area group site.now site.node thread to among) (suc many) answer next
+    → StepLeft site stood group (tries_from site it.area group most thread to) (suc many) answer next
 done_behind site stood thread to many group most it answer next (Some end) again at low left is ended =
-    let same : step_from (job_at site) it.area group site.now site.node thread to (suc many)
-    ≡ (end, behind site group it thread to) =
-    goes_so site group it thread to many (Some end) at low left is in
+    let call = event_of_call site (step_call it thread to) in
+    let same : tries_from site it.area group most thread to (suc many)
+    ≡ trying (end, behind site group it thread to) (most_after (job_at site) (call ∷ []) group.records most) =
+    same_tries _ _ _ (call ∷ []) (job_at site) group.records most
+    (goes_so site group it thread to many (Some end) at low left is)
+    (calls_so site group it thread to many (Some end) at low left is) in
     Done (λ lacks. never_lacks to (told_in site group it thread to) end is (sym ended.answer_is ∙ lacks))
-    (ended.answer_is ∙ sym (ap (λ (one : StepAnswer × Group). one.0) same)) (record {
-      most = (left_whole site group most it thread to).most;
-      stood_for = subst (λ (one : StepAnswer × Group).
-          stood (record { records = one.1.records; most = (left_whole site group most it thread to).most })) (sym same)
-          ended.stood_for;
-      far = ap (λ (one : StepAnswer × Group). one.1.progress site.node) same
-          ∙ ((behind_at site group it thread to at).progress_is ∙ ap progress_of (sym ended.next_is));
-      others = λ other apart.
-          ap (λ (one : StepAnswer × Group). one.1.progress other) same
-          ∙ behind_others site group it thread to other apart;
-    })
+    (ended.answer_is ∙ sym (ap (λ (one : Trying). one.does.0) same))
+    (left_same site stood group (behind site group it thread to) _ _ next same
+    (λ other apart. behind_others site group it thread to other apart) (record {
+      stood_for = ended.stood_for;
+      far = (behind_at site group it thread to at).progress_is ∙ ap progress_of (sym ended.next_is);
+      others = λ other apart. refl;
+    }))
 done_behind site stood thread to many group most it answer next None again at low left is later =
-    one_more site stood group (behind site group it thread to)
-    (λ among. step_from (job_at site) it.area group site.now site.node thread to among)
-    (λ among. step_from (job_at site) it.area (behind site group it thread to) site.now site.node thread (suc to) among)
-    many answer next (λ among. goes_so site group it thread to among None at low left is)
+    one_more site stood group (behind site group it thread to) (tries_from site it.area group most thread to)
+    (tries_from site it.area (behind site group it thread to) (left_whole site group most it thread to).most thread
+    (suc to)) many answer next
+    (λ among. same_tries _ _ _ (event_of_call site (step_call it thread to)
+    ∷ calls_from (job_at site) it.area (behind site group it thread to) site.now site.node thread (suc to) among)
+    (job_at site) group.records most (goes_so site group it thread to among None at low left is)
+    (calls_so site group it thread to among None at low left is))
     (λ other apart. behind_others site group it thread to other apart)
     (again (behind site group it thread to) (left_whole site group most it thread to).most
     (behind_at site group it thread to at) later)
@@ -429,16 +503,17 @@ done_left : (site : Site) (stood : WorldWhole → Type 0) (thread to many : ℕ)
     (noted it to (said_in site group it thread to)) next
     (CameAt site stood thread (suc to) many (left_whole site group most it thread to)
     (noted it to (said_in site group it thread to)) answer next) (step_told to (said_in site group it thread to))) left
-    → StepLeft site stood group
-    (λ among. step_from (job_at site) it.area group site.now site.node thread to among) (suc many) answer next
+    → StepLeft site stood group (tries_from site it.area group most thread to) (suc many) answer next
 done_left site stood thread to many group most it answer next false again at low is passed =
-    one_more site stood group group (λ among. step_from (job_at site) it.area group site.now site.node thread to among)
-    (λ among. step_from (job_at site) it.area group site.now site.node thread (suc to) among) many answer next
-    (λ among. passes (job_at site) it.area group site.now site.node thread to among (same_left site group it to at ∙ is))
+    let left = same_left site group it to at ∙ is in
+    one_more site stood group group (tries_from site it.area group most thread to)
+    (tries_from site it.area group most thread (suc to)) many answer next
+    (λ among. same_tries _ _ _ _ (job_at site) group.records most
+    (passes (job_at site) it.area group site.now site.node thread to among left)
+    (none_called (job_at site) it.area group site.now site.node thread to among left))
     (λ other apart. refl) (again it refl group most at passed)
 done_left site stood thread to many group most it answer next true again at low is (inl lacked) =
     Lacked lacked.answer_is 0 (omega arith) (record {
-      most = most;
       stood_for = lacked.stood_for;
       far = at.progress_is ∙ ap progress_of (sym lacked.next_is);
       others = λ other apart. refl;
@@ -454,11 +529,9 @@ from_done : (site : Site) (stood : WorldWhole → Type 0) (thread to many : ℕ)
     (it : CollectivesState) (answer : StepAnswer) (next : CollectivesState) → IsAt site group it
     → to + many ≤ it.settings.nodes
     → CameAt site stood thread to many (record { records = group.records; most = most }) it answer next
-    → StepLeft site stood group
-    (λ among. step_from (job_at site) it.area group site.now site.node thread to among) many answer next
+    → StepLeft site stood group (tries_from site it.area group most thread to) many answer next
 from_done site stood thread to zero group most it answer next at low came =
     Done (λ lacks. nothing_lacks (sym came.answer_is ∙ lacks)) came.answer_is (record {
-      most = most;
       stood_for = came.stood_for;
       far = at.progress_is ∙ ap progress_of (sym came.next_is);
       others = λ other apart. refl;
@@ -481,14 +554,14 @@ WholeStep site stood thread whole it answer next = elim (is_open (progress_of it
   | false ↦ Ended WorldWhole stood whole step_answers.Nothing answer it next
 ]
 
-step_then : (meaning : Meaning) (old new : GroupState) (area : Area) (group : Group) (now node thread : ℕ)
-    (answer : StepAnswer) → (answer ≡ step_answers.NoMemory → ⊥)
-    → DoesOf meaning old area group (Step now node thread old.world.settings.nodes) (OfStep answer) new
-    → StepsOf meaning old area group (Step now node thread) answer new
-step_then meaning old new area group now node thread (step_answers.Sent to) has does = does
-step_then meaning old new area group now node thread step_answers.Nothing has does = does
-step_then meaning old new area group now node thread (step_answers.Forbidden forbidden) has does = does
-step_then meaning old new area group now node thread step_answers.NoMemory has does = absurd (has refl)
+step_then : (meaning : Meaning) (old new : GroupState) (area : Area) (group : Group) (most : ℕ → ℕ)
+    (now node thread : ℕ) (answer : StepAnswer) → (answer ≡ step_answers.NoMemory → ⊥)
+    → DoesOf meaning old area group most (Step now node thread old.world.settings.nodes) (OfStep answer) new
+    → StepsOf meaning old area group most (Step now node thread) answer new
+step_then meaning old new area group most now node thread (step_answers.Sent to) has does = does
+step_then meaning old new area group most now node thread step_answers.Nothing has does = does
+step_then meaning old new area group most now node thread (step_answers.Forbidden forbidden) has does = does
+step_then meaning old new area group most now node thread step_answers.NoMemory has does = absurd (has refl)
 
 -- where no phase is open, or one is
 abbrev OpenOrShut : Site → (stood : WorldWhole → Type 0) → (thread : ℕ) → WorldWhole → CollectivesState → StepAnswer
@@ -503,14 +576,31 @@ does_by site area group thread among open_now =
     if open_now then step_from (job_at site) area group site.now site.node thread 0 among
     else (step_answers.Nothing, group)
 
+-- the calls of a step, by whether a phase is open
+abbrev called_by : Site → Area → Group → (thread among : ℕ) → Bool → List (Timed OtherCall)
+called_by site area group thread among open_now =
+    if open_now then calls_from (job_at site) area group site.now site.node thread 0 among else []
+
+-- the step of so many nodes, where a phase is open
+tries_open : (site : Site) (area : Area) (group : Group) (most : ℕ → ℕ) (thread among : ℕ) (new : GroupState)
+    → is_open (group.progress site.node) ≡ true
+    → StandsFor new area (tries_from site area group most thread 0 among).does.1
+    (tries_from site area group most thread 0 among).most
+    → IsLeft (job_at site) area group most (Step site.now site.node thread among) new
+tries_open site area group most thread among new opened stands =
+    is_left_by (job_at site) area group most (Step site.now site.node thread among) new
+    (tries_from site area group most thread 0 among).does.1
+    (calls_from (job_at site) area group site.now site.node thread 0 among)
+    (ap (λ (both : StepAnswer × Group). both.1) (ap (does_by site area group thread among) opened))
+    (ap (called_by site area group thread among) opened) stands
+
 step_left : (meaning : Meaning) (old : GroupState) (world : WorldState) (now node thread : ℕ)
     (it next : CollectivesState) (answer : StepAnswer) (group : Group) (most : ℕ → ℕ) → IsNode meaning old node it
     → StandsFor old it.area group most → next.area ≡ it.area → is_open (progress_of it) ≡ true
     → StepLeft (site_in meaning old.world node now)
     (λ (whole : WorldWhole). WorldStands world whole.records whole.most) group
-    (λ among. step_from (job_at (site_in meaning old.world node now)) it.area group now node thread 0 among)
-    it.area.nodes answer next
-    → StepsOf meaning old it.area group (Step now node thread) answer
+    (tries_from (site_in meaning old.world node now) it.area group most thread 0) it.area.nodes answer next
+    → StepsOf meaning old it.area group most (Step now node thread) answer
     (record { world = world; nodes = slice_set old.nodes node next })
 step_left meaning old world now node thread it next answer group most is stands area_is opened (Lacked lacks among low left) =
     let site = site_in meaning old.world node now in
@@ -518,14 +608,12 @@ step_left meaning old world now node thread it next answer group most is stands 
     let nodes : it.area.nodes ≡ old.world.settings.nodes =
     at.good.nodes ∙ ap (λ (settings : Parameters). settings.nodes) at.settings_are in
     let new : GroupState = record { world = world; nodes = slice_set old.nodes node next } in
-    let same : does_step (job_at site) it.area group now node thread among
-    ≡ step_from (job_at site) it.area group now node thread 0 among =
-    ap (does_by site it.area group thread among) (ap is_open at.progress_is ∙ opened) in
-    subst (λ (one : StepAnswer). StepsOf meaning old it.area group (Step now node thread) one new) (sym lacks) (
+    subst (λ (one : StepAnswer). StepsOf meaning old it.area group most (Step now node thread) one new) (sym lacks) (
       among,
       omega (arith, low, nodes),
-      subst (IsOf new it.area) (sym (ap (λ (both : StepAnswer × Group). both.1) same))
-          (of_set old world node it next it.area group _ left.most is.low stands.nodes area_is left.stood_for left.far
+      tries_open site it.area group most thread among new (ap is_open at.progress_is ∙ opened)
+          (left_set old world node it next it.area group (tries_from site it.area group most thread 0 among).does.1
+          (tries_from site it.area group most thread 0 among).most is.low stands.nodes area_is left.stood_for left.far
           left.others),
     )
 step_left meaning old world now node thread it next answer group most is stands area_is opened (Done has answer_is left) =
@@ -534,16 +622,18 @@ step_left meaning old world now node thread it next answer group most is stands 
     let nodes : it.area.nodes ≡ old.world.settings.nodes =
     at.good.nodes ∙ ap (λ (settings : Parameters). settings.nodes) at.settings_are in
     let new : GroupState = record { world = world; nodes = slice_set old.nodes node next } in
-    let same : does_step (job_at site) it.area group now node thread old.world.settings.nodes
-    ≡ step_from (job_at site) it.area group now node thread 0 it.area.nodes =
-    ap (does_by site it.area group thread old.world.settings.nodes) (ap is_open at.progress_is ∙ opened)
-    ∙ ap (λ (among : ℕ). step_from (job_at site) it.area group now node thread 0 among) (sym nodes) in
-    step_then meaning old new it.area group now node thread answer has (
-      ap OfStep (answer_is ∙ sym (ap (λ (both : StepAnswer × Group). both.0) same)),
-      subst (IsOf new it.area) (sym (ap (λ (both : StepAnswer × Group). both.1) same))
-          (of_set old world node it next it.area group _ left.most is.low stands.nodes area_is left.stood_for left.far
-          left.others),
-    )
+    let open_now = ap is_open at.progress_is ∙ opened in
+    let here : StandsFor new it.area (tries_from site it.area group most thread 0 it.area.nodes).does.1
+    (tries_from site it.area group most thread 0 it.area.nodes).most =
+    left_set old world node it next it.area group (tries_from site it.area group most thread 0 it.area.nodes).does.1
+    (tries_from site it.area group most thread 0 it.area.nodes).most is.low stands.nodes area_is left.stood_for left.far
+    left.others in
+    step_then meaning old new it.area group most now node thread answer has
+    (subst (λ (many : ℕ). DoesOf meaning old it.area group most (Step now node thread many) (OfStep answer) new) nodes (
+      ap OfStep (answer_is
+          ∙ sym (ap (λ (both : StepAnswer × Group). both.0) (ap (does_by site it.area group thread it.area.nodes) open_now))),
+      tries_open site it.area group most thread it.area.nodes new open_now here,
+    ))
 
 step_by : (meaning : Meaning) (old : GroupState) (world : WorldState) (now node thread : ℕ)
     (it next : CollectivesState) (answer : StepAnswer) (group : Group) (most : ℕ → ℕ) (open_now : Bool)
@@ -552,7 +642,7 @@ step_by : (meaning : Meaning) (old : GroupState) (world : WorldState) (now node 
     → OpenOrShut (site_in meaning old.world node now)
     (λ (whole : WorldWhole). WorldStands world whole.records whole.most) thread
     (record { records = group.records; most = most }) it answer next open_now
-    → StepsOf meaning old it.area group (Step now node thread) answer
+    → StepsOf meaning old it.area group most (Step now node thread) answer
     (record { world = world; nodes = slice_set old.nodes node next })
 step_by meaning old world now node thread it next answer group most true is stands area_is opened came =
     let at = node_at meaning old node now it it.area group most is stands in
@@ -564,14 +654,16 @@ step_by meaning old world now node thread it next answer group most false is sta
     let site = site_in meaning old.world node now in
     let at = node_at meaning old node now it it.area group most is stands in
     let new : GroupState = record { world = world; nodes = slice_set old.nodes node next } in
-    let same : does_step (job_at site) it.area group now node thread old.world.settings.nodes
-    ≡ (step_answers.Nothing, group) =
-    ap (does_by site it.area group thread old.world.settings.nodes) (ap is_open at.progress_is ∙ shut) in
-    step_then meaning old new it.area group now node thread answer
+    let many = old.world.settings.nodes in
+    let none = ap is_open at.progress_is ∙ shut in
+    let same : does_step (job_at site) it.area group now node thread many ≡ (step_answers.Nothing, group) =
+    ap (does_by site it.area group thread many) none in
+    step_then meaning old new it.area group most now node thread answer
     (λ lacks. nothing_lacks (sym ended.answer_is ∙ lacks)) (
       ap OfStep (ended.answer_is ∙ sym (ap (λ (both : StepAnswer × Group). both.0) same)),
-      subst (IsOf new it.area) (sym (ap (λ (both : StepAnswer × Group). both.1) same))
-          (of_set old world node it next it.area group group most is.low stands.nodes area_is ended.stood_for
+      is_left_by (job_at site) it.area group most (Step now node thread many) new group []
+          (ap (λ (both : StepAnswer × Group). both.1) same) (ap (called_by site it.area group thread many) none)
+          (left_set old world node it next it.area group group most is.low stands.nodes area_is ended.stood_for
           (at.progress_is ∙ ap progress_of (sym ended.next_is)) (λ other apart. refl)),
     )
 
@@ -581,7 +673,7 @@ pub step_done : (meaning : Meaning) (old : GroupState) (world : WorldState) (now
     → WholeStep (site_in meaning old.world node now)
     (λ (whole : WorldWhole). WorldStands world whole.records whole.most) thread
     (record { records = group.records; most = most }) it answer next
-    → StepsOf meaning old it.area group (Step now node thread) answer
+    → StepsOf meaning old it.area group most (Step now node thread) answer
     (record { world = world; nodes = slice_set old.nodes node next })
 step_done meaning old world now node thread it next answer group most is stands area_is came =
     step_by meaning old world now node thread it next answer group most (is_open (progress_of it)) is stands area_is refl
@@ -632,14 +724,14 @@ pub step_does : (meaning : Meaning) (old : GroupState) (world : WorldState) (now
     (record { records = group.records; most = most }) it answer next)
     → DoesStep meaning old (Step now node thread) answer
     (record { world = world; nodes = slice_set old.nodes place next })
-step_does meaning old world now node place thread it next answer is place_is same came = λ area group of.
-    let area_is : it.area ≡ area = (of.1.nodes place it is.there).0 in
+step_does meaning old world now node place thread it next answer is place_is same came = λ area group most of.
+    let area_is : it.area ≡ area = (of.nodes place it is.there).0 in
     let here : IsNode meaning old node it = subst (λ (at : ℕ). IsNode meaning old at it) place_is is in
-    let stands : StandsFor old it.area group of.0 =
-    subst (λ (one : Area). StandsFor old one group of.0) (sym area_is) of.1 in
-    subst (λ (one : Area). StepsOf meaning old one group (Step now node thread) answer
+    let stands : StandsFor old it.area group most =
+    subst (λ (one : Area). StandsFor old one group most) (sym area_is) of in
+    subst (λ (one : Area). StepsOf meaning old one group most (Step now node thread) answer
     (record { world = world; nodes = slice_set old.nodes place next })) area_is
-    (subst (λ (at : ℕ). StepsOf meaning old it.area group (Step now node thread) answer
+    (subst (λ (at : ℕ). StepsOf meaning old it.area group most (Step now node thread) answer
     (record { world = world; nodes = slice_set old.nodes at next })) (sym place_is)
-    (step_done meaning old world now node thread it next answer group of.0 here stands same.area_is
-    (came group of.0 stands.world)))
+    (step_done meaning old world now node thread it next answer group most here stands same.area_is
+    (came group most stands.world)))

@@ -1,5 +1,5 @@
 -- A try to end at a node of a world, as that of a group.
-use Rattle.std.proofs.Common.{◌≡◌, ℕ, List, [], ◌∷◌, map, None, refl, sym, ap, ap₂, ◌∙◌}
+use Rattle.std.proofs.Common.{◌≡◌, ℕ, List, [], ◌∷◌, map, Option, Some, None, refl, sym, ap, ap₂, ◌∙◌}
 use Rattle.std.specs.Prelude.{◌≢◌, Result, Ok, Err}
 use Rattle.lists.proofs.Put.{put_same, put_other}
 use Rattle.datagram_grammar.specs.Parameters.{Parameters}
@@ -8,9 +8,9 @@ use Rattle.handler_rules.specs.declared.rules.Forbidden.{Forbidden}
 use Rattle.node_record.specs.NodeStep.{OfCall}
 use Rattle.am_core.specs.Kept.{Local}
 use Rattle.am_core.specs.ClientRules.{rules}
-use Rattle.plain_world.specs.World.{Does, OfNode, run, world_after}
+use Rattle.plain_world.specs.World.{Does, OfNode, Timed, run, world_after, world_answer}
 use Rattle.endpoint_rules.specs.CoreCalls.{Poll, if_allowed}
-use Rattle.endpoint_rules.specs.EndpointRules.{OnCore, Records, timed}
+use Rattle.endpoint_rules.specs.EndpointRules.{OnCore, OtherCall, Records, timed}
 use Rattle.endpoint_rules.specs.declared.answer.Answer.TheVariants as answers
 use Rattle.node_caller.specs.Sites.{Site, job_at}
 use Rattle.world_caller.specs.Wholes.{events_of}
@@ -21,7 +21,9 @@ use Rattle.gas_collectives.specs.Progress.{Progress, after_end, data_of_all, end
 use Rattle.gas_collectives.specs.CollectivesState.{CollectivesState, progress_of}
 use Rattle.gas_collectives.specs.Ends.{EndAsked, end_calls, end_told, ended_then, result_in, segment_in, set_call}
 use Rattle.gas_collectives.specs.Ends.{tried_answer}
-use Rattle.collective_laws.specs.Groups.{Group, after_writes, does_end, end_by, ended_group, result_pieces}
+use Rattle.collective_laws.specs.Groups.{Group, after_writes, does_end, end_by, ended_group, result_pieces, write_event}
+use Rattle.collective_group.specs.CallsOf.{calls_behind, calls_of_end}
+use Rattle.collective_area.specs.Area.{Area}
 use Rattle.collective_laws.proofs.Tried.{tries_by}
 use Rattle.collective_group.specs.OfGroups.{IsAt, EndIsOfGroup}
 
@@ -60,6 +62,14 @@ sets_run : (site : Site) (thread : ℕ) (writes : List Write) (records : Records
 sets_run site thread [] records = refl
 sets_run site thread (write ∷ later) records = sets_run site thread later _
 
+pieces_are : (site : Site) (group : Group) (it : CollectivesState) → IsAt site group it
+    → result_pieces (job_at site) it.area group site.node
+    ≡ result_in it (segment_in site (group.records site.node))
+pieces_are site group it at =
+    let segment = segment_in site (group.records site.node) in
+    ap₂ (λ (me : ℕ) (progress : Progress). pieces_of progress.shape
+    (data_of_all it.area progress segment 0 it.area.nodes) me) (sym at.me_is) at.progress_is
+
 left_by : (site : Site) (group : Group) (it : CollectivesState) (asked : EndAsked) (answer : EndAnswer)
     → IsAt site group it
     → (ended_group (job_at site) it.area group site.now site.node asked.thread asked.dest (polled site group asked)
@@ -68,9 +78,7 @@ left_by : (site : Site) (group : Group) (it : CollectivesState) (asked : EndAske
     group.records
 left_by site group it asked end_answers.Ended at =
     let segment = segment_in site (group.records site.node) in
-    let pieces : result_pieces (job_at site) it.area group site.node ≡ result_in it segment =
-    ap₂ (λ (me : ℕ) (progress : Progress). pieces_of progress.shape
-    (data_of_all it.area progress segment 0 it.area.nodes) me) (sym at.me_is) at.progress_is in
+    let pieces = pieces_are site group it at in
     ap (λ (all : List (List ℕ)). after_writes (job_at site) site.now site.node asked.thread (polled site group asked)
     (writes_from asked.dest all)) pieces
     ∙ sets_run site asked.thread (writes_from asked.dest (result_in it segment)) (polled site group asked)
@@ -115,6 +123,63 @@ others_by site group it asked (end_answers.BadArg argument) other apart = refl
 others_by site group it asked (end_answers.WornOut which) other apart = refl
 others_by site group it asked (end_answers.Forbidden forbidden) other apart = refl
 others_by site group it asked end_answers.NoMemory other apart = refl
+
+-- ---- the calls
+
+-- by the refusal that comes first, if one does
+abbrev calls_by : Site → Group → Area → EndAsked → Option EndAnswer → List (Timed OtherCall)
+calls_by site group area asked refusal = elim refusal [
+  | Some first ↦ []
+  | None ↦ (
+      let poll = timed site.now (Does site.node asked.thread (OnCore Poll)) in
+      poll ∷ calls_behind (job_at site) area group site.now site.node asked.thread asked.dest
+      (end_by (job_at site) area group site.now site.node asked.thread asked.dest
+      (world_answer (job_at site) group.records poll)))
+]
+
+pub none_called : (site : Site) (group : Group) (it : CollectivesState) (asked : EndAsked) (refusal : EndAnswer)
+    → IsAt site group it → end_refusal it.area it.settings.segment it.me (progress_of it) asked.dest ≡ Some refusal
+    → calls_of_end (job_at site) it.area group site.now site.node asked.thread asked.dest ≡ []
+none_called site group it asked refusal at is =
+    ap (calls_by site group it.area asked) (first_is site group it asked at ∙ is)
+
+writes_called : (site : Site) (thread : ℕ) (writes : List Write)
+    → map (write_event site.now site.node thread) writes ≡ events_of site (map (set_call thread) writes)
+writes_called site thread [] = refl
+writes_called site thread (write ∷ later) =
+    ap (λ (calls : List (Timed OtherCall)). write_event site.now site.node thread write ∷ calls)
+    (writes_called site thread later)
+
+behind_called : (site : Site) (group : Group) (it : CollectivesState) (asked : EndAsked) (answer : EndAnswer)
+    → IsAt site group it
+    → timed site.now (Does site.node asked.thread (OnCore Poll))
+    ∷ calls_behind (job_at site) it.area group site.now site.node asked.thread asked.dest answer
+    ≡ events_of site (end_calls it (segment_in site (group.records site.node)) asked answer)
+behind_called site group it asked end_answers.Ended at =
+    let segment = segment_in site (group.records site.node) in
+    ap (λ (calls : List (Timed OtherCall)). timed site.now (Does site.node asked.thread (OnCore Poll)) ∷ calls)
+    (ap (λ (all : List (List ℕ)). map (write_event site.now site.node asked.thread) (writes_from asked.dest all))
+    (pieces_are site group it at)
+    ∙ writes_called site asked.thread (writes_from asked.dest (result_in it segment)))
+behind_called site group it asked (end_answers.Mismatch other) at = refl
+behind_called site group it asked end_answers.NotReady at = refl
+behind_called site group it asked end_answers.NotStarted at = refl
+behind_called site group it asked (end_answers.BadArg argument) at = refl
+behind_called site group it asked (end_answers.WornOut other) at = refl
+behind_called site group it asked (end_answers.Forbidden forbidden) at = refl
+behind_called site group it asked end_answers.NoMemory at = refl
+
+pub all_called : (site : Site) (group : Group) (it : CollectivesState) (asked : EndAsked) → IsAt site group it
+    → end_refusal it.area it.settings.segment it.me (progress_of it) asked.dest ≡ None
+    → calls_of_end (job_at site) it.area group site.now site.node asked.thread asked.dest
+    ≡ events_of site (end_calls it (segment_in site (group.records site.node)) asked
+    (tried_answer site (group.records site.node) it asked.thread))
+all_called site group it asked at none =
+    ap (calls_by site group it.area asked) (first_is site group it asked at ∙ none)
+    ∙ (ap (λ (answer : EndAnswer). timed site.now (Does site.node asked.thread (OnCore Poll))
+    ∷ calls_behind (job_at site) it.area group site.now site.node asked.thread asked.dest answer)
+    (by_judged site group it asked _ (group.records site.node).local.core at)
+    ∙ behind_called site group it asked (tried_answer site (group.records site.node) it asked.thread) at)
 
 -- ---- all of it
 

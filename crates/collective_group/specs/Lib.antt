@@ -1,4 +1,5 @@
 pub mod OfGroups
+pub mod CallsOf
 pub mod GroupState
 pub mod Standing
 pub mod Histories

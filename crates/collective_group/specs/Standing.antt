@@ -3,6 +3,8 @@ use Rattle.std.specs.Prelude.{ℕ, ◌≡◌, ◌≤◌, List, Some, slice_get}
 use Rattle.handler_rules.specs.Runs.{Meaning}
 use Rattle.gas_world.specs.Events.{job_in}
 use Rattle.gas_world.specs.Stands.{Stands}
+use Rattle.plain_world.specs.MostHeld.{most_after}
+use Rattle.transfer_laws.specs.Chunks.{EndpointJob}
 use Rattle.collective_area.specs.Area.{Area}
 use Rattle.gas_collectives.specs.Progress.{Progress}
 use Rattle.gas_collectives.specs.CollectivesState.{CollectivesState, progress_of}
@@ -12,6 +14,7 @@ use Rattle.gas_collectives.specs.declared.answers.StepAnswer.{StepAnswer}
 use Rattle.gas_collectives.specs.declared.answers.StepAnswer.TheVariants as step_answers
 use Rattle.collective_laws.specs.Groups.{Group, GroupAnswer, GroupEvent, OfStart, OfStep, group_does}
 use Rattle.collective_group.specs.GroupState.{GroupState}
+use Rattle.collective_group.specs.CallsOf.{calls_of}
 
 -- ---- what it stands for
 
@@ -30,40 +33,48 @@ pub record StandsFor (it : GroupState) (area : Area) (group : Group) (most : ℕ
 abbrev pub IsOf : GroupState → Area → Group → Type 0
 IsOf it area group = (most : ℕ → ℕ) × StandsFor it area group most
 
--- this holds of each group for which it stands
-abbrev pub ForItsGroups : GroupState → (Area → Group → Type 0) → Type 0
-ForItsGroups it Holds = (area : Area) (group : Group) → IsOf it area group → Holds area group
+-- this holds of each group for which it stands, whose nodes held at most so many buffers
+abbrev pub ForItsGroups : GroupState → (Area → Group → (ℕ → ℕ) → Type 0) → Type 0
+ForItsGroups it Holds =
+    (area : Area) (group : Group) (most : ℕ → ℕ) → StandsFor it area group most → Holds area group most
 
 -- ---- what a call does of it
 
+-- it stands for what the event leaves of the group; what its nodes held at most is taken after each call of the event
+abbrev pub IsLeft : EndpointJob → Area → Group → (ℕ → ℕ) → GroupEvent → GroupState → Type 0
+IsLeft job area group most event new =
+    StandsFor new area (group_does job area group event).1
+    (most_after job (calls_of job area group event) group.records most)
+
 -- the event happens to the group: the answer is the group's, and the code stands for the group's next state
-abbrev pub DoesOf : Meaning → GroupState → Area → Group → GroupEvent → GroupAnswer → GroupState → Type 0
-DoesOf meaning old area group event answer new =
+abbrev pub DoesOf : Meaning → GroupState → Area → Group → (ℕ → ℕ) → GroupEvent → GroupAnswer → GroupState → Type 0
+DoesOf meaning old area group most event answer new =
     (answer ≡ (group_does (job_in meaning old.world) area group event).0)
-    × IsOf new area (group_does (job_in meaning old.world) area group event).1
+    × IsLeft (job_in meaning old.world) area group most event new
 
 -- so it is of each group for which it stood
 abbrev pub Does : Meaning → GroupState → GroupEvent → GroupAnswer → GroupState → Type 0
 Does meaning old event answer new =
-    ForItsGroups old (λ area group. DoesOf meaning old area group event answer new)
+    ForItsGroups old (λ area group most. DoesOf meaning old area group most event answer new)
 
 -- a start; where memory ran out, the group is as before
-abbrev pub StartsOf : Meaning → GroupState → Area → Group → GroupEvent → StartAnswer → GroupState → Type 0
-StartsOf meaning old area group event start_answers.NoMemory new = IsOf new area group
-StartsOf meaning old area group event answer new = DoesOf meaning old area group event (OfStart answer) new
+abbrev pub StartsOf : Meaning → GroupState → Area → Group → (ℕ → ℕ) → GroupEvent → StartAnswer → GroupState → Type 0
+StartsOf meaning old area group most event start_answers.NoMemory new = StandsFor new area group most
+StartsOf meaning old area group most event answer new = DoesOf meaning old area group most event (OfStart answer) new
 
 abbrev pub DoesStart : Meaning → GroupState → GroupEvent → StartAnswer → GroupState → Type 0
 DoesStart meaning old event answer new =
-    ForItsGroups old (λ area group. StartsOf meaning old area group event answer new)
+    ForItsGroups old (λ area group most. StartsOf meaning old area group most event answer new)
 
 -- a step that tries all nodes; where memory ran out, the step that tries those before the one where it did
-abbrev pub StepsOf : Meaning → GroupState → Area → Group → (ℕ → GroupEvent) → StepAnswer → GroupState → Type 0
-StepsOf meaning old area group trying step_answers.NoMemory new =
+abbrev pub StepsOf : Meaning → GroupState → Area → Group → (ℕ → ℕ) → (ℕ → GroupEvent) → StepAnswer → GroupState
+    → Type 0
+StepsOf meaning old area group most trying step_answers.NoMemory new =
     (among : ℕ) × (among ≤ old.world.settings.nodes)
-    × IsOf new area (group_does (job_in meaning old.world) area group (trying among)).1
-StepsOf meaning old area group trying answer new =
-    DoesOf meaning old area group (trying old.world.settings.nodes) (OfStep answer) new
+    × IsLeft (job_in meaning old.world) area group most (trying among) new
+StepsOf meaning old area group most trying answer new =
+    DoesOf meaning old area group most (trying old.world.settings.nodes) (OfStep answer) new
 
 abbrev pub DoesStep : Meaning → GroupState → (ℕ → GroupEvent) → StepAnswer → GroupState → Type 0
 DoesStep meaning old trying answer new =
-    ForItsGroups old (λ area group. StepsOf meaning old area group trying answer new)
+    ForItsGroups old (λ area group most. StepsOf meaning old area group most trying answer new)

@@ -113,8 +113,8 @@ impl Group {
     }
 }
 
-/// The collectives of each node of a job, none of which has started one.
-fn idle_nodes(
+/// The collectives of each node of a job, none of which has started one. Want of memory is the one error.
+pub fn idle_nodes(
     alloc: Global,
     settings: &Settings,
     base: u64,

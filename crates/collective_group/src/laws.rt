@@ -4,6 +4,7 @@ ghost use Rattle.std.specs.Prelude.{◌≡◌, List};
 ghost use Rattle.node_caller.specs.Making.{whole_after};
 ghost use Rattle.node_caller.specs.Sites.{Site, ThreadCall, job_at};
 ghost use Rattle.collective_laws.specs.Groups.{group_after};
+ghost use Rattle.collective_group.specs.CallsOf.{RunsItsCalls};
 ghost use Rattle.collective_group.specs.OfGroups.{EndIsOfGroup, StartIsOfGroup, StepIsOfGroup};
 ghost use Rattle.collective_group.specs.Wholes.{GroupWhole, others_of};
 
@@ -17,11 +18,13 @@ use node_caller::Caller;
 /// it is; else its call is the event of the group's start, its answer is the group's, and the node is as far.
 /// `step`, of each call of a step: it is the event of the group's step, which ends with the same answer or goes on to the
 /// next node, and the node is as far. `end`, of a try: its answer is the group's, its calls are events that leave the
-/// group's records, and the nodes are as far.
+/// group's records, and the nodes are as far. `made`, of any event of a group: what it leaves of the records is what a run
+/// of its calls leaves of them.
 pub fn calls_are_of_a_group()
     ensures start { StartIsOfGroup }
     ensures step { StepIsOfGroup }
     ensures end { EndIsOfGroup }
+    ensures made { RunsItsCalls }
 {}
 
 /// Carries, for the check alone, that what calls at a node leave of a group is what as many events leave of it that no

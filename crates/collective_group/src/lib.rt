@@ -20,5 +20,5 @@ mod group;
 mod laws;
 
 pub use at_group::AtGroup;
-pub use group::Group;
+pub use group::{Group, idle_nodes};
 pub use laws::{calls_are_of_a_group, calls_are_other_events};

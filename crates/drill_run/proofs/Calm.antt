@@ -41,7 +41,7 @@ use Rattle.node_record.specs.Step as step
 use Rattle.lists.specs.Numbered.{numbered}
 use Rattle.lists.specs.Put.{put}
 use Rattle.plain_world.specs.World.{Asks, Does, Ticks, after_at, reply_event, request_event}
-use Rattle.plain_world.specs.World.{run, world_after}
+use Rattle.plain_world.specs.World.{world_after}
 use Rattle.am_core.specs.ClientRules.{content_refusal, short_asking}
 use Rattle.am_core.specs.HandlerRuns.{NodeHandlers, client_outcome, frame_of_run, landing, left_by}
 use Rattle.am_core.specs.HandlerRuns.{handlers_of as node_handlers}
@@ -56,21 +56,22 @@ use Rattle.put_get.specs.declared.operation.Transfer.{Transfer}
 use Rattle.put_get.specs.declared.operation.Transfer.TheVariants as transfers
 use Rattle.endpoint_rules.specs.EndpointLocal.{EndpointLocal}
 use Rattle.endpoint_rules.specs.EndpointRules.{OnTransfers, Records, endpoint_rules, job_of, timed}
-use Rattle.endpoint_rules.specs.EndpointRules.{at_the_opening, unless_forbidden}
+use Rattle.endpoint_rules.specs.EndpointRules.{unless_forbidden}
 use Rattle.endpoint_rules.specs.TransferCalls.{BeginImplicit, Caller, SyncImplicit, after_beginning, begin_says}
 use Rattle.endpoint_rules.specs.TransferCalls.{implicit_mode, transfer_does}
 use Rattle.endpoint_rules.specs.declared.answer.Answer.{Answer}
 use Rattle.endpoint_rules.specs.declared.answer.Begun.{Begun}
 use Rattle.endpoint_rules.specs.declared.answer.Begun.TheVariants as begun
 use Rattle.gas_world.specs.Settling.{WorldJob}
-use Rattle.gas_world.proofs.Moving.{run_append}
 use Rattle.job_text.specs.declared.job.Action.{Action}
 use Rattle.job_text.specs.declared.job.Action.TheVariants as action
 use Rattle.job_text.specs.declared.job.Operand.TheVariants as operand
 use Rattle.job_text.specs.declared.job.ReplyAction.TheVariants as reply
 use Rattle.node_script.specs.Bodies.{act, acts, operand_at, operand_value, script_meaning}
 use Rattle.node_script.specs.Registration.{handlers_of, registered}
-use Rattle.world_run.specs.Schedules.{schedule_events}
+use Rattle.job_text.specs.declared.job.TimedEvent.{TimedEvent}
+use Rattle.world_run.specs.Schedules.{Nodes, nodes_after, nodes_behind, opening_nodes, world_job}
+use Rattle.world_run.proofs.LinesRun.{schedule_runs}
 use Rattle.world_run.specs.RunText.{any_violation, is_violated, run_records, violations}
 use Rattle.drill_run.specs.Draws.{before_round, round_at}
 use Rattle.drill_run.specs.Rounds.{bare_job, deed_lines, drill_job, drill_schedule, drill_settings, number_of}
@@ -80,7 +81,6 @@ use Rattle.drill_run.specs.declared.rounds.Deed.{Deed}
 use Rattle.drill_run.specs.declared.rounds.Deed.TheVariants as deeds
 use Rattle.drill_run.specs.declared.rounds.Round.{Round}
 use Rattle.drill_run.proofs.Drawn.{apart_there}
-use Rattle.drill_run.proofs.Drilled.{schedule_append}
 
 -- ---- what the rule table allows
 
@@ -461,40 +461,53 @@ reply_by table w now from to (Some ran) none all =
 
 -- ---- rounds
 
-deed_clean : (table : List (Option Entry)) (time : ℕ) (deed : Deed) (round : Round) (before w : Records)
-    → is_for_replies (entry_at table 128) ≡ false → eqb round.to round.from ≡ false → AreClean w
-    → AreClean (run (job table) (schedule_events (job table) (deed_lines time deed round before) w) w)
-deed_clean table time deeds.Short round before w none other all =
+-- what lines leave
+abbrev AreCleanBehind : (table : List (Option Entry)) → List TimedEvent → Nodes → Type 0
+AreCleanBehind table lines nodes = AreClean (nodes_behind (job table) lines nodes).group.records
+
+deed_clean : (table : List (Option Entry)) (time : ℕ) (deed : Deed) (round : Round) (before nodes : Nodes)
+    → is_for_replies (entry_at table 128) ≡ false → eqb round.to round.from ≡ false → AreClean nodes.group.records
+    → AreCleanBehind table (deed_lines time deed round before) nodes
+deed_clean table time deeds.Short round before nodes none other all =
+    let w = nodes.group.records in
     let words = operand.Number (pos (round.rest % 1000)) ∷ [] in
     let asking = short_asking 128 (map (operand_value (w round.from).local.core.cells []) words) in
     asked_world table w time round.from (record { thread = 0; to = round.to; what = asking }) other all
-deed_clean table time deeds.Put round before w none other all =
+deed_clean table time deeds.Put round before nodes none other all =
+    let w = nodes.group.records in
     let tried = world_after (job table) w (timed time (Does round.from 0 (OnTransfers (SyncImplicit some.All)))) in
     begin_world table tried time round.from 0 (transfers.Put round.to (round.rest % 8 * 4096) 0 4096)
     (sync_world table w time round.from 0 some.All all)
-deed_clean table time deeds.Tick round before w none other all = tick_world table w time round.from all
-deed_clean table time deeds.Request round before w none other all =
-    let number = number_of round before in
+deed_clean table time deeds.Tick round before nodes none other all =
+    tick_world table nodes.group.records time round.from all
+deed_clean table time deeds.Request round before nodes none other all =
+    let w = nodes.group.records in
+    let number = number_of round before.group.records in
     request_by table w time round.from round.to number (numbered ((w round.from).asked round.to) number) none all
-deed_clean table time deeds.Reply round before w none other all =
-    reply_by table w time round.from round.to (run_of (number_of round before) ((w round.to).ran round.from)) none all
+deed_clean table time deeds.Reply round before nodes none other all =
+    let w = nodes.group.records in
+    reply_by table w time round.from round.to (run_of (number_of round before.group.records) ((w round.to).ran round.from))
+    none all
 
-rounds_clean : (table : List (Option Entry)) (seed count : ℕ) (w : Records)
-    → is_for_replies (entry_at table 128) ≡ false → AreClean w
-    → AreClean (run (job table) (schedule_events (job table) (rounds_lines (job table) seed count w) w) w)
+-- lines, and lines behind them
+behind_both : (drill : WorldJob) (xs ys : List TimedEvent) (nodes : Nodes)
+    → nodes_behind drill (xs ++ ys) nodes ≡ nodes_behind drill ys (nodes_behind drill xs nodes)
+behind_both drill [] ys nodes = refl
+behind_both drill (x ∷ xs) ys nodes = behind_both drill xs ys (nodes_after drill nodes x)
+
+rounds_clean : (table : List (Option Entry)) (seed count : ℕ) (nodes : Nodes)
+    → is_for_replies (entry_at table 128) ≡ false → AreClean nodes.group.records
+    → AreCleanBehind table (rounds_lines (job table) seed count nodes) nodes
 unfolding rounds_lines
-rounds_clean table seed zero w none all = all
-rounds_clean table seed (suc count) w none all =
+rounds_clean table seed zero nodes none all = all
+rounds_clean table seed (suc count) nodes none all =
     let drill = job table in
-    let earlier = rounds_lines drill seed count w in
-    let after = run drill (schedule_events drill earlier w) w in
+    let earlier = rounds_lines drill seed count nodes in
+    let after = nodes_behind drill earlier nodes in
     let more = round_lines count (round_at seed count) after in
-    let both : run drill (schedule_events drill (earlier ++ more) w) w
-    ≡ run drill (schedule_events drill more after) after =
-    ap (λ events. run drill events w) (schedule_append drill earlier more w)
-    ∙ run_append drill (schedule_events drill earlier w) (schedule_events drill more after) w in
-    subst AreClean (sym both) (deed_clean table count (round_at seed count).deed (round_at seed count) after after none
-    (apart_there (before_round seed count)) (rounds_clean table seed count w none all))
+    subst (λ (left : Nodes). AreClean left.group.records) (sym (behind_both drill earlier more nodes))
+    (deed_clean table count (round_at seed count).deed (round_at seed count) after after none
+    (apart_there (before_round seed count)) (rounds_clean table seed count nodes none all))
 
 -- ---- the drill
 
@@ -508,5 +521,6 @@ pub drill_calm : (seed : ℕ) → is_violated (drill_job seed) ≡ false
 unfolding drill_schedule
 drill_calm seed =
     none_noted (run_records (drill_job seed)) 0 4
-    (rounds_clean (registered (handlers_of bare_job)).table seed 20000 (at_the_opening drill_settings) refl
-    (λ node. (refl, refl)))
+    (subst AreClean (schedule_runs (world_job bare_job) (drill_schedule seed) (opening_nodes bare_job))
+    (rounds_clean (registered (handlers_of bare_job)).table seed 20000 (opening_nodes bare_job) refl
+    (λ node. (refl, refl))))

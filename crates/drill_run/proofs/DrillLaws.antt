@@ -3,11 +3,9 @@ use Rattle.std.proofs.Common.{◌≡◌, ℕ, zero, suc, ◌<◌, List, [], ◌�
 use Rattle.std.specs.List.{AllByRecursion, slice_get}
 use Rattle.std.proofs.lemmas.Option.{same_Some}
 use Rattle.datagram_grammar.specs.Parameters.{Parameters}
-use Rattle.plain_world.specs.World.{run}
-use Rattle.endpoint_rules.specs.EndpointRules.{Records, at_the_opening}
 use Rattle.gas_world.specs.Settling.{WorldJob}
 use Rattle.job_text.specs.declared.job.TimedEvent.{TimedEvent}
-use Rattle.world_run.specs.Schedules.{schedule_events, world_job}
+use Rattle.world_run.specs.Schedules.{Nodes, nodes_behind, opening_nodes, world_job}
 use Rattle.node_script.specs.ScriptInvariant.{AreWithin, IsWithin}
 use Rattle.world_run.specs.RunLaws.{RunLaws}
 use Rattle.world_run.proofs.RunLaws.{laws_within}
@@ -37,31 +35,31 @@ within_by_place s (x ∷ xs) h zero e at =
 within_by_place s (x ∷ xs) h (suc i) e at = within_by_place s xs h.1 i e at
 
 -- those of a round
-deed_within : (time : ℕ) (deed : Deed) (round : Round) (w : Records) → round.from < 4 → round.to < 4
-    → AllWithin drill_settings (deed_lines time deed round w)
-deed_within time Short round w from to = ((from, lit< tt, tt), tt)
-deed_within time Put round w from to = ((from, lit< tt, tt), ((from, lit< tt, tt), tt))
-deed_within time Tick round w from to = (from, tt)
-deed_within time Request round w from to = ((from, to), tt)
-deed_within time Reply round w from to = ((from, to), tt)
+deed_within : (time : ℕ) (deed : Deed) (round : Round) (nodes : Nodes) → round.from < 4 → round.to < 4
+    → AllWithin drill_settings (deed_lines time deed round nodes)
+deed_within time Short round nodes from to = ((from, lit< tt, tt), tt)
+deed_within time Put round nodes from to = ((from, lit< tt, tt), ((from, lit< tt, tt), tt))
+deed_within time Tick round nodes from to = (from, tt)
+deed_within time Request round nodes from to = ((from, to), tt)
+deed_within time Reply round nodes from to = ((from, to), tt)
 
 -- those of all rounds
-rounds_within : (job : WorldJob) (seed count : ℕ) (w : Records)
-    → AllWithin drill_settings (rounds_lines job seed count w)
+rounds_within : (job : WorldJob) (seed count : ℕ) (nodes : Nodes)
+    → AllWithin drill_settings (rounds_lines job seed count nodes)
 unfolding rounds_lines
-rounds_within job seed zero w = tt
-rounds_within job seed (suc count) w =
-    let earlier = rounds_lines job seed count w in
+rounds_within job seed zero nodes = tt
+rounds_within job seed (suc count) nodes =
+    let earlier = rounds_lines job seed count nodes in
     let round = round_at seed count in
-    both_within drill_settings earlier _ (rounds_within job seed count w)
-    (deed_within count round.deed round (run job (schedule_events job earlier w) w)
+    both_within drill_settings earlier _ (rounds_within job seed count nodes)
+    (deed_within count round.deed round (nodes_behind job earlier nodes)
     (from_there (before_round seed count)) (to_there (before_round seed count)))
 
 schedule_within : (seed : ℕ) → AreWithin drill_settings (drill_schedule seed)
 unfolding drill_schedule
 schedule_within seed =
     within_by_place drill_settings _
-    (rounds_within (world_job bare_job) seed 20000 (at_the_opening drill_settings))
+    (rounds_within (world_job bare_job) seed 20000 (opening_nodes bare_job))
 
 pub drill_laws : (seed : ℕ) → RunLaws (drill_job seed)
-drill_laws seed = laws_within (drill_job seed) settings_in_range (schedule_within seed)
+drill_laws seed = laws_within (drill_job seed) settings_in_range tt (schedule_within seed)

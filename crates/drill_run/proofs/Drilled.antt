@@ -4,7 +4,7 @@ use Rattle.std.proofs.Common.{arith}
 use Rattle.datagram_grammar.specs.Parameters.{Parameters}
 use Rattle.handler_rules.specs.declared.table.Entry.{Entry}
 use Rattle.handler_rules.specs.Runs.{Meaning}
-use Rattle.plain_world.specs.World.{Timed, run, world_after, world_answer}
+use Rattle.plain_world.specs.World.{Timed, world_after, world_answer}
 use Rattle.endpoint_rules.specs.EndpointRules.{OtherCall, Records, RecordsEvent, at_the_opening, job_of, timed}
 use Rattle.endpoint_rules.specs.EndpointRules.{transition}
 use Rattle.gas_world.specs.Events.{ForItsRecords, Steps, job_in}
@@ -14,14 +14,17 @@ use Rattle.gas_world.specs.WorldTold.{world_told}
 use Rattle.gas_world.specs.WorldState.{WorldState}
 use Rattle.gas_world.specs.declared.event.WorldAnswer.{WorldAnswer}
 use Rattle.gas_world.specs.declared.event.WorldAnswer.TheVariants as answers
-use Rattle.gas_world.proofs.Moving.{run_append, same_job, stands_both}
+use Rattle.gas_world.proofs.Moving.{same_job, stands_both}
 use Rattle.job_text.specs.declared.job.Job.{Job as JobState}
 use Rattle.job_text.specs.declared.job.ScheduledEvent.{ScheduledEvent}
 use Rattle.job_text.specs.declared.job.TimedEvent.{TimedEvent}
 use Rattle.node_script.specs.AnswerWords.{Sight, sight_of}
 use Rattle.node_script.specs.Bodies.{script_meaning}
 use Rattle.node_script.specs.Registration.{handlers_of}
-use Rattle.world_run.specs.Schedules.{line_events, schedule_events, world_job}
+use Rattle.plain_world.specs.MostHeld.{most_after}
+use Rattle.world_run.specs.Schedules.{Nodes, line_events, nodes_after, nodes_behind, opening_nodes, schedule_events}
+use Rattle.world_run.specs.Schedules.{world_job}
+use Rattle.world_run.proofs.LinesRun.{schedule_runs}
 use Rattle.world_run.specs.RunText.{line_words, node_of, run_most, run_records, world_words}
 use Rattle.world_run.specs.ScheduleRun.{StandsAfter}
 use Rattle.drill_run.specs.Counting.{AreAtMost, Tallies, count_in}
@@ -36,46 +39,45 @@ use Rattle.drill_run.proofs.Tallied.{tallies_both, tallies_none}
 -- ---- lines
 
 -- the events of lines, and of lines after them
-pub schedule_append : (job : WorldJob) (xs ys : List TimedEvent) (w : Records)
-    → schedule_events job (xs ++ ys) w
-    ≡ schedule_events job xs w ++ schedule_events job ys (run job (schedule_events job xs w) w)
-schedule_append job [] ys w = refl
-schedule_append job (x ∷ xs) ys w =
-    let first = line_events job w x.time x.event in
-    let w' = run job first w in
-    let more = schedule_events job xs w' in
-    ap (λ es. first ++ es) (schedule_append job xs ys w')
-    ∙ (sym (append_assoc first more (schedule_events job ys (run job more w')))
-    ∙ ap (λ v. (first ++ more) ++ schedule_events job ys v) (sym (run_append job first more w)))
+pub schedule_append : (job : WorldJob) (xs ys : List TimedEvent) (nodes : Nodes)
+    → schedule_events job (xs ++ ys) nodes
+    ≡ schedule_events job xs nodes ++ schedule_events job ys (nodes_behind job xs nodes)
+schedule_append job [] ys nodes = refl
+schedule_append job (x ∷ xs) ys nodes =
+    let first = line_events job nodes x.time x.event in
+    let after = nodes_after job nodes x in
+    ap (λ es. first ++ es) (schedule_append job xs ys after)
+    ∙ sym (append_assoc first (schedule_events job xs after) (schedule_events job ys (nodes_behind job xs after)))
 
 -- and their answers
-pub answers_append : (job : WorldJob) (xs ys : List TimedEvent) (w : Records)
-    → answers_to job (xs ++ ys) w
-    ≡ answers_to job xs w ++ answers_to job ys (run job (schedule_events job xs w) w)
-answers_append job [] ys w = refl
-answers_append job (x ∷ xs) ys w =
-    let first = line_events job w x.time x.event in
-    let w' = run job first w in
-    let more = schedule_events job xs w' in
-    ap (λ answers. line_words job w x ∷ answers)
-    (answers_append job xs ys w'
-    ∙ ap (λ v. answers_to job xs w' ++ answers_to job ys v) (sym (run_append job first more w)))
+pub answers_append : (job : WorldJob) (xs ys : List TimedEvent) (nodes : Nodes)
+    → answers_to job (xs ++ ys) nodes
+    ≡ answers_to job xs nodes ++ answers_to job ys (nodes_behind job xs nodes)
+answers_append job [] ys nodes = refl
+answers_append job (x ∷ xs) ys nodes =
+    ap (λ answers. line_words job nodes x ∷ answers) (answers_append job xs ys (nodes_after job nodes x))
 
 -- ---- stages
 
--- lines, and then those that the records after them decide
-pub lines_then : (job : WorldJob) (lines more : Records → List TimedEvent) (old mid new : Stage)
+-- lines, and then those that the nodes behind them decide
+pub lines_then : (job : WorldJob) (lines more : Nodes → List TimedEvent) (old mid new : Stage)
     → CountsLines job lines old mid → CountsLines job more mid new
-    → CountsLines job (λ w. lines w ++ more (run job (schedule_events job (lines w) w) w)) old new
-lines_then job lines more old mid new h k = λ w most stands.
-    let events = schedule_events job (lines w) w in
-    let after = run job events w in
-    let first = h w most stands in
-    let then = k after _ first.0 in
-    rw (schedule_append job (lines w) (more after) w, answers_append job (lines w) (more after) w) (
-      stands_both job new.world events (schedule_events job (more after) after) w most then.0,
-      tallies_both old.counts mid.counts new.counts (answers_to job (lines w) w) (answers_to job (more after) after)
-          first.1 then.1,
+    → CountsLines job (λ nodes. lines nodes ++ more (nodes_behind job (lines nodes) nodes)) old new
+lines_then job lines more old mid new h k = λ nodes most stands.
+    let records = nodes.group.records in
+    let events = schedule_events job (lines nodes) nodes in
+    let after = nodes_behind job (lines nodes) nodes in
+    let later = schedule_events job (more after) after in
+    let same = schedule_runs job (lines nodes) nodes in
+    let most_now = most_after job events records most in
+    let first = h nodes most stands in
+    let then = k after most_now
+    (subst (λ (all : Records). Stands mid.world all most_now) (sym same) first.0) in
+    rw (schedule_append job (lines nodes) (more after) nodes, answers_append job (lines nodes) (more after) nodes) (
+      stands_both job new.world events later records most
+          (subst (λ (all : Records). StandsAfter job new.world later all most_now) same then.0),
+      tallies_both old.counts mid.counts new.counts (answers_to job (lines nodes) nodes)
+          (answers_to job (more after) after) first.1 then.1,
     )
 
 -- ---- events
@@ -87,7 +89,8 @@ counted_event : (meaning : Meaning) (old new : Stage) (event : Timed OtherCall) 
     × StandsAfter (job_in meaning old.world) new.world (event ∷ []) records most)
     → ((sight : Sight) → Tallies old.counts new.counts (world_words sight answer ∷ []))
     → CountsEvent (job_in meaning old.world) event old new
-counted_event meaning old new event answer steps tallies = λ records most stands.
+counted_event meaning old new event answer steps tallies = λ nodes most stands.
+    let records = nodes.group.records in
     let stepped = steps records most stands in
     let node = node_of event.event in
     let sight = sight_of old.world.settings node (world_after (job_in meaning old.world) records event node) in (
@@ -109,23 +112,23 @@ event_counts meaning old new now event answers.NoMemory n steps tallies = absurd
 pub delivery_counts : (job : WorldJob) (old new : Stage) (time number : ℕ) (by : Records → ℕ)
     (event : ℕ → ScheduledEvent)
     → ForItsRecords old.world (λ records most. number ≡ by records)
-    → CountsLines job (λ records. at_time time (event number) ∷ []) old new
-    → CountsLines job (λ records. at_time time (event (by records)) ∷ []) old new
-delivery_counts job old new time number by event same h = λ records most stands.
+    → CountsLines job (λ nodes. at_time time (event number) ∷ []) old new
+    → CountsLines job (λ nodes. at_time time (event (by nodes.group.records)) ∷ []) old new
+delivery_counts job old new time number by event same h = λ nodes most stands.
     subst
-    (λ n. StandsAfter job new.world (schedule_events job (at_time time (event n) ∷ []) records) records most
-    × Tallies old.counts new.counts (answers_to job (at_time time (event n) ∷ []) records))
-    (same records most stands) (h records most stands)
+    (λ n. StandsAfter job new.world (schedule_events job (at_time time (event n) ∷ []) nodes) nodes.group.records most
+    × Tallies old.counts new.counts (answers_to job (at_time time (event n) ∷ []) nodes))
+    (same nodes.group.records most stands) (h nodes most stands)
 
 -- two lines, where the second one's world has the settings and the table of the first one's
 pub two_lines : (text : JobState) (old mid new : Stage) (first second : TimedEvent)
     → mid.world.settings ≡ old.world.settings → mid.world.table ≡ old.world.table
-    → CountsLines (job_by text old.world) (λ records. first ∷ []) old mid
-    → CountsLines (job_by text mid.world) (λ records. second ∷ []) mid new
-    → CountsLines (job_by text old.world) (λ records. first ∷ second ∷ []) old new
+    → CountsLines (job_by text old.world) (λ nodes. first ∷ []) old mid
+    → CountsLines (job_by text mid.world) (λ nodes. second ∷ []) mid new
+    → CountsLines (job_by text old.world) (λ nodes. first ∷ second ∷ []) old new
 two_lines text old mid new first second settings table h k =
-    lines_then (job_by text old.world) (λ records. first ∷ []) (λ records. second ∷ []) old mid new h
-    (same_job (λ job. CountsLines job (λ records. second ∷ []) mid new) (script_meaning (handlers_of text)) old.world
+    lines_then (job_by text old.world) (λ nodes. first ∷ []) (λ nodes. second ∷ []) old mid new h
+    (same_job (λ job. CountsLines job (λ nodes. second ∷ []) mid new) (script_meaning (handlers_of text)) old.world
     mid.world
     settings table k)
 
@@ -143,7 +146,7 @@ same_drill P text world same drilled h =
 
 pub no_rounds : (job : WorldJob) (seed : ℕ) (old : Stage) → CountsLines job (rounds_lines job seed 0) old old
 unfolding rounds_lines
-no_rounds job seed old = λ records most stands. (stands, tallies_none old.counts)
+no_rounds job seed old = λ nodes most stands. (stands, tallies_none old.counts)
 
 pub one_more_round : (job : WorldJob) (seed count : ℕ) (old mid new : Stage)
     → CountsLines job (rounds_lines job seed count) old mid
@@ -165,5 +168,5 @@ pub all_rounds : (seed : ℕ) (old new : Stage) → Stands old.world (at_the_ope
     → HasRun seed new
 unfolding drill_schedule
 all_rounds seed old new stands none h =
-    let it = h (at_the_opening drill_settings) (λ i. 0) stands in
+    let it = h (opening_nodes bare_job) (λ i. 0) stands in
     record { stands = it.0; counts = λ counted. it.1 counted ∙ omega (arith, none counted) }

@@ -1,9 +1,8 @@
 -- The schedule of the drill.
 use Rattle.std.specs.Prelude.{ℕ, zero, suc, ◌-◌, ◌*◌, ◌%◌, ◌^◌, max, pos, List, [], ◌∷◌, ◌++◌, map, length, Some, None}
 use Rattle.std.specs.Prelude.{false}
-use Rattle.plain_world.specs.World.{run}
 use Rattle.plain_world.specs.Plain.{plain_of}
-use Rattle.endpoint_rules.specs.EndpointRules.{Records, at_the_opening}
+use Rattle.endpoint_rules.specs.EndpointRules.{Records}
 use Rattle.datagram_grammar.specs.Parameters.{Parameters}
 use Rattle.handler_rules.specs.declared.rules.Role.TheVariants as role
 use Rattle.gas_world.specs.Settling.{WorldJob}
@@ -18,7 +17,7 @@ use Rattle.job_text.specs.declared.job.ScheduledEvent.{ScheduledEvent}
 use Rattle.job_text.specs.declared.job.ScheduledEvent.TheVariants as scheduled
 use Rattle.job_text.specs.declared.job.TimedEvent.{TimedEvent}
 use Rattle.put_get.specs.declared.operation.Transfer.TheVariants as transfer
-use Rattle.world_run.specs.Schedules.{world_job, schedule_events}
+use Rattle.world_run.specs.Schedules.{Nodes, nodes_behind, opening_nodes, world_job}
 use Rattle.drill_run.specs.Draws.{round_at}
 use Rattle.drill_run.specs.declared.rounds.Deed.{Deed}
 use Rattle.drill_run.specs.declared.rounds.Deed.TheVariants.{Short, Put, Tick, Request, Reply}
@@ -44,23 +43,24 @@ deed_events Reply round number = scheduled.Reply round.from round.to number ∷ 
 abbrev pub at_time : (time : ℕ) → ScheduledEvent → TimedEvent
 at_time time event = record { time = time; event = event }
 
--- the lines of a round that does this at this time, where the nodes have these records
-abbrev pub deed_lines : (time : ℕ) → Deed → Round → Records → List TimedEvent
-deed_lines time deed round records = map (at_time time) (deed_events deed round (number_of round records))
+-- the lines of a round that does this at this time, where the nodes are so
+abbrev pub deed_lines : (time : ℕ) → Deed → Round → Nodes → List TimedEvent
+deed_lines time deed round nodes =
+    map (at_time time) (deed_events deed round (number_of round nodes.group.records))
 
 -- those of a round
-abbrev pub round_lines : (time : ℕ) → Round → Records → List TimedEvent
+abbrev pub round_lines : (time : ℕ) → Round → Nodes → List TimedEvent
 round_lines time round = deed_lines time round.deed round
 
 -- ---- all rounds
 
 -- the lines of so many rounds, each at the time of its number from 0, and each by the records that the earlier ones
 -- leave
-unfoldable pub rounds_lines : WorldJob → (seed count : ℕ) → Records → List TimedEvent
-rounds_lines job seed zero records = []
-rounds_lines job seed (suc count) records =
-    let earlier = rounds_lines job seed count records in
-    earlier ++ round_lines count (round_at seed count) (run job (schedule_events job earlier records) records)
+unfoldable pub rounds_lines : WorldJob → (seed count : ℕ) → Nodes → List TimedEvent
+rounds_lines job seed zero nodes = []
+rounds_lines job seed (suc count) nodes =
+    let earlier = rounds_lines job seed count nodes in
+    earlier ++ round_lines count (round_at seed count) (nodes_behind job earlier nodes)
 
 -- ---- the job
 
@@ -96,6 +96,7 @@ bare_job = record {
   patience = 1;
   sieve = record { lose = 0; repeat = 0; swap = 0 };
   atomics = false;
+  collect = None;
   handlers = request_handler ∷ reply_handler ∷ [];
   scripts = [];
   schedule = None;
@@ -103,7 +104,7 @@ bare_job = record {
 
 -- the lines of the drill: those of 20,000 rounds from the opening
 unfoldable pub drill_schedule : (seed : ℕ) → List TimedEvent
-drill_schedule seed = rounds_lines (world_job bare_job) seed 20000 (at_the_opening drill_settings)
+drill_schedule seed = rounds_lines (world_job bare_job) seed 20000 (opening_nodes bare_job)
 
 -- the job of the drill
 abbrev pub drill_job : (seed : ℕ) → JobState

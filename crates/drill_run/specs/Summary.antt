@@ -1,12 +1,10 @@
 -- The lines of the drill's output.
 use Rattle.std.specs.Prelude.{ℕ, Bool, false, List, [], ◌∷◌, ◌++◌, map, codes, decimal, count_by}
 use Rattle.std.specs.Str.{bytes_eq}
-use Rattle.plain_world.specs.World.{run}
-use Rattle.endpoint_rules.specs.EndpointRules.{Records, at_the_opening}
 use Rattle.gas_world.specs.Settling.{WorldJob}
 use Rattle.job_text.specs.declared.job.TimedEvent.{TimedEvent}
 use Rattle.node_script.specs.Lines.{Word, Line}
-use Rattle.world_run.specs.Schedules.{world_job, line_events}
+use Rattle.world_run.specs.Schedules.{Nodes, nodes_after, opening_nodes, world_job}
 use Rattle.world_run.specs.RunText.{line_words, end_lines, run_records, run_most}
 use Rattle.drill_run.specs.Rounds.{drill_job, drill_schedule, drill_settings}
 use Rattle.drill_run.specs.declared.counts.Counted.{Counted}
@@ -15,15 +13,14 @@ use Rattle.drill_run.specs.declared.counts.Counted.TheVariants as counted
 -- ---- answers
 
 -- the words of the answer to each line of a schedule
-abbrev pub answers_to : WorldJob → List TimedEvent → Records → List Line
-answers_to job [] records = []
-answers_to job (entry ∷ entries) records =
-    line_words job records entry
-    ∷ answers_to job entries (run job (line_events job records entry.time entry.event) records)
+abbrev pub answers_to : WorldJob → List TimedEvent → Nodes → List Line
+answers_to job [] nodes = []
+answers_to job (entry ∷ entries) nodes =
+    line_words job nodes entry ∷ answers_to job entries (nodes_after job nodes entry)
 
 -- those of the drill
 abbrev pub drill_answers : (seed : ℕ) → List Line
-drill_answers seed = answers_to (world_job (drill_job seed)) (drill_schedule seed) (at_the_opening drill_settings)
+drill_answers seed = answers_to (world_job (drill_job seed)) (drill_schedule seed) (opening_nodes (drill_job seed))
 
 -- ---- counts
 

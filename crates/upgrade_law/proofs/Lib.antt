@@ -4,6 +4,7 @@ mod Beginning
 pub mod Bodies
 pub mod Coming
 pub mod Ends
+pub mod Collecting
 pub mod Lines
 pub mod Lists
 pub mod Settling

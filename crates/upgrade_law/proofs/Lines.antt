@@ -1,6 +1,6 @@
 -- The lines of a run, by two versions.
 use Rattle.std.proofs.Common.{◌≡◌, ℕ, zero, suc, ◌+◌, ◌≤◌, Bool, true, List, [], ◌∷◌, ◌++◌, map, max}
-use Rattle.std.proofs.Common.{refl, ap, ◌∙◌}
+use Rattle.std.proofs.Common.{refl, sym, ap, subst, ◌∙◌}
 use Rattle.std.specs.Prelude.{decimal, not, ◌==◌, ◌||◌}
 use Rattle.std.proofs.Math.Path.{fun_ext}
 use Rattle.datagram_grammar.specs.Content.{is_version}
@@ -27,8 +27,13 @@ use Rattle.node_script.specs.Registration.{handlers_of, registered}
 use Rattle.node_script.specs.ScheduledCalls.{meant_by}
 use Rattle.gas_strided.specs.Beginning.{calls_made}
 use Rattle.gas_strided.specs.declared.shapes.Vis.{Vis}
-use Rattle.world_run.specs.Schedules.{call_event, line_events, schedule_events, begin_answer, begin_asked}
-use Rattle.world_run.specs.Schedules.{call_events}
+use Rattle.node_script.specs.CollectiveWords.{collective_words}
+use Rattle.collective_area.specs.Area.{Area}
+use Rattle.collective_laws.specs.Groups.{Group}
+use Rattle.world_run.specs.Schedules.{Nodes, call_event, line_events, line_group, nodes_after, opening_nodes}
+use Rattle.world_run.specs.Schedules.{begin_answer, begin_asked, call_events, schedule_events}
+use Rattle.world_run.proofs.CollectivesAmong.{collective_among}
+use Rattle.world_run.proofs.LinesRun.{line_runs}
 use Rattle.node_script.specs.ScriptInvariant.{IsWithin, AreWithin}
 use Rattle.world_run.proofs.CallsAmong.{call_among}
 use Rattle.world_run.proofs.ScheduleAmong.{calls_among}
@@ -44,7 +49,8 @@ use Rattle.upgrade_law.proofs.Agreeing.{rules_agree}
 use Rattle.upgrade_law.proofs.Beginning.{begin_alike}
 use Rattle.upgrade_law.proofs.Bodies.{script_ignores}
 use Rattle.upgrade_law.proofs.Ends.{held_alike, sight_alike}
-use Rattle.upgrade_law.proofs.Settling.{AreSound, EventsAlike, Stood, after_events, settle_alike}
+use Rattle.upgrade_law.proofs.Collecting.{call_alike, respell_group, respell_nodes}
+use Rattle.upgrade_law.proofs.Settling.{AreSound, Stood, after_events, settle_alike}
 use Rattle.upgrade_law.proofs.Worlds.{event_alike}
 
 -- ---- answers
@@ -62,82 +68,134 @@ event_words_alike v world timed stood =
     (world_told (world_answer (other_job v) (respell_world v.spell world) timed))) (sight_alike v node after)
     ∙ ap (λ answer. world_words (sight_of v.settings node after) (world_told answer)) alike.answer)
 
--- the one event of a line
-words_alike : (v : Versions) (world : Records) (entry : TimedEvent) → Stood v world
-    → line_words (other_job v) (respell_world v.spell world) entry ≡ line_words (one_job v) world entry
-words_alike v world entry stood = by_event entry.event
+-- a line
+words_alike : (v : Versions) (sound : AreSound v) (nodes : Nodes) (entry : TimedEvent) → Stood v nodes.group.records
+    → IsWithin v.settings entry.event
+    → line_words (other_job v) (respell_nodes v.spell nodes) entry ≡ line_words (one_job v) nodes entry
+words_alike v sound nodes entry stood within = by_event entry.event within
   where
-    by_event : (event : ScheduledEvent)
-        → words_at (other_job v) (respell_world v.spell world) entry.time event
-        ≡ words_at (one_job v) world entry.time event
-    by_event (scheduled.Call node thread call) =
-        event_words_alike v world (timed entry.time (call_event world node thread call)) stood
-    by_event (scheduled.Request from to number) =
-        event_words_alike v world (timed entry.time (RequestComes from to number)) stood
-    by_event (scheduled.Reply from to number) =
-        event_words_alike v world (timed entry.time (ReplyComes from to number)) stood
-    by_event (scheduled.Tick node) = event_words_alike v world (timed entry.time (Ticks node)) stood
-    by_event (scheduled.Vis node thread vis) =
-        ap vis_words (begin_alike v node entry.time (world node) (begin_asked thread vis))
-    by_event (scheduled.Settle rounds) = refl
+    world : Records
+    world = nodes.group.records
 
--- the events of a line
-line_alike : (v : Versions) (sound : AreSound v) (time : ℕ) (event : ScheduledEvent) → IsWithin v.settings event
-    → EventsAlike v (λ w. line_events (one_job v) w time event) (λ w. line_events (other_job v) w time event)
-line_alike v sound time (scheduled.Call node thread call) within = record {
-  same = λ w stood. refl;
-  among = λ w. (call_among v.settings node thread (meant_by (w node).local.core.cells call) within.0, tt);
-}
-line_alike v sound time (scheduled.Request from to number) within =
-    record { same = λ w stood. refl; among = λ w. (within, tt) }
-line_alike v sound time (scheduled.Reply from to number) within =
-    record { same = λ w stood. refl; among = λ w. (within, tt) }
-line_alike v sound time (scheduled.Tick node) within = record { same = λ w stood. refl; among = λ w. (within, tt) }
-line_alike v sound time (scheduled.Vis node thread vis) within =
-    let asked = begin_asked thread vis in record {
-      same = λ w stood. ap (λ (answer : Vis). call_events time node (calls_made asked answer))
-          (begin_alike v node time (w node) asked);
-      among = λ w. calls_among v.settings time node
-          (calls_made asked (begin_answer (one_job v) w time node asked)) within.0;
+    by_event : (event : ScheduledEvent) → IsWithin v.settings event
+        → words_at (other_job v) (respell_nodes v.spell nodes) entry.time event
+        ≡ words_at (one_job v) nodes entry.time event
+    by_event (scheduled.Call node thread call) within =
+        event_words_alike v world (timed entry.time (call_event world node thread call)) stood
+    by_event (scheduled.Request from to number) within =
+        event_words_alike v world (timed entry.time (RequestComes from to number)) stood
+    by_event (scheduled.Reply from to number) within =
+        event_words_alike v world (timed entry.time (ReplyComes from to number)) stood
+    by_event (scheduled.Tick node) within = event_words_alike v world (timed entry.time (Ticks node)) stood
+    by_event (scheduled.Vis node thread vis) within =
+        ap vis_words (begin_alike v node entry.time (world node) (begin_asked thread vis))
+    by_event (scheduled.Collective node thread call) within =
+        ap collective_words (call_alike v sound nodes entry.time node thread call within.0 stood).answer
+    by_event (scheduled.Settle rounds) within = refl
+
+-- its events are the same, and among the nodes; and what it leaves is the same but for the spelling
+record LineAlike (v : Versions) (nodes : Nodes) (time : ℕ) (event : ScheduledEvent) : Type 0 where
+  pub same : line_events (other_job v) (respell_nodes v.spell nodes) time event ≡ line_events (one_job v) nodes time event
+  pub among : AreAmong v.settings (line_events (one_job v) nodes time event)
+  pub left : line_group (other_job v) (respell_nodes v.spell nodes) time event
+      ≡ respell_group v.spell (line_group (one_job v) nodes time event)
+
+-- where a line leaves what its events leave of the records
+left_alike : (v : Versions) (sound : AreSound v) (nodes : Nodes) (events others : List (Timed OtherCall))
+    → Stood v nodes.group.records → others ≡ events → AreAmong v.settings events
+    → record (respell_group v.spell nodes.group) {
+      records = run (other_job v) others (respell_world v.spell nodes.group.records);
     }
-line_alike v sound time (scheduled.Settle rounds) within = settle_alike v sound time rounds
+    ≡ respell_group v.spell (record nodes.group { records = run (one_job v) events nodes.group.records })
+left_alike v sound nodes events others stood same among =
+    ap (λ (es : List (Timed OtherCall)). record nodes.group {
+      records = run (other_job v) es (respell_world v.spell nodes.group.records);
+    }) same
+    ∙ ap (λ (w : Records). record nodes.group { records = w })
+    (after_events v sound events nodes.group.records stood among).0
+
+line_alike : (v : Versions) (sound : AreSound v) (nodes : Nodes) (time : ℕ) (event : ScheduledEvent)
+    → Stood v nodes.group.records → IsWithin v.settings event → LineAlike v nodes time event
+line_alike v sound nodes time (scheduled.Call node thread call) stood within =
+    let among : AreAmong v.settings (timed time (call_event nodes.group.records node thread call) ∷ []) =
+    (call_among v.settings node thread (meant_by (nodes.group.records node).local.core.cells call) within.0, tt) in
+    record {
+      same = refl;
+      among = among;
+      left = left_alike v sound nodes (timed time (call_event nodes.group.records node thread call) ∷ [])
+          (timed time (call_event nodes.group.records node thread call) ∷ []) stood refl among;
+    }
+line_alike v sound nodes time (scheduled.Request from to number) stood within =
+    let events : List (Timed OtherCall) = timed time (RequestComes from to number) ∷ [] in
+    let among : AreAmong v.settings events = (within, tt) in
+    record { same = refl; among = among; left = left_alike v sound nodes events events stood refl among }
+line_alike v sound nodes time (scheduled.Reply from to number) stood within =
+    let events : List (Timed OtherCall) = timed time (ReplyComes from to number) ∷ [] in
+    let among : AreAmong v.settings events = (within, tt) in
+    record { same = refl; among = among; left = left_alike v sound nodes events events stood refl among }
+line_alike v sound nodes time (scheduled.Tick node) stood within =
+    let events : List (Timed OtherCall) = timed time (Ticks node) ∷ [] in
+    let among : AreAmong v.settings events = (within, tt) in
+    record { same = refl; among = among; left = left_alike v sound nodes events events stood refl among }
+line_alike v sound nodes time (scheduled.Vis node thread vis) stood within =
+    let asked = begin_asked thread vis in
+    let same = ap (λ (answer : Vis). call_events time node (calls_made asked answer))
+    (begin_alike v node time (nodes.group.records node) asked) in
+    let among = calls_among v.settings time node
+    (calls_made asked (begin_answer (one_job v) nodes.group.records time node asked)) within.0 in
+    record { same = same; among = among; left = left_alike v sound nodes _ _ stood same among }
+line_alike v sound nodes time (scheduled.Collective node thread call) stood within =
+    let it = call_alike v sound nodes time node thread call within.0 stood in
+    record {
+      same = it.calls_are;
+      among = collective_among (one_job v) nodes time node thread call within.0;
+      left = it.left;
+    }
+line_alike v sound nodes time (scheduled.Settle rounds) stood within =
+    let alike = settle_alike v sound time rounds in
+    let same = alike.same nodes.group.records stood in
+    let among = alike.among nodes.group.records in
+    record { same = same; among = among; left = left_alike v sound nodes _ _ stood same among }
 
 -- ---- schedules
 
--- what the lines of a schedule say and do
-pub record LinesAlike (v : Versions) (entries : List TimedEvent) (world : Records) (number : ℕ) : Type 0 where
-  pub lines : answer_lines (other_job v) number entries (respell_world v.spell world)
-      ≡ answer_lines (one_job v) number entries world
-  pub events : schedule_events (other_job v) entries (respell_world v.spell world)
-      ≡ schedule_events (one_job v) entries world
-  pub among : AreAmong v.settings (schedule_events (one_job v) entries world)
+abbrev with_group : Area → Group → Nodes
+with_group area group = record { area = area; group = group }
 
-lines_alike : (v : Versions) (sound : AreSound v) (entries : List TimedEvent) (world : Records) (number : ℕ)
-    → Stood v world → AreWithin v.settings entries → LinesAlike v entries world number
-lines_alike v sound [] world number stood within = record { lines = refl; events = refl; among = tt }
-lines_alike v sound (entry ∷ entries) world number stood within =
-    let line = line_alike v sound entry.time entry.event (within 0 entry refl) in
-    let events = line_events (one_job v) world entry.time entry.event in
-    let after = after_events v sound events world stood (line.among world) in
-    let rest = lines_alike v sound entries (run (one_job v) events world) (number + 1) after.1
-    (λ i x at. within (suc i) x at) in
-    let there : run (other_job v) (line_events (other_job v) (respell_world v.spell world) entry.time entry.event)
-    (respell_world v.spell world) ≡ respell_world v.spell (run (one_job v) events world) =
-    ap (λ (es : List (Timed OtherCall)). run (other_job v) es (respell_world v.spell world)) (line.same world stood)
-    ∙ after.0
+-- what the lines of a schedule say and do
+pub record LinesAlike (v : Versions) (entries : List TimedEvent) (nodes : Nodes) (number : ℕ) : Type 0 where
+  pub lines : answer_lines (other_job v) number entries (respell_nodes v.spell nodes)
+      ≡ answer_lines (one_job v) number entries nodes
+  pub events : schedule_events (other_job v) entries (respell_nodes v.spell nodes)
+      ≡ schedule_events (one_job v) entries nodes
+  pub among : AreAmong v.settings (schedule_events (one_job v) entries nodes)
+
+lines_alike : (v : Versions) (sound : AreSound v) (entries : List TimedEvent) (nodes : Nodes) (number : ℕ)
+    → Stood v nodes.group.records → AreWithin v.settings entries → LinesAlike v entries nodes number
+lines_alike v sound [] nodes number stood within = record { lines = refl; events = refl; among = tt }
+lines_alike v sound (entry ∷ entries) nodes number stood within =
+    let here = within 0 entry refl in
+    let line = line_alike v sound nodes entry.time entry.event stood here in
+    let events = line_events (one_job v) nodes entry.time entry.event in
+    let behind = nodes_after (one_job v) nodes entry in
+    let after = after_events v sound events nodes.group.records stood line.among in
+    let next : Stood v behind.group.records =
+    subst (Stood v) (sym (line_runs (one_job v) nodes entry)) after.1 in
+    let rest = lines_alike v sound entries behind (number + 1) next (λ i x at. within (suc i) x at) in
+    let there : nodes_after (other_job v) (respell_nodes v.spell nodes) entry ≡ respell_nodes v.spell behind =
+    ap (λ (group : Group). with_group nodes.area group) line.left
     in
     record {
       lines = ap (λ (words : Line). (decimal number ∷ words) ∷ answer_lines (other_job v) (number + 1) entries
-          (run (other_job v) (line_events (other_job v) (respell_world v.spell world) entry.time entry.event)
-          (respell_world v.spell world))) (words_alike v world entry stood)
-          ∙ (ap (λ (w : Records). (decimal number ∷ line_words (one_job v) world entry)
-          ∷ answer_lines (other_job v) (number + 1) entries w) there
-          ∙ ap (λ (ls : List Line). (decimal number ∷ line_words (one_job v) world entry) ∷ ls) rest.lines);
+          (nodes_after (other_job v) (respell_nodes v.spell nodes) entry)) (words_alike v sound nodes entry stood here)
+          ∙ (ap (λ (now : Nodes). (decimal number ∷ line_words (one_job v) nodes entry)
+          ∷ answer_lines (other_job v) (number + 1) entries now) there
+          ∙ ap (λ (ls : List Line). (decimal number ∷ line_words (one_job v) nodes entry) ∷ ls) rest.lines);
       events = ap (λ (es : List (Timed OtherCall)). es ++ schedule_events (other_job v) entries
-          (run (other_job v) es (respell_world v.spell world))) (line.same world stood)
-          ∙ (ap (λ (w : Records). events ++ schedule_events (other_job v) entries w) after.0
+          (nodes_after (other_job v) (respell_nodes v.spell nodes) entry)) line.same
+          ∙ (ap (λ (now : Nodes). events ++ schedule_events (other_job v) entries now) there
           ∙ ap (λ (es : List (Timed OtherCall)). events ++ es) rest.events);
-      among = both_among v.settings events _ (line.among world) rest.among;
+      among = both_among v.settings events _ line.among rest.among;
     }
 
 -- ---- the most that nodes held
@@ -212,8 +270,9 @@ same_run job version is known few =
           (opening_kept settings);
       notes = λ node to number request is. absurd (numbered_nil number request is);
     } in
-    let alike = lines_alike v sound entries start 1 stood (job_within job is) in
-    let events = schedule_events (one_job v) entries start in
+    let opening = opening_nodes job in
+    let alike = lines_alike v sound entries opening 1 stood (job_within job is) in
+    let events = schedule_events (one_job v) entries opening in
     let after = after_events v sound events start stood alike.among in
     let records = run (one_job v) events start in
     let most = most_after (one_job v) events start (λ node. 0) in
@@ -227,7 +286,7 @@ same_run job version is known few =
     in
     record {
       lines = ap (λ (ls : List Line). ls ++ end_lines other.settings (run_records other) (run_most other)) alike.lines
-          ∙ ap (λ (ls : List Line). answer_lines (one_job v) 1 entries start ++ ls)
+          ∙ ap (λ (ls : List Line). answer_lines (one_job v) 1 entries opening ++ ls)
           (ap (λ (w : Records). end_lines other.settings w (run_most other)) records_are
           ∙ (ap (λ (m : ℕ → ℕ). end_lines other.settings (respell_world v.spell records) m) most_is
           ∙ nodes_alike v records most 0 settings.nodes));

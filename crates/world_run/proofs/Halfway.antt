@@ -1,53 +1,69 @@
--- How far events were run that the records decide.
-use Rattle.std.proofs.Common.{◌≡◌, ℕ, List, [], ◌++◌, refl, sym, ap, subst, ◌∙◌}
-use Rattle.plain_world.specs.World.{Timed, run}
+-- How far events were run that the nodes of a run decide.
+use Rattle.std.proofs.Common.{◌≡◌, ℕ, List, [], ◌∷◌, refl, sym, ap, subst, ◌∙◌}
+use Rattle.plain_world.specs.World.{run}
 use Rattle.plain_world.specs.MostHeld.{most_after}
-use Rattle.endpoint_rules.specs.EndpointRules.{OtherCall, Records}
-use Rattle.gas_world.specs.Settling.{WorldJob, Moves}
+use Rattle.endpoint_rules.specs.EndpointRules.{Records}
+use Rattle.gas_world.specs.Settling.{WorldJob}
 use Rattle.gas_world.specs.Stands.{Stands}
-use Rattle.gas_world.specs.WorldState.{WorldState}
 use Rattle.gas_world.proofs.Moving.{run_append, most_append}
+use Rattle.collective_group.specs.GroupState.{GroupState}
+use Rattle.collective_group.specs.Standing.{StandsFor}
+use Rattle.job_text.specs.declared.job.TimedEvent.{TimedEvent}
+use Rattle.world_run.specs.Schedules.{Nodes, line_events, nodes_after, schedule_events}
 use Rattle.world_run.specs.ScheduleRun.{StandsAfter}
+use Rattle.world_run.proofs.LinesRun.{line_runs}
 
--- how far events were run from these records: the world stands for records from which the rest leads to the same end
-pub record Halfway (job : WorldJob) (v : WorldState) (w : Records) (most : ℕ → ℕ) (all : List (Timed OtherCall))
-    (rest : Records → List (Timed OtherCall)) : Type 0 where
-  pub records : Records
-  pub most_now : ℕ → ℕ
-  pub stands : Stands v records most_now
-  pub ends : run job (rest records) records ≡ run job all w
-  pub most_ends : most_after job (rest records) records most_now ≡ most_after job all w most
+-- the nodes of a run, and the most that each held
+pub record Stand : Type 0 where
+  pub nodes : Nodes
+  pub most : ℕ → ℕ
+
+-- how far a schedule was run from this stand: the nodes stand where the lines that are left lead to the same end
+pub record Halfway (job : WorldJob) (it : GroupState) (from : Stand) (all rest : List TimedEvent) : Type 0 where
+  pub now : Stand
+  pub stands : StandsFor it now.nodes.area now.nodes.group now.most
+  pub ends : run job (schedule_events job rest now.nodes) now.nodes.group.records
+      ≡ run job (schedule_events job all from.nodes) from.nodes.group.records
+  pub most_ends : most_after job (schedule_events job rest now.nodes) now.nodes.group.records now.most
+      ≡ most_after job (schedule_events job all from.nodes) from.nodes.group.records from.most
 
 -- nothing was run
-abbrev pub halfway_none : (job : WorldJob) (v : WorldState) (w : Records) (most : ℕ → ℕ)
-    (rest : Records → List (Timed OtherCall)) → Stands v w most → Halfway job v w most (rest w) rest
-halfway_none job v w most rest h = record { records = w; most_now = most; stands = h; ends = refl; most_ends = refl }
+abbrev pub halfway_none : (job : WorldJob) (it : GroupState) (from : Stand) (all : List TimedEvent)
+    → StandsFor it from.nodes.area from.nodes.group from.most → Halfway job it from all all
+halfway_none job it from all stands = record { now = from; stands = stands; ends = refl; most_ends = refl }
 
--- more events were run, up to what is left of the rest
-abbrev pub halfway_more : (job : WorldJob) (v v' : WorldState) (w : Records) (most : ℕ → ℕ)
-    (all : List (Timed OtherCall)) (rest events next : Records → List (Timed OtherCall))
-    (h : Halfway job v w most all rest)
-    → rest h.records ≡ events h.records ++ next (run job (events h.records) h.records)
-    → Moves job events v v' → Halfway job v' w most all next
-halfway_more job v v' w most all rest events next h is moves =
-    let x = h.records in
-    let after = run job (events x) x in
+-- where a stand is after a line
+abbrev pub stand_after : WorldJob → Stand → TimedEvent → Stand
+stand_after job now line = record {
+  nodes = nodes_after job now.nodes line;
+  most = most_after job (line_events job now.nodes line.time line.event) now.nodes.group.records now.most;
+}
+
+-- one line more was run
+abbrev pub halfway_more : (job : WorldJob) (old new : GroupState) (from : Stand) (all rest : List TimedEvent)
+    (line : TimedEvent) (h : Halfway job old from all (line ∷ rest))
+    → StandsFor new (stand_after job h.now line).nodes.area (stand_after job h.now line).nodes.group
+    (stand_after job h.now line).most
+    → Halfway job new from all rest
+halfway_more job old new from all rest line h stands =
+    let records = h.now.nodes.group.records in
+    let events = line_events job h.now.nodes line.time line.event in
+    let next = stand_after job h.now line in
+    let later = schedule_events job rest next.nodes in
+    let same = line_runs job h.now.nodes line in
     record {
-      records = after;
-      most_now = most_after job (events x) x h.most_now;
-      stands = moves x h.most_now h.stands;
-      ends = sym (run_append job (events x) (next after) x) ∙ (ap (λ es. run job es x) (sym is) ∙ h.ends);
-      most_ends =
-          sym (most_append job (events x) (next after) x h.most_now)
-          ∙ (ap (λ es. most_after job es x h.most_now) (sym is) ∙ h.most_ends);
+      now = next;
+      stands = stands;
+      ends = ap (run job later) same ∙ (sym (run_append job events later records) ∙ h.ends);
+      most_ends = ap (λ (all_records : Records). most_after job later all_records next.most) same
+          ∙ (sym (most_append job events later records h.now.most) ∙ h.most_ends);
     }
 
--- all events were run
-pub halfway_all : (job : WorldJob) (v : WorldState) (w : Records) (most : ℕ → ℕ) (all : List (Timed OtherCall))
-    (rest : Records → List (Timed OtherCall)) (h : Halfway job v w most all rest)
-    → rest h.records ≡ [] → StandsAfter job v all w most
-halfway_all job v w most all rest h none =
-    let ends : h.records ≡ run job all w = ap (λ es. run job es h.records) (sym none) ∙ h.ends in
-    let most_ends : h.most_now ≡ most_after job all w most =
-    ap (λ es. most_after job es h.records h.most_now) (sym none) ∙ h.most_ends in
-    subst (λ m. Stands v (run job all w) m) most_ends (subst (λ r. Stands v r h.most_now) ends h.stands)
+-- all lines were run
+pub halfway_all : (job : WorldJob) (it : GroupState) (from : Stand) (all : List TimedEvent)
+    → Halfway job it from all []
+    → StandsAfter job it.world (schedule_events job all from.nodes) from.nodes.group.records from.most
+halfway_all job it from all h =
+    subst (λ (most : ℕ → ℕ). Stands it.world (run job (schedule_events job all from.nodes) from.nodes.group.records)
+    most) h.most_ends
+    (subst (λ (records : Records). Stands it.world records h.now.most) h.ends h.stands.world)

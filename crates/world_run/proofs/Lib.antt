@@ -1,11 +1,16 @@
 pub mod LinesWritten
+pub mod LinesRun
 pub mod Halfway
 pub mod ScheduleRuns
 pub mod CallsAmong
+pub mod CollectivesAmong
 pub mod ScheduleLines
 pub mod ScheduleAmong
 pub mod ToldAnswers
 pub mod LinesTell
+pub mod Results
 pub mod RunLaws
 pub mod Newest
 pub mod EndText
+pub mod Collecting
+pub mod KeptNodes

@@ -23,7 +23,9 @@ use Rattle.node_script.specs.Lines.{Line}
 use Rattle.job_text.specs.declared.job.Job.{Job as JobState}
 use Rattle.node_script.specs.AnswerWords.{Sight, sight_of, delivered_words}
 use Rattle.gas_world.specs.Settling.{WorldJob}
-use Rattle.world_run.specs.Schedules.{world_job, scheduled_event, line_events, schedule_events}
+use Rattle.world_run.specs.Schedules.{Nodes, nodes_after, opening_nodes, world_job, scheduled_event, line_events}
+use Rattle.world_run.specs.Schedules.{schedule_events}
+use Rattle.world_run.proofs.LinesRun.{line_runs}
 use Rattle.job_text.specs.JobReading.{lines_of}
 use Rattle.job_text.specs.declared.job.ScheduledEvent.{ScheduledEvent}
 use Rattle.job_text.specs.declared.job.ScheduledEvent.TheVariants as scheduled
@@ -54,73 +56,78 @@ event_of w (scheduled.Request from to number) one = (_, refl)
 event_of w (scheduled.Reply from to number) one = (_, refl)
 event_of w (scheduled.Tick node) one = (_, refl)
 event_of w (scheduled.Vis node thread vis) one = absurd one
+event_of w (scheduled.Collective node thread call) one = absurd one
 event_of w (scheduled.Settle rounds) one = absurd one
 
 -- of such a line of a schedule: its event stands past those of the lines before it, and the line's words come from the
 -- records that those leave
-record LineTold (job : WorldJob) (es : List TimedEvent) (w : Records) (first line : ℕ) (e : TimedEvent) : Type 0 where
+record LineTold (job : WorldJob) (es : List TimedEvent) (nodes : Nodes) (first line : ℕ) (e : TimedEvent)
+    : Type 0 where
   pub records : Records
   pub event : RecordsEvent
-  pub after : after_first job (schedule_events job es w) w (events_before job es w line) ≡ records
+  pub after : after_first job (schedule_events job es nodes) nodes.group.records (events_before job es nodes line)
+      ≡ records
   pub is : scheduled_event records e.event ≡ Some event
-  pub at : slice_get (schedule_events job es w) (events_before job es w line) ≡ Some (timed e.time event)
-  pub told : slice_get (answer_lines job first es w) line
+  pub at : slice_get (schedule_events job es nodes) (events_before job es nodes line) ≡ Some (timed e.time event)
+  pub told : slice_get (answer_lines job first es nodes) line
       ≡ Some (decimal (line + first) ∷ event_words job records (timed e.time event))
 
 -- the first line
-told_first : (job : WorldJob) (e : TimedEvent) (es : List TimedEvent) (w : Records) (first : ℕ) → IsOneEvent e.event
-    → LineTold job (e ∷ es) w first zero e
-told_first job e es w first one =
+told_first : (job : WorldJob) (e : TimedEvent) (es : List TimedEvent) (nodes : Nodes) (first : ℕ) → IsOneEvent e.event
+    → LineTold job (e ∷ es) nodes first zero e
+told_first job e es nodes first one =
+    let w = nodes.group.records in
     let x = event_of w e.event one in
-    let more = schedule_events job es (run job (line_events job w e.time e.event) w) in
+    let more = schedule_events job es (nodes_after job nodes e) in
     let number : first ≡ zero + first = omega arith in
     record {
       records = w;
       event = x.0;
       after = refl;
       is = x.1;
-      at = ap (λ (xs : List (Timed OtherCall)). slice_get (xs ++ more) 0) (one_event job w e.time e.event x.0 x.1);
-      told = ap (λ (words : Line). Some (decimal first ∷ words)) (one_answer job w e.time e.event x.0 x.1)
+      at = ap (λ (xs : List (Timed OtherCall)). slice_get (xs ++ more) 0) (one_event job nodes e.time e.event x.0 x.1);
+      told = ap (λ (words : Line). Some (decimal first ∷ words)) (one_answer job nodes e.time e.event x.0 x.1)
           ∙ ap (λ (n : ℕ). Some (decimal n ∷ event_words job w (timed e.time x.0))) number;
     }
 
 -- a line after the first
-told_next : (job : WorldJob) (f : TimedEvent) (es : List TimedEvent) (w : Records) (first line : ℕ) (e : TimedEvent)
-    → LineTold job es (run job (line_events job w f.time f.event) w) (first + 1) line e
-    → LineTold job (f ∷ es) w first (suc line) e
-told_next job f es w first line e h =
-    let events = line_events job w f.time f.event in
-    let after = run job events w in
+told_next : (job : WorldJob) (f : TimedEvent) (es : List TimedEvent) (nodes : Nodes) (first line : ℕ) (e : TimedEvent)
+    → LineTold job es (nodes_after job nodes f) (first + 1) line e
+    → LineTold job (f ∷ es) nodes first (suc line) e
+told_next job f es nodes first line e h =
+    let events = line_events job nodes f.time f.event in
+    let after = nodes_after job nodes f in
     let more = schedule_events job es after in
     let before = events_before job es after line in
     let number : line + (first + 1) ≡ suc line + first = omega arith in
     record {
       records = h.records;
       event = h.event;
-      after = after_past job events more w before ∙ h.after;
+      after = after_past job events more nodes.group.records before
+          ∙ (ap (λ (w : Records). after_first job more w before) (sym (line_runs job nodes f)) ∙ h.after);
       is = h.is;
       at = get-append_right events more before ∙ h.at;
       told = h.told ∙ ap (λ (n : ℕ). Some (decimal n ∷ event_words job h.records (timed e.time h.event))) number;
     }
 
 -- each line that is one event
-line_told : (job : WorldJob) (es : List TimedEvent) (w : Records) (first line : ℕ) (e : TimedEvent)
-    → slice_get es line ≡ Some e → IsOneEvent e.event → LineTold job es w first line e
-line_told job [] w first line e h one = absurd (cc)
-line_told job (f ∷ es) w first zero e h one =
+line_told : (job : WorldJob) (es : List TimedEvent) (nodes : Nodes) (first line : ℕ) (e : TimedEvent)
+    → slice_get es line ≡ Some e → IsOneEvent e.event → LineTold job es nodes first line e
+line_told job [] nodes first line e h one = absurd (cc)
+line_told job (f ∷ es) nodes first zero e h one =
     let same : f ≡ e = same_Some f e h in
-    subst (λ (g : TimedEvent). LineTold job (f ∷ es) w first zero g) same
-    (told_first job f es w first (subst (λ (g : TimedEvent). IsOneEvent g.event) (sym same) one))
-line_told job (f ∷ es) w first (suc line) e h one =
-    told_next job f es w first line e
-    (line_told job es (run job (line_events job w f.time f.event) w) (first + 1) line e h one)
+    subst (λ (g : TimedEvent). LineTold job (f ∷ es) nodes first zero g) same
+    (told_first job f es nodes first (subst (λ (g : TimedEvent). IsOneEvent g.event) (sym same) one))
+line_told job (f ∷ es) nodes first (suc line) e h one =
+    told_next job f es nodes first line e
+    (line_told job es (nodes_after job nodes f) (first + 1) line e h one)
 
 -- each line of a job's schedule that is one event, at that place of the run
 pub lines_tell : (j : JobState) → LinesTell j
 lines_tell j line e h one =
     let job = world_job j in
-    let a = line_told job (lines_of j.schedule) (at_the_opening j.settings) 1 line e h one in
-    let told = get-append_kept (answer_lines job 1 (lines_of j.schedule) (at_the_opening j.settings))
+    let a = line_told job (lines_of j.schedule) (opening_nodes j) 1 line e h one in
+    let told = get-append_kept (answer_lines job 1 (lines_of j.schedule) (opening_nodes j))
     (end_lines j.settings (run_records j) (run_most j)) line
     (decimal (line + 1) ∷ event_words job a.records (timed e.time a.event)) a.told in
     record {
@@ -134,44 +141,44 @@ lines_tell j line e h one =
     }
 
 -- the events of later lines of a schedule stand later
-rises : (job : WorldJob) (es : List TimedEvent) (w : Records) (line other : ℕ) (e : TimedEvent)
+rises : (job : WorldJob) (es : List TimedEvent) (nodes : Nodes) (line other : ℕ) (e : TimedEvent)
     → slice_get es line ≡ Some e → IsOneEvent e.event → line < other → other < length es
-    → events_before job es w line < events_before job es w other
-rises job [] w line other e h one less there = absurd (cc)
-rises job (g ∷ es) w zero zero e h one less there = omega (arith, less)
-rises job (g ∷ es) w zero (suc other) e h one less there =
-    let x = event_of w g.event (subst (λ (f : TimedEvent). IsOneEvent f.event) (sym (same_Some g e h)) one) in
-    let count : length (line_events job w g.time g.event) ≡ 1 = ap length (one_event job w g.time g.event x.0 x.1) in
+    → events_before job es nodes line < events_before job es nodes other
+rises job [] nodes line other e h one less there = absurd (cc)
+rises job (g ∷ es) nodes zero zero e h one less there = omega (arith, less)
+rises job (g ∷ es) nodes zero (suc other) e h one less there =
+    let x = event_of nodes.group.records g.event (subst (λ (f : TimedEvent). IsOneEvent f.event) (sym (same_Some g e h)) one) in
+    let count : length (line_events job nodes g.time g.event) ≡ 1 = ap length (one_event job nodes g.time g.event x.0 x.1) in
     omega (arith, count)
-rises job (g ∷ es) w (suc line) zero e h one less there = omega (arith, less)
-rises job (g ∷ es) w (suc line) (suc other) e h one less there =
-    let after = run job (line_events job w g.time g.event) w in
+rises job (g ∷ es) nodes (suc line) zero e h one less there = omega (arith, less)
+rises job (g ∷ es) nodes (suc line) (suc other) e h one less there =
+    let after = nodes_after job nodes g in
     let later = rises job es after line other e h one (omega (arith, less)) (omega (arith, there)) in
     omega (arith, later)
 
 pub places_rise : (j : JobState) → PlacesRise j
 places_rise j line other e h one less there =
-    rises (world_job j) (lines_of j.schedule) (at_the_opening j.settings) line other e h one less there
+    rises (world_job j) (lines_of j.schedule) (opening_nodes j) line other e h one less there
 
 -- where the first line is one event, some event is before each later line
-some_before : (job : WorldJob) (e f : TimedEvent) (es : List TimedEvent) (w : Records) (line : ℕ) → Some f ≡ Some e
-    → IsOneEvent e.event → 0 ≡ events_before job (f ∷ es) w (suc line) → ⊥
-some_before job e f es w line h one same =
-    let x = event_of w f.event (subst (λ (g : TimedEvent). IsOneEvent g.event) (sym (same_Some f e h)) one) in
-    let count : length (line_events job w f.time f.event) ≡ 1 = ap length (one_event job w f.time f.event x.0 x.1) in
+some_before : (job : WorldJob) (e f : TimedEvent) (es : List TimedEvent) (nodes : Nodes) (line : ℕ) → Some f ≡ Some e
+    → IsOneEvent e.event → 0 ≡ events_before job (f ∷ es) nodes (suc line) → ⊥
+some_before job e f es nodes line h one same =
+    let x = event_of nodes.group.records f.event (subst (λ (g : TimedEvent). IsOneEvent g.event) (sym (same_Some f e h)) one) in
+    let count : length (line_events job nodes f.time f.event) ≡ 1 = ap length (one_event job nodes f.time f.event x.0 x.1) in
     omega (arith, same, count)
 
 -- such lines with as many events before them are one line
-lines_apart : (job : WorldJob) (es : List TimedEvent) (w : Records) (line other : ℕ) (e f : TimedEvent)
+lines_apart : (job : WorldJob) (es : List TimedEvent) (nodes : Nodes) (line other : ℕ) (e f : TimedEvent)
     → slice_get es line ≡ Some e → IsOneEvent e.event → slice_get es other ≡ Some f → IsOneEvent f.event
-    → events_before job es w line ≡ events_before job es w other → line ≡ other
-lines_apart job [] w line other e f h one k two same = absurd (cc)
-lines_apart job (g ∷ es) w zero zero e f h one k two same = refl
-lines_apart job (g ∷ es) w zero (suc other) e f h one k two same = absurd (some_before job e g es w other h one same)
-lines_apart job (g ∷ es) w (suc line) zero e f h one k two same =
-    absurd (some_before job f g es w line k two (sym same))
-lines_apart job (g ∷ es) w (suc line) (suc other) e f h one k two same =
-    let after = run job (line_events job w g.time g.event) w in
+    → events_before job es nodes line ≡ events_before job es nodes other → line ≡ other
+lines_apart job [] nodes line other e f h one k two same = absurd (cc)
+lines_apart job (g ∷ es) nodes zero zero e f h one k two same = refl
+lines_apart job (g ∷ es) nodes zero (suc other) e f h one k two same = absurd (some_before job e g es nodes other h one same)
+lines_apart job (g ∷ es) nodes (suc line) zero e f h one k two same =
+    absurd (some_before job f g es nodes line k two (sym same))
+lines_apart job (g ∷ es) nodes (suc line) (suc other) e f h one k two same =
+    let after = nodes_after job nodes g in
     ap suc (lines_apart job es after line other e f h one k two (omega (arith, same)))
 
 -- ---- lines that deliver a message
@@ -250,7 +257,7 @@ same_line : (j : JobState) (line other : ℕ) (e : ScheduledEvent) (words : Line
     → IsOneEvent e → Tells j line e words → Tells j other e words → event_place j line ≡ event_place j other
     → line ≡ other
 same_line j line other e words one h k same =
-    lines_apart (world_job j) (lines_of j.schedule) (at_the_opening j.settings) line other
+    lines_apart (world_job j) (lines_of j.schedule) (opening_nodes j) line other
     (record { time = h.time; event = e })
     (record { time = k.time; event = e }) h.line one k.line one same
 

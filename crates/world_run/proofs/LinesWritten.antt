@@ -78,3 +78,9 @@ one_line a b line wrote.Fault h =
 pub on_done : (r : Wrote) (P : Type 0) → P → OnDone (said_of r) P
 on_done wrote.Done P p = p
 on_done wrote.Fault P p = tt
+
+-- a fact where all was said, and what follows from it
+pub on_done_more : (s : Said) {P Q : Type 0} → (P → Q) → OnDone s P → OnDone s Q
+on_done_more Done more p = more p
+on_done_more Fault more p = tt
+on_done_more NoMemory more p = tt

@@ -2,17 +2,19 @@
 use Rattle.std.proofs.Common.{◌≡◌, ℕ, suc, ◌<◌, List, [], ◌∷◌, Some, refl, subst}
 use Rattle.std.proofs.lemmas.Option.{same_Some}
 use Rattle.datagram_grammar.specs.Parameters.{Parameters}
-use Rattle.plain_world.specs.World.{Asks, Does, RequestComes, ReplyComes, Ticks, IsAmong, run}
+use Rattle.plain_world.specs.World.{Asks, Does, RequestComes, ReplyComes, Ticks, IsAmong}
 use Rattle.endpoint_rules.specs.EndpointRules.{Records, RecordsEvent}
 use Rattle.node_script.specs.ScriptInvariant.{IsWithin, AreWithin}
 use Rattle.gas_world.specs.Settling.{WorldJob}
 use Rattle.gas_world.proofs.Among.{AreAmong, both_among, settle_among}
 use Rattle.gas_strided.specs.Beginning.{calls_made}
 use Rattle.node_caller.specs.Sites.{ThreadCall}
-use Rattle.world_run.specs.Schedules.{scheduled_event, line_events, schedule_events, begin_answer, begin_asked}
+use Rattle.world_run.specs.Schedules.{Nodes, scheduled_event, line_events, nodes_after, schedule_events, begin_answer}
+use Rattle.world_run.specs.Schedules.{begin_asked}
 use Rattle.world_run.specs.Schedules.{call_events}
 use Rattle.node_script.specs.ScheduledCalls.{meant_by}
 use Rattle.world_run.proofs.CallsAmong.{call_among}
+use Rattle.world_run.proofs.CollectivesAmong.{collective_among}
 use Rattle.job_text.specs.declared.job.ScheduledEvent.{ScheduledEvent}
 use Rattle.job_text.specs.declared.job.ScheduledEvent.TheVariants as scheduled
 use Rattle.job_text.specs.declared.job.TimedEvent.{TimedEvent}
@@ -29,6 +31,7 @@ event_among s w (scheduled.Request from to number) x h is = subst (IsAmong s) (s
 event_among s w (scheduled.Reply from to number) x h is = subst (IsAmong s) (same_Some _ x is) h
 event_among s w (scheduled.Tick node) x h is = subst (IsAmong s) (same_Some _ x is) h
 event_among s w (scheduled.Vis node thread vis) x h is = absurd (cc)
+event_among s w (scheduled.Collective node thread call) x h is = absurd (cc)
 event_among s w (scheduled.Settle rounds) x h is = absurd (cc)
 
 -- the node on which an event of the world falls is there
@@ -49,22 +52,23 @@ calls_among s now node (one ∷ calls) low =
     (call_among s node one.thread one.call low, calls_among s now node calls low)
 
 -- of a line
-line_among : (job : WorldJob) (w : Records) (now : ℕ) (e : ScheduledEvent) → IsWithin job.settings e
-    → AreAmong job.settings (line_events job w now e)
-line_among job w now (scheduled.Call node thread c) h =
-    (call_among job.settings node thread (meant_by (w node).local.core.cells c) h.0, tt)
-line_among job w now (scheduled.Request from to number) h = (h, tt)
-line_among job w now (scheduled.Reply from to number) h = (h, tt)
-line_among job w now (scheduled.Tick node) h = (h, tt)
-line_among job w now (scheduled.Vis node thread vis) h =
+line_among : (job : WorldJob) (nodes : Nodes) (now : ℕ) (e : ScheduledEvent) → IsWithin job.settings e
+    → AreAmong job.settings (line_events job nodes now e)
+line_among job nodes now (scheduled.Call node thread c) h =
+    (call_among job.settings node thread (meant_by (nodes.group.records node).local.core.cells c) h.0, tt)
+line_among job nodes now (scheduled.Request from to number) h = (h, tt)
+line_among job nodes now (scheduled.Reply from to number) h = (h, tt)
+line_among job nodes now (scheduled.Tick node) h = (h, tt)
+line_among job nodes now (scheduled.Vis node thread vis) h =
     let asked = begin_asked thread vis in
-    calls_among job.settings now node (calls_made asked (begin_answer job w now node asked)) h.0
-line_among job w now (scheduled.Settle rounds) h = settle_among job now rounds w
+    calls_among job.settings now node (calls_made asked (begin_answer job nodes.group.records now node asked)) h.0
+line_among job nodes now (scheduled.Collective node thread call) h = collective_among job nodes now node thread call h.0
+line_among job nodes now (scheduled.Settle rounds) h = settle_among job now rounds nodes.group.records
 
 -- of the lines of a schedule
-pub lines_among : (job : WorldJob) (es : List TimedEvent) (w : Records) → AreWithin job.settings es
-    → AreAmong job.settings (schedule_events job es w)
-lines_among job [] w h = tt
-lines_among job (e ∷ es) w h =
-    both_among job.settings (line_events job w e.time e.event) _ (line_among job w e.time e.event (h 0 e refl))
-    (lines_among job es (run job (line_events job w e.time e.event) w) (λ i x at. h (suc i) x at))
+pub lines_among : (job : WorldJob) (es : List TimedEvent) (nodes : Nodes) → AreWithin job.settings es
+    → AreAmong job.settings (schedule_events job es nodes)
+lines_among job [] nodes h = tt
+lines_among job (e ∷ es) nodes h =
+    both_among job.settings (line_events job nodes e.time e.event) _ (line_among job nodes e.time e.event (h 0 e refl))
+    (lines_among job es (nodes_after job nodes e) (λ i x at. h (suc i) x at))

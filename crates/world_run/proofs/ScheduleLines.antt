@@ -4,17 +4,16 @@ use Rattle.std.proofs.Common.{subst, ◌∙◌, arith}
 use Rattle.std.specs.List.{slice_get}
 use Rattle.std.specs.Option.{IfSome}
 use Rattle.std.proofs.lemmas.Option.{same_Some}
-use Rattle.datagram_grammar.specs.Parameters.{Parameters}
-use Rattle.gas_world.specs.Aims.{MayFall}
 use Rattle.gas_world.specs.Events.{event_of}
 use Rattle.endpoint_rules.specs.EndpointRules.{Records, RecordsEvent, timed}
 use Rattle.gas_world.specs.declared.event.WorldEvent.{WorldEvent}
-use Rattle.world_run.specs.ScheduleLine.{IsLine, MayBeTaken, NamesNodes}
+use Rattle.world_run.specs.ScheduleLine.{IsLine}
 use Rattle.gas_world.specs.Settling.{WorldJob}
-use Rattle.world_run.specs.Schedules.{scheduled_event, line_events}
+use Rattle.plain_world.specs.World.{run}
+use Rattle.world_run.specs.Schedules.{Nodes, scheduled_event, line_events, line_group}
+use Rattle.world_run.specs.declared.schedule_line.CollectiveCall.{CollectiveCall}
 use Rattle.world_run.specs.RunText.{event_words, words_at}
 use Rattle.world_run.specs.declared.schedule_line.Beginning.{Beginning}
-use Rattle.node_script.specs.ScriptInvariant.{MayBegin}
 use Rattle.world_run.specs.declared.schedule_line.Line.{Line}
 use Rattle.world_run.specs.declared.schedule_line.Line.TheVariants as lines
 use Rattle.job_text.specs.declared.job.ScheduledEvent.{ScheduledEvent}
@@ -65,23 +64,18 @@ pub vis_line : (w : Records) (o : Option TimedEvent) (e : TimedEvent) (read : Op
 vis_line w o e read line now begin at is line_is h =
     read_at w o e read (Some (lines.Vis now begin)) at (is ∙ ap (λ (l : Line). Some l) line_is) h
 
--- its node is there, and its thread may begin it
-pub vis_there : (settings : Parameters) (read : Option Line) (line : Line) (now : ℕ) (begin : Beginning)
-    → read ≡ Some line → line ≡ lines.Vis now begin → IfSome read (NamesNodes settings) → begin.node < settings.nodes
-vis_there settings read line now begin is line_is there =
-    subst (NamesNodes settings) line_is (subst (λ (o : Option Line). IfSome o (NamesNodes settings)) is there)
+-- a call for collectives was read
+pub collective_line : (w : Records) (o : Option TimedEvent) (e : TimedEvent) (read : Option Line) (line : Line)
+    (now : ℕ) (asked : CollectiveCall) → o ≡ Some e → read ≡ Some line → line ≡ lines.Collective now asked
+    → IsLine w o read → (now ≡ e.time) × (e.event ≡ scheduled.Collective asked.node asked.thread asked.call)
+collective_line w o e read line now asked at is line_is h =
+    read_at w o e read (Some (lines.Collective now asked)) at (is ∙ ap (λ (l : Line). Some l) line_is) h
 
-pub vis_may : (settings : Parameters) (read : Option Line) (line : Line) (now : ℕ) (begin : Beginning)
-    → read ≡ Some line → line ≡ lines.Vis now begin → IfSome read (MayBeTaken settings)
-    → MayBegin settings begin.thread begin.vis.now
-vis_may settings read line now begin is line_is may =
-    subst (MayBeTaken settings) line_is (subst (λ (o : Option Line). IfSome o (MayBeTaken settings)) is may)
-
--- an event that was read may fall
-pub event_may : (settings : Parameters) (read : Option Line) (line : Line) (now : ℕ) (event : WorldEvent)
-    → read ≡ Some line → line ≡ lines.Event now event → IfSome read (MayBeTaken settings) → MayFall settings event
-event_may settings read line now event is line_is may =
-    subst (MayBeTaken settings) line_is (subst (λ (o : Option Line). IfSome o (MayBeTaken settings)) is may)
+-- what holds of the line that was read holds of this one
+pub holds_of : (Holds : Line → Type 0) (read : Option Line) (line other : Line) → read ≡ Some line → line ≡ other
+    → IfSome read Holds → Holds other
+holds_of Holds read line other is line_is h =
+    subst Holds line_is (subst (λ (o : Option Line). IfSome o Holds) is h)
 
 -- a line that is there is read
 pub never_none : (w : Records) (o : Option TimedEvent) (e : TimedEvent) (read : Option Line) → o ≡ Some e → read ≡ None
@@ -89,26 +83,42 @@ pub never_none : (w : Records) (o : Option TimedEvent) (e : TimedEvent) (read : 
 never_none w o e read at is h = read_at w o e read None at is h
 
 -- the events of a line, by its one event
-pub one_event : (job : WorldJob) (w : Records) (now : ℕ) (e : ScheduledEvent) (x : RecordsEvent)
-    → scheduled_event w e ≡ Some x → line_events job w now e ≡ timed now x ∷ []
-one_event job w now (scheduled.Call node thread c) x h = ap (λ (y : RecordsEvent). timed now y ∷ []) (same_Some _ x h)
-one_event job w now (scheduled.Request from to number) x h =
+pub one_event : (job : WorldJob) (nodes : Nodes) (now : ℕ) (e : ScheduledEvent) (x : RecordsEvent)
+    → scheduled_event nodes.group.records e ≡ Some x → line_events job nodes now e ≡ timed now x ∷ []
+one_event job nodes now (scheduled.Call node thread c) x h = ap (λ (y : RecordsEvent). timed now y ∷ []) (same_Some _ x h)
+one_event job nodes now (scheduled.Request from to number) x h =
     ap (λ (y : RecordsEvent). timed now y ∷ []) (same_Some _ x h)
-one_event job w now (scheduled.Reply from to number) x h = ap (λ (y : RecordsEvent). timed now y ∷ []) (same_Some _ x h)
-one_event job w now (scheduled.Tick node) x h = ap (λ (y : RecordsEvent). timed now y ∷ []) (same_Some _ x h)
-one_event job w now (scheduled.Vis node thread vis) x h = absurd (cc)
-one_event job w now (scheduled.Settle rounds) x h = absurd (cc)
+one_event job nodes now (scheduled.Reply from to number) x h = ap (λ (y : RecordsEvent). timed now y ∷ []) (same_Some _ x h)
+one_event job nodes now (scheduled.Tick node) x h = ap (λ (y : RecordsEvent). timed now y ∷ []) (same_Some _ x h)
+one_event job nodes now (scheduled.Vis node thread vis) x h = absurd (cc)
+one_event job nodes now (scheduled.Collective node thread call) x h = absurd (cc)
+one_event job nodes now (scheduled.Settle rounds) x h = absurd (cc)
 
 -- the words of a line, by its one event
-pub one_answer : (job : WorldJob) (w : Records) (now : ℕ) (e : ScheduledEvent) (x : RecordsEvent)
-    → scheduled_event w e ≡ Some x → words_at job w now e ≡ event_words job w (timed now x)
-one_answer job w now (scheduled.Call node thread c) x h =
-    ap (λ (y : RecordsEvent). event_words job w (timed now y)) (same_Some _ x h)
-one_answer job w now (scheduled.Request from to number) x h =
-    ap (λ (y : RecordsEvent). event_words job w (timed now y)) (same_Some _ x h)
-one_answer job w now (scheduled.Reply from to number) x h =
-    ap (λ (y : RecordsEvent). event_words job w (timed now y)) (same_Some _ x h)
-one_answer job w now (scheduled.Tick node) x h =
-    ap (λ (y : RecordsEvent). event_words job w (timed now y)) (same_Some _ x h)
-one_answer job w now (scheduled.Vis node thread vis) x h = absurd (cc)
-one_answer job w now (scheduled.Settle rounds) x h = absurd (cc)
+pub one_answer : (job : WorldJob) (nodes : Nodes) (now : ℕ) (e : ScheduledEvent) (x : RecordsEvent)
+    → scheduled_event nodes.group.records e ≡ Some x
+    → words_at job nodes now e ≡ event_words job nodes.group.records (timed now x)
+one_answer job nodes now (scheduled.Call node thread c) x h =
+    ap (λ (y : RecordsEvent). event_words job nodes.group.records (timed now y)) (same_Some _ x h)
+one_answer job nodes now (scheduled.Request from to number) x h =
+    ap (λ (y : RecordsEvent). event_words job nodes.group.records (timed now y)) (same_Some _ x h)
+one_answer job nodes now (scheduled.Reply from to number) x h =
+    ap (λ (y : RecordsEvent). event_words job nodes.group.records (timed now y)) (same_Some _ x h)
+one_answer job nodes now (scheduled.Tick node) x h =
+    ap (λ (y : RecordsEvent). event_words job nodes.group.records (timed now y)) (same_Some _ x h)
+one_answer job nodes now (scheduled.Vis node thread vis) x h = absurd (cc)
+one_answer job nodes now (scheduled.Collective node thread call) x h = absurd (cc)
+one_answer job nodes now (scheduled.Settle rounds) x h = absurd (cc)
+
+-- what a line leaves of the group, by its one event
+pub one_left : (job : WorldJob) (nodes : Nodes) (now : ℕ) (e : ScheduledEvent) (x : RecordsEvent)
+    → scheduled_event nodes.group.records e ≡ Some x
+    → line_group job nodes now e
+    ≡ record nodes.group { records = run job (line_events job nodes now e) nodes.group.records }
+one_left job nodes now (scheduled.Call node thread c) x h = refl
+one_left job nodes now (scheduled.Request from to number) x h = refl
+one_left job nodes now (scheduled.Reply from to number) x h = refl
+one_left job nodes now (scheduled.Tick node) x h = refl
+one_left job nodes now (scheduled.Vis node thread vis) x h = absurd (cc)
+one_left job nodes now (scheduled.Collective node thread call) x h = absurd (cc)
+one_left job nodes now (scheduled.Settle rounds) x h = absurd (cc)

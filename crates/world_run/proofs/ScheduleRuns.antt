@@ -1,10 +1,11 @@
 -- Runs of a schedule, line by line.
-use Rattle.std.proofs.Common.{◌≡◌, ℕ, ◌+◌, List, [], ◌∷◌, drop, Some, refl, sym, ap, subst, ◌∙◌}
+use Rattle.std.proofs.Common.{◌≡◌, ℕ, ◌+◌, List, [], ◌∷◌, drop, Some, false, refl, sym, ap, subst, subst₂, ◌∙◌}
 use Rattle.std.proofs.Common.{codes, decimal}
 use Rattle.gas_outside.specs.Buffered.{Outbox, Gathers, GathersAll}
 use Rattle.gas_outside.specs.declared.writing.Wrote.{Wrote}
 use Rattle.handler_rules.specs.Runs.{Meaning}
-use Rattle.plain_world.specs.World.{Timed, world_answer, world_after}
+use Rattle.plain_world.specs.World.{Timed, run, world_answer, world_after}
+use Rattle.plain_world.specs.MostHeld.{most_after}
 use Rattle.endpoint_rules.specs.EndpointRules.{OtherCall, Records, RecordsEvent, timed, transition}
 use Rattle.gas_world.specs.WorldTold.{world_told}
 use Rattle.gas_world.specs.Events.{ForItsRecords, Steps, job_in}
@@ -18,85 +19,117 @@ use Rattle.node_script.specs.Registration.{JobHandlers}
 use Rattle.gas_world.specs.Settling.{WorldJob, Moves, settle_events}
 use Rattle.gas_strided.specs.Beginning.{BeginCall}
 use Rattle.gas_strided.specs.declared.shapes.Vis.{Vis}
-use Rattle.world_run.specs.Schedules.{scheduled_event, line_events, schedule_events, begin_answer, begin_asked}
-use Rattle.world_run.specs.Schedules.{begin_events}
+use Rattle.collective_laws.specs.Groups.{Group}
+use Rattle.collective_group.specs.GroupState.{GroupState}
+use Rattle.collective_group.specs.Standing.{AreAsFar, ForItsGroups, StandsFor}
+use Rattle.node_script.specs.CollectiveWords.{collective_words}
+use Rattle.node_script.specs.declared.collective_texts.CollectiveAnswer.{CollectiveAnswer}
+use Rattle.world_run.specs.Schedules.{Nodes, scheduled_event, line_events, line_group, schedule_events, begin_answer}
+use Rattle.world_run.specs.Schedules.{begin_asked, begin_events, collective_answer}
 use Rattle.world_run.specs.declared.schedule_line.Beginning.{Beginning}
 use Rattle.job_text.specs.declared.job.ScheduledEvent.{ScheduledEvent}
 use Rattle.job_text.specs.declared.job.ScheduledEvent.TheVariants as scheduled
 use Rattle.job_text.specs.declared.job.TimedEvent.{TimedEvent}
-use Rattle.world_run.specs.RunText.{node_of, world_words, event_words, words_at, answer_lines}
-use Rattle.world_run.specs.ScheduleRun.{Stood, StandsAfter, Stage, Plan, begin_plan, event_plan, settle_plan}
-use Rattle.world_run.specs.ScheduleRun.{line_plan, planned, RunsPlan, Writes, answer_text}
+use Rattle.world_run.specs.RunText.{node_of, world_words, event_words, words_at, line_words, answer_lines}
+use Rattle.world_run.specs.ScheduleRun.{StandsAfter, Stage, Plan, begin_plan, event_plan, settle_plan}
+use Rattle.world_run.specs.ScheduleRun.{planned, RunsPlan, RunsLine, NodesStage, CollectiveAsked, Collects, is_lacking}
+use Rattle.world_run.specs.ScheduleRun.{Writes, answer_text}
 use Rattle.world_run.specs.LinesWritten.{LinesUpTo, Says, OnDone, said_of}
 use Rattle.world_run.specs.declared.said.Said.{Said}
 use Rattle.world_run.specs.declared.said.Said.TheVariants.{Done, NoMemory}
-use Rattle.world_run.proofs.Halfway.{Halfway, halfway_none, halfway_more, halfway_all}
+use Rattle.world_run.proofs.Halfway.{Halfway, Stand, halfway_none, halfway_more, halfway_all}
 use Rattle.world_run.proofs.LinesWritten.{no_lines_yet, lines_done, lines_all, lines_said, one_line, on_done}
-use Rattle.world_run.proofs.ScheduleLines.{one_answer, one_event}
+use Rattle.world_run.proofs.LinesWritten.{on_done_more}
+use Rattle.world_run.proofs.ScheduleLines.{one_answer, one_event, one_left}
 
 -- ---- what is planned
 
--- from these records the one plan says and does what the other does
-pub record IsSamePlan (job : WorldJob) (plan other : Plan) (records : Records) : Type 0 where
-  pub number : plan.number ≡ other.number
-  pub words : plan.words job records ≡ other.words job records
-  pub events : plan.events job records ≡ other.events job records
+-- where the nodes are so, the plan says and does what the line does, which leaves how far they are with collectives
+pub record IsLinePlan (job : WorldJob) (plan : Plan) (number : ℕ) (line : TimedEvent) (nodes : Nodes) : Type 0 where
+  pub number_is : plan.number ≡ number
+  pub words : plan.words job nodes.group.records ≡ line_words job nodes line
+  pub events : plan.events job nodes.group.records ≡ line_events job nodes line.time line.event
+  pub left : line_group job nodes line.time line.event
+      ≡ record nodes.group { records = run job (line_events job nodes line.time line.event) nodes.group.records }
 
--- so it is run alike
-pub same_plan : (job : WorldJob) (plan other : Plan) (old new : Stage) (said : Said)
-    → ForItsRecords old.world (λ records most. IsSamePlan job plan other records)
-    → RunsPlan job plan old new said → RunsPlan job other old new said
-same_plan job plan other old new said same ran = λ records most stands.
-    let it = same records most stands in
-    let line : planned job plan records ≡ planned job other records =
-    ap (λ (n : ℕ). decimal n ∷ plan.words job records) it.number
-    ∙ ap (λ (words : Line). decimal other.number ∷ words) it.words
+-- the stage of the world
+abbrev pub world_stage : NodesStage → Stage
+world_stage at = record { world = at.nodes.world; out = at.out }
+
+-- so the line is run, where the world ran the plan
+pub plan_runs : (job : WorldJob) (plan : Plan) (number : ℕ) (line : TimedEvent) (old new : NodesStage) (said : Said)
+    → new.nodes.nodes ≡ old.nodes.nodes
+    → ForItsGroups old.nodes (λ area group most.
+    IsLinePlan job plan number line (record { area = area; group = group }))
+    → RunsPlan job plan (world_stage old) (world_stage new) said → RunsLine job number line old new said
+plan_runs job plan number line old new said same is ran = λ area group most stands.
+    let nodes : Nodes = record { area = area; group = group } in
+    let it = is area group most stands in
+    let said_so = ran group.records most stands.world in
+    let says : planned job plan group.records ≡ decimal number ∷ line_words job nodes line =
+    ap (λ (n : ℕ). decimal n ∷ plan.words job group.records) it.number_is
+    ∙ ap (λ (words : Line). decimal number ∷ words) it.words
     in
-    let said_so = ran records most stands in
-    let after = λ (events : List (Timed OtherCall)). OnDone said (StandsAfter job new.world events records most) in
-    (subst (λ (l : Line). Says old.out new.out (l ∷ []) said) line said_so.0, subst after it.events said_so.1)
+    let events = line_events job nodes line.time line.event in (
+      subst (λ (l : Line). Says old.out new.out (l ∷ []) said) says said_so.0,
+      on_done_more said (λ after.
+      subst (λ (left : Group). StandsFor new.nodes area left (most_after job events group.records most)) (sym it.left)
+      (record {
+        world = subst (λ (made : List (Timed OtherCall)). StandsAfter job new.nodes.world made group.records most)
+            it.events after;
+        nodes = subst (AreAsFar area group.progress) (sym same) stands.nodes;
+      })) said_so.1,
+    )
 
 -- the plan of a line that has one event is that of the event
-pub event_is_line : (job : WorldJob) (number now : ℕ) (event : RecordsEvent) (line : TimedEvent) (records : Records)
-    → (now ≡ line.time) × (scheduled_event records line.event ≡ Some event)
-    → IsSamePlan job (event_plan number (timed now event)) (line_plan number line) records
-event_is_line job number now event line records h = record {
-  number = refl;
+pub event_is_line : (job : WorldJob) (number now : ℕ) (event : RecordsEvent) (line : TimedEvent) (nodes : Nodes)
+    → (now ≡ line.time) × (scheduled_event nodes.group.records line.event ≡ Some event)
+    → IsLinePlan job (event_plan number (timed now event)) number line nodes
+event_is_line job number now event line nodes h = record {
+  number_is = refl;
   words =
-      ap (λ t. event_words job records (timed t event)) h.0
-      ∙ sym (one_answer job records line.time line.event event h.1);
+      ap (λ t. event_words job nodes.group.records (timed t event)) h.0
+      ∙ sym (one_answer job nodes line.time line.event event h.1);
   events =
       ap (λ t. timed t event ∷ []) h.0
-      ∙ sym (one_event job records line.time line.event event h.1);
+      ∙ sym (one_event job nodes line.time line.event event h.1);
+  left = one_left job nodes line.time line.event event h.1;
 }
 
+-- a line that says this leaves how far the nodes are with collectives
+abbrev LeavesThem : WorldJob → Nodes → (time : ℕ) → ScheduledEvent → Type 0
+LeavesThem job nodes time event =
+    line_group job nodes time event
+    ≡ record nodes.group { records = run job (line_events job nodes time event) nodes.group.records }
+
 -- that of a line that begins a transfer of many pieces is that of the beginning
-pub vis_is_line : (job : WorldJob) (number now : ℕ) (begin : Beginning) (line : TimedEvent) (records : Records)
+pub vis_is_line : (job : WorldJob) (number now : ℕ) (begin : Beginning) (line : TimedEvent) (nodes : Nodes)
     → (now ≡ line.time) × (line.event ≡ scheduled.Vis begin.node begin.thread begin.vis.now)
-    → IsSamePlan job (begin_plan number now begin.node (begin_asked begin.thread begin.vis.now))
-    (line_plan number line) records
-vis_is_line job number now begin line records h =
+    → IsLinePlan job (begin_plan number now begin.node (begin_asked begin.thread begin.vis.now)) number line nodes
+vis_is_line job number now begin line nodes h =
     let asked = begin_asked begin.thread begin.vis.now in
     record {
-      number = refl;
+      number_is = refl;
       words =
-          ap (λ t. vis_words (begin_answer job records t begin.node asked)) h.0
-          ∙ sym (ap (λ (e : ScheduledEvent). words_at job records line.time e) h.1);
+          ap (λ t. vis_words (begin_answer job nodes.group.records t begin.node asked)) h.0
+          ∙ sym (ap (λ (e : ScheduledEvent). words_at job nodes line.time e) h.1);
       events =
-          ap (λ t. begin_events job records t begin.node asked) h.0
-          ∙ sym (ap (λ (e : ScheduledEvent). line_events job records line.time e) h.1);
+          ap (λ t. begin_events job nodes.group.records t begin.node asked) h.0
+          ∙ sym (ap (λ (e : ScheduledEvent). line_events job nodes line.time e) h.1);
+      left = subst (LeavesThem job nodes line.time) (sym h.1) refl;
     }
 
 -- that of a line of rounds is that of the rounds
-pub settle_is_line : (job : WorldJob) (number now rounds : ℕ) (line : TimedEvent) (records : Records)
+pub settle_is_line : (job : WorldJob) (number now rounds : ℕ) (line : TimedEvent) (nodes : Nodes)
     → (now ≡ line.time) × (line.event ≡ scheduled.Settle rounds)
-    → IsSamePlan job (settle_plan number now rounds) (line_plan number line) records
-settle_is_line job number now rounds line records h = record {
-  number = refl;
-  words = sym (ap (λ (e : ScheduledEvent). words_at job records line.time e) h.1);
+    → IsLinePlan job (settle_plan number now rounds) number line nodes
+settle_is_line job number now rounds line nodes h = record {
+  number_is = refl;
+  words = sym (ap (λ (e : ScheduledEvent). words_at job nodes line.time e) h.1);
   events =
-      ap (λ t. settle_events job t rounds records) h.0
-      ∙ sym (ap (λ (e : ScheduledEvent). line_events job records line.time e) h.1);
+      ap (λ t. settle_events job t rounds nodes.group.records) h.0
+      ∙ sym (ap (λ (e : ScheduledEvent). line_events job nodes line.time e) h.1);
+  left = subst (LeavesThem job nodes line.time) (sym h.1) refl;
 }
 
 -- ---- one line
@@ -176,10 +209,74 @@ settle_told job old new number now rounds wrote moves line = λ records most sta
       (moves records most stands),
 )
 
+-- so by the handlers of a job, where those that ran are its own
+pub settled_told : (handlers own : JobHandlers) → own ≡ handlers → (old new : Stage) (number now rounds : ℕ)
+    (wrote : Wrote) (said : Said) → said ≡ said_of wrote
+    → Moves (job_in (script_meaning own) old.world) (settle_events (job_in (script_meaning own) old.world) now rounds)
+    old.world new.world
+    → GathersAll old.out new.out (line_text (decimal number ∷ codes "settled" ∷ [])) wrote
+    → RunsPlan (job_in (script_meaning handlers) old.world) (settle_plan number now rounds) old new said
+settled_told handlers own same old new number now rounds wrote said said_is moves line =
+    subst₂ (λ (mine : JobHandlers) (how : Said). RunsPlan (job_in (script_meaning mine) old.world)
+    (settle_plan number now rounds) old new how) same (sym said_is)
+    (settle_told (job_in (script_meaning own) old.world) old new number now rounds wrote moves line)
+
 -- memory ran out before a line was written
 pub nothing_told : (job : WorldJob) (plan : Plan) (old new : WorldState) (out : Outbox)
     → RunsPlan job plan (record { world = old; out = out }) (record { world = new; out = out }) NoMemory
 nothing_told job plan old new out = λ records most stands. ((_, no_lines_yet out _), tt)
+
+-- ---- a call for collectives
+
+-- it was made, and the line of the answer was written
+collected_at : (job : WorldJob) (number : ℕ) (asked : CollectiveAsked) (answer : CollectiveAnswer)
+    (old new : NodesStage) (wrote : Wrote)
+    → is_lacking answer ≡ false → Collects job old.nodes asked answer new.nodes
+    → GathersAll old.out new.out (line_text (decimal number ∷ collective_words answer)) wrote
+    → RunsLine job number
+    (record { time = asked.time; event = scheduled.Collective asked.node asked.thread asked.call }) old new
+    (said_of wrote)
+collected_at job number asked answer old new wrote lacks collects line = λ area group most stands.
+    let nodes : Nodes = record { area = area; group = group } in
+    let it = collects lacks area group most stands in
+    let told = collective_answer job nodes asked.time asked.node asked.thread asked.call in
+    let written =
+    subst (λ (a : CollectiveAnswer). GathersAll old.out new.out (line_text (decimal number ∷ collective_words a)) wrote)
+    it.0 line
+    in (
+      one_line old.out new.out (decimal number ∷ collective_words told) wrote written,
+      on_done wrote _ it.1,
+    )
+
+pub collected : (job : WorldJob) (number : ℕ) (asked : CollectiveAsked) (answer : CollectiveAnswer)
+    (old new : NodesStage) (wrote : Wrote) (line : TimedEvent) → line.time ≡ asked.time
+    → line.event ≡ scheduled.Collective asked.node asked.thread asked.call
+    → is_lacking answer ≡ false → Collects job old.nodes asked answer new.nodes
+    → GathersAll old.out new.out (line_text (decimal number ∷ collective_words answer)) wrote
+    → RunsLine job number line old new (said_of wrote)
+collected job number asked answer old new wrote line time_is event_is lacks collects written =
+    subst₂ (λ (t : ℕ) (e : ScheduledEvent).
+    RunsLine job number (record { time = t; event = e }) old new (said_of wrote)) (sym time_is) (sym event_is)
+    (collected_at job number asked answer old new wrote lacks collects written)
+
+-- so by the handlers of a job, where those that ran are its own
+pub collected_by : (handlers own : JobHandlers) → own ≡ handlers → (world : WorldState) (number : ℕ)
+    (asked : CollectiveAsked) (answer : CollectiveAnswer) (old new : NodesStage) (wrote : Wrote) (said : Said)
+    (line : TimedEvent) → said ≡ said_of wrote → line.time ≡ asked.time
+    → line.event ≡ scheduled.Collective asked.node asked.thread asked.call
+    → is_lacking answer ≡ false → Collects (job_in (script_meaning own) world) old.nodes asked answer new.nodes
+    → GathersAll old.out new.out (line_text (decimal number ∷ collective_words answer)) wrote
+    → RunsLine (job_in (script_meaning handlers) world) number line old new said
+collected_by handlers own same world number asked answer old new wrote said line said_is time_is event_is lacks collects written =
+    subst₂ (λ (mine : JobHandlers) (how : Said). RunsLine (job_in (script_meaning mine) world) number line old new how)
+    same (sym said_is)
+    (collected (job_in (script_meaning own) world) number asked answer old new wrote line time_is event_is lacks collects
+    written)
+
+-- memory ran out before its line was written
+pub nothing_collected : (job : WorldJob) (number : ℕ) (line : TimedEvent) (old new : GroupState) (out : Outbox)
+    → RunsLine job number line (record { nodes = old; out = out }) (record { nodes = new; out = out }) NoMemory
+nothing_collected job number line old new out = λ area group most stands. ((_, no_lines_yet out _), tt)
 
 -- ---- the lines of a schedule
 
@@ -193,19 +290,21 @@ pub record Progress : Type 0 where
 abbrev pub progress : List TimedEvent → (place : ℕ) → Progress
 progress all place = record { all = all; rest = drop place all; number = place + 1 }
 
--- how far a schedule was run, from these records
-pub record HasRun (job : WorldJob) (lines : Progress) (old new : Stage) (from : Stood old.world) : Type 0 where
-  pub half :
-      Halfway job new.world from.records from.most (schedule_events job lines.all from.records)
-      (schedule_events job lines.rest)
+-- how far a schedule was run, where the nodes stood so
+pub record HasRun (job : WorldJob) (lines : Progress) (old new : NodesStage) (from : Stand) : Type 0 where
+  pub half : Halfway job new.nodes from lines.all lines.rest
   pub said :
-      LinesUpTo old.out new.out (answer_lines job 1 lines.all from.records)
-      (answer_lines job lines.number lines.rest half.records)
+      LinesUpTo old.out new.out (answer_lines job 1 lines.all from.nodes)
+      (answer_lines job lines.number lines.rest half.now.nodes)
 
-pub has_run_nothing : (job : WorldJob) (all : List TimedEvent) (old : Stage) (from : Stood old.world)
+-- they stood so
+abbrev pub StoodAt : NodesStage → Stand → Type 0
+StoodAt old from = StandsFor old.nodes from.nodes.area from.nodes.group from.most
+
+pub has_run_nothing : (job : WorldJob) (all : List TimedEvent) (old : NodesStage) (from : Stand) → StoodAt old from
     → HasRun job (progress all 0) old old from
-has_run_nothing job all old from = record {
-  half = halfway_none job old.world from.records from.most (schedule_events job all) from.stands;
+has_run_nothing job all old from stands = record {
+  half = halfway_none job old.nodes from all stands;
   said = no_lines_yet old.out _;
 }
 
@@ -214,41 +313,38 @@ abbrev before_line : (all more : List TimedEvent) (line : TimedEvent) (number : 
 before_line all more line number = record { all = all; rest = line ∷ more; number = number }
 
 -- one line more was run
-more_run : (job : WorldJob) (all more : List TimedEvent) (line : TimedEvent) (number : ℕ) (old mid new : Stage)
-    (from : Stood old.world)
+pub more_run : (job : WorldJob) (all more : List TimedEvent) (line : TimedEvent) (number : ℕ)
+    (old mid new : NodesStage) (from : Stand)
     → HasRun job (before_line all more line number) old mid from
-    → RunsPlan job (line_plan number line) mid new Done
+    → RunsLine job number line mid new Done
     → HasRun job (record { all = all; rest = more; number = number + 1 }) old new from
 more_run job all more line number old mid new from h ran =
-    let records = h.half.records in
-    let lines = answer_lines job 1 all from.records in
-    let now = ran records h.half.most_now h.half.stands in
+    let nodes = h.half.now.nodes in
+    let lines = answer_lines job 1 all from.nodes in
+    let now = ran nodes.area nodes.group h.half.now.most h.half.stands in
     record {
-      half =
-          halfway_more job mid.world new.world from.records from.most (schedule_events job all from.records)
-          (schedule_events job (line ∷ more)) (λ w. line_events job w line.time line.event) (schedule_events job more)
-          h.half refl (λ w most stands. (ran w most stands).1);
+      half = halfway_more job mid.nodes new.nodes from all more line h.half now.1;
       said =
-          lines_done old.out mid.out new.out lines (answer_lines job number (line ∷ more) records)
-          (answer_lines job number (line ∷ []) records) _ refl h.said now.0;
+          lines_done old.out mid.out new.out lines (answer_lines job number (line ∷ more) nodes)
+          (answer_lines job number (line ∷ []) nodes) _ refl h.said now.0;
     }
 
 -- the next line ended the run
-ended_run : (job : WorldJob) (all more : List TimedEvent) (line : TimedEvent) (number : ℕ) (old mid new : Stage)
-    (from : Stood old.world) (said : Said)
+ended_run : (job : WorldJob) (all more : List TimedEvent) (line : TimedEvent) (number : ℕ) (old mid new : NodesStage)
+    (from : Stand) (said : Said)
     → (said ≡ Done → ⊥) → HasRun job (before_line all more line number) old mid from
-    → RunsPlan job (line_plan number line) mid new said
-    → Says old.out new.out (answer_lines job 1 all from.records) said
+    → RunsLine job number line mid new said
+    → Says old.out new.out (answer_lines job 1 all from.nodes) said
 ended_run job all more line number old mid new from said n h ran =
-    let records = h.half.records in
-    let now = ran records h.half.most_now h.half.stands in
-    lines_said old.out mid.out new.out (answer_lines job 1 all from.records)
-    (answer_lines job number (line ∷ more) records) (answer_lines job number (line ∷ []) records) _ said n refl h.said
+    let nodes = h.half.now.nodes in
+    let now = ran nodes.area nodes.group h.half.now.most h.half.stands in
+    lines_said old.out mid.out new.out (answer_lines job 1 all from.nodes)
+    (answer_lines job number (line ∷ more) nodes) (answer_lines job number (line ∷ []) nodes) _ said n refl h.said
     now.0
 
 -- the place where the line is next
-at_line : (job : WorldJob) (all : List TimedEvent) (place : ℕ) (line : TimedEvent) (old mid : Stage)
-    (from : Stood old.world)
+at_line : (job : WorldJob) (all : List TimedEvent) (place : ℕ) (line : TimedEvent) (old mid : NodesStage)
+    (from : Stand)
     → drop place all ≡ line ∷ drop (place + 1) all → HasRun job (progress all place) old mid from
     → HasRun job (before_line all (drop (place + 1) all) line (place + 1)) old mid from
 at_line job all place line old mid from is h =
@@ -256,39 +352,38 @@ at_line job all place line old mid from is h =
     (λ (rest : List TimedEvent). HasRun job (record { all = all; rest = rest; number = place + 1 }) old mid from) is h
 
 -- the line at a place was run
-pub has_run_more : (job : WorldJob) (all : List TimedEvent) (place : ℕ) (line : TimedEvent) (old mid new : Stage)
-    (from : Stood old.world)
+pub has_run_more : (job : WorldJob) (all : List TimedEvent) (place : ℕ) (line : TimedEvent) (old mid new : NodesStage)
+    (from : Stand)
     → drop place all ≡ line ∷ drop (place + 1) all → HasRun job (progress all place) old mid from
-    → RunsPlan job (line_plan (place + 1) line) mid new Done
+    → RunsLine job (place + 1) line mid new Done
     → HasRun job (progress all (place + 1)) old new from
 has_run_more job all place line old mid new from is h ran =
     more_run job all (drop (place + 1) all) line (place + 1) old mid new from
     (at_line job all place line old mid from is h) ran
 
 -- it ended the run
-pub has_run_up_to : (job : WorldJob) (all : List TimedEvent) (place : ℕ) (line : TimedEvent) (old mid new : Stage)
-    (from : Stood old.world) (said : Said)
+pub has_run_up_to : (job : WorldJob) (all : List TimedEvent) (place : ℕ) (line : TimedEvent)
+    (old mid new : NodesStage) (from : Stand) (said : Said)
     → (said ≡ Done → ⊥) → drop place all ≡ line ∷ drop (place + 1) all → HasRun job (progress all place) old mid from
-    → RunsPlan job (line_plan (place + 1) line) mid new said
-    → Says old.out new.out (answer_lines job 1 all from.records) said
+    → RunsLine job (place + 1) line mid new said
+    → Says old.out new.out (answer_lines job 1 all from.nodes) said
 has_run_up_to job all place line old mid new from said n is h ran =
     ended_run job all (drop (place + 1) all) line (place + 1) old mid new from said n
     (at_line job all place line old mid from is h) ran
 
 -- all lines were run
-pub has_run_all : (job : WorldJob) (all : List TimedEvent) (place : ℕ) (old new : Stage) (from : Stood old.world)
+pub has_run_all : (job : WorldJob) (all : List TimedEvent) (place : ℕ) (old new : NodesStage) (from : Stand)
     → drop place all ≡ [] → HasRun job (progress all place) old new from
-    → Gathers old.out new.out (spell (answer_lines job 1 all from.records))
-    × StandsAfter job new.world (schedule_events job all from.records) from.records from.most
+    → Gathers old.out new.out (spell (answer_lines job 1 all from.nodes))
+    × StandsAfter job new.nodes.world (schedule_events job all from.nodes) from.nodes.group.records from.most
 has_run_all job all place old new from none h = whole _ none h
   where
     whole : (rest : List TimedEvent) → rest ≡ []
         → HasRun job (record { all = all; rest = rest; number = place + 1 }) old new from
-        → Gathers old.out new.out (spell (answer_lines job 1 all from.records))
-        × StandsAfter job new.world (schedule_events job all from.records) from.records from.most
+        → Gathers old.out new.out (spell (answer_lines job 1 all from.nodes))
+        × StandsAfter job new.nodes.world (schedule_events job all from.nodes) from.nodes.group.records from.most
     whole [] none k = (
-      lines_all old.out new.out (answer_lines job 1 all from.records) [] refl k.said,
-      halfway_all job new.world from.records from.most (schedule_events job all from.records) (schedule_events job [])
-          k.half refl,
+      lines_all old.out new.out (answer_lines job 1 all from.nodes) [] refl k.said,
+      halfway_all job new.nodes from all k.half,
     )
     whole (line ∷ rest) none k = absurd (cc)

@@ -1,10 +1,12 @@
 -- What holds of the run of a job.
 use Rattle.std.specs.Prelude.{ℕ, zero, suc, ◌≡◌, ◌+◌, ◌<◌, List, [], ◌∷◌, length, Some, slice_get, codes, decimal}
-use Rattle.std.specs.Prelude.{true}
+use Rattle.std.specs.Prelude.{true, is_some, map, ◌++◌}
+use Rattle.collective_laws.specs.CollectiveLaws.{EndsOk, Try}
+use Rattle.collective_laws.specs.Groups.{AreGroupEvents, GroupEvent, Other, opening_group}
 use Rattle.endpoint_rules.specs.EndpointLocal.{nothing_begun}
 use Rattle.endpoint_rules.specs.EndpointRules.{OtherCall, Records, RecordsEvent, at_the_opening, timed}
 use Rattle.std.specs.List.{AllByRecursion}
-use Rattle.plain_world.specs.World.{Timed, IsAmong, run}
+use Rattle.plain_world.specs.World.{Timed, IsAmong}
 use Rattle.gas_world.specs.Settling.{WorldJob}
 use Rattle.plain_world.specs.Headline.{Headline, IsGreatest, after_first}
 use Rattle.transfer_laws.specs.TransferLaws.{TransfersHold}
@@ -15,8 +17,10 @@ use Rattle.job_text.specs.declared.job.Job.{Job as JobState}
 use Rattle.node_script.specs.Bodies.{script_meaning}
 use Rattle.node_script.specs.Lines.{Line}
 use Rattle.node_script.specs.Registration.{handlers_of, registered}
-use Rattle.world_run.specs.Schedules.{line_events, scheduled_event, world_job}
+use Rattle.world_run.specs.Schedules.{Nodes, collective_event, line_events, nodes_after, opening_nodes, scheduled_event}
+use Rattle.world_run.specs.Schedules.{world_job}
 use Rattle.job_text.specs.JobReading.{lines_of}
+use Rattle.job_text.specs.declared.job.CollectiveText.TheVariants as text
 use Rattle.job_text.specs.declared.job.ScheduledEvent.{ScheduledEvent}
 use Rattle.job_text.specs.declared.job.ScheduledEvent.TheVariants as scheduled
 use Rattle.job_text.specs.declared.job.TimedEvent.{TimedEvent}
@@ -29,16 +33,15 @@ abbrev pub records_at : JobState → (count : ℕ) → Records
 records_at job count = after_first (world_job job) (run_events job) (at_the_opening job.settings) count
 
 -- how many events the lines before that one have
-abbrev pub events_before : WorldJob → List TimedEvent → Records → (line : ℕ) → ℕ
-events_before job [] w line = 0
-events_before job (e ∷ es) w zero = 0
-events_before job (e ∷ es) w (suc line) =
-    let events = line_events job w e.time e.event in
-    length events + events_before job es (run job events w) line
+abbrev pub events_before : WorldJob → List TimedEvent → Nodes → (line : ℕ) → ℕ
+events_before job [] nodes line = 0
+events_before job (e ∷ es) nodes zero = 0
+events_before job (e ∷ es) nodes (suc line) =
+    length (line_events job nodes e.time e.event) + events_before job es (nodes_after job nodes e) line
 
 -- the place of the event of a line of a job's schedule among the events of its run
 abbrev pub event_place : JobState → (line : ℕ) → ℕ
-event_place j line = events_before (world_job j) (lines_of j.schedule) (at_the_opening j.settings) line
+event_place j line = events_before (world_job j) (lines_of j.schedule) (opening_nodes j) line
 
 -- a line of the schedule, counted from 0, that is one event: where the event stands in the run, and that the line of
 -- the output at its place says its number and the answer to it there
@@ -51,9 +54,11 @@ pub record IsTold (job : JobState) (line : ℕ) (entry : TimedEvent) : Type 0 wh
   pub told : slice_get (run_lines job) line
       ≡ Some (decimal (line + 1) ∷ event_words (world_job job) (records_at job place) (timed entry.time event))
 
--- the line is one event, and not rounds of them, nor the calls that begin a transfer of many pieces
+-- the line is one event, and not rounds of them, nor the calls that begin a transfer of many pieces or that a call of a
+-- collective makes
 abbrev pub IsOneEvent : ScheduledEvent → Type 0
 IsOneEvent (scheduled.Vis node thread vis) = ⊥
+IsOneEvent (scheduled.Collective node thread call) = ⊥
 IsOneEvent (scheduled.Settle rounds) = ⊥
 IsOneEvent _ = Unit {0}
 
@@ -91,6 +96,48 @@ PlacesRise job =
     → IsOneEvent entry.event → line < other → other < length (lines_of job.schedule)
     → event_place job line < event_place job other
 
+-- ---- what a line that ends a collective tells
+
+-- the events of a line, as those of a group
+abbrev pub steps_at : WorldJob → Nodes → (time : ℕ) → ScheduledEvent → List GroupEvent
+steps_at job nodes time (scheduled.Collective node thread call) =
+    collective_event job.settings.nodes time node thread call ∷ []
+steps_at job nodes time event = map Other (line_events job nodes time event)
+
+-- those of the lines before that one
+abbrev pub steps_before : WorldJob → List TimedEvent → Nodes → (line : ℕ) → List GroupEvent
+steps_before job [] nodes line = []
+steps_before job (e ∷ es) nodes zero = []
+steps_before job (e ∷ es) nodes (suc line) =
+    steps_at job nodes e.time e.event ++ steps_before job es (nodes_after job nodes e) line
+
+abbrev pub run_steps : JobState → (line : ℕ) → List GroupEvent
+run_steps j line = steps_before (world_job j) (lines_of j.schedule) (opening_nodes j) line
+
+-- the try to end of a line, behind the lines before it
+abbrev pub try_at : (j : JobState) (place time node thread dest : ℕ)
+    → AreGroupEvents (world_job j) (opening_nodes j).area (opening_group j.settings) (run_steps j place)
+    → node < j.settings.nodes → Try (world_job j) (opening_nodes j).area
+try_at j place time node thread dest good there = record {
+  events = run_steps j place;
+  good = good;
+  now = time;
+  node = node;
+  there = there;
+  thread = thread;
+  dest = dest;
+}
+
+-- Where a line that tries to end a collective is told `ok`, all nodes have started that phase with one shape, and the
+-- bytes at `dest` are the node's result. In the lines before it nothing but collectives wrote into their areas, and nobody
+-- else asked for their handler
+abbrev pub ResultsHold : JobState → Type 0
+ResultsHold j =
+    (place node thread dest : ℕ)
+    (tells : Tells j place (scheduled.Collective node thread (text.Try dest)) (codes "ok" ∷ []))
+    (good : AreGroupEvents (world_job j) (opening_nodes j).area (opening_group j.settings) (run_steps j place))
+    (there : node < j.settings.nodes) → EndsOk (try_at j place tells.time node thread dest good there)
+
 -- ---- all of them
 
 -- its events are among the nodes of the job; the headline holds of it; its lines tell the answers of its events, in
@@ -98,7 +145,8 @@ PlacesRise job =
 -- is the greatest number of message buffers that it held; and in it, as in each run of a job with its settings and
 -- handlers, what a synchronisation of transfers that answers Ok tells was done, each pair of bytes of a plan whose pieces
 -- were synchronised was transferred exactly once, a try of the barrier that ends a phase tells the outcome of the nodes'
--- notifies, and, where the job has atomics, batches of operations act at one moment, in one history
+-- notifies, where the job has atomics, batches of operations act at one moment, in one history, and where it has
+-- collectives, a line that is told that it ended one tells that the node has its result
 pub record RunLaws (job : JobState) : Type 0 where
   pub among : AllByRecursion (λ (timed : Timed OtherCall). IsAmong job.settings timed.event) (run_events job)
   pub headline : Headline (world_job job) (λ node. nothing_begun job.settings) (run_events job)
@@ -113,3 +161,4 @@ pub record RunLaws (job : JobState) : Type 0 where
   pub barrier : BarrierHolds job.settings (registered (handlers_of job)).table (script_meaning (handlers_of job))
   pub atomics : job.atomics ≡ true
       → AtomicsHold job.settings (registered (handlers_of job)).table (script_meaning (handlers_of job))
+  pub collectives : is_some job.collect ≡ true → ResultsHold job

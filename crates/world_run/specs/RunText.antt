@@ -21,8 +21,9 @@ use Rattle.node_script.specs.Lines.{Word, Line}
 use Rattle.job_text.specs.declared.job.Job.{Job as JobState}
 use Rattle.node_script.specs.AnswerWords.{Sight, sight_of, answer_words, lock_fault_word, rule_word, vis_words}
 use Rattle.gas_world.specs.Settling.{WorldJob}
-use Rattle.world_run.specs.Schedules.{world_job, scheduled_event, line_events, schedule_events}
-use Rattle.world_run.specs.Schedules.{begin_asked, begin_answer}
+use Rattle.world_run.specs.Schedules.{world_job, scheduled_event, schedule_events}
+use Rattle.world_run.specs.Schedules.{Nodes, begin_asked, begin_answer, collective_answer, nodes_after, opening_nodes}
+use Rattle.node_script.specs.CollectiveWords.{collective_words}
 use Rattle.job_text.specs.JobReading.{lines_of}
 use Rattle.job_text.specs.declared.job.ScheduledEvent.{ScheduledEvent}
 use Rattle.job_text.specs.declared.job.ScheduledEvent.TheVariants as scheduled
@@ -58,21 +59,24 @@ words_by job records now None = codes "settled" ∷ []
 words_by job records now (Some event) = event_words job records (timed now event)
 
 -- the words of the answer to what a line asks for at a time
-abbrev pub words_at : WorldJob → Records → (now : ℕ) → ScheduledEvent → Line
-words_at job records now (scheduled.Vis node thread vis) =
-    vis_words (begin_answer job records now node (begin_asked thread vis))
-words_at job records now event = words_by job records now (scheduled_event records event)
+abbrev pub words_at : WorldJob → Nodes → (now : ℕ) → ScheduledEvent → Line
+words_at job nodes now (scheduled.Vis node thread vis) =
+    vis_words (begin_answer job nodes.group.records now node (begin_asked thread vis))
+words_at job nodes now (scheduled.Collective node thread call) =
+    collective_words (collective_answer job nodes now node thread call)
+words_at job nodes now event =
+    words_by job nodes.group.records now (scheduled_event nodes.group.records event)
 
 -- the words of the answer to a line of a schedule
-abbrev pub line_words : WorldJob → Records → TimedEvent → Line
-line_words job records entry = words_at job records entry.time entry.event
+abbrev pub line_words : WorldJob → Nodes → TimedEvent → Line
+line_words job nodes entry = words_at job nodes entry.time entry.event
 
 -- a line for each line of a schedule: its number, and the words of its answer
-abbrev pub answer_lines : WorldJob → (number : ℕ) → List TimedEvent → Records → List Line
-answer_lines job number [] records = []
-answer_lines job number (entry ∷ entries) records =
-    (decimal number ∷ line_words job records entry)
-    ∷ answer_lines job (number + 1) entries (run job (line_events job records entry.time entry.event) records)
+abbrev pub answer_lines : WorldJob → (number : ℕ) → List TimedEvent → Nodes → List Line
+answer_lines job number [] nodes = []
+answer_lines job number (entry ∷ entries) nodes =
+    (decimal number ∷ line_words job nodes entry)
+    ∷ answer_lines job (number + 1) entries (nodes_after job nodes entry)
 
 -- ---- nodes
 
@@ -130,7 +134,7 @@ end_lines settings records most = node_lines settings records most 0 settings.no
 
 -- the events of a job's run
 abbrev pub run_events : JobState → List (Timed OtherCall)
-run_events job = schedule_events (world_job job) (lines_of job.schedule) (at_the_opening job.settings)
+run_events job = schedule_events (world_job job) (lines_of job.schedule) (opening_nodes job)
 
 -- the records at the end of a job's run
 abbrev pub run_records : JobState → Records
@@ -147,5 +151,5 @@ is_violated job = any_violation (run_records job) 0 job.settings.nodes
 -- the lines of a job's run: the answers, and the lines at the end
 abbrev pub run_lines : JobState → List Line
 run_lines job =
-    answer_lines (world_job job) 1 (lines_of job.schedule) (at_the_opening job.settings)
+    answer_lines (world_job job) 1 (lines_of job.schedule) (opening_nodes job)
     ++ end_lines job.settings (run_records job) (run_most job)

@@ -1,5 +1,6 @@
 -- What a line of a schedule gives.
-use Rattle.std.specs.Prelude.{ℕ, ◌≡◌, ◌<◌, Option, Some, None}
+use Rattle.std.specs.Prelude.{ℕ, ◌≡◌, ◌<◌, true, Option, Some, None, is_some}
+use Rattle.job_text.specs.declared.job.CollectArea.{CollectArea}
 use Rattle.datagram_grammar.specs.Parameters.{Parameters}
 use Rattle.plain_world.specs.World.{IsAmong}
 use Rattle.endpoint_rules.specs.EndpointRules.{Records}
@@ -12,12 +13,15 @@ use Rattle.job_text.specs.declared.job.ScheduledEvent.TheVariants as scheduled
 use Rattle.world_run.specs.declared.schedule_line.Line.{Line}
 use Rattle.world_run.specs.declared.schedule_line.Line.TheVariants as lines
 
--- a line of a schedule, where the nodes have these records: its time, and its event, its transfer or its rounds
+-- a line of a schedule, where the nodes have these records: its time, and its event, its transfer, its call of
+-- collectives or its rounds
 abbrev pub IsLineOf : Records → TimedEvent → Line → Type 0
 IsLineOf records timed (lines.Event now event) =
     (now ≡ timed.time) × (scheduled_event records timed.event ≡ Some (event_of event))
 IsLineOf records timed (lines.Vis now begin) =
     (now ≡ timed.time) × (timed.event ≡ scheduled.Vis begin.node begin.thread begin.vis.now)
+IsLineOf records timed (lines.Collective now asked) =
+    (now ≡ timed.time) × (timed.event ≡ scheduled.Collective asked.node asked.thread asked.call)
 IsLineOf records timed (lines.Settle now rounds) = (now ≡ timed.time) × (timed.event ≡ scheduled.Settle rounds)
 
 -- none exactly where there is no such line
@@ -30,10 +34,17 @@ IsLine records _ _ = ⊥
 abbrev pub NamesNodes : Parameters → Line → Type 0
 NamesNodes settings (lines.Event now event) = IsAmong settings (event_of event)
 NamesNodes settings (lines.Vis now begin) = begin.node < settings.nodes
+NamesNodes settings (lines.Collective now asked) = asked.node < settings.nodes
 NamesNodes settings (lines.Settle now rounds) = Unit {0}
 
 -- the thread that calls is there, and a list of registers isn't too long, as a step of a world wants
 abbrev pub MayBeTaken : Parameters → Line → Type 0
 MayBeTaken settings (lines.Event now event) = MayFall settings event
 MayBeTaken settings (lines.Vis now begin) = MayBegin settings begin.thread begin.vis.now
+MayBeTaken settings (lines.Collective now asked) = asked.thread < settings.threads
 MayBeTaken settings (lines.Settle now rounds) = Unit {0}
+
+-- a line that calls for a collective stands only where the job has an area of them
+abbrev pub HasItsArea : Option CollectArea → Line → Type 0
+HasItsArea collect (lines.Collective now asked) = is_some collect ≡ true
+HasItsArea collect line = Unit {0}

@@ -1,5 +1,5 @@
 -- How the world runs the lines of a schedule, and what is written of it.
-use Rattle.std.specs.Prelude.{◌≡◌, ℕ, Bool, List, [], ◌∷◌, Option, codes, decimal}
+use Rattle.std.specs.Prelude.{◌≡◌, ℕ, Bool, true, false, List, [], ◌∷◌, Option, is_some, codes, decimal}
 use Rattle.datagram_grammar.specs.Parameters.{Parameters}
 use Rattle.gas_outside.specs.Buffered.{Gathering, Outbox, outbox, GathersAll}
 use Rattle.gas_outside.specs.declared.writing.Wrote.{Wrote}
@@ -21,7 +21,17 @@ use Rattle.job_text.specs.declared.job.Job.{Job as JobState}
 use Rattle.node_script.specs.Registration.{handlers_of, registered}
 use Rattle.gas_world.specs.Settling.{WorldJob, settle_events}
 use Rattle.gas_strided.specs.Beginning.{BeginCall}
-use Rattle.world_run.specs.Schedules.{begin_answer, begin_events, line_events, schedule_events}
+use Rattle.collective_group.specs.GroupState.{GroupState, IsGroup}
+use Rattle.collective_group.specs.Standing.{ForItsGroups, IsLeft, StandsFor}
+use Rattle.node_script.specs.declared.collective_texts.CollectiveAnswer.{CollectiveAnswer}
+use Rattle.node_script.specs.declared.collective_texts.CollectiveAnswer.TheVariants as collective
+use Rattle.gas_collectives.specs.declared.answers.StartAnswer.TheVariants as started
+use Rattle.gas_collectives.specs.declared.answers.StepAnswer.TheVariants as stepped
+use Rattle.gas_collectives.specs.declared.answers.EndAnswer.TheVariants as ended
+use Rattle.job_text.specs.declared.job.CollectiveText.{CollectiveText}
+use Rattle.world_run.specs.Schedules.{Nodes, begin_answer, begin_events, collective_answer, collective_event}
+use Rattle.world_run.specs.Schedules.{line_events, nodes_after, nodes_of, schedule_events}
+use Rattle.world_run.specs.declared.nodes.Nodes.{Nodes as KeptNodes}
 use Rattle.job_text.specs.declared.job.TimedEvent.{TimedEvent}
 use Rattle.world_run.specs.RunText.{world_words, event_words, line_words, answer_lines, any_violation, lines_of_node}
 use Rattle.world_run.specs.RunText.{end_lines, run_records, run_most}
@@ -89,15 +99,6 @@ settle_plan number now rounds =
       events = λ job. settle_events job now rounds;
     }
 
--- that of a line of the schedule
-abbrev pub line_plan : (number : ℕ) → TimedEvent → Plan
-line_plan number line =
-    record {
-      number = number;
-      words = λ job records. line_words job records line;
-      events = λ job records. line_events job records line.time line.event;
-    }
-
 -- the line that is planned, from these records
 abbrev pub planned : WorldJob → Plan → Records → Line
 planned job plan records = decimal plan.number ∷ plan.words job records
@@ -114,13 +115,76 @@ RunsPlan job plan old new said =
 abbrev pub RunsByScript : JobState → Plan → (old new : Stage) → Said → Type 0
 RunsByScript text plan old new said = RunsPlan (job_in (script_meaning (handlers_of text)) old.world) plan old new said
 
--- of all records for which the world stood: the answers to these lines were said, numbered from 1, and where they all
+-- ---- the nodes of a run
+
+-- as a group of the code
+abbrev pub kept : KeptNodes → GroupState
+kept nodes = record { world = nodes.world; nodes = nodes.collectives.items }
+
+-- each node has its collectives, where the job has them
+abbrev pub HaveCollectives : JobState → GroupState → Type 0
+HaveCollectives text it = is_some text.collect ≡ true → IsGroup it.world it.nodes
+
+-- they stand for some group
+pub record GroupStood (it : GroupState) : Type 0 where
+  pub nodes : Nodes
+  pub most : ℕ → ℕ
+  pub stands : StandsFor it nodes.area nodes.group most
+
+-- they are of the same job, and as many
+pub record IsOfSameNodes (text : JobState) (old new : GroupState) : Type 0 where
+  pub job : IsOfSameJob old.world new.world
+  pub have : HaveCollectives text old → HaveCollectives text new
+
+-- memory ran out
+abbrev pub is_lacking : CollectiveAnswer → Bool
+is_lacking (collective.Start started.NoMemory) = true
+is_lacking (collective.Step stepped.NoMemory) = true
+is_lacking (collective.End ended.NoMemory) = true
+is_lacking answer = false
+
+-- what a line asks of the collectives of its node
+pub record CollectiveAsked : Type 0 where
+  pub time : ℕ
+  pub node : ℕ
+  pub thread : ℕ
+  pub call : CollectiveText
+
+-- of all groups for which they stood: unless memory ran out, it is answered as the group answers, and they stand for
+-- what its event leaves
+abbrev pub Collects : WorldJob → (old : GroupState) → CollectiveAsked → CollectiveAnswer → (new : GroupState) → Type 0
+Collects job old asked answer new =
+    is_lacking answer ≡ false
+    → ForItsGroups old (λ area group most.
+    (answer ≡ collective_answer job (nodes_of area group) asked.time asked.node asked.thread asked.call)
+    × IsLeft job area group most
+    (collective_event job.settings.nodes asked.time asked.node asked.thread asked.call) new)
+
+-- the nodes of a run, and what went into its sink
+pub record NodesStage : Type 0 where
+  pub nodes : GroupState
+  pub out : Outbox
+
+abbrev pub nodes_stage : {K : Type 0} → (taken : K → Option (List ℕ)) → (faults : K → ℕ) → KeptNodes → Gathering K
+    → NodesStage
+nodes_stage taken faults nodes sink = record { nodes = kept nodes; out = outbox taken faults sink }
+
+-- of all groups for which the nodes stood: the line of the answer with this number was said, and where it was, they
+-- stand for what the line of the schedule leaves
+abbrev pub RunsLine : WorldJob → (number : ℕ) → TimedEvent → (old new : NodesStage) → Said → Type 0
+RunsLine job number line old new said =
+    ForItsGroups old.nodes (λ area group most.
+    Says old.out new.out ((decimal number ∷ line_words job (nodes_of area group) line) ∷ []) said
+    × OnDone said (StandsFor new.nodes area (nodes_after job (nodes_of area group) line).group
+    (most_after job (line_events job (nodes_of area group) line.time line.event) group.records most)))
+
+-- of all groups for which the nodes stood: the answers to these lines were said, numbered from 1, and where they all
 -- were, the world stands for the records after them
-abbrev pub RunsLines : WorldJob → List TimedEvent → (old new : Stage) → Said → Type 0
+abbrev pub RunsLines : WorldJob → List TimedEvent → (old new : NodesStage) → Said → Type 0
 RunsLines job lines old new said =
-    ForItsRecords old.world (λ records most.
-    Says old.out new.out (answer_lines job 1 lines records) said
-    × OnDone said (StandsAfter job new.world (schedule_events job lines records) records most))
+    ForItsGroups old.nodes (λ area group most.
+    Says old.out new.out (answer_lines job 1 lines (nodes_of area group)) said
+    × OnDone said (StandsAfter job new.nodes.world (schedule_events job lines (nodes_of area group)) group.records most))
 
 -- ---- what is written
 

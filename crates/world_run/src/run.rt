@@ -2,11 +2,10 @@
 
 ghost use Rattle.std.specs.Prelude.{◌≡◌, ◌<◌, ◌+◌, length, Some, slice_get};
 ghost use Rattle.gas_outside.specs.Buffered.{outbox};
-ghost use Rattle.endpoint_rules.specs.EndpointRules.{at_the_opening, timed};
+ghost use Rattle.endpoint_rules.specs.EndpointRules.{timed};
 ghost use Rattle.gas_world.specs.Aims.{MayFall};
 ghost use Rattle.gas_world.specs.Events.{ForItsRecords, event_of, job_in};
 ghost use Rattle.gas_world.specs.Settling.{Moves};
-ghost use Rattle.gas_world.specs.Stands.{Stands};
 ghost use Rattle.plain_world.specs.World.{IsAmong};
 ghost use Rattle.node_script.specs.Bodies.{script_meaning};
 ghost use Rattle.job_text.specs.JobText.{IsJob};
@@ -15,22 +14,28 @@ ghost use Rattle.job_text.specs.JobReading.{lines_of};
 ghost use Rattle.job_text.specs.declared.job.TimedEvent.{TimedEvent};
 ghost use Rattle.world_run.specs.RunText.{node_of, run_lines};
 ghost use Rattle.node_script.specs.ScriptInvariant.{MayBegin};
-ghost use Rattle.world_run.specs.Schedules.{begin_answer, begin_asked, begin_events};
+ghost use Rattle.world_run.specs.Schedules.{begin_answer, begin_asked, begin_events, opening_nodes};
 ghost use Rattle.world_run.specs.RunLaws.{RunLaws};
 ghost use Rattle.world_run.specs.ScheduleRun.{Stood, stage, begin_plan, event_plan, settle_plan};
-ghost use Rattle.world_run.specs.ScheduleRun.{line_plan, IsOfSameJob};
-ghost use Rattle.world_run.specs.ScheduleRun.{RunsByScript, RunsLines, StandsForRun};
+ghost use Rattle.world_run.specs.ScheduleRun.{GroupStood, HaveCollectives, IsOfSameJob, IsOfSameNodes};
+ghost use Rattle.world_run.specs.ScheduleRun.{RunsByScript, RunsLine, RunsLines, StandsForRun};
+ghost use Rattle.world_run.specs.ScheduleRun.{is_lacking, kept, nodes_stage};
+ghost use Rattle.collective_group.specs.GroupState.{IsGroup};
+ghost use Rattle.collective_group.specs.Standing.{StandsFor};
+ghost use Rattle.job_text.specs.declared.job.ScheduledEvent.TheVariants.{Collective};
 ghost use Rattle.world_run.specs.LinesWritten.{Says, OnDone};
 ghost use Rattle.world_run.specs.RunEnds.{RunEnds};
 
+use crate::nodes::Nodes;
 use crate::output::{any_violation, write_event_answer, write_nodes, write_numbered};
 use crate::said::Said;
-use crate::schedule_line::{Beginning, Line, line_at};
+use crate::schedule_line::{Beginning, CollectiveCall, Line, line_at};
 use gas_outside::{BufferedSink, Sink};
+use gas_collectives::{EndAnswer, StartAnswer, StepAnswer};
 use gas_strided::Vis;
 use gas_world::{World, WorldAnswer, WorldEvent};
 use handler_rules::Handlers;
-use node_script::{Script, write_vis};
+use node_script::{CollectiveAnswer, Script, write_collective, write_vis};
 use std::alloc::{AllocError, Global};
 use world_caller::AtNode;
 
@@ -156,52 +161,94 @@ fn run_settle<K: Sink>(
     }
 }
 
+/// Whether memory ran out.
+fn is_lacking(answer: CollectiveAnswer) -> bool
+    ensures { result ≡ is_lacking answer }
+{
+    match answer {
+        CollectiveAnswer::Start(StartAnswer::NoMemory) => true,
+        CollectiveAnswer::Step(StepAnswer::NoMemory) => true,
+        CollectiveAnswer::End(EndAnswer::NoMemory) => true,
+        _ => false,
+    }
+}
+
+/// Makes a call for the collectives of a node, and writes the line of its answer.
+fn run_collective<K: Sink>(
+    nodes: &mut Nodes,
+    script: &Script,
+    at: Place,
+    asked: &CollectiveCall,
+    sink: &mut BufferedSink<K>,
+) -> Said
+    requires group { IsGroup nodes.old.world nodes.old.collectives.items }
+    requires node { asked.now.node < nodes.old.world.settings.nodes }
+    requires thread { asked.now.thread < nodes.old.world.settings.threads }
+    ensures job { IsOfSameNodes script.now (kept nodes.old) (kept nodes.new) }
+    ensures runs { (line : TimedEvent) → line.time ≡ at.now
+        → line.event ≡ Collective asked.now.node asked.now.thread asked.now.call
+        → RunsLine (job_in (script_meaning (handlers_of script.now)) nodes.old.world) at.number line
+        (nodes_stage K.taken K.faults nodes.old sink.old) (nodes_stage K.taken K.faults nodes.new sink.new)
+        result }
+{
+    let answer = nodes.collect(script.handlers(), at.now, asked);
+    if is_lacking(answer) {
+        return Said::NoMemory;
+    }
+    Said::from_wrote(write_collective(at.number, answer, sink))
+}
+
 /// Runs line `place` of the schedule, from 0, and writes its line, whose number is one more.
 fn run_line<K: Sink>(
-    world: &mut World,
+    nodes: &mut Nodes,
     script: &Script,
     place: usize,
     sink: &mut BufferedSink<K>,
 ) -> Said
     requires job { IsJob script.now }
-    requires settings { world.old.settings ≡ script.now.settings }
-    requires stood { Stood world.old }
+    requires settings { nodes.old.world.settings ≡ script.now.settings }
+    requires have { HaveCollectives script.now (kept nodes.old) }
+    requires stood { GroupStood (kept nodes.old) }
     requires line { place < length (lines_of script.now.schedule) }
-    ensures settings { world.new.settings ≡ world.old.settings }
-    ensures table { world.new.table ≡ world.old.table }
+    ensures job { IsOfSameNodes script.now (kept nodes.old) (kept nodes.new) }
     ensures runs { (line : TimedEvent) → slice_get (lines_of script.now.schedule) place ≡ Some line
-        → RunsByScript script.now (line_plan (place + 1) line)
-        (stage K.taken K.faults world.old sink.old) (stage K.taken K.faults world.new sink.new) result }
+        → RunsLine (job_in (script_meaning (handlers_of script.now)) nodes.old.world) (place + 1) line
+        (nodes_stage K.taken K.faults nodes.old sink.old) (nodes_stage K.taken K.faults nodes.new sink.new)
+        result }
 {
     let number = place as u64 + 1;
     let mut args = [0; 17];
-    match line_at(script, place, world, &mut args) {
+    match line_at(script, place, &nodes.world, &mut args) {
         Some(Line::Event { now, event }) => {
-            run_event(world, script, Place { number, now }, &event, sink)
+            run_event(&mut nodes.world, script, Place { number, now }, &event, sink)
         }
         Some(Line::Vis { now, begin }) => {
-            run_vis(world, script, Place { number, now }, &begin, sink)
+            run_vis(&mut nodes.world, script, Place { number, now }, &begin, sink)
+        }
+        Some(Line::Collective { now, asked }) => {
+            run_collective(nodes, script, Place { number, now }, &asked, sink)
         }
         Some(Line::Settle { now, rounds }) => {
-            run_settle(world, script, Place { number, now }, rounds, sink)
+            run_settle(&mut nodes.world, script, Place { number, now }, rounds, sink)
         }
         None => unreachable!(),
     }
 }
 
 /// Runs the lines of the schedule in order, and writes a line for each, numbered from 1.
-fn run_schedule<K: Sink>(world: &mut World, script: &Script, sink: &mut BufferedSink<K>) -> Said
+fn run_schedule<K: Sink>(nodes: &mut Nodes, script: &Script, sink: &mut BufferedSink<K>) -> Said
     requires job { IsJob script.now }
-    requires settings { world.old.settings ≡ script.now.settings }
-    requires stood { Stood world.old }
-    ensures settings { world.new.settings ≡ world.old.settings }
-    ensures table { world.new.table ≡ world.old.table }
-    ensures runs { RunsLines (job_in (script_meaning (handlers_of script.now)) world.old)
+    requires settings { nodes.old.world.settings ≡ script.now.settings }
+    requires have { HaveCollectives script.now (kept nodes.old) }
+    requires stood { GroupStood (kept nodes.old) }
+    ensures job { IsOfSameJob nodes.old.world nodes.new.world }
+    ensures runs { RunsLines (job_in (script_meaning (handlers_of script.now)) nodes.old.world)
         (lines_of script.now.schedule)
-        (stage K.taken K.faults world.old sink.old) (stage K.taken K.faults world.new sink.new) result }
+        (nodes_stage K.taken K.faults nodes.old sink.old) (nodes_stage K.taken K.faults nodes.new sink.new)
+        result }
 {
     for place in 0..script.lines() {
-        match run_line(world, script, place, sink) {
+        match run_line(nodes, script, place, sink) {
             Said::Done => {}
             ended => return ended,
         }
@@ -209,18 +256,20 @@ fn run_schedule<K: Sink>(world: &mut World, script: &Script, sink: &mut Buffered
     Said::Done
 }
 
-/// Runs a job in its world, which is at the opening, and writes its lines.
-fn run_in<K: Sink>(world: &mut World, script: &Script, sink: &mut BufferedSink<K>) -> Said
+/// Runs a job among its nodes, which are at the opening, and writes its lines.
+fn run_in<K: Sink>(nodes: &mut Nodes, script: &Script, sink: &mut BufferedSink<K>) -> Said
     requires job { IsJob script.now }
-    requires settings { world.old.settings ≡ script.now.settings }
-    requires table { world.old.table ≡ (registered (handlers_of script.now)).table }
-    requires stands { Stands world.old (at_the_opening script.now.settings) (λ i. 0) }
+    requires settings { nodes.old.world.settings ≡ script.now.settings }
+    requires table { nodes.old.world.table ≡ (registered (handlers_of script.now)).table }
+    requires have { HaveCollectives script.now (kept nodes.old) }
+    requires stands { StandsFor (kept nodes.old) (opening_nodes script.now).area
+        (opening_nodes script.now).group (λ i. 0) }
     ensures lines { Says (outbox K.taken K.faults sink.old) (outbox K.taken K.faults sink.new)
         (run_lines script.now) result }
-    ensures world { OnDone result (StandsForRun script.now world.new) }
+    ensures world { OnDone result (StandsForRun script.now nodes.new.world) }
 {
-    match run_schedule(world, script, sink) {
-        Said::Done => Said::from_wrote(write_nodes(world, sink)),
+    match run_schedule(nodes, script, sink) {
+        Said::Done => Said::from_wrote(write_nodes(&nodes.world, sink)),
         ended => ended,
     }
 }
@@ -252,13 +301,16 @@ pub fn run_job<K: Sink>(alloc: Global, script: &Script, sink: &mut BufferedSink<
         (outbox K.taken K.faults sink.new) result }
     ensures laws { RunLaws script.now }
 {
-    let Ok(mut world) = World::new(alloc, script.settings(), script.table()) else {
+    let Ok(mut nodes) = Nodes::new(alloc, script) else {
         return RunEnd::NoMemory;
     };
-    match run_in(&mut world, script, sink) {
+    match run_in(&mut nodes, script, sink) {
         Said::Done => {
-            let violated = any_violation(&world);
-            RunEnd::Done { violated, world }
+            let violated = any_violation(&nodes.world);
+            RunEnd::Done {
+                violated,
+                world: nodes.world,
+            }
         }
         Said::Fault => RunEnd::Fault,
         Said::NoMemory => RunEnd::NoMemory,

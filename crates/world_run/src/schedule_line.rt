@@ -1,13 +1,14 @@
 //! The lines of a schedule, as they are run.
 
-ghost use Rattle.std.specs.Prelude.{◌≡◌, IfSome, slice_get};
+ghost use Rattle.std.specs.Prelude.{◌≡◌, IfSome, Option, slice_get};
 ghost use Rattle.gas_world.specs.Events.{ForItsRecords};
-ghost use Rattle.node_script.specs.ScriptInvariant.{IsWithin};
-ghost use Rattle.world_run.specs.ScheduleLine.{IsLine, IsLineOf, MayBeTaken, NamesNodes};
+ghost use Rattle.node_script.specs.ScriptInvariant.{IsWithin, MayCollect};
+ghost use Rattle.job_text.specs.declared.job.CollectArea.{CollectArea};
+ghost use Rattle.world_run.specs.ScheduleLine.{HasItsArea, IsLine, IsLineOf, MayBeTaken, NamesNodes};
 ghost use Rattle.job_text.specs.JobReading.{lines_of};
 
 use gas_world::{World, WorldEvent};
-use job_text::{ScheduledEvent, TimedEvent, VisText};
+use job_text::{CollectiveText, ScheduledEvent, TimedEvent, VisText};
 use node_script::{Script, call_of};
 
 /// A transfer of many pieces that a thread of a node is to begin.
@@ -19,6 +20,17 @@ pub struct Beginning<'a> {
     pub thread: u16,
     /// The plan, the piece to begin from, and the register of the handle.
     pub vis: &'a VisText,
+}
+
+/// A call of a thread of a node for its collectives.
+#[derive(Clone, Copy)]
+pub struct CollectiveCall {
+    /// The node.
+    pub node: u16,
+    /// The thread.
+    pub thread: u16,
+    /// What is asked.
+    pub call: CollectiveText,
 }
 
 /// A line of a schedule, as it is run.
@@ -37,6 +49,13 @@ pub enum Line<'a> {
         now: u64,
         /// What is begun.
         begin: Beginning<'a>,
+    },
+    /// A call for collectives at its time: what calls it makes, they decide.
+    Collective {
+        /// The time.
+        now: u64,
+        /// What is asked.
+        asked: CollectiveCall,
     },
     /// Rounds of ticks and deliveries, all at one time.
     Settle {
@@ -61,6 +80,7 @@ pub fn line_at<'a>(
         IsLine records (slice_get (lines_of script.now.schedule) place) result) }
     ensures nodes { IfSome result (NamesNodes script.now.settings) }
     ensures called { IfSome result (MayBeTaken script.now.settings) }
+    ensures area { IfSome result (HasItsArea script.now.collect) }
 {
     match script.timed(place) {
         Some(timed) => Some(line_of(timed, world, args)),
@@ -74,6 +94,8 @@ fn line_of<'a>(timed: &'a TimedEvent, world: &World, args: &'a mut [i32; 17]) ->
     ensures line { ForItsRecords world.now (λ records most. IsLineOf records timed.now result) }
     ensures nodes { NamesNodes world.now.settings result }
     ensures called { MayBeTaken world.now.settings result }
+    ensures area { (collect : Option CollectArea) → MayCollect collect timed.now.event
+        → HasItsArea collect result }
 {
     let now = timed.time;
     let event = match &timed.event {
@@ -89,6 +111,14 @@ fn line_of<'a>(timed: &'a TimedEvent, world: &World, args: &'a mut [i32; 17]) ->
                 vis: vis.text(),
             };
             return Line::Vis { now, begin };
+        }
+        ScheduledEvent::Collective { node, thread, call } => {
+            let asked = CollectiveCall {
+                node: *node,
+                thread: *thread,
+                call: *call,
+            };
+            return Line::Collective { now, asked };
         }
         ScheduledEvent::Request { from, to, number } => WorldEvent::Request {
             from: *from,

@@ -13,3 +13,6 @@ some_line w o e line same h = subst (λ (x : Option TimedEvent). IsLine w x (Som
 pub returns-in-Some-clause-line : goal.returns-in-Some-clause-line
 returns-in-Some-clause-line c w most stands =
     some_line w _ c.in-Some.timed.now c.line_of.result c.in-Some.ensures.line (c.line_of.ensures.line w most stands)
+
+pub returns-in-Some-clause-area : goal.returns-in-Some-clause-area
+returns-in-Some-clause-area c = c.line_of.ensures.area c.args.script.now.collect c.in-Some.ensures.collect

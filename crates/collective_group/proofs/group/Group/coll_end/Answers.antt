@@ -1,16 +1,19 @@
 use Rattle.std.proofs.Common.{◌≡◌, ◌<◌, List, [], ◌∷◌, length, refl, ap, subst, ◌∙◌, arith}
 use Rattle.std.specs.Prelude.{slice_set}
 use Rattle.handler_rules.specs.Runs.{Meaning}
-use Rattle.plain_world.specs.World.{run}
+use Rattle.gas_world.specs.Events.{job_in}
+use Rattle.plain_world.specs.MostHeld.{most_after}
 use Rattle.node_caller.specs.Making.{whole_after}
-use Rattle.node_caller.specs.Sites.{Site, ThreadCall, job_at}
-use Rattle.world_caller.specs.Wholes.{WorldWhole, events_of, whole_then}
+use Rattle.node_caller.specs.Sites.{Site, ThreadCall}
+use Rattle.world_caller.specs.Wholes.{WorldWhole, whole_then}
 use Rattle.world_caller.specs.contracts.at_node.AtNodeCaller.TheImpl.{ghosts}
 use Rattle.gas_collectives.specs.Ends.{EndAsked}
 use Rattle.collective_laws.specs.Groups.{End, GroupEvent, OfEnd}
 use Rattle.collective_group.specs.GroupState.{GroupState}
+use Rattle.collective_group.specs.CallsOf.{calls_of}
+use Rattle.collective_group.specs.Histories.{left_by}
 use Rattle.collective_group.specs.Standing.{Does}
-use Rattle.collective_group.proofs.Ending.{end_came, end_does, long_at}
+use Rattle.collective_group.proofs.Ending.{after_calls, end_came, end_does, long_at}
 use Rattle.collective_group.proofs.Growing.{grows, tells}
 use Rattle.collective_group.proofs.Nodes.{at_place, group_set}
 use Rattle.collective_group.proofs.Starting.{site_in}
@@ -73,8 +76,8 @@ returns-clause-does g c =
         omega (arith, nodes, count, c.from.ensures, c.requires.node)
 
     one_by_one : (whole : WorldWhole) (calls : List ThreadCall)
-        → (whole_after (ghosts g.row.H g.H.Handlers g.H.Handlers-dict) site whole calls).records
-        ≡ run (job_at site) (events_of site calls) whole.records
+        → whole_after (ghosts g.row.H g.H.Handlers g.H.Handlers-dict) site whole calls
+        ≡ after_calls site whole calls
     one_by_one whole [] = refl
     one_by_one whole (call ∷ later) = one_by_one (whole_then site whole call) later
 
@@ -90,7 +93,13 @@ returns-clause-history g c = λ history is.
           ∙ ap (λ (one : GroupState). one.world.settings) c.self.view_is;
       table = ap (λ (site : Site). site.table) c.try_end.ensures.same_site
           ∙ ap (λ (one : GroupState). one.world.table) c.self.view_is;
-    }) is c.requires.node (returns-clause-does g c history.area _ is.is_left).1
+    }) is c.requires.node (
+      most_after (job_in meaning c.args.self.now.world)
+          (calls_of (job_in meaning c.args.self.now.world) history.area (left_by meaning c.args.self.now history)
+          (End c.args.now c.args.node c.args.thread c.args.dest)) (left_by meaning c.args.self.now history).records
+          is.is_left.0,
+      (returns-clause-does g c history.area (left_by meaning c.args.self.now history) is.is_left.0 is.is_left.1).1,
+    )
 
 pub returns-clause-law : goal.returns-clause-law
 returns-clause-law g c = λ history is there.

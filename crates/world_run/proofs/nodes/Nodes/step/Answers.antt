@@ -1,0 +1,40 @@
+use Rattle.std.proofs.Common.{◌<◌, length, refl, ap, arith}
+use Rattle.handler_rules.specs.Runs.{Meaning}
+use Rattle.node_caller.specs.Sites.{Site}
+use Rattle.world_caller.specs.Wholes.{WorldWhole}
+use Rattle.world_caller.specs.contracts.at_node.AtNodeCaller.TheImpl.{ghosts}
+use Rattle.collective_group.specs.GroupState.{GroupState}
+use Rattle.collective_group.proofs.Nodes.{at_place, group_set}
+use Rattle.collective_group.proofs.Starting.{site_in}
+use Rattle.collective_group.proofs.Stepping.{step_does, steps_came}
+use Rattle.world_run.proofs.nodes.Nodes.step.Goals as goal
+
+pub returns-clause-group : goal.returns-clause-group
+returns-clause-group g c =
+    let low : c.from.result < length c.args.self.now.collectives.items =
+    omega (arith, c.requires.group.count, c.from.ensures, c.requires.node) in
+    group_set c.args.self.now.world c.step.new.caller.world.now c.args.self.now.collectives.items c.from.result
+    c.index_mut.result.now c.step.new.self c.requires.group
+    (ap (λ (site : Site). site.settings) c.step.ensures.same_site) low
+    (at_place c.args.self.now.collectives.items c.from.result c.index_mut.result.now low c.index_mut.ensures.value)
+    c.step.ensures.same_node
+
+pub returns-clause-does : goal.returns-clause-does
+returns-clause-does g c =
+    let low : c.from.result < length c.args.self.now.collectives.items =
+    omega (arith, c.requires.group.count, c.from.ensures, c.requires.node) in
+    let meaning : Meaning = g.H.Handlers.meaning c.args.handlers.now in
+    let old : GroupState = record { world = c.args.self.now.world; nodes = c.args.self.now.collectives.items } in
+    step_does meaning old c.step.new.caller.world.now c.args.now c.args.node c.from.result c.args.thread
+    c.index_mut.result.now c.step.new.self c.step.result (record {
+      group = c.requires.group;
+      good = c.step.ensures.stands;
+      low = low;
+      there = at_place c.args.self.now.collectives.items c.from.result c.index_mut.result.now low
+          c.index_mut.ensures.value;
+    }) c.from.ensures c.step.ensures.same_node
+    (λ group most stands.
+    let whole : WorldWhole = record { records = group.records; most = most } in
+    steps_came (ghosts g.row.H g.H.Handlers g.H.Handlers-dict)
+    (site_in meaning c.args.self.now.world c.args.node c.args.now) c.args.thread c.index_mut.result.now _ c.step.result
+    c.step.new.self c.step.new.caller c.step.ensures.steps whole stands refl)
