@@ -73,12 +73,12 @@ plan_runs job plan number line old new said same is ran = λ area group most sta
     let events = line_events job nodes line.time line.event in (
       subst (λ (l : Line). Says old.out new.out (l ∷ []) said) says said_so.0,
       on_done_more said (λ after.
-      subst (λ (left : Group). StandsFor new.nodes area left (most_after job events group.records most)) (sym it.left)
-      (record {
-        world = subst (λ (made : List (Timed OtherCall)). StandsAfter job new.nodes.world made group.records most)
-            it.events after;
-        nodes = subst (AreAsFar area group.progress) (sym same) stands.nodes;
-      })) said_so.1,
+          subst (λ (left : Group). StandsFor new.nodes area left (most_after job events group.records most)) (sym it.left)
+          (record {
+            world = subst (λ (made : List (Timed OtherCall)). StandsAfter job new.nodes.world made group.records most)
+                it.events after;
+            nodes = subst (AreAsFar area group.progress) (sym same) stands.nodes;
+          })) said_so.1,
     )
 
 -- the plan of a line that has one event is that of the event

@@ -87,13 +87,7 @@ impl Nodes {
     }
 
     /// `Collectives::step` of a node, by its thread at the time `now`.
-    fn step<H: Handlers>(
-        &mut self,
-        handlers: &H,
-        now: u64,
-        node: u16,
-        thread: u16,
-    ) -> StepAnswer
+    fn step<H: Handlers>(&mut self, handlers: &H, now: u64, node: u16, thread: u16) -> StepAnswer
         requires group { IsGroup self.old.world self.old.collectives.items }
         requires node { node < self.old.world.settings.nodes }
         requires thread { thread < self.old.world.settings.threads }

@@ -30,8 +30,8 @@ use crate::nodes::Nodes;
 use crate::output::{any_violation, write_event_answer, write_nodes, write_numbered};
 use crate::said::Said;
 use crate::schedule_line::{Beginning, CollectiveCall, Line, line_at};
-use gas_outside::{BufferedSink, Sink};
 use gas_collectives::{EndAnswer, StartAnswer, StepAnswer};
+use gas_outside::{BufferedSink, Sink};
 use gas_strided::Vis;
 use gas_world::{World, WorldAnswer, WorldEvent};
 use handler_rules::Handlers;
@@ -220,16 +220,34 @@ fn run_line<K: Sink>(
     let mut args = [0; 17];
     match line_at(script, place, &nodes.world, &mut args) {
         Some(Line::Event { now, event }) => {
-            run_event(&mut nodes.world, script, Place { number, now }, &event, sink)
+            run_event(
+                &mut nodes.world,
+                script,
+                Place { number, now },
+                &event,
+                sink,
+            )
         }
         Some(Line::Vis { now, begin }) => {
-            run_vis(&mut nodes.world, script, Place { number, now }, &begin, sink)
+            run_vis(
+                &mut nodes.world,
+                script,
+                Place { number, now },
+                &begin,
+                sink,
+            )
         }
         Some(Line::Collective { now, asked }) => {
             run_collective(nodes, script, Place { number, now }, &asked, sink)
         }
         Some(Line::Settle { now, rounds }) => {
-            run_settle(&mut nodes.world, script, Place { number, now }, rounds, sink)
+            run_settle(
+                &mut nodes.world,
+                script,
+                Place { number, now },
+                rounds,
+                sink,
+            )
         }
         None => unreachable!(),
     }
