@@ -1,5 +1,5 @@
 -- The calls of a turn are events of the run, and are answered there as the node answers them.
-use Rattle.std.proofs.Common.{◌≡◌, ◌≢◌, ℕ, ◌+◌, List, [], ◌∷◌, ◌++◌, Option, Some}
+use Rattle.std.proofs.Common.{◌≡◌, ◌≢◌, ℕ, List, [], ◌∷◌, ◌++◌, Option, Some}
 use Rattle.std.proofs.Common.{None, refl, sym, ap, ap₂, subst, ◌∙◌, append_assoc}
 use Rattle.std.proofs.lemmas.Option.{same_Some}
 use Rattle.datagram_grammar.specs.Parameters.{Parameters}
@@ -23,7 +23,7 @@ use Rattle.plain_world.specs.World.{Asks, Does, RequestComes, ReplyComes, Ticks,
 use Rattle.plain_world.specs.World.{request_event, reply_event, world_answer, world_after, run}
 use Rattle.transfer_laws.specs.Chunks.{EndpointJob}
 use Rattle.check_run.specs.StepLines.{StepAt}
-use Rattle.check_run.specs.StepsTold.{IsMade, IsReply, call_event, records_after, rules_of}
+use Rattle.check_run.specs.StepsTold.{IsMade, IsMadeSince, IsReply, call_event, records_after, rules_of}
 
 -- ---- runs in parts
 
@@ -160,19 +160,12 @@ reply_is : (job : EndpointJob) (world : Records) (at : StepAt) (now : ℕ) (call
 reply_is job world at now (Requests to asking) = (_, refl, refl)
 reply_is job world at now (Performs call) = refl
 
--- a call that was made behind the events of the past
-pub record IsMadeBehind (job : JobState) (past happened : List (Timed OtherCall)) (at : StepAt) (call : ThreadCall)
-    (answer : Answer) : Type 0 where
-  pub made : IsMade job (past ++ happened) at call answer
-  pub between : List (Timed OtherCall)
-  pub before_is : made.before ≡ past ++ between
-
--- so it is of one among the events of a turn
+-- a call that is one of the events of a turn was made behind the past
 pub made_at : (job : JobState) (past : List (Timed OtherCall)) (at : StepAt) (now : ℕ) (first : List RecordEvent)
     (call : ThreadCall) (rest : List RecordEvent) (happened : List (Timed OtherCall)) (node : Node EndpointLocal)
     → records_after job past at.rank ≡ node
     → AreEvents (rules_of job) (records_after job past) at.rank now (first ++ node_event at.thread call ∷ rest) happened
-    → IsMadeBehind job past happened at call
+    → IsMadeSince job past (past ++ happened) at call
     (told (node_answer (rules_of job) at.rank (node_run (rules_of job) at.rank now first node) now
     (node_event at.thread call)))
 made_at job past at now first call rest happened node is are =

@@ -11,6 +11,8 @@ use Rattle.std.proofs.lemmas.List.Concat.{flat_map-append}
 use Rattle.std.proofs.lemmas.List.Elements.{All-nil, All-push}
 use Rattle.std.proofs.lemmas.Option.{get_or_from_slice_get, same_Some, slice_get_within, slice_get_cases}
 use Rattle.gasnet_trace.specs.OutputReading.{GivesOutput, IsNear, ReadsOutput, output_at}
+use Rattle.gasnet_trace.specs.LineRefusals.{IsMeant, Means}
+use Rattle.gasnet_trace.specs.OutputRefusals.{output_kind}
 use Rattle.gasnet_trace.specs.OutputText.{IsOutput, OutputBegins, output_text}
 use Rattle.gasnet_trace.specs.TraceReading.{BadLine as BadTraceLine}
 use Rattle.gasnet_trace.specs.declared.fault.TraceFault.{TraceFault}
@@ -30,7 +32,8 @@ use Rattle.check_run.specs.CheckInputs.{AreOutputs, AreRead, AreUnread, HaveTrac
 use Rattle.check_run.specs.CheckInputs.{IsTraceOf, OutputsOf, OutputsRead, StandThere, after_output, all_of, bad_behind}
 use Rattle.check_run.specs.CheckInputs.{input_limit, lines_in, outputs_at, outputs_text, wanted_of, why_of}
 use Rattle.check_run.specs.CheckInputs.{with_outputs, IsRefused, IsUnread, ReadsOutputs, TakesInput, TakesNone}
-use Rattle.check_run.specs.CheckInputs.{fault_behind}
+use Rattle.check_run.specs.CheckInputs.{HasMoreBehind, fault_behind, lines_until}
+use Rattle.check_run.proofs.InputsTold.{all_once, bad_once, front_fits, meant_there, none_bad}
 use Rattle.check_run.specs.declared.input.CheckInput.{CheckInput}
 use Rattle.check_run.specs.declared.input.InputFault.{InputFault}
 use Rattle.check_run.specs.declared.input.InputFault.TheVariants as faults
@@ -281,15 +284,33 @@ read_end place outputs rank at high low so =
       within = so.within;
     }
 
+-- where the rest begins
+left_is : (at : ℕ) (bytes : List ℕ) → at ≤ length bytes → at ≡ length bytes - length (drop at bytes)
+left_is at bytes within = let left = length-drop at bytes in omega (arith, left, within)
+
 -- the next one is none
 pub read_bad : (place : OutputsOf) (outputs : List Output) (rank at : ℕ) (bad : BadTraceLine)
     → rank < place.job.settings.nodes → ReadSoFar place outputs rank at
     → ((other : Output) (size : ℕ) → OutputBegins (wanted_of place.job rank) (drop at place.bytes) other size → ⊥)
     → output_at (wanted_of place.job rank) (drop at place.bytes) ≡ Err bad
+    → Means (output_kind (wanted_of place.job rank)) (drop at place.bytes) bad.line bad.why
     → AreUnread place (lines_in (take at place.bytes) + bad.line) (why_of bad.why)
-read_bad place outputs rank at bad low so none read =
+read_bad place outputs rank at bad low so none read means =
     let counted : place.job.settings.nodes - rank ≡ suc (place.job.settings.nodes - (rank + 1)) = omega arith in
     record {
+      means = record {
+        outputs = outputs;
+        fewer = omega (arith, so.count, low);
+        are = so.are;
+        rest = drop at place.bytes;
+        text = so.text;
+        own_line = bad.line;
+        own_reason = bad.why;
+        means = subst (λ (n : ℕ). Means (output_kind (wanted_of place.job n)) (drop at place.bytes) bad.line bad.why)
+            (sym so.count) means;
+        line_is = ap (λ (n : ℕ). lines_in (take n place.bytes) + bad.line) (left_is at place.bytes so.within);
+        reason_is = refl;
+      };
       read = so.read ∙ ap (with_outputs outputs)
           (ap (outputs_at place.job place.bytes at rank) counted
           ∙ outputs_bad place.job place.bytes at rank (place.job.settings.nodes - (rank + 1)) bad read);
@@ -302,6 +323,7 @@ read_bad place outputs rank at bad low so none read =
 pub record IsUnreadable (wanted : Wanted) (bytes : List ℕ) (fault : TraceFault) : Type 0 where
   pub gives : (other : Output) (size : ℕ) → OutputBegins wanted bytes other size → GivesOutput other size (Err fault)
   pub reads : ReadsOutput (length bytes) (Err fault) (output_at wanted bytes)
+  pub meant : IsMeant (output_kind wanted) bytes fault
 
 none_next : (place : OutputsOf) (outputs : List Output) (rank at : ℕ) (fault : TraceFault)
     → rank < place.job.settings.nodes → ReadSoFar place outputs rank at
@@ -309,6 +331,7 @@ none_next : (place : OutputsOf) (outputs : List Output) (rank at : ℕ) (fault :
     → ReadsOutputs place (Err (fault_behind (take at place.bytes) fault))
 none_next place outputs rank at (tracefaults.Bad line reason) low so unreadable =
     read_bad place outputs rank at (record { line = line; why = reason }) low so unreadable.gives unreadable.reads
+    unreadable.meant
 none_next place outputs rank at tracefaults.NoMemory low so unreadable = tt
 
 -- so it is of what was told where the bytes are those that are left
@@ -372,8 +395,23 @@ other_there job size bytes other others one text =
 -- all was read
 pub is_input : (job : JobState) (size : ℕ) (bytes : List ℕ) (outputs : List Output) (end : ℕ)
     → BeginsWith job size bytes → IsOneFront job size bytes → length bytes ≤ input_limit
-    → AreRead (place_of job bytes size) outputs end → length bytes ≤ end → IsInput bytes job outputs
-is_input job size bytes outputs end front one within read all = record {
+    → AreRead (place_of job bytes size) outputs end → length bytes ≤ end
+    → ((line : ℕ) (reason : JobWhy) → FrontMeans bytes line reason → ⊥) → IsInput bytes job outputs
+is_input job size bytes outputs end front one within read all good = record {
+  unrefused = λ line reason means.
+      elim means [
+        | inl of_front ↦ good line reason of_front
+        | inr behind ↦
+            (let place = place_of job bytes size in
+            let fits = front_fits job size bytes front in
+            elim (meant_there job size bytes line reason one behind) [
+              | inl bad ↦ none_bad place fits outputs (drop end bytes) line reason read.there.nodes read.there.are
+                  read.there.text bad
+              | inr more ↦ more.some (sym (all_once place fits outputs more.outputs (drop end bytes) more.rest
+                  read.there.nodes more.nodes read.there.are more.are read.there.text more.text)
+                  ∙ drop_all end bytes all)
+            ])
+      ];
   text = record {
     is_job = front.is_job;
     short = omega (arith, front.long, front.within);
@@ -395,8 +433,8 @@ is_input job size bytes outputs end front one within read all = record {
 -- an output is bad
 pub bad_output : (job : JobState) (size : ℕ) (bytes : List ℕ) (line : ℕ) (reason : JobWhy) → BeginsWith job size bytes
     → IsOneFront job size bytes → length bytes ≤ input_limit → AreUnread (place_of job bytes size) line reason
-    → IsBadInput bytes line reason
-bad_output job size bytes line reason front one short unread = record {
+    → ((at : ℕ) (why : JobWhy) → FrontMeans bytes at why → ⊥) → IsBadInput bytes line reason
+bad_output job size bytes line reason front one short unread good = record {
   within = short;
   line_is = inr (record {
     job = job;
@@ -404,6 +442,19 @@ bad_output job size bytes line reason front one short unread = record {
     front = front;
     read = ap (all_of job bytes) unread.read;
   });
+  means = inr (record { job = job; size = size; front = front; means = inl unread.means });
+  only = λ other why means.
+      elim means [
+        | inl of_front ↦ absurd (good other why of_front)
+        | inr behind ↦
+            (let place = place_of job bytes size in
+            let fits = front_fits job size bytes front in
+            elim (meant_there job size bytes other why one behind) [
+              | inl bad ↦ bad_once place fits line other reason why unread.means bad
+              | inr more ↦ absurd (none_bad place fits more.outputs more.rest line reason more.nodes more.are more.text
+                  unread.means)
+            ])
+      ];
   none = λ other others text. unread.none others [] (other_there job size bytes other others one text).1;
 }
 
@@ -411,8 +462,9 @@ bad_output job size bytes line reason front one short unread = record {
 pub bad_behind_all : (job : JobState) (size : ℕ) (bytes : List ℕ) (outputs : List Output) (end : ℕ)
     → BeginsWith job size bytes → IsOneFront job size bytes → length bytes ≤ input_limit
     → AreRead (place_of job bytes size) outputs end → end < length bytes
+    → ((at : ℕ) (reason : JobWhy) → FrontMeans bytes at reason → ⊥)
     → IsBadInput bytes (lines_in (take end bytes) + 1) why.After
-bad_behind_all job size bytes outputs end front one short read more = record {
+bad_behind_all job size bytes outputs end front one short read more good = record {
   within = short;
   line_is = inr (record {
     job = job;
@@ -420,6 +472,25 @@ bad_behind_all job size bytes outputs end front one short read more = record {
     front = front;
     read = ap (all_of job bytes) read.read ∙ rw (lt-ltb end (length bytes) more) refl;
   });
+  means = inr (record { job = job; size = size; front = front; means = inr behind_all });
+  only = λ other reason means.
+      elim means [
+        | inl of_front ↦ absurd (good other reason of_front)
+        | inr behind ↦
+            (let place = place_of job bytes size in
+            let fits = front_fits job size bytes front in
+            elim (meant_there job size bytes other reason one behind) [
+              | inl bad ↦ absurd (none_bad place fits outputs (drop end bytes) other reason read.there.nodes
+                  read.there.are read.there.text bad)
+              | inr later ↦ (
+                behind_all.line_is ∙ ap (λ (rest : List ℕ). lines_until bytes rest + 1)
+                    (all_once place fits outputs later.outputs (drop end bytes) later.rest read.there.nodes later.nodes
+                    read.there.are later.are read.there.text later.text)
+                    ∙ sym later.line_is,
+                sym later.reason_is,
+              )
+            ])
+      ];
   none = λ other others text.
       let it = other_there job size bytes other others one text in
       let same = read.only others [] it.1 in
@@ -427,14 +498,33 @@ bad_behind_all job size bytes outputs end front one short read more = record {
       ∙ ap (λ (these : List Output). outputs_text job.settings.version these ++ []) same in
       absurd (omega (arith, simp length-append at (ap length all), length-drop end bytes, more));
 }
+  where
+    behind_all : HasMoreBehind (place_of job bytes size) (lines_in (take end bytes) + 1) why.After
+    behind_all = record {
+      outputs = outputs;
+      nodes = read.there.nodes;
+      are = read.there.are;
+      rest = drop end bytes;
+      text = read.there.text;
+      some = λ none. absurd (omega (arith, ap length none, length-drop end bytes, more));
+      line_is = ap (λ (n : ℕ). lines_in (take n bytes) + 1) (left_is end bytes read.within);
+      reason_is = refl;
+    }
 
 -- the job's text is bad
 pub bad_front : (bytes : List ℕ) (line : ℕ) (reason : JobWhy) → length bytes ≤ input_limit
     → front_of bytes ≡ Err (record { line = line; why = reason }) → FrontMeans bytes line reason
-    → ((job : JobState) (size : ℕ) → BeginsWith job size bytes → ⊥) → IsBadInput bytes line reason
-bad_front bytes line reason short read means none = record {
+    → ((job : JobState) (size : ℕ) → BeginsWith job size bytes → ⊥)
+    → ((at : ℕ) (why : JobWhy) → FrontMeans bytes at why → (line ≡ at) × (reason ≡ why)) → IsBadInput bytes line reason
+bad_front bytes line reason short read means none only = record {
   within = short;
   line_is = inl (record { read = read; means = means });
+  means = inl means;
+  only = λ other why meant.
+      elim meant [
+        | inl of_front ↦ only other why of_front
+        | inr behind ↦ absurd (none behind.job behind.size behind.front)
+      ];
   none = λ job outputs text. none job (length (job_text job)) (input_front job outputs bytes text);
 }
 
@@ -452,23 +542,33 @@ begins_within job size bytes front =
 pub front_refused : (bytes : List ℕ) (fault : JobFault) (line : ℕ) (reason : JobWhy) → length bytes ≤ input_limit
     → fault ≡ jobfaults.Bad line reason
     → IsNoMemory fault ⊎ refusals.IsBadFront bytes fault → IsFrontMeant bytes fault
-    → IsNoMemory fault ⊎ ((job : JobState) (size : ℕ) → BeginsWith job size bytes → ⊥) → IsBadInput bytes line reason
-front_refused bytes jobfaults.NoMemory line reason short is bad meant none = absurd (cc)
-front_refused bytes (jobfaults.Bad n why) line reason short is (inl memory) meant none = absurd memory
-front_refused bytes (jobfaults.Bad n why) line reason short is (inr bad) meant (inl memory) = absurd memory
-front_refused bytes (jobfaults.Bad n why) line reason short is (inr bad) meant (inr none) =
-    let told : refusals.IsBadFront bytes (jobfaults.Bad line reason) = subst (refusals.IsBadFront bytes) is bad in
+    → IsNoMemory fault ⊎ ((job : JobState) (size : ℕ) → BeginsWith job size bytes → ⊥)
+    → ((at : ℕ) (why : JobWhy) → FrontMeans bytes at why → IsNoMemory fault ⊎ (fault ≡ jobfaults.Bad at why))
+    → IsBadInput bytes line reason
+front_refused bytes jobfaults.NoMemory line reason short is bad meant none told = absurd (cc)
+front_refused bytes (jobfaults.Bad n why) line reason short is (inl memory) meant none told = absurd memory
+front_refused bytes (jobfaults.Bad n why) line reason short is (inr bad) meant (inl memory) told = absurd memory
+front_refused bytes (jobfaults.Bad n why) line reason short is (inr bad) meant (inr none) told =
+    let bad_there : refusals.IsBadFront bytes (jobfaults.Bad line reason) = subst (refusals.IsBadFront bytes) is bad in
     let means : IsFrontMeant bytes (jobfaults.Bad line reason) = subst (IsFrontMeant bytes) is meant in
-    bad_front bytes line reason short told means none
+    bad_front bytes line reason short bad_there means none (λ at other of_front.
+    elim (told at other of_front) [
+      | inl memory ↦ absurd memory
+      | inr same ↦ same_bad line at reason other (sym is ∙ same)
+    ])
+  where
+    same_bad : (line at : ℕ) (reason other : JobWhy) → jobfaults.Bad line reason ≡ jobfaults.Bad at other
+        → (line ≡ at) × (reason ≡ other)
+    same_bad line at reason other same = (cc, cc)
 
 -- the reader of the outputs behind it refused one
 pub behind_refused : (job : JobState) (size : ℕ) (bytes : List ℕ) (fault : InputFault) → BeginsWith job size bytes
     → IsOneFront job size bytes → length bytes ≤ input_limit → ReadsOutputs (place_of job bytes size) (Err fault)
-    → IsRefused bytes fault
-behind_refused job size bytes (faults.Bad line reason) front one short unread =
-    bad_output job size bytes line reason front one short unread
-behind_refused job size bytes faults.ReadFault front one short unread = unread
-behind_refused job size bytes faults.NoMemory front one short unread = tt
+    → ((at : ℕ) (why : JobWhy) → FrontMeans bytes at why → ⊥) → IsRefused bytes fault
+behind_refused job size bytes (faults.Bad line reason) front one short unread good =
+    bad_output job size bytes line reason front one short unread good
+behind_refused job size bytes faults.ReadFault front one short unread good = unread
+behind_refused job size bytes faults.NoMemory front one short unread good = tt
 
 -- a source was read to its end
 took_all : (old new : Option (List ℕ)) (before after : ℕ) (bytes : List ℕ) (told : Result CheckInput InputFault)

@@ -11,6 +11,7 @@ pub mod Pushed
 pub mod StepText
 pub mod Merged
 pub mod Inputs
+pub mod InputsTold
 pub mod Turning
 pub mod Ends
 pub mod RunLines

@@ -1,9 +1,10 @@
 -- The lines of the steps of a run of traces, line by line.
-use Rattle.std.proofs.Common.{◌≡◌, ◌⊎◌, inl, inr, ℕ, zero, suc, ◌+◌, ◌&&◌, Bool, true, false, cond, eqb, List, [], ◌∷◌, ◌++◌}
+use Rattle.std.proofs.Common.{◌≡◌, ◌<◌, ◌≤◌, ◌⊎◌, inl, inr, ℕ, zero, suc, ◌+◌, ◌&&◌, Bool, true, false, cond, eqb, List, [], ◌∷◌, ◌++◌}
 use Rattle.std.proofs.Common.{length, take, drop, Option, Some, None, refl, sym, ap, subst, ◌∙◌, arith, slice_get, eq-eqb, ne_eqb}
+use Rattle.std.proofs.Common.{append_assoc}
 use Rattle.std.specs.Prelude.{is_some, is_none}
 use Rattle.std.specs.Option.{option_map}
-use Rattle.std.proofs.lemmas.Bool.{cases_eq}
+use Rattle.std.proofs.lemmas.Bool.{cases_eq, cases_lt}
 use Rattle.std.proofs.lemmas.List.{length-append}
 use Rattle.std.proofs.lemmas.Option.{same_Some, slice_get-map}
 use Rattle.gasnet_trace.specs.declared.trace.Trace.{Trace}
@@ -18,17 +19,17 @@ use Rattle.node_machine.specs.NodeState.{script_job, scripts_at, steps_of_thread
 use Rattle.node_record.specs.Record.{Node}
 use Rattle.node_runs.specs.Actions.{Form, Progress, begins, progress_after}
 use Rattle.node_runs.specs.Order.{NodeEntry, own_entries, after_all, replay}
-use Rattle.node_runs.specs.WorldRun.{joined, opening_machines}
+use Rattle.node_runs.specs.WorldRun.{opening_machines}
 use Rattle.node_runs.specs.declared.script_answer.ScriptAnswer.{ScriptAnswer}
 use Rattle.node_runs.proofs.Fronting.{after_own}
 use Rattle.node_script.specs.Lines.{Line}
 use Rattle.plain_world.specs.World.{Timed}
 use Rattle.check_run.specs.StepLines.{StepAt, after_entry, answer_of_step, lines_of_answer, step_line, step_lines, steps_from}
-use Rattle.check_run.specs.StepsTold.{IsStepTold, ended_in, lines_before}
+use Rattle.check_run.specs.StepsTold.{IsLater, IsStepTold, RunOrder, before_of, ended_in, first_turns, lines_before, tried_at}
 use Rattle.check_run.specs.Machines.{first_machine}
 use Rattle.check_run.specs.TracesRun.{entries_of}
-use Rattle.check_run.proofs.StepsTold.{EndsInRun, Machine, Stands, at_entry, before_of, given_then, items_end}
-use Rattle.check_run.proofs.StepsTold.{scripts_apart, scripts_here, own_then, tried_at, tried_then}
+use Rattle.check_run.proofs.StepsTold.{EndsInRun, Machine, Stands, at_entry, given_then, items_end}
+use Rattle.check_run.proofs.StepsTold.{scripts_apart, scripts_here, own_then, tried_then}
 use Rattle.script_steps.specs.Forms.{step_form}
 
 -- ---- where the entries of a node stand among all
@@ -331,12 +332,20 @@ HaveOwn job traces ranks =
     (rank : ℕ) (entries : List Entry) → slice_get (entries_of traces) rank ≡ Some entries
     → own_entries rank (order_by job (entries_of traces) ranks) ≡ entries
 
--- how the step of a line ended
+-- where the entry of a line stands among all, and how its step ended there
+record LineTurn (job : JobState) (traces : List Trace) (ranks : List ℕ) (turns : List (List (Timed OtherCall)))
+    (rank : ℕ) (trace : Trace) (words : Line) (number : ℕ)
+    (line : LineOf job rank (first_machine job rank) trace.entries words number) : Type 0 where
+  pub turn : ℕ
+  pub turn_is : slice_get (order_by job (entries_of traces) ranks) turn ≡ Some (record { node = rank; entry = line.entry })
+  pub own_is : own_entries rank (take turn (order_by job (entries_of traces) ranks)) ≡ take line.place trace.entries
+  pub ends : EndsInRun job (first_turns turn turns) (first_turns (suc turn) turns) rank
+      (replay (script_job job) rank (first_machine job rank) (take line.place trace.entries)) line.entry line.answer
+
 line_ends : (job : JobState) (traces : List Trace) (ranks : List ℕ) (turns : List (List (Timed OtherCall)))
     → IsRunBy job traces ranks turns → HaveOwn job traces ranks → (rank : ℕ) (trace : Trace) (words : Line) (number : ℕ)
     → slice_get traces rank ≡ Some trace → (line : LineOf job rank (first_machine job rank) trace.entries words number)
-    → EndsInRun job (joined turns) rank
-    (replay (script_job job) rank (first_machine job rank) (take line.place trace.entries)) line.entry line.answer
+    → LineTurn job traces ranks turns rank trace words number line
 line_ends job traces ranks turns run has rank trace words number there line =
     let items = order_by job (entries_of traces) ranks in
     let machines = opening_machines job.settings (scripts_at job) in
@@ -352,24 +361,34 @@ line_ends job traces ranks turns run has rank trace words number there line =
     ≡ replay (script_job job) rank (first_machine job rank) (take line.place trace.entries) =
     after_own (script_job job) (take at.at items) machines rank
     ∙ ap (replay (script_job job) rank (first_machine job rank)) before in
-    subst (λ (m : Machine). EndsInRun job (joined turns) rank m line.entry line.answer) machine
-    (items_end job items turns [] machines run.turns_are (opening_stands job) at.at
-    (record { node = rank; entry = line.entry }) at.there line.answer
-    (ap (λ (m : Machine). answer_of_step job rank m line.entry) machine ∙ line.ended))
+    record {
+      turn = at.at;
+      turn_is = at.there;
+      own_is = before;
+      ends = subst (λ (m : Machine). EndsInRun job (first_turns at.at turns) (first_turns (suc at.at) turns) rank m
+          line.entry line.answer) machine
+          (items_end job items turns [] machines run.turns_are (opening_stands job) at.at
+          (record { node = rank; entry = line.entry }) at.there line.answer
+          (ap (λ (m : Machine). answer_of_step job rank m line.entry) machine ∙ line.ended));
+    }
 
-line_told : (job : JobState) (traces : List Trace) (run : List (Timed OtherCall)) (rank : ℕ) (trace : Trace)
-    (words : Line) (place number : ℕ) → slice_get traces rank ≡ Some trace
+-- a run's order
+abbrev pub order_of_run : JobState → List Trace → (ranks : List ℕ) → (turns : List (List (Timed OtherCall))) → RunOrder
+order_of_run job traces ranks turns = record { items = order_by job (entries_of traces) ranks; turns = turns }
+
+line_told : (job : JobState) (traces : List Trace) (ranks : List ℕ) (turns : List (List (Timed OtherCall))) (rank : ℕ)
+    (trace : Trace) (words : Line) (place number : ℕ) → slice_get traces rank ≡ Some trace
     → place ≡ length (steps_from job 0 (take rank traces)) + number
     → (line : LineOf job rank (first_machine job rank) trace.entries words number)
-    → EndsInRun job run rank
-    (replay (script_job job) rank (first_machine job rank) (take line.place trace.entries)) line.entry line.answer
-    → IsStepTold job traces run place words
-line_told job traces run rank trace words place number there place_is line ends =
+    → LineTurn job traces ranks turns rank trace words number line
+    → IsStepTold job traces (order_of_run job traces ranks turns) place words
+line_told job traces ranks turns rank trace words place number there place_is line at =
     let step_at = at_entry rank line.entry in
     let before = take line.place trace.entries in
+    let ends = at.ends.ends in
     let left : drop (ended_in job step_at (first_machine job rank) before)
-    (steps_of_thread job.scripts rank line.entry.thread) ≡ ends.ends.step ∷ ends.ends.rest =
-    sym (left_after job step_at before (first_machine job rank)) ∙ ends.ends.left_is in
+    (steps_of_thread job.scripts rank line.entry.thread) ≡ ends.step ∷ ends.rest =
+    sym (left_after job step_at before (first_machine job rank)) ∙ ends.left_is in
     record {
       at = step_at;
       trace = trace;
@@ -381,29 +400,133 @@ line_told job traces run rank trace words place number there place_is line ends 
       thread_is = refl;
       number = ended_in job step_at (first_machine job rank) before;
       number_is = refl;
-      step = ends.ends.step;
+      step = ends.step;
       step_is = dropped_at (ended_in job step_at (first_machine job rank) before)
-          (steps_of_thread job.scripts rank line.entry.thread) ends.ends.step ends.ends.rest left;
+          (steps_of_thread job.scripts rank line.entry.thread) ends.step ends.rest left;
       answer = line.answer;
       answered = line.ended;
-      context = ends.ends.context;
-      tried = ends.ends.tried;
-      ends = ends.ends.ends;
-      over = ends.over;
-      later = ends.later;
-      run_is = ends.run_is;
-      node_is = ends.node_is;
+      turn = at.turn;
+      turn_is = at.turn_is;
+      own_is = at.own_is;
+      ends = ends.ends;
+      node_is = at.ends.node_is;
       words_are = line.words_are
-          ∙ ap (λ (node : Node EndpointLocal). step_line job step_at node line.answer) (sym ends.node_is);
+          ∙ ap (λ (node : Node EndpointLocal). step_line job step_at node line.answer) (sym at.ends.node_is);
     }
 
 pub lines_told : (job : JobState) (traces : List Trace) (ranks : List ℕ) (turns : List (List (Timed OtherCall)))
     → IsRunBy job traces ranks turns → HaveOwn job traces ranks → (line : ℕ) (words : Line)
-    → slice_get (steps_from job 0 traces) line ≡ Some words → IsStepTold job traces (joined turns) line words
+    → slice_get (steps_from job 0 traces) line ≡ Some words
+    → IsStepTold job traces (order_of_run job traces ranks turns) line words
 lines_told job traces ranks turns run own line words there =
     let among = line_among job traces 0 line words there in
     let same : 0 + among.at ≡ among.at = omega arith in
     let its = subst (λ (n : ℕ). LineOf job n (first_machine job n) among.trace.entries words among.number) same
     among.line in
-    line_told job traces (joined turns) among.at among.trace words line among.number among.there among.place_is its
+    line_told job traces ranks turns among.at among.trace words line among.number among.there among.place_is its
     (line_ends job traces ranks turns run own among.at among.trace words among.number among.there its)
+
+-- ---- in which order
+
+none_taken : {A : Type 0} (count : ℕ) → ◌≡◌ {A = List A} (take count []) []
+none_taken zero = refl
+none_taken (suc count) = refl
+
+-- more entries, more lines
+lines_grow : (job : JobState) (rank : ℕ) (entries : List Entry) (machine : Machine) (less more : ℕ) → less ≤ more
+    → length (step_lines job rank machine (take less entries)) ≤ length (step_lines job rank machine (take more entries))
+lines_grow job rank [] machine less more le =
+    let few = ap (λ (es : List Entry). length (step_lines job rank machine es)) (none_taken less) in
+    let many = ap (λ (es : List Entry). length (step_lines job rank machine es)) (none_taken more) in
+    omega (arith, few, many)
+lines_grow job rank (entry ∷ entries) machine zero more le = omega arith
+lines_grow job rank (entry ∷ entries) machine (suc less) zero le = absurd (omega arith)
+lines_grow job rank (entry ∷ entries) machine (suc less) (suc more) le =
+    let next = after_entry job rank machine entry in
+    let first = lines_of_answer job (at_entry rank entry) next.node (answer_of_step job rank machine entry) in
+    let one = length-append first (step_lines job rank next (take less entries)) in
+    let two = length-append first (step_lines job rank next (take more entries)) in
+    let later = lines_grow job rank entries next less more (omega arith) in
+    omega (arith, one, two, later)
+
+-- more turns, more of a node's own
+owns_by : (mine : Bool) (entry : Entry) (less more : List Entry) → length less ≤ length more
+    → length (own_by mine entry less) ≤ length (own_by mine entry more)
+owns_by true entry less more le = omega arith
+owns_by false entry less more le = le
+
+owns_grow : (rank : ℕ) (items : List NodeEntry) (less more : ℕ) → less ≤ more
+    → length (own_entries rank (take less items)) ≤ length (own_entries rank (take more items))
+owns_grow rank [] less more le =
+    let few = ap (λ (items : List NodeEntry). length (own_entries rank items)) (none_taken less) in
+    let many = ap (λ (items : List NodeEntry). length (own_entries rank items)) (none_taken more) in
+    omega (arith, few, many)
+owns_grow rank (item ∷ items) zero more le = omega arith
+owns_grow rank (item ∷ items) (suc less) zero le = absurd (omega arith)
+owns_grow rank (item ∷ items) (suc less) (suc more) le =
+    owns_by (eqb item.node rank) item.entry (own_entries rank (take less items)) (own_entries rank (take more items))
+    (owns_grow rank items less more (omega arith))
+
+taken : (entries : List Entry) (place : ℕ) (entry : Entry) → slice_get entries place ≡ Some entry
+    → length (take place entries) ≡ place
+taken [] place entry there = absurd (cc)
+taken (first ∷ entries) zero entry there = refl
+taken (first ∷ entries) (suc place) entry there = let e = taken entries place entry there in omega arith
+
+-- what happened in more turns begins with what happened in fewer
+turns_front : (turns : List (List (Timed OtherCall))) (less more : ℕ) → less ≤ more
+    → (between : List (Timed OtherCall)) × (first_turns more turns ≡ first_turns less turns ++ between)
+turns_front turns zero more le = (first_turns more turns, refl)
+turns_front turns (suc less) zero le = absurd (omega arith)
+turns_front [] (suc less) (suc more) le = ([], refl)
+turns_front (turn ∷ turns) (suc less) (suc more) le =
+    let later = turns_front turns less more (omega arith) in (
+      later.0,
+      ap (λ (events : List (Timed OtherCall)). turn ++ events) later.1
+          ∙ sym (append_assoc turn (first_turns less turns) later.0),
+    )
+
+-- the later of two lines of a node is that of a later turn
+rise_by : (job : JobState) (rank : ℕ) (entries : List Entry) (items : List NodeEntry)
+    (place other turn later number more : ℕ) (one two : Entry) → slice_get entries place ≡ Some one
+    → slice_get entries other ≡ Some two → own_entries rank (take turn items) ≡ take place entries
+    → own_entries rank (take later items) ≡ take other entries
+    → number ≡ length (step_lines job rank (first_machine job rank) (take place entries))
+    → more ≡ length (step_lines job rank (first_machine job rank) (take other entries)) → number < more → turn < later
+rise_by job rank entries items place other turn later number more one two first second own_one own_two number_is more_is
+    less =
+    elim (cases_lt turn later) [
+      | inl rises ↦ rises
+      | inr falls ↦
+          (let owns = owns_grow rank items later turn falls in
+          let at = taken entries place one first in
+          let at_other = taken entries other two second in
+          let own_place = ap length own_one in
+          let own_other = ap length own_two in
+          let back : other ≤ place = omega arith in
+          let grown = lines_grow job rank entries (first_machine job rank) other place back in
+          absurd (omega arith))
+    ]
+
+pub lines_rise : (job : JobState) (traces : List Trace) (order : RunOrder) (line other : ℕ) (words more : Line)
+    (one : IsStepTold job traces order line words) (two : IsStepTold job traces order other more)
+    → one.at.rank ≡ two.at.rank → line < other → IsLater order one.turn two.turn
+lines_rise job traces order line other words more one two same less =
+    let rank = two.at.rank in
+    let trace : one.trace ≡ two.trace =
+    same_Some one.trace two.trace (sym one.trace_is ∙ ap (slice_get traces) same ∙ two.trace_is) in
+    let entries : one.trace.entries ≡ two.trace.entries = ap (λ (t : Trace). t.entries) trace in
+    let before = length (steps_from job 0 (take rank traces)) in
+    let first = length (step_lines job rank (first_machine job rank) (take one.place two.trace.entries)) in
+    let second = length (step_lines job rank (first_machine job rank) (take two.place two.trace.entries)) in
+    let line_is : line ≡ before + first =
+    one.line_is ∙ ap (λ (n : ℕ). lines_before job traces n one.trace one.place) same
+    ∙ ap (λ (t : Trace). lines_before job traces rank t one.place) trace in
+    let other_is : other ≡ before + second = two.line_is in
+    let later : one.turn < two.turn =
+    rise_by job rank two.trace.entries order.items one.place two.place one.turn two.turn first second one.entry two.entry
+    (ap (λ (es : List Entry). slice_get es one.place) (sym entries) ∙ one.entry_is) two.entry_is
+    (ap (λ (n : ℕ). own_entries n (take one.turn order.items)) (sym same) ∙ one.own_is ∙ ap (take one.place) entries)
+    two.own_is refl refl (omega arith) in
+    let front = turns_front order.turns (suc one.turn) two.turn (omega arith) in
+    record { more = later; between = front.0; is = front.1 }

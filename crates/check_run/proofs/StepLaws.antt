@@ -1,5 +1,5 @@
 -- The laws of transfers and of the barrier, of what a line of a step tells.
-use Rattle.std.proofs.Common.{◌≡◌, ◌≢◌, ◌⊎◌, inl, inr, ℕ, suc, Bool, true, false, List, [], ◌∷◌, ◌++◌, Option, Some, None, refl, sym, ap}
+use Rattle.std.proofs.Common.{◌≡◌, ◌≢◌, ◌⊎◌, inl, inr, ℕ, zero, suc, Bool, true, false, List, [], ◌∷◌, ◌++◌, Option, Some, None, refl, sym, ap}
 use Rattle.std.proofs.Common.{subst, ◌∙◌, arith}
 use Rattle.std.specs.Prelude.{ℤ, is_some}
 use Rattle.std.specs.List.{AllByRecursion, slice_get}
@@ -50,13 +50,14 @@ use Rattle.transfer_laws.specs.Chunks.{EndpointJob, state_after}
 use Rattle.transfer_laws.proofs.Begins.{allowed_there, begins_last, told_there}
 use Rattle.transfer_laws.specs.TransferLaws.{Beginning, Synchronises, TransfersHold, called, since}
 use Rattle.check_run.specs.StepLines.{StepAt}
-use Rattle.check_run.specs.StepsTold.{BarrierIsTried, EndsAs, EndsAtCall, EndsLater, IsMade, IsReply, IsStepTold}
-use Rattle.check_run.specs.StepsTold.{LinesTell, SyncIsMade}
-use Rattle.check_run.specs.StepsTold.{TransferIsMade, call_event, on_transfers, records_after, rules_of, sync_waited}
-use Rattle.check_run.specs.StepsTold.{tries_barrier}
+use Rattle.check_run.specs.StepsTold.{BarrierIsTried, EndsAs, EndsAtCall, EndsLater, IsMade, IsMadeSince, IsReply}
+use Rattle.check_run.specs.StepsTold.{IsStepTold, LinesTell, RunOrder, SyncIsMade, TransferIsMade, before_of, call_event}
+use Rattle.check_run.specs.StepsTold.{first_turns, machine_at, on_transfers, past_of, records_after, rules_of, run_of}
+use Rattle.check_run.specs.StepsTold.{sync_waited, tried_at, tries_barrier}
 use Rattle.check_run.specs.TracesRun.{entries_of}
 use Rattle.check_run.proofs.CallsMade.{run_append}
-use Rattle.check_run.proofs.LinesTold.{lines_told}
+use Rattle.check_run.proofs.LinesTold.{lines_rise, lines_told, order_of_run}
+use Rattle.lists.proofs.Members.{all_append}
 use Rattle.check_run.proofs.Regions.{AreThere, HoldsOf, IsOther, number_is_free, the_one}
 
 -- ---- answers
@@ -73,12 +74,18 @@ told_is : (b : Bool) (told answer : Answer) (step : ScriptAnswer) → unless b t
     → told ≡ answer
 told_is b told answer step ends is = call_same told answer (sym (unless_same b told step ends) ∙ is)
 
+-- a call with an answer that is another one
+abbrev since_so : (job : JobState) (past run : List (Timed OtherCall)) (at : StepAt) (call : ThreadCall)
+    (told answer : Answer) → told ≡ answer → IsMadeSince job past run at call told
+    → IsMadeSince job past run at call answer
+since_so job past run at call told answer is made = subst (IsMadeSince job past run at call) is made
+
 -- a call that ended a step whose answer is its own
-made_so : (job : JobState) (run : List (Timed OtherCall)) (at : StepAt) (call : ThreadCall) (waits : Answer → Bool)
-    (answer : Answer) (step : ScriptAnswer) → EndsAtCall job run at call (λ told. unless (waits told) told) step
-    → step ≡ said.Call answer → IsMade job run at call answer
-made_so job run at call waits answer step it is =
-    subst (IsMade job run at call) (told_is (waits it.told) it.told answer step it.ended is) it.made
+made_so : (job : JobState) (past run : List (Timed OtherCall)) (at : StepAt) (call : ThreadCall) (waits : Answer → Bool)
+    (answer : Answer) (step : ScriptAnswer) → EndsAtCall job past run at call (λ told. unless (waits told) told) step
+    → step ≡ said.Call answer → IsMadeSince job past run at call answer
+made_so job past run at call waits answer step it is =
+    since_so job past run at call it.told answer (told_is (waits it.told) it.told answer step it.ended is) it.made
 
 -- ---- events among the nodes
 
@@ -94,14 +101,31 @@ front_among job (one ∷ first) event later among =
 abbrev AreAmong : JobState → List (Timed OtherCall) → Type 0
 AreAmong job run = AllByRecursion (λ (one : Timed OtherCall). IsAmong job.settings one.event) run
 
+all_front : (job : JobState) (first later : List (Timed OtherCall)) → AreAmong job (first ++ later) → AreAmong job first
+    × AreAmong job later
+all_front job [] later among = (tt, among)
+all_front job (one ∷ first) later among = let it = all_front job first later among.1 in ((among.0, it.0), it.1)
+
+-- those of the first turns
+turns_among : (job : JobState) (count : ℕ) (turns : List (List (Timed OtherCall))) → AreAmong job (joined turns)
+    → AreAmong job (first_turns count turns)
+turns_among job zero turns among = tt
+turns_among job (suc count) [] among = tt
+turns_among job (suc count) (turn ∷ turns) among =
+    let it = all_front job turn (joined turns) among in
+    all_append (λ (one : Timed OtherCall). IsAmong job.settings one.event) turn (first_turns count turns) it.0
+    (turns_among job count turns it.1)
+
 -- ---- the laws
 
-abbrev sync_done : (job : JobState) (run : List (Timed OtherCall)) (at : StepAt) (call : TransferCall)
+abbrev sync_done : (job : JobState) (past run : List (Timed OtherCall)) (at : StepAt) (call : TransferCall)
     → TransfersHold job.settings (registered (handlers_of job)).table (script_meaning (handlers_of job))
-    → AreAmong job run → IsMade job run at (on_transfers call) (answers.Synced synced.Ok) → SyncIsMade job run at call
-sync_done job run at call holds among made = record {
-  made = made;
+    → AreAmong job run → IsMadeSince job past run at (on_transfers call) (answers.Synced synced.Ok)
+    → SyncIsMade job past run at call
+sync_done job past run at call holds among since_past = record {
+  made = since_past;
   done = λ beginning events is syncs.
+      let made = since_past.made in
       let first = called beginning.now beginning.node beginning.thread beginning.call in
       let before = (front_among job made.before (call_event at made.now (on_transfers call)) made.later
       (subst (AreAmong job) made.run_is among)).0 in
@@ -114,16 +138,18 @@ sync_done job run at call holds among made = record {
       beginning.node beginning.number) there syncs);
 }
 
-barrier_done : (job : JobState) (run : List (Timed OtherCall)) (at : StepAt) (id : ℤ) (flags : ℕ)
+barrier_done : (job : JobState) (past run : List (Timed OtherCall)) (at : StepAt) (id : ℤ) (flags : ℕ)
     (answer : BarrierAnswer)
     → BarrierHolds job.settings (registered (handlers_of job)).table (script_meaning (handlers_of job))
-    → AreAmong job run → EndsPhase answer → IsMade job run at (tries_barrier id flags) (answers.Barrier answer)
-    → BarrierIsTried job run at id flags answer
-barrier_done job run at id flags answer holds among ends made =
+    → AreAmong job run → EndsPhase answer
+    → IsMadeSince job past run at (tries_barrier id flags) (answers.Barrier answer)
+    → BarrierIsTried job past run at id flags answer
+barrier_done job past run at id flags answer holds among ends since_past =
+    let made = since_past.made in
     let parts = front_among job made.before (call_event at made.now (tries_barrier id flags)) made.later
     (subst (AreAmong job) made.run_is among) in
     record {
-      made = made;
+      made = since_past;
       tells = holds.tells made.before
           (record { now = made.now; node = at.rank; thread = at.thread; id = id; flags = flags }) answer parts.0 parts.1
           ends made.answered;
@@ -132,23 +158,23 @@ barrier_done job run at id flags answer holds among ends made =
 -- ---- by the step
 
 -- a step that waits for transfers
-wait_made : (job : JobState) (run : List (Timed OtherCall)) (at : StepAt) (wait : WaitingStep) (call : TransferCall)
+wait_made : (job : JobState) (past run : List (Timed OtherCall)) (at : StepAt) (wait : WaitingStep) (call : TransferCall)
     (context : TryContext) (node : Node EndpointLocal) (answer : Answer) (said_so : ScriptAnswer)
-    → sync_waited wait ≡ Some call → EndsAs job run at (step_form (step.Waiting wait) context node) said_so
-    → said_so ≡ said.Call answer → IsMade job run at (on_transfers call) answer
-wait_made job run at (waiting.Wait register) call context node answer said_so is ends same =
-    subst (λ (c : TransferCall). IsMade job run at (on_transfers c) answer) (same_Some _ call is)
-    (made_so job run at _ is_not_ready answer said_so ends same)
-wait_made job run at (waiting.WaitAll registers) call context node answer said_so is ends same =
-    subst (λ (c : TransferCall). IsMade job run at (on_transfers c) answer) (same_Some _ call is)
-    (made_so job run at _ is_not_ready answer said_so ends same)
-wait_made job run at (waiting.WaitSome registers) call context node answer said_so is ends same =
-    subst (λ (c : TransferCall). IsMade job run at (on_transfers c) answer) (same_Some _ call is)
-    (made_so job run at _ is_not_ready answer said_so ends same)
-wait_made job run at (waiting.WaitImplicit which) call context node answer said_so is ends same =
-    subst (λ (c : TransferCall). IsMade job run at (on_transfers c) answer) (same_Some _ call is)
-    (made_so job run at _ is_not_ready answer said_so ends same)
-wait_made job run at wait call context node answer said_so is ends same = absurd (cc)
+    → sync_waited wait ≡ Some call → EndsAs job past run at (step_form (step.Waiting wait) context node) said_so
+    → said_so ≡ said.Call answer → IsMadeSince job past run at (on_transfers call) answer
+wait_made job past run at (waiting.Wait register) call context node answer said_so is ends same =
+    subst (λ (c : TransferCall). IsMadeSince job past run at (on_transfers c) answer) (same_Some _ call is)
+    (made_so job past run at _ is_not_ready answer said_so ends same)
+wait_made job past run at (waiting.WaitAll registers) call context node answer said_so is ends same =
+    subst (λ (c : TransferCall). IsMadeSince job past run at (on_transfers c) answer) (same_Some _ call is)
+    (made_so job past run at _ is_not_ready answer said_so ends same)
+wait_made job past run at (waiting.WaitSome registers) call context node answer said_so is ends same =
+    subst (λ (c : TransferCall). IsMadeSince job past run at (on_transfers c) answer) (same_Some _ call is)
+    (made_so job past run at _ is_not_ready answer said_so ends same)
+wait_made job past run at (waiting.WaitImplicit which) call context node answer said_so is ends same =
+    subst (λ (c : TransferCall). IsMadeSince job past run at (on_transfers c) answer) (same_Some _ call is)
+    (made_so job past run at _ is_not_ready answer said_so ends same)
+wait_made job past run at wait call context node answer said_so is ends same = absurd (cc)
 
 -- the beginning of a transfer isn't answered as a sync is
 never_synced : (settings : Parameters) (table : List (Option TableEntry)) (meaning : Meaning) (thread : ℕ)
@@ -258,6 +284,15 @@ remade job run at call other told answer same is made = record {
       (world_answer (rules_of job) (records_after job made.before) (call_event at made.now c))) same made.answered);
 }
 
+abbrev remade_since : (job : JobState) (past run : List (Timed OtherCall)) (at : StepAt) (call other : ThreadCall)
+    (told answer : Answer) → call ≡ other → told ≡ answer → IsMadeSince job past run at call told
+    → IsMadeSince job past run at other answer
+remade_since job past run at call other told answer same is made = record {
+  made = remade job run at call other told answer same is made.made;
+  between = made.between;
+  before_is = made.before_is;
+}
+
 -- ---- the sync of a blocking transfer
 
 synced_same : (one other : Synced) → answers.Synced one ≡ answers.Synced other → one ≡ other
@@ -340,13 +375,13 @@ synchronises job at transfer handle before events begun_at now holds began answe
     events_job = rules_of job
 
 -- a second call, behind the first one
-later_made : (job : JobState) (run : List (Timed OtherCall)) (at : StepAt)
+later_made : (job : JobState) (past run : List (Timed OtherCall)) (at : StepAt)
     → TransfersHold job.settings (registered (handlers_of job)).table (script_meaning (handlers_of job))
     → AreAmong job run → (transfer : Transfer) (answer : ScriptAnswer)
-    → EndsLater job run at (on_transfers (Begin None transfer)) sync_of
+    → EndsLater job past run at (on_transfers (Begin None transfer)) sync_of
     (λ told. unless (is_not_ready told) (as_synced told)) answer
-    → answer ≡ said.Call (answers.Synced synced.Ok) → TransferIsMade job run at transfer
-later_made job run at holds among transfer answer later same =
+    → answer ≡ said.Call (answers.Synced synced.Ok) → TransferIsMade job past run at transfer
+later_made job past run at holds among transfer answer later same =
     let it = named_by later.first later.call later.next_is in
     let begin = on_transfers (Begin None transfer) in
     let call = on_transfers (SyncHandle it.0) in
@@ -354,9 +389,11 @@ later_made job run at holds among transfer answer later same =
     later.ended same in
     let ok : later.told ≡ answers.Synced synced.Ok =
     synced_as later.told synced_told (λ done. sync_not_begun job run at it.0 begun.Done
-    (remade job run at later.call call later.told (answers.Begun begun.Done) it.2 done later.made)) in
-    let made = remade job run at later.call call later.told (answers.Synced synced.Ok) it.2 ok later.made in
-    let sync = sync_done job run at (SyncHandle it.0) holds among made in
+    (remade job run at later.call call later.told (answers.Begun begun.Done) it.2 done later.made.made)) in
+    let since_past = remade_since job past run at later.call call later.told (answers.Synced synced.Ok) it.2 ok
+    later.made in
+    let made = since_past.made in
+    let sync = sync_done job past run at (SyncHandle it.0) holds among since_past in
     let first = remade job made.before at begin begin later.first (answers.Begun (begun.Handle it.0)) refl
     (begun_so job made.before at transfer later.first it.0 later.begun it.1) later.begun in
     let parts = front_among job first.before (call_event at first.now begin) first.later
@@ -396,46 +433,58 @@ later_made job run at holds among transfer answer later same =
           (synchronises job at transfer it.0 first.before first.later first.now made.now holds first.answered answered));
     }
 
-transfer_made : (job : JobState) (run : List (Timed OtherCall)) (at : StepAt)
+transfer_made : (job : JobState) (past run : List (Timed OtherCall)) (at : StepAt)
     → TransfersHold job.settings (registered (handlers_of job)).table (script_meaning (handlers_of job))
     → AreAmong job run → (transfer : Transfer) (answer : ScriptAnswer)
-    → EndsAs job run at (Twice (on_transfers (Begin None transfer)) sync_of is_not_ready as_synced) answer
+    → EndsAs job past run at (Twice (on_transfers (Begin None transfer)) sync_of is_not_ready as_synced) answer
     → answer ≡ said.Call (answers.Synced synced.Ok)
-    → IsMade job run at (on_transfers (Begin None transfer)) (answers.Begun begun.Done)
-    ⊎ TransferIsMade job run at transfer
-transfer_made job run at holds among transfer answer (inl first) same =
-    inl (subst (IsMade job run at (on_transfers (Begin None transfer)))
-    (at_once job run at transfer first.told first.made
+    → IsMadeSince job past run at (on_transfers (Begin None transfer)) (answers.Begun begun.Done)
+    ⊎ TransferIsMade job past run at transfer
+transfer_made job past run at holds among transfer answer (inl first) same =
+    inl (since_so job past run at (on_transfers (Begin None transfer)) first.told (answers.Begun begun.Done)
+    (at_once job run at transfer first.told first.made.made
     (told_is (is_some (sync_of first.told)) (as_synced first.told) (answers.Synced synced.Ok) answer first.ended same))
     first.made)
-transfer_made job run at holds among transfer answer (inr later) same =
-    inr (later_made job run at holds among transfer answer later same)
+transfer_made job past run at holds among transfer answer (inr later) same =
+    inr (later_made job past run at holds among transfer answer later same)
 
 -- ---- all of them
 
 -- how a told step ended, where it is this one
-ends_of : (job : JobState) (traces : List Trace) (run : List (Timed OtherCall)) (line : ℕ) (words : Line)
-    (told : IsStepTold job traces run line words) (one : ScriptStep) → told.step ≡ one
-    → EndsAs job run told.at (step_form one told.context told.tried) told.answer
-ends_of job traces run line words told one same =
-    subst (λ (s : ScriptStep). EndsAs job run told.at (step_form s told.context told.tried) told.answer) same told.ends
+ends_of : (job : JobState) (traces : List Trace) (order : RunOrder) (line : ℕ) (words : Line)
+    (told : IsStepTold job traces order line words) (one : ScriptStep) → told.step ≡ one
+    → EndsAs job (past_of told) (run_of told) told.at (step_form one (tried_at job told.at told.entry.now)
+    (before_of job told.at.rank (machine_at job told.at.rank told.trace told.place) told.entry)) told.answer
+ends_of job traces order line words told one same =
+    subst (λ (s : ScriptStep). EndsAs job (past_of told) (run_of told) told.at
+    (step_form s (tried_at job told.at told.entry.now)
+    (before_of job told.at.rank (machine_at job told.at.rank told.trace told.place) told.entry)) told.answer) same
+    told.ends
 
 pub lines_tell : (job : JobState) (traces : List Trace) (ranks : List ℕ) (turns : List (List (Timed OtherCall)))
     → IsRunOf job (order_by job (entries_of traces) ranks) turns
     → ((rank : ℕ) (entries : List Entry) → slice_get (entries_of traces) rank ≡ Some entries
     → own_entries rank (order_by job (entries_of traces) ranks) ≡ entries)
-    → LinesTell job traces (joined turns)
-lines_tell job traces ranks turns run own = record {
-  each = λ line words there. lines_told job traces ranks turns run own line words there;
-  syncs = λ line words told wait call is waited ok.
-      sync_done job (joined turns) told.at call run.transfers run.among
-      (wait_made job (joined turns) told.at wait call told.context told.tried (answers.Synced synced.Ok) told.answer
-      waited (ends_of job traces (joined turns) line words told (step.Waiting wait) is) ok);
-  transfers = λ line words told text is ok.
-      transfer_made job (joined turns) told.at run.transfers run.among text told.answer
-      (ends_of job traces (joined turns) line words told (step.Waiting (waiting.Transfer text)) is) ok;
-  barriers = λ line words told id flags answer is said_so ends.
-      barrier_done job (joined turns) told.at id flags answer run.barrier run.among ends
-      (made_so job (joined turns) told.at (tries_barrier id flags) is_not_ready (answers.Barrier answer) told.answer
-      (ends_of job traces (joined turns) line words told (step.Waiting (waiting.BarrierWait id flags)) is) said_so);
-}
+    → LinesTell job traces (order_of_run job traces ranks turns)
+lines_tell job traces ranks turns run own =
+    let order = order_of_run job traces ranks turns in
+    record {
+      each = λ line words there. lines_told job traces ranks turns run own line words there;
+      rise = lines_rise job traces order;
+      syncs = λ line words told wait call is waited ok.
+          sync_done job (past_of told) (run_of told) told.at call run.transfers
+          (turns_among job (suc told.turn) turns run.among)
+          (wait_made job (past_of told) (run_of told) told.at wait call (tried_at job told.at told.entry.now)
+          (before_of job told.at.rank (machine_at job told.at.rank told.trace told.place) told.entry)
+          (answers.Synced synced.Ok) told.answer waited
+          (ends_of job traces order line words told (step.Waiting wait) is) ok);
+      transfers = λ line words told text is ok.
+          transfer_made job (past_of told) (run_of told) told.at run.transfers
+          (turns_among job (suc told.turn) turns run.among) text told.answer
+          (ends_of job traces order line words told (step.Waiting (waiting.Transfer text)) is) ok;
+      barriers = λ line words told id flags answer is said_so ends.
+          barrier_done job (past_of told) (run_of told) told.at id flags answer run.barrier
+          (turns_among job (suc told.turn) turns run.among) ends
+          (made_so job (past_of told) (run_of told) told.at (tries_barrier id flags) is_not_ready (answers.Barrier answer)
+          told.answer (ends_of job traces order line words told (step.Waiting (waiting.BarrierWait id flags)) is) said_so);
+    }

@@ -1,6 +1,6 @@
 -- Each line of the steps of a run of traces tells how its step ended in that run.
-use Rattle.std.proofs.Common.{◌≡◌, ◌≢◌, inl, inr, ℕ, zero, suc, ◌+◌, ◌&&◌, Bool, true, false, cond, not, List, [], ◌∷◌}
-use Rattle.std.proofs.Common.{◌++◌, take, Option, Some, None, refl, sym, ap, subst, ◌∙◌, slice_get, append_assoc}
+use Rattle.std.proofs.Common.{◌≡◌, ◌≢◌, inl, inr, ℕ, zero, suc, ◌&&◌, Bool, true, false, cond, not, List, [], ◌∷◌}
+use Rattle.std.proofs.Common.{◌++◌, take, Option, Some, None, refl, sym, ap, subst, ◌∙◌, slice_get, append_assoc, append-nil}
 use Rattle.std.specs.Prelude.{is_none}
 use Rattle.std.specs.Option.{option_to_list}
 use Rattle.std.proofs.lemmas.Bool.{cases_eq}
@@ -23,17 +23,17 @@ use Rattle.node_runs.specs.Actions.{Form, Once, Again, Until, Twice, Looks, Seve
 use Rattle.node_runs.specs.Actions.{begins, unless, progress_after, next_calls, tried_step}
 use Rattle.node_runs.specs.Order.{NodeEntry, Machines, after_entry as after_item, after_all, turn_of}
 use Rattle.node_runs.specs.Scripts.{ThreadCall, Tried, TryContext}
-use Rattle.node_runs.specs.Turn.{MachineState, as_tried, context, events_of, first_answer, first_events, node_run}
+use Rattle.node_runs.specs.Turn.{MachineState, events_of, first_answer, first_events, node_run}
 use Rattle.node_runs.specs.Turn.{turn_events}
-use Rattle.node_runs.specs.WorldRun.{AreEvents, AreTurns, joined}
+use Rattle.node_runs.specs.WorldRun.{AreEvents, AreTurns}
 use Rattle.node_runs.specs.declared.script_answer.ScriptAnswer.{ScriptAnswer}
 use Rattle.node_runs.specs.declared.script_answer.ScriptAnswer.TheVariants as said
 use Rattle.plain_world.specs.World.{Timed, run}
 use Rattle.script_steps.specs.Forms.{step_form, waits_of, tried_while}
 use Rattle.check_run.specs.StepLines.{StepAt, after_entry, answer_of_step}
-use Rattle.check_run.specs.StepsTold.{EndsAs, EndsAtCall, EndsLater, IsMade}
-use Rattle.check_run.specs.StepsTold.{records_after, rules_of}
-use Rattle.check_run.proofs.CallsMade.{IsMadeBehind, made_at, made_before, run_append, run_here, run_other}
+use Rattle.check_run.specs.StepsTold.{EndsAs, EndsAtCall, EndsLater, IsMade, IsMadeSince, before_of, first_turns}
+use Rattle.check_run.specs.StepsTold.{records_after, rules_of, tried_at}
+use Rattle.check_run.proofs.CallsMade.{made_at, made_before, run_append, run_here, run_other}
 
 abbrev pub Machine : Type 0
 Machine = MachineState EndpointLocal (OwnScripts ScriptStep)
@@ -52,12 +52,13 @@ pub record FirstMade (job : JobState) (past happened : List (Timed OtherCall)) (
     (answer : Option Answer) : Type 0 where
   pub told : Answer
   pub is : answer ≡ Some told
-  pub behind : IsMadeBehind job past happened at call told
+  pub behind : IsMadeSince job past (past ++ happened) at call told
 
 -- each call of a try was made
-abbrev pub AllMade : JobState → List (Timed OtherCall) → StepAt → List ThreadCall → Type 0
-AllMade job run at calls =
-    (place : ℕ) (call : ThreadCall) → slice_get calls place ≡ Some call → (told : Answer) × IsMade job run at call told
+abbrev pub AllMade : JobState → (past run : List (Timed OtherCall)) → StepAt → List ThreadCall → Type 0
+AllMade job past run at calls =
+    (place : ℕ) (call : ThreadCall) → slice_get calls place ≡ Some call
+    → (told : Answer) × IsMadeSince job past run at call told
 
 -- so the first of them was
 abbrev pub HeadMade : JobState → (past happened : List (Timed OtherCall)) → StepAt → List ThreadCall → Option Answer
@@ -68,9 +69,9 @@ HeadMade job past happened at (call ∷ calls) answer = FirstMade job past happe
 ended_call : (job : JobState) (past happened : List (Timed OtherCall)) (at : StepAt) (call : ThreadCall)
     (given : Option Answer) (ends : Answer → Option ScriptAnswer) (answer : ScriptAnswer)
     → (first : FirstMade job past happened at call given) → ends first.told ≡ Some answer
-    → EndsAtCall job (past ++ happened) at call ends answer
+    → EndsAtCall job past (past ++ happened) at call ends answer
 ended_call job past happened at call given ends answer first is =
-    record { told = first.told; made = first.behind.made; ended = is }
+    record { told = first.told; made = first.behind; ended = is }
 
 -- an answer that is given
 given_as : {A : Type 0} (f : Option Answer → A) (given : Option Answer) (told : Answer) (found : A)
@@ -88,8 +89,8 @@ pub ends_as : (job : JobState) (past happened : List (Timed OtherCall)) (at : St
     (began : Option Answer) (after : Node EndpointLocal) (given : Option Answer) (answer : ScriptAnswer)
     → ((first : Answer) → began ≡ Some first → WasBegun job past at form first)
     → HeadMade job past happened at (calls_of form began) given
-    → AllMade job (past ++ happened) at (calls_of form began)
-    → ended_by form began after given ≡ Some answer → EndsAs job (past ++ happened) at form answer
+    → AllMade job past (past ++ happened) at (calls_of form began)
+    → ended_by form began after given ≡ Some answer → EndsAs job past (past ++ happened) at form answer
 ends_as job past happened at (Once call) began after given answer was head all ends =
     let Ends = λ (o : Option Answer). ended_by (Once call) began after o in
     ended_call job past happened at call given _ answer head (given_as Ends given head.told _ head.is ends)
@@ -110,7 +111,7 @@ ends_as job past happened at (Twice begin next waits says) (Some first) after gi
 
     second : (found : Option ThreadCall) → next first ≡ found → IsMade job past at begin first
         → HeadMade job past happened at (option_to_list found) given
-        → EndsLater job (past ++ happened) at begin next (λ told. unless (waits told) (says told)) answer
+        → EndsLater job past (past ++ happened) at begin next (λ told. unless (waits told) (says told)) answer
     second None none begun made = absurd (no_answer answer (given_none given made ends))
       where
         given_none : (o : Option Answer) → o ≡ None → Ends o ≡ Some answer → None ≡ Some answer
@@ -120,7 +121,7 @@ ends_as job past happened at (Twice begin next waits says) (Some first) after gi
       call = call;
       next_is = some;
       told = made.told;
-      made = made.behind.made;
+      made = made.behind;
       begun = subst (λ (events : List (Timed OtherCall)). IsMade job events at begin first)
           (sym made.behind.before_is) (made_before job past made.behind.between at begin first begun);
       ended = given_as Ends given made.told _ made.is ends;
@@ -142,35 +143,6 @@ ends_as job past happened at (Several calls says) began after given answer was h
     record { each = all; ended = same_Some answer says (sym ends) }
 
 -- ---- more events follow
-
-call_more : (job : JobState) (run more : List (Timed OtherCall)) (at : StepAt) (call : ThreadCall)
-    (ends : Answer → Option ScriptAnswer) (answer : ScriptAnswer) → EndsAtCall job run at call ends answer
-    → EndsAtCall job (run ++ more) at call ends answer
-call_more job run more at call ends answer it =
-    record { told = it.told; made = made_before job run more at call it.told it.made; ended = it.ended }
-
-pub ends_more : (job : JobState) (run more : List (Timed OtherCall)) (at : StepAt) (form : Form EndpointLocal)
-    (answer : ScriptAnswer) → EndsAs job run at form answer → EndsAs job (run ++ more) at form answer
-ends_more job run more at (Once call) answer it = call_more job run more at call _ answer it
-ends_more job run more at (Again waits call) answer it = call_more job run more at call _ answer it
-ends_more job run more at (Until call ends) answer it = call_more job run more at call _ answer it
-ends_more job run more at (Twice begin next waits says) answer (inl it) = inl (call_more job run more at begin _ answer it)
-ends_more job run more at (Twice begin next waits says) answer (inr it) = inr (record {
-  first = it.first;
-  call = it.call;
-  next_is = it.next_is;
-  told = it.told;
-  made = made_before job run more at it.call it.told it.made;
-  begun = it.begun;
-  ended = it.ended;
-})
-ends_more job run more at (Looks begin ready) answer it =
-    record { first = it.first; begun = made_before job run more at begin it.first it.begun; ended = it.ended }
-ends_more job run more at (Several calls says) answer it = record {
-  each = λ place call there.
-      let one = it.each place call there in (one.0, made_before job run more at call one.0 one.1);
-  ended = it.ended;
-}
 
 begun_more : (job : JobState) (run more : List (Timed OtherCall)) (at : StepAt) (form : Form EndpointLocal)
     (first : Answer) → WasBegun job run at form first → WasBegun job (run ++ more) at form first
@@ -288,10 +260,6 @@ split_at (one ∷ calls) (suc place) call there =
     let it = split_at calls place call there in
     (one ∷ it.0, it.1, ap (λ (cs : List ThreadCall). one ∷ cs) it.2)
 
--- in which job, at which node and when a step is tried
-abbrev pub tried_at : JobState → StepAt → (now : ℕ) → TryContext
-tried_at job at now = context (script_job job) at.rank at.thread now
-
 -- the events of a turn: the first ones, and those of these calls
 abbrev HaveCalls : JobState → (past : List (Timed OtherCall)) → StepAt → (now : ℕ) → (first : List RecordEvent)
     → (calls : List ThreadCall) → (happened : List (Timed OtherCall)) → Type 0
@@ -317,7 +285,7 @@ head_made job past at now first (call ∷ calls) happened node is are = record {
 all_made : (job : JobState) (past : List (Timed OtherCall)) (at : StepAt) (now : ℕ) (first : List RecordEvent)
     (calls : List ThreadCall) (happened : List (Timed OtherCall)) (node : Node EndpointLocal)
     → records_after job past at.rank ≡ node → HaveCalls job past at now first calls happened
-    → AllMade job (past ++ happened) at calls
+    → AllMade job past (past ++ happened) at calls
 all_made job past at now first calls happened node is are place call there =
     let it = split_at calls place call there in
     let front = first ++ events_of at.thread it.0 in
@@ -328,7 +296,7 @@ all_made job past at now first calls happened node is are place call there =
       _,
       (made_at job past at now front call (events_of at.thread it.1) happened node is
           (subst (λ (es : List RecordEvent). AreEvents (rules_of job) (records_after job past) at.rank now es happened) same
-          are)).made,
+          are)),
     )
 
 -- ---- a turn
@@ -337,9 +305,6 @@ all_made job past at now first calls happened node is are place call there =
 -- and answer
 abbrev pub first_of : JobState → Machine → Entry → List RecordEvent
 first_of job machine entry = first_events (script_job job) machine entry.thread entry.got
-
-abbrev pub before_of : JobState → (rank : ℕ) → Machine → Entry → Node EndpointLocal
-before_of job rank machine entry = as_tried (script_job job) rank machine entry.thread entry.now entry.got
 
 abbrev pub calls_then : JobState → StepAt → Machine → Entry → List ScriptStep → List ThreadCall
 calls_then job at machine entry left =
@@ -371,22 +336,21 @@ pub record Happened (job : JobState) (past happened : List (Timed OtherCall)) (r
   pub are : AreEvents (rules_of job) (records_after job past) rank entry.now
       (turn_events (script_job job) rank machine entry.thread entry.now entry.got) happened
 
--- a step that ended in a turn
-pub record EndsInTurn (job : JobState) (run : List (Timed OtherCall)) (at : StepAt) (left : List ScriptStep)
-    (answer : ScriptAnswer) : Type 0 where
+-- a step that ended in a turn behind the past, where the run is that up to the end of the turn
+pub record EndsInTurn (job : JobState) (past run : List (Timed OtherCall)) (rank : ℕ) (machine : Machine)
+    (entry : Entry) (left : List ScriptStep) (answer : ScriptAnswer) : Type 0 where
   pub step : ScriptStep
   pub rest : List ScriptStep
   pub left_is : left ≡ step ∷ rest
-  pub context : TryContext
-  pub tried : Node EndpointLocal
-  pub ends : EndsAs job run at (step_form step context tried) answer
+  pub ends : EndsAs job past run (at_entry rank entry)
+      (step_form step (tried_at job (at_entry rank entry) entry.now) (before_of job rank machine entry)) answer
 
 ends_by_left : (job : JobState) (past happened : List (Timed OtherCall)) (rank : ℕ) (machine : Machine) (entry : Entry)
     (left : List ScriptStep) (answer : ScriptAnswer) → (machine.own entry.thread).left ≡ left
     → Happened job past happened rank machine entry
     → IsPending job past (at_entry rank entry) (machine.own entry.thread)
     → (tried_then job (at_entry rank entry) machine entry left).ended ≡ Some answer
-    → EndsInTurn job (past ++ happened) (at_entry rank entry) left answer
+    → EndsInTurn job past (past ++ happened) rank machine entry left answer
 ends_by_left job past happened rank machine entry [] answer same H pending ends = absurd (no_answer answer ends)
 ends_by_left job past happened rank machine entry (one ∷ rest) answer same H pending ends =
     let at = at_entry rank entry in
@@ -401,8 +365,6 @@ ends_by_left job past happened rank machine entry (one ∷ rest) answer same H p
       step = one;
       rest = rest;
       left_is = refl;
-      context = context;
-      tried = before;
       ends = ends_as job past happened at (step_form one context before) began
           (after_then job at machine entry (one ∷ rest)) (given_then job at machine entry (one ∷ rest)) answer
           (λ first is. pending first is one rest same context before)
@@ -415,7 +377,7 @@ pub turn_ends : (job : JobState) (past happened : List (Timed OtherCall)) (rank 
     (answer : ScriptAnswer) → Happened job past happened rank machine entry
     → IsPending job past (at_entry rank entry) (machine.own entry.thread)
     → answer_of_step job rank machine entry ≡ Some answer
-    → EndsInTurn job (past ++ happened) (at_entry rank entry) (machine.own entry.thread).left answer
+    → EndsInTurn job past (past ++ happened) rank machine entry (machine.own entry.thread).left answer
 turn_ends job past happened rank machine entry answer H pending ends =
     ends_by_left job past happened rank machine entry (machine.own entry.thread).left answer refl H pending ends
 
@@ -539,25 +501,11 @@ stands_on job past happened machines item S H = record {
     events : List RecordEvent
     events = turn_events (script_job job) item.node (machines item.node) item.entry.thread item.entry.now item.entry.got
 
--- a step that ended in the turn of an item, in the whole run
-pub record EndsInRun (job : JobState) (run : List (Timed OtherCall)) (rank : ℕ) (machine : Machine) (entry : Entry)
+-- a step that ended in the turn of an item
+pub record EndsInRun (job : JobState) (past run : List (Timed OtherCall)) (rank : ℕ) (machine : Machine) (entry : Entry)
     (answer : ScriptAnswer) : Type 0 where
-  pub ends : EndsInTurn job run (at_entry rank entry) (machine.own entry.thread).left answer
-  pub over : List (Timed OtherCall)
-  pub later : List (Timed OtherCall)
-  pub run_is : run ≡ over ++ later
-  pub node_is : records_after job over rank ≡ (after_entry job rank machine entry).node
-
-turn_more : (job : JobState) (run more : List (Timed OtherCall)) (at : StepAt) (left : List ScriptStep)
-    (answer : ScriptAnswer) → EndsInTurn job run at left answer → EndsInTurn job (run ++ more) at left answer
-turn_more job run more at left answer it = record {
-  step = it.step;
-  rest = it.rest;
-  left_is = it.left_is;
-  context = it.context;
-  tried = it.tried;
-  ends = ends_more job run more at (step_form it.step it.context it.tried) answer it.ends;
-}
+  pub ends : EndsInTurn job past run rank machine entry (machine.own entry.thread).left answer
+  pub node_is : records_after job run rank ≡ (after_entry job rank machine entry).node
 
 pub items_end : (job : JobState) (items : List NodeEntry) (turns : List (List (Timed OtherCall)))
     (past : List (Timed OtherCall)) (machines : Machines EndpointLocal (OwnScripts ScriptStep))
@@ -565,44 +513,45 @@ pub items_end : (job : JobState) (items : List NodeEntry) (turns : List (List (T
     → (place : ℕ) (item : NodeEntry) → slice_get items place ≡ Some item → (answer : ScriptAnswer)
     → answer_of_step job item.node (after_all (script_job job) machines (take place items) item.node) item.entry
     ≡ Some answer
-    → EndsInRun job (past ++ joined turns) item.node
+    → EndsInRun job (past ++ first_turns place turns) (past ++ first_turns (suc place) turns) item.node
     (after_all (script_job job) machines (take place items) item.node) item.entry answer
 items_end job [] turns past machines are S place item there answer ends = absurd (cc)
 items_end job (first ∷ items) [] past machines are S place item there answer ends = absurd are
 items_end job (first ∷ items) (happened ∷ turns) past machines are S zero item there answer ends =
-    subst (λ (one : NodeEntry). EndsInRun job (past ++ (happened ++ joined turns)) one.node (machines one.node) one.entry
-    answer) (same_Some first item there)
+    subst (λ (one : NodeEntry). EndsInRun job (past ++ []) (past ++ (happened ++ [])) one.node (machines one.node)
+    one.entry answer) (same_Some first item there)
     (here (ap (λ (one : NodeEntry). answer_of_step job one.node (machines one.node) one.entry) (same_Some first item there)
     ∙ ends))
   where
     H : Happened job past happened first.node (machines first.node) first.entry
     H = record { node_is = S.nodes first.node; are = are.0.events }
 
+    turned : answer_of_step job first.node (machines first.node) first.entry ≡ Some answer
+        → EndsInRun job past (past ++ happened) first.node (machines first.node) first.entry answer
+    turned is = record {
+      ends = turn_ends job past happened first.node (machines first.node) first.entry answer H
+          (S.pending first.node first.entry.thread) is;
+      node_is = (stands_on job past happened machines first S H).nodes first.node
+          ∙ ap (λ (m : Machine). m.node) (machine_here job machines first first.node refl);
+    }
+
     here : answer_of_step job first.node (machines first.node) first.entry ≡ Some answer
-        → EndsInRun job (past ++ (happened ++ joined turns)) first.node (machines first.node) first.entry answer
+        → EndsInRun job (past ++ []) (past ++ (happened ++ [])) first.node (machines first.node) first.entry answer
     here is =
-        let assoc = append_assoc past happened (joined turns) in
-        let on = stands_on job past happened machines first S H in
-        record {
-          ends = subst (λ (run : List (Timed OtherCall)). EndsInTurn job run (at_entry first.node first.entry)
-              ((machines first.node).own first.entry.thread).left answer) assoc
-              (turn_more job (past ++ happened) (joined turns) (at_entry first.node first.entry)
-              ((machines first.node).own first.entry.thread).left answer
-              (turn_ends job past happened first.node (machines first.node) first.entry answer H
-              (S.pending first.node first.entry.thread) is));
-          over = past ++ happened;
-          later = joined turns;
-          run_is = sym assoc;
-          node_is = on.nodes first.node
-              ∙ ap (λ (m : Machine). m.node) (machine_here job machines first first.node refl);
-        }
+        subst (λ (before : List (Timed OtherCall)). EndsInRun job before (past ++ (happened ++ [])) first.node
+        (machines first.node) first.entry answer) (sym (append-nil past))
+        (subst (λ (last : List (Timed OtherCall)). EndsInRun job past (past ++ last) first.node (machines first.node)
+        first.entry answer) (sym (append-nil happened)) (turned is))
 items_end job (first ∷ items) (happened ∷ turns) past machines are S (suc place) item there answer ends =
     let H : Happened job past happened first.node (machines first.node) first.entry =
     record { node_is = S.nodes first.node; are = are.0.events } in
-    subst (λ (run : List (Timed OtherCall)). EndsInRun job run item.node
-    (after_all (script_job job) (after_item (script_job job) machines first) (take place items) item.node) item.entry
-    answer) (append_assoc past happened (joined turns))
+    let machine = after_all (script_job job) (after_item (script_job job) machines first) (take place items) item.node in
+    subst (λ (before : List (Timed OtherCall)). EndsInRun job before
+    (past ++ (happened ++ first_turns (suc place) turns)) item.node machine item.entry answer)
+    (append_assoc past happened (first_turns place turns))
+    (subst (λ (run : List (Timed OtherCall)). EndsInRun job ((past ++ happened) ++ first_turns place turns) run item.node
+    machine item.entry answer) (append_assoc past happened (first_turns (suc place) turns))
     (items_end job items turns (past ++ happened) (after_item (script_job job) machines first)
     (subst (λ (w : Records). AreTurns (script_job job) (after_item (script_job job) machines first) w items turns)
     (sym (run_append (rules_of job) past happened (at_the_opening job.settings))) are.1)
-    (stands_on job past happened machines first S H) place item there answer ends)
+    (stands_on job past happened machines first S H) place item there answer ends))

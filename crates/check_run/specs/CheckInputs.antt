@@ -10,6 +10,8 @@ use Rattle.gas_outside.specs.Faults.{Rose}
 use Rattle.gasnet_trace.specs.TraceReading.{BadLine as BadTraceLine}
 use Rattle.gasnet_trace.specs.OutputText.{IsOutput, output_text}
 use Rattle.gasnet_trace.specs.OutputReading.{output_at}
+use Rattle.gasnet_trace.specs.LineRefusals.{Means}
+use Rattle.gasnet_trace.specs.OutputRefusals.{output_kind}
 use Rattle.gasnet_trace.specs.declared.fault.TraceFault.{TraceFault}
 use Rattle.gasnet_trace.specs.declared.fault.TraceFault.TheVariants as tracefaults
 use Rattle.gasnet_trace.specs.declared.fault.TraceWhy.{TraceWhy}
@@ -118,6 +120,53 @@ pub record IsBadFront (bytes : List ℕ) (line : ℕ) (reason : JobWhy) : Type 0
   pub read : front_of bytes ≡ Err (record { line = line; why = reason })
   pub means : FrontMeans bytes line reason
 
+-- where outputs are read: of the nodes of a job, from this place of the bytes on
+pub record OutputsOf : Type 0 where
+  pub job : JobState
+  pub bytes : List ℕ
+  pub from : ℕ
+
+-- how many lines of the bytes stand before the rest
+abbrev pub lines_until : (bytes rest : List ℕ) → ℕ
+lines_until bytes rest = lines_in (take (length bytes - length rest) bytes)
+
+-- outputs of the first nodes stand there, and behind them the bytes are refused as an output of the next node, by this
+-- line of it for this reason (`Means` of `gasnet_trace`)
+pub record IsBadOutput (place : OutputsOf) (line : ℕ) (reason : JobWhy) : Type 0 where
+  pub outputs : List Output
+  pub fewer : length outputs < place.job.settings.nodes
+  pub are : AreOutputs place.job 0 outputs
+  pub rest : List ℕ
+  pub text : drop place.from place.bytes ≡ outputs_text place.job.settings.version outputs ++ rest
+  pub own_line : ℕ
+  pub own_reason : TraceWhy
+  pub means : Means (output_kind (wanted_of place.job (length outputs))) rest own_line own_reason
+  pub line_is : line ≡ lines_until place.bytes rest + own_line
+  pub reason_is : reason ≡ why_of own_reason
+
+-- outputs of all nodes stand there, and this is the line behind them
+pub record HasMoreBehind (place : OutputsOf) (line : ℕ) (reason : JobWhy) : Type 0 where
+  pub outputs : List Output
+  pub nodes : length outputs ≡ place.job.settings.nodes
+  pub are : AreOutputs place.job 0 outputs
+  pub rest : List ℕ
+  pub text : drop place.from place.bytes ≡ outputs_text place.job.settings.version outputs ++ rest
+  pub some : rest ≡ [] → ⊥
+  pub line_is : line ≡ lines_until place.bytes rest + 1
+  pub reason_is : reason ≡ why.After
+
+-- what is meant of a line behind the text of a job
+pub record IsMeantBehind (bytes : List ℕ) (line : ℕ) (reason : JobWhy) : Type 0 where
+  pub job : JobState
+  pub size : ℕ
+  pub front : BeginsWith job size bytes
+  pub means : IsBadOutput (record { job = job; bytes = bytes; from = size }) line reason
+      ⊎ HasMoreBehind (record { job = job; bytes = bytes; from = size }) line reason
+
+-- what a refusal of an input at a line means, apart from the reader
+abbrev pub InputMeans : List ℕ → (line : ℕ) → JobWhy → Type 0
+InputMeans bytes line reason = FrontMeans bytes line reason ⊎ IsMeantBehind bytes line reason
+
 -- the bytes begin with a job's text, and an output behind it is bad at this line, or it is a line behind all outputs
 pub record IsBadBehind (bytes : List ℕ) (line : ℕ) (reason : JobWhy) : Type 0 where
   pub job : JobState
@@ -142,12 +191,6 @@ abbrev pub fault_behind : List ℕ → TraceFault → InputFault
 fault_behind before (tracefaults.Bad line reason) = faults.Bad (lines_in before + line) (why_of reason)
 fault_behind before tracefaults.NoMemory = faults.NoMemory
 
--- where outputs are read: of the nodes of a job, from this place of the bytes on
-pub record OutputsOf : Type 0 where
-  pub job : JobState
-  pub bytes : List ℕ
-  pub from : ℕ
-
 -- they are outputs of all its nodes, which stand there, before the rest
 pub record StandThere (place : OutputsOf) (outputs : List Output) (rest : List ℕ) : Type 0 where
   pub nodes : length outputs ≡ place.job.settings.nodes
@@ -166,6 +209,7 @@ pub record AreRead (place : OutputsOf) (outputs : List Output) (end : ℕ) : Typ
 pub record AreUnread (place : OutputsOf) (line : ℕ) (reason : JobWhy) : Type 0 where
   pub read : outputs_at place.job place.bytes place.from 0 place.job.settings.nodes
       ≡ Err (record { line = line; why = reason })
+  pub means : IsBadOutput place line reason
   pub none : (others : List Output) (rest : List ℕ) → StandThere place others rest → ⊥
 
 -- outputs were read, or why not
@@ -175,17 +219,20 @@ ReadsOutputs place (Err (faults.Bad line reason)) = AreUnread place line reason
 ReadsOutputs place (Err faults.ReadFault) = ⊥
 ReadsOutputs place (Err faults.NoMemory) = Unit {0}
 
--- the bytes are an input, this one and no other
+-- the bytes are an input, this one and no other, and none of their lines is refused
 pub record IsInput (bytes : List ℕ) (job : JobState) (outputs : List Output) : Type 0 where
+  pub unrefused : (line : ℕ) (reason : JobWhy) → InputMeans bytes line reason → ⊥
   pub text : InputText job outputs bytes
   pub one : (other : JobState) (others : List Output) → InputText other others bytes
       → (other ≡ job) × (others ≡ outputs)
   pub traces : HaveTraces job outputs
 
--- the bytes are none, by this line, for this reason, and aren't too many
+-- the bytes are none, by this line, for this reason, and by no other, and aren't too many
 pub record IsBadInput (bytes : List ℕ) (line : ℕ) (reason : JobWhy) : Type 0 where
   pub within : length bytes ≤ input_limit
   pub line_is : IsBadFront bytes line reason ⊎ IsBadBehind bytes line reason
+  pub means : InputMeans bytes line reason
+  pub only : (other : ℕ) (why : JobWhy) → InputMeans bytes other why → (line ≡ other) × (reason ≡ why)
   pub none : IsNoInput bytes
 
 -- why bytes weren't read as an input; reading them, the source doesn't fail

@@ -1,8 +1,8 @@
 -- What the lines of the steps of a run of traces tell: which step of which thread ended, by which calls of the run, and
 -- how these were answered there.
 -- Origin: this project's profile. What an `ok` of a transfer and of the barrier means is that of GASNet 1.8.1.
-use Rattle.std.specs.Prelude.{◌≡◌, ◌⊎◌, ℕ, ℤ, suc, ◌==◌, ◌&&◌, if◌then◌else◌, List, [], ◌∷◌, ◌++◌, Option, Some, None}
-use Rattle.std.specs.Prelude.{◌+◌, is_some, length, slice_get, take}
+use Rattle.std.specs.Prelude.{◌≡◌, ◌<◌, ◌⊎◌, ℕ, ℤ, zero, suc, ◌==◌, ◌&&◌, if◌then◌else◌, List, [], ◌∷◌, ◌++◌, Option}
+use Rattle.std.specs.Prelude.{Some, None, ◌+◌, is_some, length, slice_get, take}
 use Rattle.gasnet_trace.specs.declared.trace.Trace.{Trace}
 use Rattle.machine.specs.declared.entry.Entry.{Entry}
 use Rattle.barrier_laws.specs.BarrierLaws.{EndsPhase, TellsOutcome}
@@ -26,9 +26,9 @@ use Rattle.node_record.specs.NodeStep.{OfCall, OfRequest}
 use Rattle.node_record.specs.Record.{Node as Record}
 use Rattle.node_record.specs.declared.answer.Asked.{Asked}
 use Rattle.node_runs.specs.Actions.{Form, Once, Again, Until, Twice, Looks, Several, OwnScripts, unless}
-use Rattle.node_runs.specs.Order.{replay}
+use Rattle.node_runs.specs.Order.{NodeEntry, own_entries, replay}
 use Rattle.node_runs.specs.Scripts.{ThreadCall, TryContext}
-use Rattle.node_runs.specs.Turn.{MachineState}
+use Rattle.node_runs.specs.Turn.{MachineState, as_tried, context}
 use Rattle.node_runs.specs.declared.script_answer.ScriptAnswer.{ScriptAnswer}
 use Rattle.node_runs.specs.declared.script_answer.ScriptAnswer.TheVariants as said
 use Rattle.node_script.specs.Bodies.{script_meaning}
@@ -73,25 +73,32 @@ pub record IsMade (job : JobState) (run : List (Timed OtherCall)) (at : StepAt) 
   pub run_is : run ≡ before ++ call_event at now call ∷ later
   pub answered : IsReply call answer (world_answer (rules_of job) (records_after job before) (call_event at now call))
 
--- ---- how a step ended
+-- so it is of an event behind the first ones of the run
+pub record IsMadeSince (job : JobState) (past run : List (Timed OtherCall)) (at : StepAt) (call : ThreadCall)
+    (answer : Answer) : Type 0 where
+  pub made : IsMade job run at call answer
+  pub between : List (Timed OtherCall)
+  pub before_is : made.before ≡ past ++ between
 
--- one call was made, and its answer ended the step
-pub record EndsAtCall (job : JobState) (run : List (Timed OtherCall)) (at : StepAt) (call : ThreadCall)
+-- ---- how a step ended, in a turn behind these events of the past, where the run is that up to the end of the turn
+
+-- one call was made in the turn, and its answer ended the step
+pub record EndsAtCall (job : JobState) (past run : List (Timed OtherCall)) (at : StepAt) (call : ThreadCall)
     (ends : Answer → Option ScriptAnswer) (answer : ScriptAnswer) : Type 0 where
   pub told : Answer
-  pub made : IsMade job run at call told
+  pub made : IsMadeSince job past run at call told
   pub ended : ends told ≡ Some answer
 
--- a call began something, in an event before that of the call which ended the step; what that call is the answer of the
--- first one says
-pub record EndsLater (job : JobState) (run : List (Timed OtherCall)) (at : StepAt) (begin : ThreadCall)
+-- a call began something, in an event before that of the call in the turn which ended the step; what that call is the
+-- answer of the first one says
+pub record EndsLater (job : JobState) (past run : List (Timed OtherCall)) (at : StepAt) (begin : ThreadCall)
     (next : Answer → Option ThreadCall) (ends : Answer → Option ScriptAnswer) (answer : ScriptAnswer) : Type 0 where
   pub first : Answer
   pub call : ThreadCall
   pub next_is : next first ≡ Some call
   pub told : Answer
-  pub made : IsMade job run at call told
-  pub begun : IsMade job made.before at begin first
+  pub made : IsMadeSince job past run at call told
+  pub begun : IsMade job made.made.before at begin first
   pub ended : ends told ≡ Some answer
 
 -- a call began something, and its answer is the step's
@@ -101,23 +108,24 @@ pub record EndsAsBegun (job : JobState) (run : List (Timed OtherCall)) (at : Ste
   pub begun : IsMade job run at begin first
   pub ended : answer ≡ said.Call first
 
--- these calls were made, and the step's answer is this one
-pub record EndsAfterAll (job : JobState) (run : List (Timed OtherCall)) (at : StepAt) (calls : List ThreadCall)
+-- these calls were made in the turn, and the step's answer is this one
+pub record EndsAfterAll (job : JobState) (past run : List (Timed OtherCall)) (at : StepAt) (calls : List ThreadCall)
     (says answer : ScriptAnswer) : Type 0 where
   pub each : (place : ℕ) (call : ThreadCall) → slice_get calls place ≡ Some call
-      → (told : Answer) × IsMade job run at call told
+      → (told : Answer) × IsMadeSince job past run at call told
   pub ended : answer ≡ says
 
 -- so it is of a step that is tried in this form
-abbrev pub EndsAs : JobState → List (Timed OtherCall) → StepAt → Form EndpointLocal → ScriptAnswer → Type 0
-EndsAs job run at (Once call) answer = EndsAtCall job run at call (λ told. Some (said.Call told)) answer
-EndsAs job run at (Again waits call) answer = EndsAtCall job run at call (λ told. unless (waits told) told) answer
-EndsAs job run at (Until call ends) answer = EndsAtCall job run at call ends answer
-EndsAs job run at (Twice begin next waits says) answer =
-    EndsAtCall job run at begin (λ told. unless (is_some (next told)) (says told)) answer
-    ⊎ EndsLater job run at begin next (λ told. unless (waits told) (says told)) answer
-EndsAs job run at (Looks begin ready) answer = EndsAsBegun job run at begin answer
-EndsAs job run at (Several calls says) answer = EndsAfterAll job run at calls says answer
+abbrev pub EndsAs : JobState → (past run : List (Timed OtherCall)) → StepAt → Form EndpointLocal → ScriptAnswer → Type 0
+EndsAs job past run at (Once call) answer = EndsAtCall job past run at call (λ told. Some (said.Call told)) answer
+EndsAs job past run at (Again waits call) answer =
+    EndsAtCall job past run at call (λ told. unless (waits told) told) answer
+EndsAs job past run at (Until call ends) answer = EndsAtCall job past run at call ends answer
+EndsAs job past run at (Twice begin next waits says) answer =
+    EndsAtCall job past run at begin (λ told. unless (is_some (next told)) (says told)) answer
+    ⊎ EndsLater job past run at begin next (λ told. unless (waits told) (says told)) answer
+EndsAs job past run at (Looks begin ready) answer = EndsAsBegun job run at begin answer
+EndsAs job past run at (Several calls says) answer = EndsAfterAll job past run at calls says answer
 
 -- ---- which step it is
 
@@ -140,11 +148,31 @@ lines_before job traces rank trace place =
     length (steps_from job 0 (take rank traces))
     + length (step_lines job rank (first_machine job rank) (take place trace.entries))
 
--- what this line, counted from 0, tells of the run of these traces: in the turn of its entry the step of this number of
--- the thread's script, counted from 0, ended so; and the words are the thread's and those of the answer, by the node's
--- record after that turn, which is the one after these events of the run
-pub record IsStepTold (job : JobState) (traces : List Trace) (run : List (Timed OtherCall)) (line : ℕ) (words : Line)
-    : Type 0 where
+-- in which job, at which node and when a step is tried
+abbrev pub tried_at : JobState → StepAt → (now : ℕ) → TryContext
+tried_at job at now = context (script_job job) at.rank at.thread now
+
+-- the record of a node as the step of its thread is tried in the turn of an entry
+abbrev pub before_of : JobState → (rank : ℕ) → MachineState EndpointLocal (OwnScripts ScriptStep) → Entry
+    → Record EndpointLocal
+before_of job rank machine entry = as_tried (script_job job) rank machine entry.thread entry.now entry.got
+
+-- the events of the first so many turns
+abbrev pub first_turns : (count : ℕ) → List (List (Timed OtherCall)) → List (Timed OtherCall)
+first_turns zero turns = []
+first_turns (suc count) [] = []
+first_turns (suc count) (turn ∷ turns) = turn ++ first_turns count turns
+
+-- a run of traces: its entries in their order, and the events of the turn of each
+pub record RunOrder : Type 0 where
+  pub items : List NodeEntry
+  pub turns : List (List (Timed OtherCall))
+
+-- what this line, counted from 0, tells of the run of these traces: in the turn of its entry, the one of this number of
+-- the run, counted from 0, the step of this number of the thread's script, counted from 0, ended so, by what happened
+-- in the run up to the end of that turn; and the words are the thread's and those of the answer, by the node's record
+-- after that turn
+pub record IsStepTold (job : JobState) (traces : List Trace) (order : RunOrder) (line : ℕ) (words : Line) : Type 0 where
   pub at : StepAt
   pub trace : Trace
   pub trace_is : slice_get traces at.rank ≡ Some trace
@@ -159,14 +187,22 @@ pub record IsStepTold (job : JobState) (traces : List Trace) (run : List (Timed 
   pub step_is : slice_get (steps_of_thread job.scripts at.rank at.thread) number ≡ Some step
   pub answer : ScriptAnswer
   pub answered : answer_of_step job at.rank (machine_at job at.rank trace place) entry ≡ Some answer
-  pub context : TryContext
-  pub tried : Record EndpointLocal
-  pub ends : EndsAs job run at (step_form step context tried) answer
-  pub over : List (Timed OtherCall)
-  pub later : List (Timed OtherCall)
-  pub run_is : run ≡ over ++ later
-  pub node_is : records_after job over at.rank ≡ (after_entry job at.rank (machine_at job at.rank trace place) entry).node
-  pub words_are : words ≡ step_line job at (records_after job over at.rank) answer
+  pub turn : ℕ
+  pub turn_is : slice_get order.items turn ≡ Some (record { node = at.rank; entry = entry })
+  pub own_is : own_entries at.rank (take turn order.items) ≡ take place trace.entries
+  pub ends : EndsAs job (first_turns turn order.turns) (first_turns (suc turn) order.turns) at
+      (step_form step (tried_at job at entry.now) (before_of job at.rank (machine_at job at.rank trace place) entry))
+      answer
+  pub node_is : records_after job (first_turns (suc turn) order.turns) at.rank
+      ≡ (after_entry job at.rank (machine_at job at.rank trace place) entry).node
+  pub words_are : words ≡ step_line job at (records_after job (first_turns (suc turn) order.turns) at.rank) answer
+
+-- one turn of the run is later than another: all that happened up to the end of the earlier one stands before the events
+-- of the later one
+pub record IsLater (order : RunOrder) (turn later : ℕ) : Type 0 where
+  pub more : turn < later
+  pub between : List (Timed OtherCall)
+  pub is : first_turns later order.turns ≡ first_turns (suc turn) order.turns ++ between
 
 -- ---- what an answer of a sync and of the barrier says
 
@@ -177,21 +213,25 @@ on_transfers call = Performs (OnTransfers call)
 abbrev pub tries_barrier : ℤ → (flags : ℕ) → ThreadCall
 tries_barrier id flags = Performs (OnBarrier (TryBarrier id flags))
 
--- where a sync was answered Ok, each transfer that began before and that it synchronises was done in between
-pub record SyncIsMade (job : JobState) (run : List (Timed OtherCall)) (at : StepAt) (call : TransferCall)
+-- where a sync of the turn was answered Ok, each transfer that began before and that it synchronises was done in
+-- between
+pub record SyncIsMade (job : JobState) (past run : List (Timed OtherCall)) (at : StepAt) (call : TransferCall)
     : Type 0 where
-  pub made : IsMade job run at (on_transfers call) (answers.Synced synced.Ok)
+  pub made : IsMadeSince job past run at (on_transfers call) (answers.Synced synced.Ok)
   pub done : (beginning : Beginning (rules_of job)) (events : List (Timed OtherCall))
-      → made.before ≡ beginning.before ++ called beginning.now beginning.node beginning.thread beginning.call ∷ events
-      → Synchronises (rules_of job) (records_after job made.before) (call_event at made.now (on_transfers call))
+      → made.made.before
+      ≡ beginning.before ++ called beginning.now beginning.node beginning.thread beginning.call ∷ events
+      → Synchronises (rules_of job) (records_after job made.made.before)
+      (call_event at made.made.now (on_transfers call))
       beginning.node beginning.number
       → IsDoneSince (rules_of job) beginning events
 
--- a transfer was begun by the thread, a later sync of its handle was answered Ok, and in between the transfer was done
-pub record TransferIsMade (job : JobState) (run : List (Timed OtherCall)) (at : StepAt) (transfer : Transfer)
+-- a transfer was begun by the thread, a sync of its handle in the turn was answered Ok, and in between the transfer was
+-- done
+pub record TransferIsMade (job : JobState) (past run : List (Timed OtherCall)) (at : StepAt) (transfer : Transfer)
     : Type 0 where
   pub handle : Handle
-  pub sync : SyncIsMade job run at (SyncHandle handle)
+  pub sync : SyncIsMade job past run at (SyncHandle handle)
   pub beginning : Beginning (rules_of job)
   pub node_is : beginning.node ≡ at.rank
   pub thread_is : beginning.thread ≡ at.thread
@@ -199,16 +239,16 @@ pub record TransferIsMade (job : JobState) (run : List (Timed OtherCall)) (at : 
   pub number_is : beginning.number ≡ handle.serial
   pub transfer_is : beginning.transfer ≡ transfer
   pub events : List (Timed OtherCall)
-  pub before_is : sync.made.before
+  pub before_is : sync.made.made.before
       ≡ beginning.before ++ called beginning.now beginning.node beginning.thread beginning.call ∷ events
   pub done : IsDoneSince (rules_of job) beginning events
 
--- a try of the barrier was answered so, which tells the outcome of the notifies of all nodes
-pub record BarrierIsTried (job : JobState) (run : List (Timed OtherCall)) (at : StepAt) (id : ℤ) (flags : ℕ)
+-- a try of the barrier in the turn was answered so, which tells the outcome of the notifies of all nodes
+pub record BarrierIsTried (job : JobState) (past run : List (Timed OtherCall)) (at : StepAt) (id : ℤ) (flags : ℕ)
     (answer : BarrierAnswer) : Type 0 where
-  pub made : IsMade job run at (tries_barrier id flags) (answers.Barrier answer)
-  pub tells : TellsOutcome job.settings (records_after job made.before)
-      (record { now = made.now; node = at.rank; thread = at.thread; id = id; flags = flags }) answer
+  pub made : IsMadeSince job past run at (tries_barrier id flags) (answers.Barrier answer)
+  pub tells : TellsOutcome job.settings (records_after job made.made.before)
+      (record { now = made.made.now; node = at.rank; thread = at.thread; id = id; flags = flags }) answer
 
 -- the synchronisation at which a step waits
 abbrev pub sync_waited : WaitingStep → Option TransferCall
@@ -220,21 +260,35 @@ sync_waited other = None
 
 -- ---- all lines
 
+-- what happened before the turn of a line, and up to its end
+abbrev pub past_of : {job : JobState} {traces : List Trace} {order : RunOrder} {line : ℕ} {words : Line}
+    → IsStepTold job traces order line words → List (Timed OtherCall)
+past_of {job} {traces} {order} told = first_turns told.turn order.turns
+
+abbrev pub run_of : {job : JobState} {traces : List Trace} {order : RunOrder} {line : ℕ} {words : Line}
+    → IsStepTold job traces order line words → List (Timed OtherCall)
+run_of {job} {traces} {order} told = first_turns (suc told.turn) order.turns
+
 -- each line of the steps of a run of these traces tells how its step ended. So an `ok` of a step that waits for
 -- transfers, of a blocking transfer, and an `ok` or a `mismatch` of one that waits at the barrier, is what the laws of
--- transfers and of the barrier speak of
-pub record LinesTell (job : JobState) (traces : List Trace) (run : List (Timed OtherCall)) : Type 0 where
+-- transfers and of the barrier speak of, in the very turn of the line. And of two lines of one node the later one is of a
+-- later turn
+pub record LinesTell (job : JobState) (traces : List Trace) (order : RunOrder) : Type 0 where
   pub each : (line : ℕ) (words : Line) → slice_get (steps_from job 0 traces) line ≡ Some words
-      → IsStepTold job traces run line words
-  pub syncs : (line : ℕ) (words : Line) (told : IsStepTold job traces run line words)
+      → IsStepTold job traces order line words
+  pub rise : (line other : ℕ) (words more : Line) (one : IsStepTold job traces order line words)
+      (two : IsStepTold job traces order other more)
+      → one.at.rank ≡ two.at.rank → line < other → IsLater order one.turn two.turn
+  pub syncs : (line : ℕ) (words : Line) (told : IsStepTold job traces order line words)
       (wait : WaitingStep) (call : TransferCall)
       → told.step ≡ step.Waiting wait → sync_waited wait ≡ Some call
-      → told.answer ≡ said.Call (answers.Synced synced.Ok) → SyncIsMade job run told.at call
-  pub transfers : (line : ℕ) (words : Line) (told : IsStepTold job traces run line words) (text : Transfer)
+      → told.answer ≡ said.Call (answers.Synced synced.Ok) → SyncIsMade job (past_of told) (run_of told) told.at call
+  pub transfers : (line : ℕ) (words : Line) (told : IsStepTold job traces order line words) (text : Transfer)
       → told.step ≡ step.Waiting (waiting.Transfer text) → told.answer ≡ said.Call (answers.Synced synced.Ok)
-      → IsMade job run told.at (on_transfers (Begin None text)) (answers.Begun begun.Done)
-      ⊎ TransferIsMade job run told.at text
-  pub barriers : (line : ℕ) (words : Line) (told : IsStepTold job traces run line words) (id : ℤ) (flags : ℕ)
+      → IsMadeSince job (past_of told) (run_of told) told.at (on_transfers (Begin None text))
+      (answers.Begun begun.Done)
+      ⊎ TransferIsMade job (past_of told) (run_of told) told.at text
+  pub barriers : (line : ℕ) (words : Line) (told : IsStepTold job traces order line words) (id : ℤ) (flags : ℕ)
       (answer : BarrierAnswer) → told.step ≡ step.Waiting (waiting.BarrierWait id flags)
       → told.answer ≡ said.Call (answers.Barrier answer) → EndsPhase answer
-      → BarrierIsTried job run told.at id flags answer
+      → BarrierIsTried job (past_of told) (run_of told) told.at id flags answer

@@ -11,7 +11,6 @@ use Rattle.machine.specs.Fronts.{Node, IsRun, IsStuck, Reaches, full}
 use Rattle.node_machine.specs.Laws.{IsRunOf, nodes_of, order_by}
 use Rattle.node_machine.specs.NodeState.{NodeState, state_steps}
 use Rattle.node_runs.specs.Order.{own_entries}
-use Rattle.node_runs.specs.WorldRun.{joined}
 use Rattle.node_script.specs.Registration.{handlers_of, registered}
 use Rattle.endpoint_rules.specs.EndpointRules.{OtherCall}
 use Rattle.plain_world.specs.World.{Timed}
@@ -49,7 +48,7 @@ pub record RunOfTraces (job : JobState) (traces : List Trace) : Type 0 where
   pub run : IsRunOf job (order_by job (entries_of traces) ranks) turns
   pub own : (rank : ℕ) (entries : List Entry) → slice_get (entries_of traces) rank ≡ Some entries
       → own_entries rank (order_by job (entries_of traces) ranks) ≡ entries
-  pub lines : LinesTell job traces (joined turns)
+  pub lines : LinesTell job traces (record { items = order_by job (entries_of traces) ranks; turns = turns })
 
 -- ---- its nodes
 

@@ -38,7 +38,7 @@ pub enum TracesEnd {
     },
     /// They are a run, and the sink failed: a front of the text of its lines was written.
     Fault,
-    /// Memory ran out: where they are known to be a run, whole lines of it were written, or none; else nothing was.
+    /// Memory ran out. Nothing was written; the clause allows whole lines of a run that is known by then.
     NoMemory,
 }
 
@@ -67,8 +67,9 @@ fn tell_run<K: Sink>(report: RunReport, sink: &mut BufferedSink<K>) -> TracesEnd
 /// lines of that run: for each node and each of its entries, where a step of a script ended in it, the rank, the thread
 /// and the answer of the step; then the lines of each node at the end.
 ///
-/// Bytes that their node refuses, whatever it did before, are struck from the traces before: an entry that got such bytes
-/// is read as one that got nothing. How many of a node's turns got such bytes is told to `notes`. Each node that is left is the one that its trace leaves, read so or as it is.
+/// Bytes that their node refuses, whatever it did before, are struck from the traces before: an entry that got such
+/// bytes is read as one that got nothing. How many of a node's turns got such bytes is told to `notes`. Each node that
+/// is left is the one that its trace leaves, read so or as it is.
 pub fn run_traces<K: Sink, N: Notes>(
     alloc: Global,
     job: &Script,

@@ -3,7 +3,8 @@
 ghost use Rattle.std.specs.Prelude.{◌≡◌, ◌≢◌, ◌≤◌, ◌∷◌, [], length, None, Some, MatchResult};
 ghost use Rattle.std.specs.Prelude.{option_to_list, if◌then◌else◌};
 ghost use Rattle.gas_outside.specs.Faults.{Rose};
-ghost use Rattle.gas_outside.specs.Link.{SentTold, IsFailed};
+ghost use Rattle.gas_outside.specs.Link.{BoundTold, SentTold, ReceivedTold, WaitingTold, IsFailed};
+ghost use Rattle.gas_outside.specs.Link.{IsReceiveFailed};
 ghost use Rattle.gas_outside.specs.Sieve.{Sieving, Plan, Follows, KeepsInner, next_plan, numbered, is_plain};
 ghost use Rattle.gas_outside.specs.Sieve.{rule_for, divides as divides_exactly};
 
@@ -199,7 +200,19 @@ impl<L: Link> Link for Sieve<L> {
     ghost faults = { λ s. L.faults s.inner };
 
     /// Binds the link behind.
-    fn bind(&mut self, rank: u16, nodes: u16, port: u16) -> LinkAnswer {
+    fn bind(&mut self, rank: u16, nodes: u16, port: u16) -> LinkAnswer
+        ensures bound { BoundTold result (rank, nodes, port) (L.bound self.old.inner)
+            (L.bound self.new.inner) }
+        ensures sent { (if is_plain self.new then L.sent self.new.inner else None)
+            ≡ (if is_plain self.old then L.sent self.old.inner else None) }
+        ensures unsent { L.sent self.new.inner ≡ L.sent self.old.inner }
+        ensures received { L.received self.new.inner ≡ L.received self.old.inner }
+        ensures waiting { L.waiting self.new.inner ≡ L.waiting self.old.inner }
+        ensures later { L.faults self.old.inner ≤ L.faults self.new.inner }
+        ensures cause { IsFailed result
+            → Rose (L.faults self.old.inner) (L.faults self.new.inner) }
+        ensures same { self.new ≡ record self.old { inner = self.new.inner } }
+    {
         self.inner.bind(rank, nodes, port)
     }
 
@@ -221,7 +234,20 @@ impl<L: Link> Link for Sieve<L> {
     }
 
     /// Receives by the link behind.
-    fn receive(&mut self, buf: &mut [u8]) -> Received {
+    fn receive(&mut self, buf: &mut [u8]) -> Received
+        ensures received { ReceivedTold result buf.new (L.received self.old.inner)
+            (L.received self.new.inner) }
+        ensures waiting { WaitingTold result buf.new (L.waiting self.old.inner)
+            (L.waiting self.new.inner) }
+        ensures bound { L.bound self.new.inner ≡ L.bound self.old.inner }
+        ensures sent { (if is_plain self.new then L.sent self.new.inner else None)
+            ≡ (if is_plain self.old then L.sent self.old.inner else None) }
+        ensures unsent { L.sent self.new.inner ≡ L.sent self.old.inner }
+        ensures later { L.faults self.old.inner ≤ L.faults self.new.inner }
+        ensures cause { IsReceiveFailed result
+            → Rose (L.faults self.old.inner) (L.faults self.new.inner) }
+        ensures same { self.new ≡ record self.old { inner = self.new.inner } }
+    {
         self.inner.receive(buf)
     }
 }

@@ -1,7 +1,10 @@
 -- How the run of a node of a job ended, from what its threads left.
-use Rattle.std.proofs.Common.{◌≡◌, ◌≢◌, Bool, List, [], refl, sym, ap, subst, inl, inr, ◌∙◌, Some, None}
-use Rattle.gas_outside.specs.Buffered.{Gathering, Outbox, Gathers, GathersFront}
+use Rattle.std.proofs.Common.{◌≡◌, ◌≢◌, Bool, List, [], append-nil, drop, length, refl, sym, ap, subst, inl, inr, ◌∙◌}
+use Rattle.std.proofs.Common.{Option, Some, None}
+use Rattle.std.specs.Prelude.{option_map}
+use lib.Seq.{drop_at}
 use Rattle.gas_outside.specs.Sieve.{Sieving}
+use Rattle.gas_outside.specs.Buffered.{Gathering, Outbox, Gathers, GathersFront}
 use Rattle.gas_outside.specs.declared.link.Link.{Ghosts as LinkGhosts}
 use Rattle.gas_outside.specs.declared.clock.Clock.{Ghosts as ClockGhosts}
 use Rattle.gas_outside.specs.declared.sink.Sink.{Ghosts as SinkGhosts}
@@ -21,13 +24,17 @@ use Rattle.node_machine.specs.Kept.{MachineKept}
 use Rattle.node_machine.specs.NodeState.{NodeStands, opening_state}
 use Rattle.gasnet_trace.specs.Lines.{spell}
 use Rattle.gasnet_trace.specs.TraceText.{head_text}
-use Rattle.node_call.specs.Seen.{ClockSeen, DevicesSeen, LinkSeen, devices_seen}
+use Rattle.node_call.specs.Seen.{ClockSeen, DevicesSeen, LinkSeen, clock_seen, devices_seen, link_seen, sieved}
 use Rattle.node_call.specs.Seen.{seen_clocks, seen_links, seen_recorders}
+use Rattle.node_call.specs.Sieved.{Datagrams}
 use Rattle.node_call.specs.NodeLeaves.{NodeLeaves, Post, has_noted, node_at, node_lines, node_machines, place_of}
 use Rattle.node_call.specs.NodeLeaves.{record_after}
 use Rattle.node_call.specs.NodeEnds.{EndsAt, EndsNode, EndsSo, EndsUnwritten, IsReady, end_for, node_for, unmade}
 use Rattle.node_call.specs.declared.calling.NodeRan.{NodeRan}
-use Rattle.node_call.proofs.Seeing.{is_behind, left_seen, node_seen, see_runs, sieve_links, sink_seen}
+use Rattle.node_call.specs.declared.sieved.Sieved.{Sieved}
+use Rattle.node_call.proofs.Behind.{is_behind, is_first, sieved_links, told_first}
+use Rattle.node_call.proofs.Seeing.{left_seen, node_seen, see_runs, sink_seen}
+use Rattle.node_call.proofs.Skipping.{runs_went, since, skip_runs}
 
 -- of a run that ended so, whether it noted a violation
 noted : (post : Post) (machine : MachineKept) (before : DevicesSeen) (opened : Outbox) (journal : List Entry)
@@ -102,40 +109,81 @@ module _ (post : Post) (before after : DevicesSeen) (journal : List Entry)
 
 module _ {L C K : Type 0} (l : LinkGhosts L) (c : ClockGhosts C) (k : SinkGhosts K) (post : Post) (link : L)
     (clock : C) (sink : Gathering K) where
+  -- the sieves of such links, and what is seen of them since the run began
+  abbrev behind : LinkGhosts (Sieved L l)
+  behind = sieved_links l
+
+  abbrev seen_of : Node MachineKept (Sieved L l) C → LinkGhosts (Sieved L l)
+  seen_of node = since (told_first l node.link) behind
+
+  -- what is seen of the node before it runs
+  same_node : (node : Node MachineKept (Sieved L l) C) → IsReady l post link clock node
+      → node_seen (seen_of node) c node ≡ node_at post node.machine (devices_seen l c link clock)
+  same_node node ready =
+      let told = told_first l node.link in
+      let some : Option Datagrams → LinkSeen = λ sent. record (link_seen l node.link.sieve.inner) { sent = sent } in
+      let none : option_map (drop (length told)) (behind.sent node.link) ≡ Some [] =
+      ap (option_map (drop (length told))) (is_first l node.link ready.fresh.handed_is)
+      ∙ ap (λ list. Some (drop (length told) list)) (sym (append-nil told))
+      ∙ ap Some (drop_at told [] (length told) refl) in
+      let inner : L → LinkSeen = λ i. record (link_seen l i) { sent = Some [] } in
+      let link_is : link_seen (seen_of node) node.link ≡ sieved (link_seen l link) =
+      ap some none ∙ ap inner (ap (λ (s : Sieving L). s.inner) ready.fresh.sieve_is) in
+      let seen : Node MachineKept (Sieved L l) C → Node MachineKept LinkSeen ClockSeen = λ n. record {
+        place = n.place;
+        machine = node.machine;
+        link = link_seen (seen_of node) node.link;
+        clock = clock_seen c n.clock;
+        patience = n.patience;
+      } in
+      let over : LinkSeen → Node MachineKept LinkSeen ClockSeen = λ s. record {
+        place = place_of post;
+        machine = node.machine;
+        link = s;
+        clock = clock_seen c clock;
+        patience = post.job.patience;
+      } in
+      ap seen ready.node_is ∙ ap over link_is
+
   -- what is left, by what is seen of the devices
-  abbrev node_leaves : (node : Node MachineKept (Sieving L) C) (opened : Gathering K) (journal : List Entry)
-      (left : Ended MachineKept (Sieving L) C (Gathering K))
-      → IsReady post link clock node
-      → RunsOver node_machines (sieve_links l) c (tracing k) node opened journal left
-      → NodeLeaves post (devices_seen l c link clock) (devices_seen l c left.link.inner left.clock) journal
-      (left_seen (sieve_links l) c k left)
+  abbrev node_leaves : (node : Node MachineKept (Sieved L l) C) (opened : Gathering K) (journal : List Entry)
+      (left : Ended MachineKept (Sieved L l) C (Gathering K))
+      → IsReady l post link clock node
+      → RunsOver node_machines behind c (tracing k) node opened journal left
+      → NodeLeaves post (devices_seen l c link clock) (devices_seen l c left.link.sieve.inner left.clock) journal
+      (left_seen (seen_of node) c k left)
   node_leaves node opened journal left ready runs =
-      let same : node_seen (sieve_links l) c node ≡ node_at post node.machine (devices_seen l c link clock) =
-      ap (node_seen (sieve_links l) c) ready.node_is in
+      let told = told_first l node.link in
+      let first : behind.sent node.link ≡ Some told = is_first l node.link ready.fresh.handed_is in
+      let some = runs_went node_machines behind c (tracing k) told node opened journal left
+      (opening_state post.job post.rank) ready.opens runs in
+      let same : node_seen (seen_of node) c node ≡ node_at post node.machine (devices_seen l c link clock) =
+      same_node node ready in
       record {
         machine = node.machine;
         opens = ready.opens;
         opened = sink_seen k opened;
         runs = subst (λ (n : Node MachineKept LinkSeen ClockSeen).
             RunsOver node_machines seen_links seen_clocks seen_recorders n (sink_seen k opened) journal
-            (left_seen (sieve_links l) c k left)) same
-            (see_runs node_machines (sieve_links l) c k node opened journal left runs);
-        link = is_behind l left.link;
+            (left_seen (seen_of node) c k left)) same
+            (see_runs node_machines (seen_of node) c k node opened journal left
+            (skip_runs node_machines behind c (tracing k) told node opened journal left first runs));
+        link = is_behind l post.job.sieve link node.link left.link ready.fresh some.0 some.1;
         clock = refl;
       }
 
-  place_is : (node : Node MachineKept (Sieving L) C) → IsReady post link clock node → node.place ≡ place_of post
-  place_is node ready = ap (λ (n : Node MachineKept (Sieving L) C). n.place) ready.node_is
+  place_is : (node : Node MachineKept (Sieved L l) C) → IsReady l post link clock node → node.place ≡ place_of post
+  place_is node ready = ap (λ (n : Node MachineKept (Sieved L l) C). n.place) ready.node_is
 
   -- how the run of a node ended into whose sink the first lines of its trace went
-  ends_open : (node : Node MachineKept (Sieving L) C) (run : NodeRun MachineKept (Sieving L) C K) (ran : NodeRan L C K)
-      → IsReady post link clock node → RunsOpen node_machines (sieve_links l) c k node sink run
-      → EndsSo run.left run.wrote ran
+  ends_open : (node : Node MachineKept (Sieved L l) C) (run : NodeRun MachineKept (Sieved L l) C K) (ran : NodeRan L C K)
+      → IsReady l post link clock node → RunsOpen node_machines behind c k node sink run
+      → EndsSo l run.left run.wrote ran
       → EndsNode post (devices_seen l c link clock) (devices_seen l c ran.link ran.clock) (sink_seen k sink)
       (sink_seen k ran.sink) ran.end ran.node
   ends_open node run ran ready opens ends =
-      let so : EndsSo (record opens.left { recorder = run.left.recorder }) run.wrote ran =
-      subst (λ (w : Ended MachineKept (Sieving L) C (Gathering K)). EndsSo w run.wrote ran) opens.left_is ends in
+      let so : EndsSo l (record opens.left { recorder = run.left.recorder }) run.wrote ran =
+      subst (λ (w : Ended MachineKept (Sieved L l) C (Gathering K)). EndsSo l w run.wrote ran) opens.left_is ends in
       let left = opens.left in
       let begun = subst (λ (p : Place).
       Gathers (sink_seen k sink) (sink_seen k opens.opened) (head_text p.version p.job p.rank))
@@ -143,31 +191,31 @@ module _ {L C K : Type 0} (l : LinkGhosts L) (c : ClockGhosts C) (k : SinkGhosts
       let went = subst (λ (p : Place).
       WritesAt p opens.journal (sink_seen k sink) (sink_seen k run.left.recorder) left.end run.wrote)
       (place_is node ready) opens.written in
-      let by = ends_by post (devices_seen l c link clock) (devices_seen l c left.link.inner left.clock) opens.journal
-      (left_seen (sieve_links l) c k left) (sink_seen k sink) (sink_seen k run.left.recorder) so.violated
+      let by = ends_by post (devices_seen l c link clock) (devices_seen l c left.link.sieve.inner left.clock) opens.journal
+      (left_seen (seen_of node) c k left) (sink_seen k sink) (sink_seen k run.left.recorder) so.violated
       (node_leaves node opens.opened opens.journal left ready opens.ran) begun so.violated_is left.end run.wrote refl
       went in
       rw (so.node_is, so.end_is, so.link, so.clock, so.sink) by
 
   -- the sink failed before
-  ends_unopened : (node : Node MachineKept (Sieving L) C) (run : NodeRun MachineKept (Sieving L) C K)
+  ends_unopened : (node : Node MachineKept (Sieved L l) C) (run : NodeRun MachineKept (Sieved L l) C K)
       (ran : NodeRan L C K)
-      → IsReady post link clock node → IsUnopened k node sink run → EndsSo run.left run.wrote ran
+      → IsReady l post link clock node → IsUnopened k node sink run → EndsSo l run.left run.wrote ran
       → EndsNode post (devices_seen l c link clock) (devices_seen l c ran.link ran.clock) (sink_seen k sink)
       (sink_seen k ran.sink) ran.end ran.node
   ends_unopened node run ran ready un ends =
-      let so : EndsSo (record {
+      let so : EndsSo l (record {
         machine = node.machine;
         link = node.link;
         clock = node.clock;
         recorder = run.left.recorder;
         end = stations.WriteFault;
       }) run.wrote ran =
-      subst (λ (w : Ended MachineKept (Sieving L) C (Gathering K)). EndsSo w run.wrote ran) un.left_is ends in
+      subst (λ (w : Ended MachineKept (Sieved L l) C (Gathering K)). EndsSo l w run.wrote ran) un.left_is ends in
       let link_is : ran.link ≡ link =
-      so.link ∙ ap (λ (n : Node MachineKept (Sieving L) C). n.link.inner) ready.node_is in
+      so.link ∙ ap (λ (s : Sieving L). s.inner) ready.fresh.sieve_is in
       let clock_is : ran.clock ≡ clock =
-      so.clock ∙ ap (λ (n : Node MachineKept (Sieving L) C). n.clock) ready.node_is in
+      so.clock ∙ ap (λ (n : Node MachineKept (Sieved L l) C). n.clock) ready.node_is in
       let went = subst (λ (p : Place).
       GathersFront (sink_seen k sink) (sink_seen k run.left.recorder) (whole_text p []))
       (place_is node ready) un.written in
@@ -175,10 +223,10 @@ module _ {L C K : Type 0} (l : LinkGhosts L) (c : ClockGhosts C) (k : SinkGhosts
       (record { how = inr (record { kept = refl; written = went }); no_node = refl })
 
   -- how the run of a node ended that was ready
-  pub ends_node : (node : Node MachineKept (Sieving L) C) (run : NodeRun MachineKept (Sieving L) C K)
+  pub ends_node : (node : Node MachineKept (Sieved L l) C) (run : NodeRun MachineKept (Sieved L l) C K)
       (ran : NodeRan L C K)
-      → IsReady post link clock node → Runs node_machines (sieve_links l) c k node sink run
-      → EndsSo run.left run.wrote ran
+      → IsReady l post link clock node → Runs node_machines behind c k node sink run
+      → EndsSo l run.left run.wrote ran
       → EndsNode post (devices_seen l c link clock) (devices_seen l c ran.link ran.clock) (sink_seen k sink)
       (sink_seen k ran.sink) ran.end ran.node
   ends_node node run ran ready (inl opens) so = ends_open node run ran ready opens so

@@ -1,8 +1,5 @@
 -- What the threads of a node leave, by what is seen of its link and its clock.
-use Rattle.std.proofs.Common.{◌≡◌, Bool, List, true, false, Option, Some, None, refl, ap, inl, inr}
-use Rattle.std.specs.Prelude.{if◌then◌else◌}
-use Rattle.std.specs.Option.{ForSome}
-use Rattle.gas_outside.specs.Sieve.{Sieving, is_plain}
+use Rattle.std.proofs.Common.{List, ap, inl, inr}
 use Rattle.gas_outside.specs.Buffered.{Gathering, Outbox, outbox}
 use Rattle.gas_outside.specs.declared.link.Link.{Ghosts as LinkGhosts}
 use Rattle.gas_outside.specs.declared.sink.Sink.{Ghosts as SinkGhosts}
@@ -14,7 +11,7 @@ use Rattle.endpoint_lock.specs.Leaving.{Leaves, LeavesReplay}
 use Rattle.endpoint_lock.specs.StationState.{Opening}
 use Rattle.station_run.specs.declared.node.Node.{Node}
 use Rattle.station_run.specs.NodeRuns.{IsUnbound, RunsBound, RunsOver, opening_over, tracing}
-use Rattle.node_call.specs.Seen.{ClockSeen, IsBehind, LinkSeen, clock_seen, link_seen, seen_clocks, seen_links}
+use Rattle.node_call.specs.Seen.{ClockSeen, LinkSeen, clock_seen, link_seen, seen_clocks, seen_links}
 use Rattle.node_call.specs.Seen.{seen_recorders}
 
 -- a node, its opening and what it leaves, of which this is seen
@@ -122,31 +119,3 @@ module _ {M L C K : Type 0} (m : MachineGhosts M) (l : LinkGhosts L) (c : ClockG
       (left_seen l c k left)
   see_runs node opened journal left (inl bound) = inl (see_bound node opened left bound.0, bound.1)
   see_runs node opened journal left (inr unbound) = inr (see_unbound node opened left unbound.0, unbound.1)
-
--- ---- a link behind a sieve
-
--- what sieves before such links tell
-abbrev pub sieve_links : {L : Type 0} → LinkGhosts L → LinkGhosts (Sieving L)
-sieve_links l = record {
-  bound = λ s. l.bound s.inner;
-  sent = λ s. if is_plain s then l.sent s.inner else None;
-  received = λ s. l.received s.inner;
-  waiting = λ s. l.waiting s.inner;
-  faults = λ s. l.faults s.inner;
-}
-
-told_behind : {A : Type 0} (plain : Bool) (told : Option A)
-    → ForSome (if plain then told else None) (λ x. told ≡ Some x)
-told_behind true told = λ x is. is
-told_behind false told = λ x is. absurd (cc is)
-
--- what a sieve tells, the link behind it tells
-pub is_behind : {L : Type 0} (l : LinkGhosts L) (sieve : Sieving L)
-    → IsBehind (link_seen (sieve_links l) sieve) (link_seen l sieve.inner)
-is_behind l sieve = record {
-  bound = refl;
-  sent = told_behind (is_plain sieve) (l.sent sieve.inner);
-  received = refl;
-  waiting = refl;
-  faults = refl;
-}

@@ -1,3 +1,4 @@
+pub mod Sieved
 pub mod Seen
 pub mod NodeLeaves
 pub mod NodeEnds

@@ -2,7 +2,7 @@
 -- Origin: this project's profile.
 use Rattle.std.specs.Prelude.{◌≡◌, ◌≢◌, ◌⊎◌, ℕ, Bool, List, [], Option, Some, None}
 use Rattle.gas_outside.specs.Buffered.{Gathering, Outbox, Gathers, GathersFront}
-use Rattle.gas_outside.specs.Sieve.{Sieving}
+use Rattle.gas_outside.specs.declared.link.Link.{Ghosts as LinkGhosts}
 use Rattle.gas_outside.specs.declared.writing.Wrote.{Wrote}
 use Rattle.gas_outside.specs.declared.writing.Wrote.TheVariants as wrote
 use Rattle.gas_endpoint.specs.EndpointState.{EndpointState, ForItsRecord}
@@ -12,15 +12,16 @@ use Rattle.gasnet_trace.specs.TraceText.{head_text}
 use Rattle.endpoint_lock.specs.declared.ends.End.{End}
 use Rattle.endpoint_lock.specs.declared.ends.End.TheVariants as stations
 use Rattle.endpoint_lock.specs.declared.ends.Ended.{Ended}
-use Rattle.job_text.specs.declared.job.SieveRule.{SieveRule}
 use Rattle.station_run.specs.declared.node.Node.{Node}
 use Rattle.node_machine.specs.Kept.{MachineKept}
 use Rattle.node_machine.specs.NodeState.{NodeStands, opening_state}
+use Rattle.node_call.specs.Sieved.{IsFresh}
 use Rattle.node_call.specs.Seen.{ClockSeen, DevicesSeen, LinkSeen}
 use Rattle.node_call.specs.NodeLeaves.{NodeLeaves, Post, has_noted, node_lines, node_open, place_of, record_after}
 use Rattle.node_call.specs.declared.calling.NodeEnd.{NodeEnd}
 use Rattle.node_call.specs.declared.calling.NodeEnd.TheVariants as ends
 use Rattle.node_call.specs.declared.calling.NodeRan.{NodeRan}
+use Rattle.node_call.specs.declared.sieved.Sieved.{Sieved}
 
 -- ---- for a caller
 
@@ -124,13 +125,13 @@ node_for ends.WriteFault endpoint = None
 node_for _ endpoint = Some endpoint
 
 -- so the run of a node ended whose threads left this
-pub record EndsSo {L C K : Type 0} (left : Ended MachineKept (Sieving L) C (Gathering K)) (written : Wrote)
-    (ran : NodeRan L C K) : Type 0 where
+pub record EndsSo {L C K : Type 0} (links : LinkGhosts L) (left : Ended MachineKept (Sieved L links) C (Gathering K))
+    (written : Wrote) (ran : NodeRan L C K) : Type 0 where
   pub violated : Bool
   pub violated_is : ForItsRecord left.machine.endpoint (λ node. violated ≡ has_noted node)
   pub end_is : ran.end ≡ end_for left.end written violated
   pub node_is : ran.node ≡ node_for ran.end left.machine.endpoint
-  pub link : ran.link ≡ left.link.inner
+  pub link : ran.link ≡ left.link.sieve.inner
   pub clock : ran.clock ≡ left.clock
   pub sink : ran.sink ≡ left.recorder
 
@@ -138,25 +139,16 @@ pub record EndsSo {L C K : Type 0} (left : Ended MachineKept (Sieving L) C (Gath
 abbrev pub unmade : {L C K : Type 0} → L → C → Gathering K → NodeRan L C K
 unmade link clock sink = record { end = ends.NoMemory; node = None; link = link; clock = clock; sink = sink }
 
--- this link behind the job's sieve, which was handed nothing yet
-abbrev pub sieve_before : {L : Type 0} → SieveRule → L → Sieving L
-sieve_before rule link = record {
-  inner = link;
-  lose = rule.lose;
-  repeat = rule.repeat;
-  swap = rule.swap;
-  number = 0;
-  held = None;
-}
-
--- a node was made ready to run: its machine stands for the node before all turns
-pub record IsReady {L C : Type 0} (post : Post) (link : L) (clock : C) (node : Node MachineKept (Sieving L) C)
-    : Type 0 where
+-- a node was made ready to run, over this link behind its job's sieve, to which nothing was handed yet: its machine
+-- stands for the node before all turns
+pub record IsReady {L C : Type 0} (links : LinkGhosts L) (post : Post) (link : L) (clock : C)
+    (node : Node MachineKept (Sieved L links) C) : Type 0 where
   pub opens : NodeStands node.machine (opening_state post.job post.rank)
+  pub fresh : IsFresh post.job.sieve link node.link.sieve node.link.first.value node.link.handed.datagrams
   pub node_is : node ≡ record {
     place = place_of post;
     machine = node.machine;
-    link = sieve_before post.job.sieve link;
+    link = node.link;
     clock = clock;
     patience = post.job.patience;
   }

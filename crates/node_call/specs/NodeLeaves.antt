@@ -59,7 +59,7 @@ abbrev pub node_at : Post → MachineKept → DevicesSeen → Node MachineKept L
 node_at post machine devices = record {
   place = place_of post;
   machine = machine;
-  link = sieved post.job.sieve devices.link;
+  link = sieved devices.link;
   clock = devices.clock;
   patience = post.job.patience;
 }
@@ -74,7 +74,7 @@ pub record NodeLeaves (post : Post) (before after : DevicesSeen) (journal : List
   pub opened : Outbox
   -- its threads ran over the link behind the job's sieve, or that couldn't be bound
   pub runs : RunsOver node_machines seen_links seen_clocks seen_recorders (node_at post machine before) opened journal left
-  pub link : IsBehind left.link after.link
+  pub link : IsBehind post.job.sieve before.link left.link after.link
   pub clock : left.clock ≡ after.clock
 
 -- ---- by its journal

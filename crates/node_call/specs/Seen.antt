@@ -1,14 +1,17 @@
 -- What is seen of a node's link, clock and sink.
 -- Origin: this project's profile.
-use Rattle.std.specs.Prelude.{◌≡◌, ℕ, ◌==◌, ◌&&◌, Bool, if◌then◌else◌, List, Option, None, Some}
+use Rattle.std.specs.Prelude.{◌≡◌, ℕ, ◌==◌, ◌&&◌, Bool, true, List, [], fold, Option, Some}
 use Rattle.std.specs.Option.{ForSome}
 use Rattle.gas_outside.specs.Buffered.{Outbox}
+use Rattle.gas_outside.specs.Faults.{Rose}
+use Rattle.gas_outside.specs.Told.{and_all}
 use Rattle.gas_outside.specs.declared.link.Link.{Ghosts as LinkGhosts}
 use Rattle.gas_outside.specs.declared.clock.Clock.{Ghosts as ClockGhosts}
 use Rattle.endpoint_lock.specs.declared.recorder.Recorder.{Ghosts as RecorderGhosts}
 use Rattle.gasnet_trace.specs.Lines.{line_text}
 use Rattle.gasnet_trace.specs.TraceText.{entry_line}
 use Rattle.job_text.specs.declared.job.SieveRule.{SieveRule}
+use Rattle.node_call.specs.Sieved.{Datagrams, first_of, sift}
 
 -- a link: what it was bound to last; the datagrams sent, received and waiting, where it tells them; its count of faults
 pub record LinkSeen : Type 0 where
@@ -73,20 +76,21 @@ seen_recorders = record { outbox = λ outbox. outbox; text = λ entry. line_text
 abbrev pub is_plain : SieveRule → Bool
 is_plain rule = (rule.lose == 0) && (rule.repeat == 0) && (rule.swap == 0)
 
--- what a sieve before the link tells: what the link tells, but of what was sent nothing where it doesn't let all pass
-abbrev pub sieved : SieveRule → LinkSeen → LinkSeen
-sieved rule link = record {
-  bound = link.bound;
-  sent = if is_plain rule then link.sent else None;
-  received = link.received;
-  waiting = link.waiting;
-  faults = link.faults;
-}
+-- a sieve before the link, to which nothing was handed yet: what it tells as sent is what was handed to it
+abbrev pub sieved : LinkSeen → LinkSeen
+sieved link = record link { sent = Some [] }
 
--- what a sieve tells, the link behind it tells
-pub record IsBehind (sieve link : LinkSeen) : Type 0 where
-  pub bound : sieve.bound ≡ link.bound
-  pub sent : ForSome sieve.sent (λ datagrams. link.sent ≡ Some datagrams)
-  pub received : sieve.received ≡ link.received
-  pub waiting : sieve.waiting ≡ link.waiting
-  pub faults : sieve.faults ≡ link.faults
+-- what the sieve of this rule sends of the datagrams that are handed to it, in order
+abbrev pub sieved_by : SieveRule → Datagrams → Datagrams
+sieved_by rule handed = (fold sift (first_of rule) handed).inner
+
+-- the link behind a sieve of this rule, before and after a run: where it tells them and didn't fail, it was sent what
+-- the sieve sends of what was handed to it; where the sieve lets everything pass, that itself, also where it failed
+pub record IsBehind (rule : SieveRule) (before : LinkSeen) (sieve after : LinkSeen) : Type 0 where
+  pub bound : sieve.bound ≡ after.bound
+  pub sent : (Rose before.faults after.faults → ⊥)
+      → ForSome sieve.sent (λ handed. after.sent ≡ and_all before.sent (sieved_by rule handed))
+  pub plain : is_plain rule ≡ true → ForSome sieve.sent (λ handed. after.sent ≡ and_all before.sent handed)
+  pub received : sieve.received ≡ after.received
+  pub waiting : sieve.waiting ≡ after.waiting
+  pub faults : sieve.faults ≡ after.faults

@@ -7,9 +7,10 @@ ghost use Rattle.node_call.specs.NodeEnds.{EndsNode, EndsSo, IsReady, end_for, n
 ghost use Rattle.node_call.specs.NodeLeaves.{post_of};
 ghost use Rattle.node_call.specs.Seen.{devices_seen};
 
+use crate::sieved::Sieved;
 use endpoint_lock::{End, Ended};
 use gas_endpoint::Endpoint;
-use gas_outside::{BufferedSink, Clock, Gate, Link, Sieve, Sink, Wrote};
+use gas_outside::{BufferedSink, Clock, Gate, Link, Sink, Wrote};
 use node_machine::NodeMachine;
 use node_script::Script;
 use station_run::{Node, NodeRun, Place, run_node};
@@ -125,11 +126,11 @@ fn ready<'a, L: Link, C>(
     node: NodeOf<'a>,
     link: L,
     clock: C,
-) -> Result<Node<NodeMachine<'a>, Sieve<L>, C>, (L, C)>
+) -> Result<Node<NodeMachine<'a>, Sieved<L>, C>, (L, C)>
     requires job { IsJob node.job.now }
     requires rank { node.rank < node.job.now.settings.nodes }
     ensures { MatchResult result
-        (IsReady (post_of node.entry.job.now node.entry.rank node.entry.port) link clock)
+        (IsReady L.Link (post_of node.entry.job.now node.entry.rank node.entry.port) link clock)
         (λ devices. devices ≡ (link, clock)) }
 {
     let NodeOf { job, rank, port } = node;
@@ -141,11 +142,10 @@ fn ready<'a, L: Link, C>(
         nodes: settings.nodes(),
         port,
     };
-    let rule = job.sieve();
     let Ok(machine) = NodeMachine::new(alloc, job, rank) else {
         return Err((link, clock));
     };
-    match Sieve::new(alloc, link, rule.lose, rule.repeat, rule.swap) {
+    match Sieved::new(alloc, link, job.sieve()) {
         Ok(link) => Ok(Node {
             place,
             machine,
@@ -161,8 +161,8 @@ fn ready<'a, L: Link, C>(
 }
 
 /// What is left of the run of a node.
-fn ran<L: Link, C, K: Sink>(run: NodeRun<NodeMachine<'_>, Sieve<L>, C, K>) -> NodeRan<L, C, K>
-    ensures { EndsSo run.entry.left run.entry.wrote result }
+fn ran<L: Link, C, K: Sink>(run: NodeRun<NodeMachine<'_>, Sieved<L>, C, K>) -> NodeRan<L, C, K>
+    ensures { EndsSo L.Link run.entry.left run.entry.wrote result }
 {
     let NodeRun { left, wrote } = run;
     let Ended {

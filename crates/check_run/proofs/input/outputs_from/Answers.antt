@@ -30,7 +30,7 @@ returns-in-Err c =
     c.loop-rank.at c.wanted_of.result c.split_at.result.0.now c.split_at.result.1.now c.in-Err.fault
     c.fault_behind.result c.fault_behind.ensures c.split_at.ensures.front c.wanted_of.ensures c.split_at.ensures.back
     (omega arith) c.loop-rank.invariant.so_far
-    (record { gives = c.in-Err.ensures.only; reads = c.in-Err.ensures.exact })
+    (record { gives = c.in-Err.ensures.only; reads = c.in-Err.ensures.exact; meant = c.in-Err.ensures.meant })
 
 pub loop-rank-preserved : goal.loop-rank-preserved
 loop-rank-preserved c =

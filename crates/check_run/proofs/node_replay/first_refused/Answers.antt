@@ -1,5 +1,5 @@
 -- The first entry that is refused.
-use Rattle.std.proofs.Common.{◌≡◌, true, length, Some, refl, sym, ap, subst, ◌∙◌}
+use Rattle.std.proofs.Common.{◌≡◌, true, length, refl, sym, ap, subst, ◌∙◌}
 use Rattle.std.specs.Prelude.{IsSomeAnd, is_some}
 use Rattle.std.proofs.lemmas.Option.{slice_get_read}
 use Rattle.check_run.specs.Struck.{refuses_got}

@@ -1,5 +1,5 @@
 -- One peer more.
-use Rattle.std.proofs.Common.{◌+◌, ◌≡◌, sym, ap, ap₂, subst, ◌∙◌, arith}
+use Rattle.std.proofs.Common.{◌+◌, ap, ap₂, ◌∙◌, arith}
 use Rattle.check_run.specs.NodeReplays.{open_among}
 use Rattle.check_run.proofs.OpenCounts.{none_among, peer_more}
 use Rattle.check_run.proofs.requests.open_requests.Goals as goal

@@ -1,5 +1,5 @@
 -- One slot more.
-use Rattle.std.proofs.Common.{◌+◌, ◌≡◌, sym, ap, ap₂, subst, ◌∙◌, arith}
+use Rattle.std.proofs.Common.{◌+◌, ap, ap₂, ◌∙◌, arith}
 use Rattle.check_run.specs.NodeReplays.{open_below}
 use Rattle.check_run.proofs.OpenCounts.{none_below, one_more}
 use Rattle.check_run.proofs.requests.open_to.Goals as goal

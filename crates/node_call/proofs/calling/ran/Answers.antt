@@ -1,7 +1,7 @@
-use Rattle.std.proofs.Common.{◌≡◌, ◌∙◌, sym, ap, subst, refl, not, ◌==◌}
+use Rattle.std.proofs.Common.{◌∙◌, sym, ap, subst, refl, not, ◌==◌}
 use Rattle.handler_rules.specs.LogState.{Logged}
 use Rattle.gas_endpoint.specs.EndpointState.{EndpointState, EndpointStands}
-use Rattle.node_call.specs.NodeEnds.{EndsSo, end_for, node_for}
+use Rattle.node_call.specs.NodeEnds.{node_for}
 use Rattle.node_call.proofs.calling.ran.Goals as goal
 
 -- src/calling.rt:154:1

@@ -1,6 +1,8 @@
 use Rattle.std.proofs.Common.{ap, ◌∙◌}
+use denote.Param.Send.{sendable}
 use Rattle.node_call.specs.NodeEnds.{unmade}
 use Rattle.node_call.specs.NodeLeaves.{post_of}
+use Rattle.node_call.proofs.Crossing.{sieved_send}
 use Rattle.node_call.proofs.Ending.{ends_node, ends_unmade}
 use Rattle.node_call.proofs.calling.run_job_node.Goals as goal
 
@@ -16,3 +18,6 @@ returns-in-Err g c =
     c.args.devices.link c.args.devices.clock c.args.sink c.unmade.result
     (c.unmade.ensures
     ∙ ap (λ (p : g.row.L.Denot × g.row.C.Denot). unmade p.0 p.1 c.args.sink) c.in-Err.ensures)
+
+pub run_node-requires-send-L : goal.run_node-requires-send-L
+run_node-requires-send-L g c κs within = search (sendable, sieved_send) depth 30
