@@ -26,9 +26,10 @@ use Rattle.node_machine.specs.NodeState.{script_job, steps_of_thread}
 use Rattle.node_record.specs.NodeStep.{OfCall, OfRequest}
 use Rattle.node_record.specs.Record.{Node as Record}
 use Rattle.node_record.specs.declared.answer.Asked.{Asked}
-use Rattle.node_runs.specs.Actions.{Form, Once, Again, Until, Twice, Looks, Several, OwnScripts, unless}
+use Rattle.node_runs.specs.Actions.{Form, Once, Again, Until, Twice, Looks, Several, OwnScripts, Part, StepContext}
+use Rattle.node_runs.specs.Actions.{unless}
 use Rattle.node_runs.specs.Order.{replay}
-use Rattle.node_runs.specs.Scripts.{ThreadCall, TryContext}
+use Rattle.node_runs.specs.Scripts.{ThreadCall}
 use Rattle.node_runs.specs.Turn.{MachineState}
 use Rattle.node_runs.specs.declared.script_answer.ScriptAnswer.{ScriptAnswer}
 use Rattle.node_runs.specs.declared.script_answer.ScriptAnswer.TheVariants as said
@@ -103,12 +104,12 @@ pub record EndsAsBegun (job : JobState) (run : List (Timed OtherCall)) (at : Ste
   pub begun : IsMade job run at begin first
   pub ended : answer ≡ said.Call first
 
--- these calls were made, and the step's answer is this one
-pub record EndsAfterAll (job : JobState) (run : List (Timed OtherCall)) (at : StepAt) (calls : List ThreadCall)
-    (says answer : ScriptAnswer) : Type 0 where
-  pub each : (place : ℕ) (call : ThreadCall) → slice_get calls place ≡ Some call
+-- the calls of this part were made, and it ended the step with this answer
+pub record EndsAfterAll (job : JobState) (run : List (Timed OtherCall)) (at : StepAt) (part : Part)
+    (answer : ScriptAnswer) : Type 0 where
+  pub each : (place : ℕ) (call : ThreadCall) → slice_get part.calls place ≡ Some call
       → (told : Answer) × IsMade job run at call told
-  pub ended : answer ≡ says
+  pub ended : part.ended ≡ Some answer
 
 -- so it is of a step that is tried in this form
 abbrev pub EndsAs : JobState → List (Timed OtherCall) → StepAt → Form EndpointLocal → ScriptAnswer → Type 0
@@ -119,7 +120,8 @@ EndsAs job run at (Twice begin next waits says) answer =
     EndsAtCall job run at begin (λ told. unless (is_some (next told)) (says told)) answer
     ⊎ EndsLater job run at begin next (λ told. unless (waits told) (says told)) answer
 EndsAs job run at (Looks begin ready) answer = EndsAsBegun job run at begin answer
-EndsAs job run at (Several calls says) answer = EndsAfterAll job run at calls says answer
+EndsAs job run at (Several first later) answer =
+    EndsAfterAll job run at first answer ⊎ EndsAfterAll job run at later answer
 
 -- ---- which step it is
 
@@ -161,7 +163,7 @@ pub record IsStepTold (job : JobState) (traces : List Trace) (run : List (Timed 
   pub step_is : slice_get (steps_of_thread job.scripts at.rank at.thread) number ≡ Some step
   pub answer : ScriptAnswer
   pub answered : answer_of_step job at.rank (machine_at job at.rank trace place) entry ≡ Some answer
-  pub context : TryContext
+  pub context : StepContext
   pub tried : Record EndpointLocal
   pub ends : EndsAs job run at (step_form step context tried) answer
   pub over : List (Timed OtherCall)
