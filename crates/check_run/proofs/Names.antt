@@ -1,5 +1,5 @@
--- What the answer of a step names is there at its node after the turn in which the step ended; and each step that a
--- turn began has a handle.
+-- What the answer of a step names is there at its node after the turn in which the step ended. The answer with which a
+-- turn began a step names nothing.
 use Rattle.std.proofs.Common.{◌≡◌, ℕ, ◌+◌, ◌≤◌, ◌==◌, Bool, true, false, not, List, [], ◌∷◌, ◌++◌, length, Option}
 use Rattle.std.proofs.Common.{Some}
 use Rattle.std.proofs.Common.{None, refl, sym, ap, subst, ◌∙◌, append-nil, if◌then◌else◌}
@@ -20,7 +20,7 @@ use Rattle.endpoint_rules.specs.Called.{Requests, Performs, node_event}
 use Rattle.endpoint_rules.specs.CoreCalls.{OnSegment}
 use Rattle.endpoint_rules.specs.EndpointLocal.{EndpointLocal}
 use Rattle.endpoint_rules.specs.EndpointRules.{OtherCall, OnCore, RecordEvent, endpoint_rules}
-use Rattle.endpoint_rules.specs.EndpointRules.{job_of, told}
+use Rattle.endpoint_rules.specs.EndpointRules.{asked_answer, job_of, told}
 use Rattle.endpoint_rules.specs.Memory.{Show, range_fault, unless_fault}
 use Rattle.endpoint_rules.specs.TransferCalls.{Caller}
 use Rattle.endpoint_rules.specs.declared.answer.Answer.{Answer}
@@ -39,6 +39,7 @@ use Rattle.machine.specs.declared.entry.Entry.{Entry}
 use Rattle.node_machine.specs.NodeState.{script_job}
 use Rattle.node_runs.specs.Actions.{Form, Once, Again, Until, Twice, Looks, Several, Progress, begins, calls_of}
 use Rattle.node_runs.specs.Actions.{ended_by, next_calls, progress_after, tried_step, unless}
+use Rattle.node_runs.specs.Actions.{StepContext, step_context}
 use Rattle.node_runs.specs.Scripts.{ThreadCall, TryContext}
 use Rattle.node_runs.specs.declared.script_answer.ScriptAnswer.{ScriptAnswer}
 use Rattle.node_runs.specs.declared.script_answer.ScriptAnswer.TheVariants as said
@@ -47,10 +48,24 @@ use Rattle.node_script.specs.AnswersTold.{HasRange, NamesWhatIs}
 use Rattle.node_script.specs.Bodies.{operand_value, script_meaning}
 use Rattle.node_script.specs.Registration.{handlers_of, registered}
 use Rattle.node_machine.specs.Steps.{as_synced, begun_handle, is_issued, reached, step_form, tried_while}
-use Rattle.node_machine.specs.Steps.{waiting_form, waits_of, word_reached}
+use Rattle.node_machine.specs.Steps.{waits_of, word_reached}
+use Rattle.collective_area.specs.declared.shape.Shape.{Shape}
+use Rattle.collective_steps.specs.Outcomes.{Outcome, start_by, start_ends, start_outcome}
+use Rattle.collective_steps.specs.Outcomes.{step_ends, step_outcome, try_ends}
+use Rattle.collective_steps.specs.Parts.{end_behind, first_part, later_by, later_part, start_asked}
+use Rattle.gas_collectives.specs.CollectivesState.{CollectivesState}
+use Rattle.gas_collectives.specs.declared.answers.EndAnswer.{EndAnswer}
+use Rattle.gas_collectives.specs.declared.answers.StartAnswer.{StartAnswer}
+use Rattle.gas_collectives.specs.declared.answers.StepAnswer.{StepAnswer}
+use Rattle.job_text.specs.declared.job.CollectiveText.{CollectiveText}
+use Rattle.job_text.specs.declared.job.CollectiveText.TheVariants as text
+use Rattle.node_record.specs.declared.answer.Asked.{Asked}
+use Rattle.node_record.specs.declared.answer.Asked.TheVariants as asked
+use Rattle.script_steps.specs.Forms.{call_part, calls_of_all, collective_form, in_one_try, nothing_there, site_of}
+use Rattle.script_steps.specs.Forms.{waiting_in, whole_form}
 use Rattle.world_run.proofs.ToldAnswers.{asked_names, plain_names, show_names}
 use Rattle.endpoint_rules.proofs.PlainAnswers.{answers_plain}
-use Rattle.check_run.specs.Recording.{HasHandles, ScriptedNode}
+use Rattle.check_run.specs.Recording.{BeginningsNameNothing, NamesNothing, ScriptedNode}
 use Rattle.check_run.specs.StepLines.{after_entry, answer_of_step}
 use Rattle.check_run.specs.StepsWritten.{NamesWhatIsThere}
 use Rattle.check_run.specs.Machines.{first_machine}
@@ -133,6 +148,30 @@ made_names endpoint settings table meaning me thread now node (call ∷ []) stan
     thread_names endpoint settings table meaning me thread now node call stands same
 made_names endpoint settings table meaning me thread now node (call ∷ later ∷ calls) stands same few = absurd few
 
+-- the answer of a request names nothing
+asked_nothing : (answer : Asked) → NamesNothing (asked_answer answer)
+asked_nothing (asked.Forbidden rule) = tt
+asked_nothing (asked.Accepted to slot number) = tt
+asked_nothing asked.Ran = tt
+asked_nothing (asked.BadArg part) = tt
+asked_nothing (asked.LockBusy lock) = tt
+asked_nothing asked.WornOut = tt
+asked_nothing asked.NotYet = tt
+
+-- the first of the calls, if there is one, is a request
+abbrev AsksFirst : List ThreadCall → Type 0
+AsksFirst [] = Unit {0}
+AsksFirst (Requests to asking ∷ calls) = Unit {0}
+AsksFirst (Performs call ∷ calls) = ⊥
+
+-- so its answer names nothing
+first_nothing : (settings : Parameters) (table : List (Option TableEntry)) (meaning : Meaning) (me thread now : ℕ)
+    (node : Node EndpointLocal) (calls : List ThreadCall) → AsksFirst calls
+    → IfSome (first_answer (job_of settings table meaning) me thread now calls node) NamesNothing
+first_nothing settings table meaning me thread now node [] asks = tt
+first_nothing settings table meaning me thread now node (Requests to asking ∷ calls) asks = asked_nothing _
+first_nothing settings table meaning me thread now node (Performs call ∷ calls) asks = absurd asks
+
 -- ---- forms of steps
 
 -- what the form says of its calls' answers names no more than these do; what it says without them names nothing
@@ -145,26 +184,34 @@ SaysNoMore (Until call ends) =
 SaysNoMore (Twice begin next waits says) =
     (endpoint : EndpointState) (answer : Answer) → NamesWhatIs endpoint answer → NamesWhatIs endpoint (says answer)
 SaysNoMore (Looks begin ready) = Unit {0}
-SaysNoMore (Several calls says) = (endpoint : EndpointState) → NamesWhatIsThere endpoint says
+SaysNoMore (Several first later) =
+    (endpoint : EndpointState)
+    → IfSome first.ended (NamesWhatIsThere endpoint) × IfSome later.ended (NamesWhatIsThere endpoint)
 
--- where its first call began something, the answer has a handle
-abbrev BeginsByHandle : Form EndpointLocal → Type 0
-BeginsByHandle (Once call) = Unit {0}
-BeginsByHandle (Again waits call) = Unit {0}
-BeginsByHandle (Until call ends) = Unit {0}
-BeginsByHandle (Twice begin next waits says) =
-    (answer : Answer) → is_some (next answer) ≡ true → is_some (begun_handle answer) ≡ true
-BeginsByHandle (Looks begin ready) =
-    (answer : Answer) (node : Node EndpointLocal) → ready answer node ≡ false → is_some (begun_handle answer) ≡ true
-BeginsByHandle (Several calls says) = Unit {0}
+-- where its first try begins something, the answer of its first call names nothing
+abbrev BeginsPlainly : Form EndpointLocal → Type 0
+BeginsPlainly (Once call) = Unit {0}
+BeginsPlainly (Again waits call) = Unit {0}
+BeginsPlainly (Until call ends) = Unit {0}
+BeginsPlainly (Twice begin next waits says) =
+    (answer : Answer) → is_some (next answer) ≡ true → NamesNothing answer
+BeginsPlainly (Looks begin ready) =
+    (answer : Answer) (node : Node EndpointLocal) → ready answer node ≡ false → NamesNothing answer
+BeginsPlainly (Several first later) = is_none first.ended && is_some first.next ≡ true → AsksFirst first.calls
 
 record IsSound (form : Form EndpointLocal) : Type 0 where
   says : SaysNoMore form
-  begins : BeginsByHandle form
+  begins : BeginsPlainly form
 
 while_sound : (waits : Option (Answer → Bool)) (meant : ThreadCall) → IsSound (tried_while waits meant)
 while_sound None meant = record { says = tt; begins = tt }
 while_sound (Some waits) meant = record { says = tt; begins = tt }
+
+-- an answer with a handle names nothing
+handle_nothing : (answer : Answer) → is_some (begun_handle answer) ≡ true → NamesNothing answer
+handle_nothing (answers.Local answer) is = absurd (false≢true is)
+handle_nothing (answers.Ticked sent) is = absurd (false≢true is)
+handle_nothing answer is = tt
 
 -- an answer of a blocking transfer
 synced_names : (endpoint : EndpointState) (answer : Answer) → NamesWhatIs endpoint answer
@@ -198,47 +245,124 @@ word_names : (endpoint : EndpointState) (number : ℕ) (answer : Answer) → Nam
 word_names endpoint number (answers.Local (local.Number found)) names = reached_said endpoint (found == number)
 word_names endpoint number answer names = names
 
-waiting_sound : (cells : List ℤ) (waiting : WaitingStep) → IsSound (waiting_form cells waiting)
-waiting_sound cells (waiting.Until cell operand) = record {
-  says = λ endpoint answer names. reached_names endpoint (operand_value cells [] operand) answer;
+-- a step that ends in one try, without a call's answer
+nothing_sound : IsSound nothing_there
+nothing_sound = record { says = λ endpoint. (tt, tt); begins = λ is. absurd (false≢true is) }
+
+call_sound : (call : CollectiveText) (at : TryContext) (node : Node EndpointLocal) (it : CollectivesState)
+    → IsSound (in_one_try (call_part call at node it))
+call_sound (text.Start shape from) at node it =
+    record { says = λ endpoint. (tt, tt); begins = λ is. absurd (false≢true is) }
+call_sound text.Step at node it = record { says = λ endpoint. (tt, tt); begins = λ is. absurd (false≢true is) }
+call_sound (text.Try dest) at node it = record { says = λ endpoint. (tt, tt); begins = λ is. absurd (false≢true is) }
+
+collective_sound : (call : CollectiveText) (at : StepContext) (node : Node EndpointLocal)
+    → IsSound (collective_form call at node)
+collective_sound call at node = by_state at.collectives
+  where
+    by_state : (state : Option CollectivesState)
+        → IsSound (collective_form call (record at { collectives = state }) node)
+    by_state None = nothing_sound
+    by_state (Some it) = call_sound call at.place node it
+
+-- ---- whole collectives
+
+start_said : (endpoint : EndpointState) (ends : Option StartAnswer)
+    → IfSome (option_map (λ one. said.Start one) ends) (NamesWhatIsThere endpoint)
+start_said endpoint None = tt
+start_said endpoint (Some one) = tt
+
+end_said : (endpoint : EndpointState) (ends : Option EndAnswer)
+    → IfSome (option_map (λ one. said.End one) ends) (NamesWhatIsThere endpoint)
+end_said endpoint None = tt
+end_said endpoint (Some one) = tt
+
+later_said : (endpoint : EndpointState) (at : TryContext) (dest : ℕ) (node : Node EndpointLocal) (it : CollectivesState)
+    (step : Outcome StepAnswer) (ends : Option StepAnswer)
+    → IfSome (later_by at dest node it step ends).ended (NamesWhatIsThere endpoint)
+later_said endpoint at dest node it step None = end_said endpoint (try_ends (end_behind at dest node step).answer)
+later_said endpoint at dest node it step (Some end) = tt
+
+-- the call of a start is a request
+start_asks : (at : TryContext) (shape : Shape) (from : ℕ) (node : Node EndpointLocal) (it : CollectivesState)
+    (refusal : Option StartAnswer)
+    → AsksFirst (calls_of_all (start_by (site_of at) node it (start_asked at shape from) refusal).calls)
+start_asks at shape from node it None = tt
+start_asks at shape from node it (Some refusal) = tt
+
+whole_sound : (shape : Shape) (from dest : ℕ) (at : StepContext) (node : Node EndpointLocal)
+    → IsSound (whole_form shape from dest at node)
+whole_sound shape from dest at node = by_state at.collectives
+  where
+    place : TryContext
+    place = at.place
+
+    by_me : (it : CollectivesState) (same : Bool)
+        → IsSound (if same then Several (first_part place shape from node it) (later_part place dest node it)
+        else nothing_there)
+    by_me it true =
+        let start = start_outcome (site_of place) node it (start_asked place shape from) in
+        let step = step_outcome (site_of place) place.thread node it in
+        record {
+          says = λ endpoint. (
+            start_said endpoint (start_ends start.answer),
+            later_said endpoint place dest node it step (step_ends step.answer),
+          );
+          begins = λ is. start_asks place shape from node it _;
+        }
+    by_me it false = nothing_sound
+
+    by_state : (state : Option CollectivesState)
+        → IsSound (whole_form shape from dest (record at { collectives = state }) node)
+    by_state None = nothing_sound
+    by_state (Some it) = by_me it (it.me == place.me)
+
+-- ---- steps
+
+waiting_sound : (waiting : WaitingStep) (at : StepContext) (node : Node EndpointLocal)
+    → IsSound (waiting_in waiting at node)
+waiting_sound (waiting.Until cell operand) at node = record {
+  says = λ endpoint answer names. reached_names endpoint (operand_value node.local.core.cells [] operand) answer;
   begins = tt;
 }
-waiting_sound cells (waiting.UntilWord offset number) = record {
+waiting_sound (waiting.UntilWord offset number) at node = record {
   says = λ endpoint answer names. word_names endpoint number answer names;
   begins = tt;
 }
-waiting_sound cells (waiting.Transfer transfer) = record {
+waiting_sound (waiting.Transfer transfer) at node = record {
   says = synced_names;
-  begins = λ answer. some_mapped (begun_handle answer) _;
+  begins = λ answer is. handle_nothing answer (some_mapped (begun_handle answer) _ is);
 }
-waiting_sound cells (waiting.PutBegin register put) = record {
+waiting_sound (waiting.PutBegin register put) at node = record {
   says = tt;
-  begins = λ answer. sent_handle (begun_handle answer);
+  begins = λ answer after is. handle_nothing answer (sent_handle (begun_handle answer) after is);
 }
-waiting_sound cells (waiting.PutImplicit put) = record {
+waiting_sound (waiting.PutImplicit put) at node = record {
   says = tt;
-  begins = λ answer. sent_handle (begun_handle answer);
+  begins = λ answer after is. handle_nothing answer (sent_handle (begun_handle answer) after is);
 }
-waiting_sound cells (waiting.Wait register) = record { says = tt; begins = tt }
-waiting_sound cells (waiting.WaitAll registers) = record { says = tt; begins = tt }
-waiting_sound cells (waiting.WaitSome registers) = record { says = tt; begins = tt }
-waiting_sound cells (waiting.WaitImplicit which) = record { says = tt; begins = tt }
-waiting_sound cells (waiting.BarrierWait id flags) = record { says = tt; begins = tt }
+waiting_sound (waiting.Wait register) at node = record { says = tt; begins = tt }
+waiting_sound (waiting.WaitAll registers) at node = record { says = tt; begins = tt }
+waiting_sound (waiting.WaitSome registers) at node = record { says = tt; begins = tt }
+waiting_sound (waiting.WaitImplicit which) at node = record { says = tt; begins = tt }
+waiting_sound (waiting.BarrierWait id flags) at node = record { says = tt; begins = tt }
+waiting_sound (waiting.Collective shape from dest) at node = whole_sound shape from dest at node
 
 -- so is that of each step of a script
-step_sound : (step : ScriptStep) (at : TryContext) (node : Node EndpointLocal) → IsSound (step_form step at node)
+step_sound : (step : ScriptStep) (at : StepContext) (node : Node EndpointLocal) → IsSound (step_form step at node)
 step_sound (step.Call call) at node = while_sound (waits_of call) _
-step_sound (step.Vis vis) at node = record { says = λ endpoint. tt; begins = tt }
-step_sound (step.Waiting waiting) at node = waiting_sound node.local.core.cells waiting
+step_sound (step.Vis vis) at node =
+    record { says = λ endpoint. (tt, tt); begins = λ is. absurd (false≢true is) }
+step_sound (step.Collective call) at node = collective_sound call at node
+step_sound (step.Waiting waiting) at node = waiting_sound waiting at node
 
 -- ---- how a try ended
 
--- an answer with a handle names nothing
-handle_names : (endpoint : EndpointState) (answer : Answer) → is_some (begun_handle answer) ≡ true
-    → NamesWhatIs endpoint answer
-handle_names endpoint (answers.Local answer) is = absurd (false≢true is)
-handle_names endpoint (answers.Ticked sent) is = absurd (false≢true is)
-handle_names endpoint answer is = tt
+-- what names nothing is there
+nothing_names : (endpoint : EndpointState) (answer : Answer) → NamesNothing answer → NamesWhatIs endpoint answer
+nothing_names endpoint (answers.Local answer) none = absurd none
+nothing_names endpoint (answers.Ticked sent) none = absurd none
+nothing_names endpoint answer none = tt
 
 unless_said : (endpoint : EndpointState) (waits : Bool) (answer : Answer) → NamesWhatIs endpoint answer
     → IfSome (unless waits answer) (NamesWhatIsThere endpoint)
@@ -248,38 +372,38 @@ unless_said endpoint false answer names = names
 -- by the form of the step
 form_names : (endpoint : EndpointState) (form : Form EndpointLocal) (began : Option Answer)
     (after : Node EndpointLocal) (answer : Option Answer) → SaysNoMore form
-    → IfSome began (λ first. is_some (begun_handle first) ≡ true)
-    → (AtMostOne (calls_of form began) → IfSome answer (NamesWhatIs endpoint))
+    → IfSome began NamesNothing → (AtMostOne (calls_of form began) → IfSome answer (NamesWhatIs endpoint))
     → IfSome (ended_by form began after answer) (NamesWhatIsThere endpoint)
-form_names endpoint (Once call) began after None sound handle names = tt
-form_names endpoint (Once call) began after (Some answer) sound handle names = names tt
-form_names endpoint (Again waits call) began after None sound handle names = tt
-form_names endpoint (Again waits call) began after (Some answer) sound handle names =
+form_names endpoint (Once call) began after None sound plain names = tt
+form_names endpoint (Once call) began after (Some answer) sound plain names = names tt
+form_names endpoint (Again waits call) began after None sound plain names = tt
+form_names endpoint (Again waits call) began after (Some answer) sound plain names =
     unless_said endpoint (waits answer) answer (names tt)
-form_names endpoint (Until call ends) began after None sound handle names = tt
-form_names endpoint (Until call ends) began after (Some answer) sound handle names =
+form_names endpoint (Until call ends) began after None sound plain names = tt
+form_names endpoint (Until call ends) began after (Some answer) sound plain names =
     sound endpoint answer (names tt)
-form_names endpoint (Twice begin next waits says) None after None sound handle names = tt
-form_names endpoint (Twice begin next waits says) None after (Some answer) sound handle names =
+form_names endpoint (Twice begin next waits says) None after None sound plain names = tt
+form_names endpoint (Twice begin next waits says) None after (Some answer) sound plain names =
     unless_said endpoint (is_some (next answer)) (says answer) (sound endpoint answer (names tt))
-form_names endpoint (Twice begin next waits says) (Some first) after None sound handle names = tt
-form_names endpoint (Twice begin next waits says) (Some first) after (Some answer) sound handle names =
+form_names endpoint (Twice begin next waits says) (Some first) after None sound plain names = tt
+form_names endpoint (Twice begin next waits says) (Some first) after (Some answer) sound plain names =
     unless_said endpoint (waits answer) (says answer) (sound endpoint answer (names (one_or_none (next first))))
-form_names endpoint (Looks begin ready) None after None sound handle names = tt
-form_names endpoint (Looks begin ready) None after (Some answer) sound handle names =
+form_names endpoint (Looks begin ready) None after None sound plain names = tt
+form_names endpoint (Looks begin ready) None after (Some answer) sound plain names =
     unless_said endpoint (not (ready answer after)) answer (names tt)
-form_names endpoint (Looks begin ready) (Some first) after answer sound handle names =
-    unless_said endpoint (not (ready first after)) first (handle_names endpoint first handle)
-form_names endpoint (Several calls says) began after answer sound handle names = sound endpoint
+form_names endpoint (Looks begin ready) (Some first) after answer sound plain names =
+    unless_said endpoint (not (ready first after)) first (nothing_names endpoint first plain)
+form_names endpoint (Several first later) None after answer sound plain names = (sound endpoint).0
+form_names endpoint (Several first later) (Some begun_so) after answer sound plain names = (sound endpoint).1
 
 -- by what is left of the script
-step_names : (endpoint : EndpointState) (at : TryContext) (progress : Progress ScriptStep)
+step_names : (endpoint : EndpointState) (at : StepContext) (progress : Progress ScriptStep)
     (before after : Node EndpointLocal) (answer : Option Answer)
-    → IfSome progress.began (λ first. is_some (begun_handle first) ≡ true)
+    → IfSome progress.began NamesNothing
     → (AtMostOne (next_calls step_form at progress.began progress.left before)
     → IfSome answer (NamesWhatIs endpoint))
     → IfSome (tried_step step_form at progress.began progress.left before after answer).ended (NamesWhatIsThere endpoint)
-step_names endpoint at progress before after answer handle names = by_left progress.left names
+step_names endpoint at progress before after answer plain names = by_left progress.left names
   where
     by_left : (left : List ScriptStep)
         → (AtMostOne (next_calls step_form at progress.began left before) → IfSome answer (NamesWhatIs endpoint))
@@ -287,7 +411,7 @@ step_names endpoint at progress before after answer handle names = by_left progr
     by_left [] few = tt
     by_left (action ∷ rest) few =
         form_names endpoint (step_form action at before) progress.began after answer
-        (step_sound action at before).says handle few
+        (step_sound action at before).says plain few
 
 -- events one after another
 run_append : (settings : Parameters) (table : List (Option TableEntry)) (meaning : Meaning) (me now : ℕ)
@@ -302,10 +426,10 @@ run_append settings table meaning me now (event ∷ first) second node =
 
 -- what the answer of the step that ended in the turn of an entry names is there after it
 pub ended_names : (job : JobState) (rank : ℕ) (machine : ScriptedNode) (entry : Entry) (endpoint : EndpointState)
-    → HasHandles machine → EndpointStands endpoint (after_entry job rank machine entry).node
+    → BeginningsNameNothing machine → EndpointStands endpoint (after_entry job rank machine entry).node
     → endpoint.core.settings ≡ job.settings
     → IfSome (answer_of_step job rank machine entry) (NamesWhatIsThere endpoint)
-ended_names job rank machine entry endpoint handles stands same =
+ended_names job rank machine entry endpoint beginnings stands same =
     let all = script_job job in
     let before = as_tried all rank machine entry.thread entry.now entry.got in
     let at = context all rank entry.thread entry.now in
@@ -316,8 +440,9 @@ ended_names job rank machine entry endpoint handles stands same =
     (events_of entry.thread calls) before) =
     subst (EndpointStands endpoint) (run_append job.settings table meaning rank entry.now
     (first_events all machine entry.thread entry.got) (events_of entry.thread calls) machine.node) stands in
-    step_names endpoint at (machine.own entry.thread) before (after_entry job rank machine entry).node
-    (tried_answer all rank machine entry.thread entry.now entry.got) (handles entry.thread)
+    step_names endpoint (step_context at machine.own) (machine.own.threads entry.thread) before
+    (after_entry job rank machine entry).node
+    (tried_answer all rank machine entry.thread entry.now entry.got) (beginnings entry.thread)
     (made_names endpoint job.settings table meaning rank entry.thread entry.now before calls there same)
 
 -- ---- what is left of the script
@@ -330,19 +455,19 @@ not_true : (b : Bool) → not b ≡ true → b ≡ false
 not_true true is = absurd (false≢true is)
 not_true false is = refl
 
--- where a try ended nothing, what its step began has a handle
-form_handles : (form : Form EndpointLocal) (after : Node EndpointLocal) (answer : Option Answer)
-    → BeginsByHandle form → begins form ≡ true → ended_by form None after answer ≡ None
-    → IfSome answer (λ first. is_some (begun_handle first) ≡ true)
-form_handles (Once call) after answer sound begun none = absurd (false≢true begun)
-form_handles (Again waits call) after answer sound begun none = absurd (false≢true begun)
-form_handles (Until call ends) after answer sound begun none = absurd (false≢true begun)
-form_handles (Twice begin next waits says) after None sound begun none = tt
-form_handles (Twice begin next waits says) after (Some answer) sound begun none =
+-- where a try ended nothing, the answer with which its step began names nothing
+form_begins : (form : Form EndpointLocal) (after : Node EndpointLocal) (answer : Option Answer)
+    → BeginsPlainly form → (AsksFirst (calls_of form None) → IfSome answer NamesNothing) → begins form ≡ true
+    → ended_by form None after answer ≡ None → IfSome answer NamesNothing
+form_begins (Once call) after answer sound asks begun none = absurd (false≢true begun)
+form_begins (Again waits call) after answer sound asks begun none = absurd (false≢true begun)
+form_begins (Until call ends) after answer sound asks begun none = absurd (false≢true begun)
+form_begins (Twice begin next waits says) after None sound asks begun none = tt
+form_begins (Twice begin next waits says) after (Some answer) sound asks begun none =
     sound answer (waited (is_some (next answer)) (says answer) none)
-form_handles (Several calls says) after answer sound begun none = absurd (false≢true begun)
-form_handles (Looks begin ready) after None sound begun none = tt
-form_handles (Looks begin ready) after (Some answer) sound begun none =
+form_begins (Several first later) after answer sound asks begun none = asks (sound begun)
+form_begins (Looks begin ready) after None sound asks begun none = tt
+form_begins (Looks begin ready) after (Some answer) sound asks begun none =
     sound answer after (not_true (ready answer after) (waited (not (ready answer after)) answer none))
 
 -- what is left where a try ended nothing
@@ -353,64 +478,73 @@ left_then action rest begins_it first answer =
     else record { left = action ∷ rest; began = first }
 
 -- the script after a try
-progress_handles : (form : Form EndpointLocal) (action : ScriptStep) (rest : List ScriptStep) (began : Option Answer)
-    (after : Node EndpointLocal) (answer : Option Answer) → BeginsByHandle form
-    → IfSome began (λ first. is_some (begun_handle first) ≡ true)
+progress_begins : (form : Form EndpointLocal) (action : ScriptStep) (rest : List ScriptStep) (began : Option Answer)
+    (after : Node EndpointLocal) (answer : Option Answer) → BeginsPlainly form
+    → (AsksFirst (calls_of form began) → IfSome answer NamesNothing) → IfSome began NamesNothing
     → IfSome (progress_after form action rest began (ended_by form began after answer) answer).began
-    (λ first. is_some (begun_handle first) ≡ true)
-progress_handles form action rest began after answer sound handle = by_end (ended_by form began after answer) refl
+    NamesNothing
+progress_begins form action rest began after answer sound asks plain = by_end (ended_by form began after answer) refl
   where
     by_begin : (begins_it : Bool) → begins form ≡ begins_it → (first : Option Answer) → began ≡ first
         → ended_by form began after answer ≡ None
         → IfSome (left_then action rest begins_it first answer).began
-        (λ first. is_some (begun_handle first) ≡ true)
+        NamesNothing
     by_begin true is None none ended =
-        form_handles form after answer sound is
+        form_begins form after answer sound
+        (subst (λ (first : Option Answer). AsksFirst (calls_of form first) → IfSome answer NamesNothing) none asks) is
         (subst (λ (first : Option Answer). ended_by form first after answer ≡ None) none ended)
     by_begin true is (Some first) same ended =
-        subst (λ (one : Option Answer). IfSome one (λ first. is_some (begun_handle first) ≡ true)) same handle
+        subst (λ (one : Option Answer). IfSome one NamesNothing) same plain
     by_begin false is first same ended =
-        subst (λ (one : Option Answer). IfSome one (λ first. is_some (begun_handle first) ≡ true)) same handle
+        subst (λ (one : Option Answer). IfSome one NamesNothing) same plain
 
     by_end : (ended : Option ScriptAnswer) → ended_by form began after answer ≡ ended
         → IfSome (progress_after form action rest began ended answer).began
-        (λ first. is_some (begun_handle first) ≡ true)
+        NamesNothing
     by_end (Some said) is = tt
     by_end None is = by_begin (begins form) refl began refl is
 
-step_handles : (at : TryContext) (progress : Progress ScriptStep) (before after : Node EndpointLocal)
-    (answer : Option Answer) → IfSome progress.began (λ first. is_some (begun_handle first) ≡ true)
+step_begins : (at : StepContext) (progress : Progress ScriptStep) (before after : Node EndpointLocal)
+    (answer : Option Answer) → IfSome progress.began NamesNothing
+    → (AsksFirst (next_calls step_form at progress.began progress.left before) → IfSome answer NamesNothing)
     → IfSome (tried_step step_form at progress.began progress.left before after answer).left.began
-    (λ first. is_some (begun_handle first) ≡ true)
-step_handles at progress before after answer handle = by_left progress.left
+    NamesNothing
+step_begins at progress before after answer plain asks = by_left progress.left asks
   where
     by_left : (left : List ScriptStep)
+        → (AsksFirst (next_calls step_form at progress.began left before) → IfSome answer NamesNothing)
         → IfSome (tried_step step_form at progress.began left before after answer).left.began
-        (λ first. is_some (begun_handle first) ≡ true)
-    by_left [] = handle
-    by_left (action ∷ rest) =
-        progress_handles (step_form action at before) action rest progress.began after answer
-        (step_sound action at before).begins handle
+        NamesNothing
+    by_left [] first = plain
+    by_left (action ∷ rest) first =
+        progress_begins (step_form action at before) action rest progress.began after answer
+        (step_sound action at before).begins first plain
 
 -- one of two
-either_handles : (here : Bool) (one other : Progress ScriptStep)
-    → IfSome one.began (λ first. is_some (begun_handle first) ≡ true)
-    → IfSome other.began (λ first. is_some (begun_handle first) ≡ true)
-    → IfSome (if here then one else other).began (λ first. is_some (begun_handle first) ≡ true)
-either_handles true one other first second = first
-either_handles false one other first second = second
+either_begins : (here : Bool) (one other : Progress ScriptStep)
+    → IfSome one.began NamesNothing
+    → IfSome other.began NamesNothing
+    → IfSome (if here then one else other).began NamesNothing
+either_begins true one other first second = first
+either_begins false one other first second = second
 
--- each step that was begun by the end of the turn of an entry has a handle
-pub after_handles : (job : JobState) (rank : ℕ) (machine : ScriptedNode) (entry : Entry) → HasHandles machine
-    → HasHandles (after_entry job rank machine entry)
-after_handles job rank machine entry handles thread =
+-- each answer with which a step was begun by the end of the turn of an entry names nothing
+pub after_beginnings : (job : JobState) (rank : ℕ) (machine : ScriptedNode) (entry : Entry)
+    → BeginningsNameNothing machine → BeginningsNameNothing (after_entry job rank machine entry)
+after_beginnings job rank machine entry beginnings thread =
     let all = script_job job in
-    either_handles (thread == entry.thread) _ (machine.own thread)
-    (step_handles (context all rank entry.thread entry.now) (machine.own entry.thread)
-    (as_tried all rank machine entry.thread entry.now entry.got) (after_entry job rank machine entry).node
-    (tried_answer all rank machine entry.thread entry.now entry.got) (handles entry.thread))
-    (handles thread)
+    let at = context all rank entry.thread entry.now in
+    let before = as_tried all rank machine entry.thread entry.now entry.got in
+    let table = (registered (handlers_of job)).table in
+    let meaning = script_meaning (handlers_of job) in
+    either_begins (thread == entry.thread) _ (machine.own.threads thread)
+    (step_begins (step_context at machine.own) (machine.own.threads entry.thread) before
+    (after_entry job rank machine entry).node (tried_answer all rank machine entry.thread entry.now entry.got)
+    (beginnings entry.thread)
+    (first_nothing job.settings table meaning rank entry.thread entry.now before
+    (all.scripts.calls at machine.own before)))
+    (beginnings thread)
 
 -- before all turns no step was begun
-pub first_handles : (job : JobState) (rank : ℕ) → HasHandles (first_machine job rank)
-first_handles job rank thread = tt
+pub first_beginnings : (job : JobState) (rank : ℕ) → BeginningsNameNothing (first_machine job rank)
+first_beginnings job rank thread = tt

@@ -30,8 +30,8 @@ use Rattle.node_machine.specs.Laws.{IsRunOf, order_by}
 use Rattle.node_record.specs.NodeStep.{OfCall}
 use Rattle.node_record.specs.Record.{Node}
 use Rattle.node_record.specs.Step.{is_worn_out}
-use Rattle.node_runs.specs.Actions.{Twice, unless}
-use Rattle.node_runs.specs.Scripts.{ThreadCall, TryContext}
+use Rattle.node_runs.specs.Actions.{Form, StepContext, Twice, unless}
+use Rattle.node_runs.specs.Scripts.{ThreadCall}
 use Rattle.node_runs.specs.Order.{own_entries}
 use Rattle.node_runs.specs.WorldRun.{joined}
 use Rattle.node_runs.specs.declared.script_answer.ScriptAnswer.{ScriptAnswer}
@@ -51,12 +51,14 @@ use Rattle.transfer_laws.proofs.Begins.{allowed_there, begins_last, told_there}
 use Rattle.transfer_laws.specs.TransferLaws.{Beginning, Synchronises, TransfersHold, called, since}
 use Rattle.check_run.specs.StepLines.{StepAt}
 use Rattle.check_run.specs.StepsTold.{BarrierIsTried, EndsAs, EndsAtCall, EndsLater, IsMade, IsMadeSince, IsReply}
-use Rattle.check_run.specs.StepsTold.{IsStepTold, LinesTell, RunOrder, SyncIsMade, TransferIsMade, before_of, call_event}
+use Rattle.check_run.specs.StepsTold.{IsStepTold, LinesTell, RunOrder, SyncIsMade, TransferIsMade, before_of, begun_by}
+use Rattle.check_run.specs.StepsTold.{call_event}
 use Rattle.check_run.specs.StepsTold.{first_turns, machine_at, on_transfers, past_of, records_after, rules_of, run_of}
 use Rattle.check_run.specs.StepsTold.{sync_waited, tried_at, tries_barrier}
 use Rattle.check_run.specs.TracesRun.{entries_of}
 use Rattle.check_run.proofs.CallsMade.{run_append}
 use Rattle.check_run.proofs.LinesTold.{lines_rise, lines_told, order_of_run}
+use Rattle.check_run.proofs.StepsTold.{Machine}
 use Rattle.lists.proofs.Members.{all_append}
 use Rattle.check_run.proofs.Regions.{AreThere, HoldsOf, IsOther, number_is_free, the_one}
 
@@ -159,22 +161,23 @@ barrier_done job past run at id flags answer holds among ends since_past =
 
 -- a step that waits for transfers
 wait_made : (job : JobState) (past run : List (Timed OtherCall)) (at : StepAt) (wait : WaitingStep) (call : TransferCall)
-    (context : TryContext) (node : Node EndpointLocal) (answer : Answer) (said_so : ScriptAnswer)
-    → sync_waited wait ≡ Some call → EndsAs job past run at (step_form (step.Waiting wait) context node) said_so
+    (context : StepContext) (node : Node EndpointLocal) (began : Option Answer) (answer : Answer)
+    (said_so : ScriptAnswer) → sync_waited wait ≡ Some call
+    → EndsAs job past run at (step_form (step.Waiting wait) context node) began said_so
     → said_so ≡ said.Call answer → IsMadeSince job past run at (on_transfers call) answer
-wait_made job past run at (waiting.Wait register) call context node answer said_so is ends same =
+wait_made job past run at (waiting.Wait register) call context node began answer said_so is ends same =
     subst (λ (c : TransferCall). IsMadeSince job past run at (on_transfers c) answer) (same_Some _ call is)
     (made_so job past run at _ is_not_ready answer said_so ends same)
-wait_made job past run at (waiting.WaitAll registers) call context node answer said_so is ends same =
+wait_made job past run at (waiting.WaitAll registers) call context node began answer said_so is ends same =
     subst (λ (c : TransferCall). IsMadeSince job past run at (on_transfers c) answer) (same_Some _ call is)
     (made_so job past run at _ is_not_ready answer said_so ends same)
-wait_made job past run at (waiting.WaitSome registers) call context node answer said_so is ends same =
+wait_made job past run at (waiting.WaitSome registers) call context node began answer said_so is ends same =
     subst (λ (c : TransferCall). IsMadeSince job past run at (on_transfers c) answer) (same_Some _ call is)
     (made_so job past run at _ is_not_ready answer said_so ends same)
-wait_made job past run at (waiting.WaitImplicit which) call context node answer said_so is ends same =
+wait_made job past run at (waiting.WaitImplicit which) call context node began answer said_so is ends same =
     subst (λ (c : TransferCall). IsMadeSince job past run at (on_transfers c) answer) (same_Some _ call is)
     (made_so job past run at _ is_not_ready answer said_so ends same)
-wait_made job past run at wait call context node answer said_so is ends same = absurd (cc)
+wait_made job past run at wait call context node began answer said_so is ends same = absurd (cc)
 
 -- the beginning of a transfer isn't answered as a sync is
 never_synced : (settings : Parameters) (table : List (Option TableEntry)) (meaning : Meaning) (thread : ℕ)
@@ -435,31 +438,43 @@ later_made job past run at holds among transfer answer later same =
 
 transfer_made : (job : JobState) (past run : List (Timed OtherCall)) (at : StepAt)
     → TransfersHold job.settings (registered (handlers_of job)).table (script_meaning (handlers_of job))
-    → AreAmong job run → (transfer : Transfer) (answer : ScriptAnswer)
-    → EndsAs job past run at (Twice (on_transfers (Begin None transfer)) sync_of is_not_ready as_synced) answer
+    → AreAmong job run → (transfer : Transfer) (began : Option Answer) (answer : ScriptAnswer)
+    → EndsAs job past run at (Twice (on_transfers (Begin None transfer)) sync_of is_not_ready as_synced) began answer
     → answer ≡ said.Call (answers.Synced synced.Ok)
     → IsMadeSince job past run at (on_transfers (Begin None transfer)) (answers.Begun begun.Done)
     ⊎ TransferIsMade job past run at transfer
-transfer_made job past run at holds among transfer answer (inl first) same =
+transfer_made job past run at holds among transfer began answer (inl first) same =
     inl (since_so job past run at (on_transfers (Begin None transfer)) first.told (answers.Begun begun.Done)
     (at_once job run at transfer first.told first.made.made
     (told_is (is_some (sync_of first.told)) (as_synced first.told) (answers.Synced synced.Ok) answer first.ended same))
     first.made)
-transfer_made job past run at holds among transfer answer (inr later) same =
+transfer_made job past run at holds among transfer began answer (inr later) same =
     inr (later_made job past run at holds among transfer answer later same)
 
 -- ---- all of them
 
+-- the machine of its node before the turn of a told step, and how this step is tried by it
+abbrev machine_of : {job : JobState} {traces : List Trace} {order : RunOrder} {line : ℕ} {words : Line}
+    → IsStepTold job traces order line words → Machine
+machine_of {job} told = machine_at job told.at.rank told.trace told.place
+
+abbrev context_of : {job : JobState} {traces : List Trace} {order : RunOrder} {line : ℕ} {words : Line}
+    → IsStepTold job traces order line words → StepContext
+context_of {job} told = tried_at job told.at (machine_of told) told.entry.now
+
+abbrev form_of : {job : JobState} {traces : List Trace} {order : RunOrder} {line : ℕ} {words : Line}
+    → IsStepTold job traces order line words → ScriptStep → Form EndpointLocal
+form_of {job} told one =
+    step_form one (context_of told) (before_of job told.at.rank (machine_of told) told.entry)
+
 -- how a told step ended, where it is this one
 ends_of : (job : JobState) (traces : List Trace) (order : RunOrder) (line : ℕ) (words : Line)
     (told : IsStepTold job traces order line words) (one : ScriptStep) → told.step ≡ one
-    → EndsAs job (past_of told) (run_of told) told.at (step_form one (tried_at job told.at told.entry.now)
-    (before_of job told.at.rank (machine_at job told.at.rank told.trace told.place) told.entry)) told.answer
+    → EndsAs job (past_of told) (run_of told) told.at (form_of told one) (begun_by (machine_of told) told.at)
+    told.answer
 ends_of job traces order line words told one same =
-    subst (λ (s : ScriptStep). EndsAs job (past_of told) (run_of told) told.at
-    (step_form s (tried_at job told.at told.entry.now)
-    (before_of job told.at.rank (machine_at job told.at.rank told.trace told.place) told.entry)) told.answer) same
-    told.ends
+    subst (λ (s : ScriptStep). EndsAs job (past_of told) (run_of told) told.at (form_of told s)
+    (begun_by (machine_of told) told.at) told.answer) same told.ends
 
 pub lines_tell : (job : JobState) (traces : List Trace) (ranks : List ℕ) (turns : List (List (Timed OtherCall)))
     → IsRunOf job (order_by job (entries_of traces) ranks) turns
@@ -474,13 +489,13 @@ lines_tell job traces ranks turns run own =
       syncs = λ line words told wait call is waited ok.
           sync_done job (past_of told) (run_of told) told.at call run.transfers
           (turns_among job (suc told.turn) turns run.among)
-          (wait_made job (past_of told) (run_of told) told.at wait call (tried_at job told.at told.entry.now)
-          (before_of job told.at.rank (machine_at job told.at.rank told.trace told.place) told.entry)
+          (wait_made job (past_of told) (run_of told) told.at wait call (context_of told)
+          (before_of job told.at.rank (machine_of told) told.entry) (begun_by (machine_of told) told.at)
           (answers.Synced synced.Ok) told.answer waited
           (ends_of job traces order line words told (step.Waiting wait) is) ok);
       transfers = λ line words told text is ok.
           transfer_made job (past_of told) (run_of told) told.at run.transfers
-          (turns_among job (suc told.turn) turns run.among) text told.answer
+          (turns_among job (suc told.turn) turns run.among) text (begun_by (machine_of told) told.at) told.answer
           (ends_of job traces order line words told (step.Waiting (waiting.Transfer text)) is) ok;
       barriers = λ line words told id flags answer is said_so ends.
           barrier_done job (past_of told) (run_of told) told.at id flags answer run.barrier

@@ -1,7 +1,7 @@
 -- Each line of the steps of a run of traces tells how its step ended in that run.
 use Rattle.std.proofs.Common.{◌≡◌, ◌≢◌, inl, inr, ℕ, zero, suc, ◌&&◌, Bool, true, false, cond, not, List, [], ◌∷◌}
 use Rattle.std.proofs.Common.{◌++◌, take, Option, Some, None, refl, sym, ap, subst, ◌∙◌, slice_get, append_assoc, append-nil}
-use Rattle.std.specs.Prelude.{is_none}
+use Rattle.std.specs.Prelude.{◌==◌, is_none}
 use Rattle.std.specs.Option.{option_to_list}
 use Rattle.std.proofs.lemmas.Bool.{cases_eq}
 use Rattle.std.proofs.lemmas.Option.{same_Some}
@@ -20,19 +20,23 @@ use Rattle.job_text.specs.declared.job.WaitingStep.TheVariants as waiting
 use Rattle.node_machine.specs.NodeState.{script_job}
 use Rattle.node_record.specs.Record.{Node}
 use Rattle.node_runs.specs.Actions.{Form, Once, Again, Until, Twice, Looks, Several, OwnScripts, Progress, calls_of, ended_by}
-use Rattle.node_runs.specs.Actions.{begins, unless, progress_after, next_calls, tried_step}
+use Rattle.node_runs.specs.Actions.{StepContext, begins, unless, progress_after, next_calls, tried_step}
 use Rattle.node_runs.specs.Order.{NodeEntry, Machines, after_entry as after_item, after_all, turn_of}
-use Rattle.node_runs.specs.Scripts.{ThreadCall, Tried, TryContext}
+use Rattle.node_runs.specs.Scripts.{ThreadCall, Tried}
 use Rattle.node_runs.specs.Turn.{MachineState, events_of, first_answer, first_events, node_run}
 use Rattle.node_runs.specs.Turn.{turn_events}
 use Rattle.node_runs.specs.WorldRun.{AreEvents, AreTurns}
 use Rattle.node_runs.specs.declared.script_answer.ScriptAnswer.{ScriptAnswer}
 use Rattle.node_runs.specs.declared.script_answer.ScriptAnswer.TheVariants as said
 use Rattle.plain_world.specs.World.{Timed, run}
-use Rattle.script_steps.specs.Forms.{step_form, waits_of, tried_while}
+use Rattle.collective_area.specs.declared.shape.Shape.{Shape}
+use Rattle.collective_steps.specs.Parts.{first_part, later_part}
+use Rattle.gas_collectives.specs.CollectivesState.{CollectivesState}
+use Rattle.job_text.specs.declared.job.CollectiveText.{CollectiveText}
+use Rattle.script_steps.specs.Forms.{collective_form, nothing_there, step_form, waits_of, tried_while, whole_form}
 use Rattle.check_run.specs.StepLines.{StepAt, after_entry, answer_of_step}
-use Rattle.check_run.specs.StepsTold.{EndsAs, EndsAtCall, EndsLater, IsMade, IsMadeSince, before_of, first_turns}
-use Rattle.check_run.specs.StepsTold.{records_after, rules_of, tried_at}
+use Rattle.check_run.specs.StepsTold.{EndsAs, EndsAtCall, EndsLater, IsMade, IsMadeSince, before_of, begun_by}
+use Rattle.check_run.specs.StepsTold.{first_turns, records_after, rules_of, tried_at}
 use Rattle.check_run.proofs.CallsMade.{made_at, made_before, run_append, run_here, run_other}
 
 abbrev pub Machine : Type 0
@@ -90,7 +94,7 @@ pub ends_as : (job : JobState) (past happened : List (Timed OtherCall)) (at : St
     → ((first : Answer) → began ≡ Some first → WasBegun job past at form first)
     → HeadMade job past happened at (calls_of form began) given
     → AllMade job past (past ++ happened) at (calls_of form began)
-    → ended_by form began after given ≡ Some answer → EndsAs job past (past ++ happened) at form answer
+    → ended_by form began after given ≡ Some answer → EndsAs job past (past ++ happened) at form began answer
 ends_as job past happened at (Once call) began after given answer was head all ends =
     let Ends = λ (o : Option Answer). ended_by (Once call) began after o in
     ended_call job past happened at call given _ answer head (given_as Ends given head.told _ head.is ends)
@@ -139,8 +143,8 @@ ends_as job past happened at (Looks begin ready) (Some first) after given answer
   begun = made_before job past happened at begin first (was first refl);
   ended = unless_sure (not (ready first after)) first answer ends;
 }
-ends_as job past happened at (Several calls says) began after given answer was head all ends =
-    record { each = all; ended = same_Some answer says (sym ends) }
+ends_as job past happened at (Several first later) began after given answer was head all ends =
+    record { each = all; ended = ends }
 
 -- ---- more events follow
 
@@ -151,14 +155,14 @@ begun_more job run more at (Again waits call) first it = tt
 begun_more job run more at (Until call ends) first it = tt
 begun_more job run more at (Twice begin next waits says) first it = made_before job run more at begin first it
 begun_more job run more at (Looks begin ready) first it = made_before job run more at begin first it
-begun_more job run more at (Several calls says) first it = tt
+begun_more job run more at (Several start later) first it = tt
 
 -- ---- steps that begin something are read alike at each try
 
 -- whatever the node's record is by then
 abbrev pub StepBegun : JobState → List (Timed OtherCall) → StepAt → ScriptStep → Answer → Type 0
 StepBegun job run at one first =
-    (context : TryContext) (node : Node EndpointLocal) → WasBegun job run at (step_form one context node) first
+    (context : StepContext) (node : Node EndpointLocal) → WasBegun job run at (step_form one context node) first
 
 while_begins : (job : JobState) (run : List (Timed OtherCall)) (at : StepAt) (waits : Option (Answer → Bool))
     (call other : ThreadCall) (first : Answer) → begins (tried_while waits call) ≡ true
@@ -166,12 +170,44 @@ while_begins : (job : JobState) (run : List (Timed OtherCall)) (at : StepAt) (wa
 while_begins job run at None call other first is = absurd (cc)
 while_begins job run at (Some waits) call other first is = absurd (cc)
 
+-- what a step began that runs collectives says nothing of a call
+collective_begun : (job : JobState) (run : List (Timed OtherCall)) (at : StepAt) (call : CollectiveText)
+    (first : Answer) (context : StepContext) (node : Node EndpointLocal)
+    → WasBegun job run at (collective_form call context node) first
+collective_begun job run at call first context node = by_state context.collectives
+  where
+    by_state : (state : Option CollectivesState)
+        → WasBegun job run at (collective_form call (record context { collectives = state }) node) first
+    by_state None = tt
+    by_state (Some it) = tt
+
+whole_begun : (job : JobState) (run : List (Timed OtherCall)) (at : StepAt) (shape : Shape) (from dest : ℕ)
+    (first : Answer) (context : StepContext) (node : Node EndpointLocal)
+    → WasBegun job run at (whole_form shape from dest context node) first
+whole_begun job run at shape from dest first context node = by_state context.collectives
+  where
+    by_me : (it : CollectivesState) (same : Bool)
+        → WasBegun job run at (cond {A = Form EndpointLocal} same
+        (Several (first_part context.place shape from node it) (later_part context.place dest node it)) nothing_there)
+        first
+    by_me it true = tt
+    by_me it false = tt
+
+    by_state : (state : Option CollectivesState)
+        → WasBegun job run at (whole_form shape from dest (record context { collectives = state }) node) first
+    by_state None = tt
+    by_state (Some it) = by_me it (it.me == context.place.me)
+
 begun_alike : (job : JobState) (run : List (Timed OtherCall)) (at : StepAt) (one : ScriptStep) (first : Answer)
-    (context : TryContext) (node : Node EndpointLocal) → begins (step_form one context node) ≡ true
+    (context : StepContext) (node : Node EndpointLocal) → begins (step_form one context node) ≡ true
     → WasBegun job run at (step_form one context node) first → StepBegun job run at one first
 begun_alike job run at (step.Call call) first context node is was = λ other record_then.
     while_begins job run at (waits_of call) _ _ first is
 begun_alike job run at (step.Vis vis) first context node is was = absurd (cc)
+begun_alike job run at (step.Collective call) first context node is was = λ other record_then.
+    collective_begun job run at call first other record_then
+begun_alike job run at (step.Waiting (waiting.Collective shape from dest)) first context node is was =
+    λ other record_then. whole_begun job run at shape from dest first other record_then
 begun_alike job run at (step.Waiting (waiting.Until cell operand)) first context node is was = absurd (cc)
 begun_alike job run at (step.Waiting (waiting.UntilWord offset number)) first context node is was = absurd (cc)
 begun_alike job run at (step.Waiting (waiting.Transfer transfer)) first context node is was = λ other record_then. was
@@ -193,7 +229,8 @@ IsPending job past at progress =
 -- of all threads of all nodes
 abbrev pub ArePending : JobState → List (Timed OtherCall) → Machines EndpointLocal (OwnScripts ScriptStep) → Type 0
 ArePending job past machines =
-    (rank thread : ℕ) → IsPending job past (record { rank = rank; thread = thread }) ((machines rank).own thread)
+    (rank thread : ℕ)
+    → IsPending job past (record { rank = rank; thread = thread }) ((machines rank).own.threads thread)
 
 head_same : (one other : ScriptStep) (rest later : List ScriptStep) → ◌≡◌ {A = List ScriptStep} (one ∷ rest)
     (other ∷ later) → one ≡ other
@@ -211,11 +248,11 @@ form_begins job past happened at (Twice call next waits says) given first is hea
     subst (IsMade job (past ++ happened) at call) (same_Some head.told first (sym head.is ∙ is)) head.behind.made
 form_begins job past happened at (Looks call ready) given first is head begin =
     subst (IsMade job (past ++ happened) at call) (same_Some head.told first (sym head.is ∙ is)) head.behind.made
-form_begins job past happened at (Several calls says) given first is head begin = tt
+form_begins job past happened at (Several start later) given first is head begin = tt
 
 -- the script of the thread after a try of its step
 step_pending : (job : JobState) (past happened : List (Timed OtherCall)) (at : StepAt) (one : ScriptStep)
-    (rest : List ScriptStep) (began : Option Answer) (context : TryContext) (before : Node EndpointLocal)
+    (rest : List ScriptStep) (began : Option Answer) (context : StepContext) (before : Node EndpointLocal)
     (given : Option Answer) (ended : Option ScriptAnswer)
     → IsPending job past at (record { left = one ∷ rest; began = began })
     → HeadMade job past happened at (calls_of (step_form one context before) began) given
@@ -308,7 +345,7 @@ first_of job machine entry = first_events (script_job job) machine entry.thread 
 
 abbrev pub calls_then : JobState → StepAt → Machine → Entry → List ScriptStep → List ThreadCall
 calls_then job at machine entry left =
-    next_calls step_form (tried_at job at entry.now) (machine.own at.thread).began left
+    next_calls step_form (tried_at job at machine entry.now) (machine.own.threads at.thread).began left
     (before_of job at.rank machine entry)
 
 abbrev pub given_then : JobState → StepAt → Machine → Entry → List ScriptStep → Option Answer
@@ -322,7 +359,7 @@ after_then job at machine entry left =
 
 abbrev pub tried_then : JobState → StepAt → Machine → Entry → List ScriptStep → Tried (Progress ScriptStep)
 tried_then job at machine entry left =
-    tried_step step_form (tried_at job at entry.now) (machine.own at.thread).began left
+    tried_step step_form (tried_at job at machine entry.now) (machine.own.threads at.thread).began left
     (before_of job at.rank machine entry) (after_then job at machine entry left) (given_then job at machine entry left)
 
 -- the thread whose turn it is
@@ -343,19 +380,20 @@ pub record EndsInTurn (job : JobState) (past run : List (Timed OtherCall)) (rank
   pub rest : List ScriptStep
   pub left_is : left ≡ step ∷ rest
   pub ends : EndsAs job past run (at_entry rank entry)
-      (step_form step (tried_at job (at_entry rank entry) entry.now) (before_of job rank machine entry)) answer
+      (step_form step (tried_at job (at_entry rank entry) machine entry.now) (before_of job rank machine entry))
+      (begun_by machine (at_entry rank entry)) answer
 
 ends_by_left : (job : JobState) (past happened : List (Timed OtherCall)) (rank : ℕ) (machine : Machine) (entry : Entry)
-    (left : List ScriptStep) (answer : ScriptAnswer) → (machine.own entry.thread).left ≡ left
+    (left : List ScriptStep) (answer : ScriptAnswer) → (machine.own.threads entry.thread).left ≡ left
     → Happened job past happened rank machine entry
-    → IsPending job past (at_entry rank entry) (machine.own entry.thread)
+    → IsPending job past (at_entry rank entry) (machine.own.threads entry.thread)
     → (tried_then job (at_entry rank entry) machine entry left).ended ≡ Some answer
     → EndsInTurn job past (past ++ happened) rank machine entry left answer
 ends_by_left job past happened rank machine entry [] answer same H pending ends = absurd (no_answer answer ends)
 ends_by_left job past happened rank machine entry (one ∷ rest) answer same H pending ends =
     let at = at_entry rank entry in
-    let began = (machine.own entry.thread).began in
-    let context = tried_at job at entry.now in
+    let began = (machine.own.threads entry.thread).began in
+    let context = tried_at job at machine entry.now in
     let before = before_of job rank machine entry in
     let calls = calls_then job at machine entry (one ∷ rest) in
     let are : HaveCalls job past at entry.now (first_of job machine entry) calls happened =
@@ -375,17 +413,17 @@ ends_by_left job past happened rank machine entry (one ∷ rest) answer same H p
 -- so it is of the answer of the turn
 pub turn_ends : (job : JobState) (past happened : List (Timed OtherCall)) (rank : ℕ) (machine : Machine) (entry : Entry)
     (answer : ScriptAnswer) → Happened job past happened rank machine entry
-    → IsPending job past (at_entry rank entry) (machine.own entry.thread)
+    → IsPending job past (at_entry rank entry) (machine.own.threads entry.thread)
     → answer_of_step job rank machine entry ≡ Some answer
-    → EndsInTurn job past (past ++ happened) rank machine entry (machine.own entry.thread).left answer
+    → EndsInTurn job past (past ++ happened) rank machine entry (machine.own.threads entry.thread).left answer
 turn_ends job past happened rank machine entry answer H pending ends =
-    ends_by_left job past happened rank machine entry (machine.own entry.thread).left answer refl H pending ends
+    ends_by_left job past happened rank machine entry (machine.own.threads entry.thread).left answer refl H pending ends
 
 -- what is left of the thread's script, and what its step began
 left_pending : (job : JobState) (past happened : List (Timed OtherCall)) (rank : ℕ) (machine : Machine) (entry : Entry)
-    (left : List ScriptStep) → (machine.own entry.thread).left ≡ left
+    (left : List ScriptStep) → (machine.own.threads entry.thread).left ≡ left
     → Happened job past happened rank machine entry
-    → IsPending job past (at_entry rank entry) (machine.own entry.thread)
+    → IsPending job past (at_entry rank entry) (machine.own.threads entry.thread)
     → IsPending job (past ++ happened) (at_entry rank entry) (tried_then job (at_entry rank entry) machine entry left).left
 left_pending job past happened rank machine entry [] same H pending = λ first is other later none. absurd (cc)
 left_pending job past happened rank machine entry (one ∷ rest) same H pending =
@@ -394,30 +432,30 @@ left_pending job past happened rank machine entry (one ∷ rest) same H pending 
     let calls = calls_then job at machine entry (one ∷ rest) in
     let given = given_then job at machine entry (one ∷ rest) in
     let after = after_then job at machine entry (one ∷ rest) in
-    let began = (machine.own entry.thread).began in
+    let began = (machine.own.threads entry.thread).began in
     let are : HaveCalls job past at entry.now (first_of job machine entry) calls happened =
     subst (λ (l : List ScriptStep). HaveCalls job past at entry.now (first_of job machine entry)
     (calls_then job at machine entry l) happened) same H.are in
-    step_pending job past happened at one rest began (tried_at job at entry.now) before given
-    (ended_by (step_form one (tried_at job at entry.now) before) began after given)
+    step_pending job past happened at one rest began (tried_at job at machine entry.now) before given
+    (ended_by (step_form one (tried_at job at machine entry.now) before) began after given)
     (λ first is other later left. pending first is other later (same ∙ left))
     (head_made job past at entry.now (first_of job machine entry) calls happened machine.node H.node_is are)
 
--- the machine after the turn
-abbrev pub own_then : JobState → (rank : ℕ) → Machine → Entry → OwnScripts ScriptStep
-own_then job rank machine entry = (after_entry job rank machine entry).own
+-- the scripts after the turn
+abbrev pub own_then : JobState → (rank : ℕ) → Machine → Entry → (thread : ℕ) → Progress ScriptStep
+own_then job rank machine entry = (after_entry job rank machine entry).own.threads
 
 pub scripts_here : (job : JobState) (rank thread : ℕ) (machine : Machine) (entry : Entry) → thread ≡ entry.thread
     → own_then job rank machine entry thread
-    ≡ (tried_then job (at_entry rank entry) machine entry (machine.own entry.thread).left).left
+    ≡ (tried_then job (at_entry rank entry) machine entry (machine.own.threads entry.thread).left).left
 scripts_here job rank thread machine entry same =
-    let next = (tried_then job (at_entry rank entry) machine entry (machine.own entry.thread).left).left in
-    ap (put machine.own entry.thread next) same ∙ put_same machine.own entry.thread next
+    let next = (tried_then job (at_entry rank entry) machine entry (machine.own.threads entry.thread).left).left in
+    ap (put machine.own.threads entry.thread next) same ∙ put_same machine.own.threads entry.thread next
 
 pub scripts_apart : (job : JobState) (rank thread : ℕ) (machine : Machine) (entry : Entry) → thread ≢ entry.thread
-    → own_then job rank machine entry thread ≡ machine.own thread
-scripts_apart job rank thread machine entry apart = put_other machine.own entry.thread
-    (tried_then job (at_entry rank entry) machine entry (machine.own entry.thread).left).left thread apart
+    → own_then job rank machine entry thread ≡ machine.own.threads thread
+scripts_apart job rank thread machine entry apart = put_other machine.own.threads entry.thread
+    (tried_then job (at_entry rank entry) machine entry (machine.own.threads entry.thread).left).left thread apart
 
 pending_more : (job : JobState) (past more : List (Timed OtherCall)) (at : StepAt) (progress : Progress ScriptStep)
     → IsPending job past at progress → IsPending job (past ++ more) at progress
@@ -427,7 +465,7 @@ pending_more job past more at progress old = λ first is one rest left context n
 -- of a node whose turn it is
 turn_pending : (job : JobState) (past happened : List (Timed OtherCall)) (rank : ℕ) (machine : Machine) (entry : Entry)
     → Happened job past happened rank machine entry
-    → ((thread : ℕ) → IsPending job past (record { rank = rank; thread = thread }) (machine.own thread))
+    → ((thread : ℕ) → IsPending job past (record { rank = rank; thread = thread }) (machine.own.threads thread))
     → (thread : ℕ) → IsPending job (past ++ happened) (record { rank = rank; thread = thread })
     (own_then job rank machine entry thread)
 turn_pending job past happened rank machine entry H old thread = elim (cases_eq thread entry.thread) [
@@ -435,12 +473,14 @@ turn_pending job past happened rank machine entry H old thread = elim (cases_eq 
       subst (λ (p : Progress ScriptStep). IsPending job (past ++ happened) (record { rank = rank; thread = thread }) p)
       (sym (scripts_here job rank thread machine entry same))
       (subst (λ (t : ℕ). IsPending job (past ++ happened) (record { rank = rank; thread = t })
-      (tried_then job (at_entry rank entry) machine entry (machine.own entry.thread).left).left) (sym same)
-      (left_pending job past happened rank machine entry (machine.own entry.thread).left refl H (old entry.thread)))
+      (tried_then job (at_entry rank entry) machine entry (machine.own.threads entry.thread).left).left) (sym same)
+      (left_pending job past happened rank machine entry (machine.own.threads entry.thread).left refl H
+      (old entry.thread)))
   | inr apart ↦
       subst (λ (p : Progress ScriptStep). IsPending job (past ++ happened) (record { rank = rank; thread = thread }) p)
       (sym (scripts_apart job rank thread machine entry apart))
-      (pending_more job past happened (record { rank = rank; thread = thread }) (machine.own thread) (old thread))
+      (pending_more job past happened (record { rank = rank; thread = thread }) (machine.own.threads thread)
+      (old thread))
 ]
 
 -- ---- the entries, one after another
@@ -485,15 +525,17 @@ stands_on job past happened machines item S H = record {
   ];
   pending = λ rank thread. elim (cases_eq rank item.node) [
     | inl same ↦
-        subst (λ (m : Machine). IsPending job (past ++ happened) (record { rank = rank; thread = thread }) (m.own thread))
+        subst (λ (m : Machine). IsPending job (past ++ happened) (record { rank = rank; thread = thread })
+        (m.own.threads thread))
         (sym (machine_here job machines item rank same))
         (subst (λ (n : ℕ). IsPending job (past ++ happened) (record { rank = n; thread = thread })
         (own_then job item.node (machines item.node) item.entry thread)) (sym same)
         (turn_pending job past happened item.node (machines item.node) item.entry H (S.pending item.node) thread))
     | inr apart ↦
-        subst (λ (m : Machine). IsPending job (past ++ happened) (record { rank = rank; thread = thread }) (m.own thread))
+        subst (λ (m : Machine). IsPending job (past ++ happened) (record { rank = rank; thread = thread })
+        (m.own.threads thread))
         (sym (machine_apart job machines item rank apart))
-        (pending_more job past happened (record { rank = rank; thread = thread }) ((machines rank).own thread)
+        (pending_more job past happened (record { rank = rank; thread = thread }) ((machines rank).own.threads thread)
         (S.pending rank thread))
   ];
 }
@@ -504,7 +546,7 @@ stands_on job past happened machines item S H = record {
 -- a step that ended in the turn of an item
 pub record EndsInRun (job : JobState) (past run : List (Timed OtherCall)) (rank : ℕ) (machine : Machine) (entry : Entry)
     (answer : ScriptAnswer) : Type 0 where
-  pub ends : EndsInTurn job past run rank machine entry (machine.own entry.thread).left answer
+  pub ends : EndsInTurn job past run rank machine entry (machine.own.threads entry.thread).left answer
   pub node_is : records_after job run rank ≡ (after_entry job rank machine entry).node
 
 pub items_end : (job : JobState) (items : List NodeEntry) (turns : List (List (Timed OtherCall)))

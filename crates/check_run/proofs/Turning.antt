@@ -28,12 +28,12 @@ use Rattle.node_script.specs.Lines.{Line, line_text, spell}
 use Rattle.node_script.specs.Registration.{handlers_of, registered}
 use Rattle.node_runs.specs.declared.script_answer.ScriptAnswer.{ScriptAnswer}
 use Rattle.check_run.specs.Merging.{IsOfItsJob}
-use Rattle.check_run.specs.Recording.{HasHandles, RecordedState, RecorderKept, RecorderStands, ScriptedNode}
+use Rattle.check_run.specs.Recording.{BeginningsNameNothing, RecordedState, RecorderKept, RecorderStands, ScriptedNode}
 use Rattle.check_run.specs.Recording.{entry_lines, held_in, opening_record, record_after, text_of}
 use Rattle.check_run.specs.StepLines.{after_entry, answer_of_step, lines_of_answer, script_words}
 use Rattle.check_run.specs.StepsWritten.{CanTellStep, NamesWhatIsThere, TellsStep, lines_told}
 use Rattle.check_run.specs.declared.steps.StepAt.{StepAt}
-use Rattle.check_run.proofs.Names.{after_handles, ended_names, first_handles}
+use Rattle.check_run.proofs.Names.{after_beginnings, ended_names, first_beginnings}
 
 -- ---- the text
 
@@ -117,12 +117,12 @@ module _ (entry : Entry) (old new : MachineKept) (told : Turned) (turns : Turns 
   me_so = sym (turns.after state stands).me_is
 
   -- what the answer names is there
-  pub can_tell : HasHandles state.ranked.state → IsOfItsJob new → CanTellStep told.stepped new
-  can_tell handles own some =
+  pub can_tell : BeginningsNameNothing state.ranked.state → IsOfItsJob new → CanTellStep told.stepped new
+  can_tell beginnings own some =
       let answer = kept_so some in
       there_is new.answer (NamesWhatIsThere new.endpoint) (ap is_some (sym answer) ∙ (sym stepped_so ∙ some))
       (subst (λ (found : Option ScriptAnswer). IfSome found (NamesWhatIsThere new.endpoint)) answer
-      (ended_names state.job state.ranked.me state.ranked.state entry new.endpoint handles
+      (ended_names state.job state.ranked.me state.ranked.state entry new.endpoint beginnings
       (turns.after state stands).node (settings_so own)))
 
   -- the line that is told then is that of the step
@@ -217,7 +217,8 @@ module _ (entry : Entry) (old new : RecorderKept) (turned : Turned) (records : R
       (held_so new.node (state_then state.node entry) records.value node records.own records.holds) in
       record {
         node = node;
-        handles = after_handles state.node.job state.node.ranked.me state.node.ranked.state entry stands.handles;
+        beginnings = after_beginnings state.node.job state.node.ranked.me state.node.ranked.state entry
+            stands.beginnings;
         rank_is = records.rank_is ∙ stands.rank_is;
         text_is = λ whole.
             let both = records.whole_is whole in
@@ -240,7 +241,7 @@ module _ (entry : Entry) (old new : RecorderKept) (turned : Turned) (records : R
       let value = held_so new.node state.node records.value node records.own records.holds in
       record {
         node = node;
-        handles = stands.handles;
+        beginnings = stands.beginnings;
         rank_is = records.rank_is ∙ stands.rank_is;
         text_is = λ whole.
             let both = records.whole_is whole in
@@ -325,7 +326,7 @@ pub opened : (job : JobState) (rank : ℕ) (node : MachineKept) (text : List ℕ
     (opening_record job rank)
 opened job rank node text stands none = record {
   node = stands;
-  handles = first_handles job rank;
+  beginnings = first_beginnings job rank;
   rank_is = refl;
   text_is = λ whole. none;
   most_is = refl;

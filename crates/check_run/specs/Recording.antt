@@ -1,6 +1,6 @@
 -- The machine of a node that records what is written of it, and the states for which it stands.
 -- Origin: this project's profile.
-use Rattle.std.specs.Prelude.{◌≡◌, ◌≤◌, ℕ, Bool, true, max, List, [], ◌++◌, Option, IfSome, is_some}
+use Rattle.std.specs.Prelude.{◌≡◌, ◌≤◌, ℕ, Bool, true, max, List, [], ◌++◌, Option, IfSome}
 use Rattle.gas_outside.specs.Buffered.{Gathering}
 use Rattle.gas_outside.specs.Memory.{SinkState}
 use Rattle.job_text.specs.declared.job.Job.{Job as JobState}
@@ -13,8 +13,9 @@ use Rattle.node_record.specs.Held.{held}
 use Rattle.node_runs.specs.Actions.{OwnScripts}
 use Rattle.node_runs.specs.Turn.{MachineState}
 use Rattle.node_script.specs.Lines.{Line, spell}
-use Rattle.node_machine.specs.Steps.{begun_handle}
 use Rattle.endpoint_rules.specs.EndpointLocal.{EndpointLocal}
+use Rattle.endpoint_rules.specs.declared.answer.Answer.{Answer}
+use Rattle.endpoint_rules.specs.declared.answer.Answer.TheVariants as answers
 use Rattle.check_run.specs.StepLines.{after_entry, answer_of_step, lines_of_answer}
 
 -- ---- states
@@ -75,15 +76,20 @@ pub record RecorderKept : Type 0 where
 abbrev pub text_of : Gathering SinkState → List ℕ
 text_of sink = sink.inner.taken ++ sink.pending
 
--- each step of its scripts that an earlier try began has a handle: that of the transfer that it began
-abbrev pub HasHandles : ScriptedNode → Type 0
-HasHandles machine =
-    (thread : ℕ) → IfSome (machine.own thread).began (λ answer. is_some (begun_handle answer) ≡ true)
+-- the answer names nothing of its node, as that of a beginning, and that of a request
+abbrev pub NamesNothing : Answer → Type 0
+NamesNothing (answers.Local answer) = ⊥
+NamesNothing (answers.Ticked answer) = ⊥
+NamesNothing answer = Unit {0}
+
+-- so is each answer with which an earlier try began a step of its scripts
+abbrev pub BeginningsNameNothing : ScriptedNode → Type 0
+BeginningsNameNothing machine = (thread : ℕ) → IfSome (machine.own.threads thread).began NamesNothing
 
 -- what the recorder keeps is what the state gives
 pub record RecorderStands (kept : RecorderKept) (state : RecordedState) : Type 0 where
   pub node : NodeStands kept.node state.node
-  pub handles : HasHandles state.node.ranked.state
+  pub beginnings : BeginningsNameNothing state.node.ranked.state
   pub rank_is : kept.rank ≡ state.node.ranked.me
   pub text_is : kept.whole ≡ true → kept.text ≡ spell state.lines
   pub most_is : kept.most ≡ state.most

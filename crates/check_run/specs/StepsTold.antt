@@ -25,9 +25,10 @@ use Rattle.node_machine.specs.NodeState.{script_job, steps_of_thread}
 use Rattle.node_record.specs.NodeStep.{OfCall, OfRequest}
 use Rattle.node_record.specs.Record.{Node as Record}
 use Rattle.node_record.specs.declared.answer.Asked.{Asked}
-use Rattle.node_runs.specs.Actions.{Form, Once, Again, Until, Twice, Looks, Several, OwnScripts, unless}
+use Rattle.node_runs.specs.Actions.{Form, Once, Again, Until, Twice, Looks, Several, OwnScripts, Part, StepContext}
+use Rattle.node_runs.specs.Actions.{part_of, step_context, unless}
 use Rattle.node_runs.specs.Order.{NodeEntry, own_entries, replay}
-use Rattle.node_runs.specs.Scripts.{ThreadCall, TryContext}
+use Rattle.node_runs.specs.Scripts.{ThreadCall}
 use Rattle.node_runs.specs.Turn.{MachineState, as_tried, context}
 use Rattle.node_runs.specs.declared.script_answer.ScriptAnswer.{ScriptAnswer}
 use Rattle.node_runs.specs.declared.script_answer.ScriptAnswer.TheVariants as said
@@ -108,24 +109,27 @@ pub record EndsAsBegun (job : JobState) (run : List (Timed OtherCall)) (at : Ste
   pub begun : IsMade job run at begin first
   pub ended : answer ≡ said.Call first
 
--- these calls were made in the turn, and the step's answer is this one
-pub record EndsAfterAll (job : JobState) (past run : List (Timed OtherCall)) (at : StepAt) (calls : List ThreadCall)
-    (says answer : ScriptAnswer) : Type 0 where
-  pub each : (place : ℕ) (call : ThreadCall) → slice_get calls place ≡ Some call
+-- the calls of this part of the step were made in the turn, and it ends the step with this answer
+pub record EndsAfterAll (job : JobState) (past run : List (Timed OtherCall)) (at : StepAt) (part : Part)
+    (answer : ScriptAnswer) : Type 0 where
+  pub each : (place : ℕ) (call : ThreadCall) → slice_get part.calls place ≡ Some call
       → (told : Answer) × IsMadeSince job past run at call told
-  pub ended : answer ≡ says
+  pub ended : part.ended ≡ Some answer
 
--- so it is of a step that is tried in this form
-abbrev pub EndsAs : JobState → (past run : List (Timed OtherCall)) → StepAt → Form EndpointLocal → ScriptAnswer → Type 0
-EndsAs job past run at (Once call) answer = EndsAtCall job past run at call (λ told. Some (said.Call told)) answer
-EndsAs job past run at (Again waits call) answer =
+-- so it is of a step that is tried in this form, where an earlier try began it with this answer, if one did
+abbrev pub EndsAs : JobState → (past run : List (Timed OtherCall)) → StepAt → Form EndpointLocal
+    → (began : Option Answer) → ScriptAnswer → Type 0
+EndsAs job past run at (Once call) began answer =
+    EndsAtCall job past run at call (λ told. Some (said.Call told)) answer
+EndsAs job past run at (Again waits call) began answer =
     EndsAtCall job past run at call (λ told. unless (waits told) told) answer
-EndsAs job past run at (Until call ends) answer = EndsAtCall job past run at call ends answer
-EndsAs job past run at (Twice begin next waits says) answer =
+EndsAs job past run at (Until call ends) began answer = EndsAtCall job past run at call ends answer
+EndsAs job past run at (Twice begin next waits says) began answer =
     EndsAtCall job past run at begin (λ told. unless (is_some (next told)) (says told)) answer
     ⊎ EndsLater job past run at begin next (λ told. unless (waits told) (says told)) answer
-EndsAs job past run at (Looks begin ready) answer = EndsAsBegun job run at begin answer
-EndsAs job past run at (Several calls says) answer = EndsAfterAll job past run at calls says answer
+EndsAs job past run at (Looks begin ready) began answer = EndsAsBegun job run at begin answer
+EndsAs job past run at (Several first later) began answer =
+    EndsAfterAll job past run at (part_of first later began) answer
 
 -- ---- which step it is
 
@@ -148,9 +152,14 @@ lines_before job traces rank trace place =
     length (steps_from job 0 (take rank traces))
     + length (step_lines job rank (first_machine job rank) (take place trace.entries))
 
--- in which job, at which node and when a step is tried
-abbrev pub tried_at : JobState → StepAt → (now : ℕ) → TryContext
-tried_at job at now = context (script_job job) at.rank at.thread now
+-- in which job, at which node and when a step is tried, and how far the collectives of that node are, whose machine is
+-- this one
+abbrev pub tried_at : JobState → StepAt → MachineState EndpointLocal (OwnScripts ScriptStep) → (now : ℕ) → StepContext
+tried_at job at machine now = step_context (context (script_job job) at.rank at.thread now) machine.own
+
+-- the answer with which an earlier try began the next step of a thread, if one did
+abbrev pub begun_by : MachineState EndpointLocal (OwnScripts ScriptStep) → StepAt → Option Answer
+begun_by machine at = (machine.own.threads at.thread).began
 
 -- the record of a node as the step of its thread is tried in the turn of an entry
 abbrev pub before_of : JobState → (rank : ℕ) → MachineState EndpointLocal (OwnScripts ScriptStep) → Entry
@@ -191,8 +200,9 @@ pub record IsStepTold (job : JobState) (traces : List Trace) (order : RunOrder) 
   pub turn_is : slice_get order.items turn ≡ Some (record { node = at.rank; entry = entry })
   pub own_is : own_entries at.rank (take turn order.items) ≡ take place trace.entries
   pub ends : EndsAs job (first_turns turn order.turns) (first_turns (suc turn) order.turns) at
-      (step_form step (tried_at job at entry.now) (before_of job at.rank (machine_at job at.rank trace place) entry))
-      answer
+      (step_form step (tried_at job at (machine_at job at.rank trace place) entry.now)
+      (before_of job at.rank (machine_at job at.rank trace place) entry))
+      (begun_by (machine_at job at.rank trace place) at) answer
   pub node_is : records_after job (first_turns (suc turn) order.turns) at.rank
       ≡ (after_entry job at.rank (machine_at job at.rank trace place) entry).node
   pub words_are : words ≡ step_line job at (records_after job (first_turns (suc turn) order.turns) at.rank) answer
