@@ -159,8 +159,10 @@ payload_fits it to offset false = bytes_none
 ask_fits : (it : CollectivesState) (thread to : ℕ) → IsOpen it → CallFits (step_call it thread to).call
 ask_fits it thread to is =
     let stamp : it.ended + 1 < 2 ^ 64 = omega (arith, is.opened, is.fits.count) in (
-      (high_fits (it.ended + 1) stamp,
-      (low_fits (it.ended + 1), (high_fits (shape_word it.shape) is.fits.word, (low_fits (shape_word it.shape), tt)))),
+      (
+        high_fits (it.ended + 1) stamp,
+        (low_fits (it.ended + 1), (high_fits (shape_word it.shape) is.fits.word, (low_fits (shape_word it.shape), tt))),
+      ),
       payload_fits it to (data_place it.area (it.ended % 2) it.me) (uses it.shape it.me to),
     )
 
@@ -284,8 +286,13 @@ start_both at shape from node it fits =
         let stamp : it.started + 1 < 2 ^ 64 = omega (arith, P.left) in
         record {
           calls = (
-            ((high_fits (it.started + 1) stamp,
-            (low_fits (it.started + 1), (high_fits (shape_word shape) (word P), (low_fits (shape_word shape), tt)))), tt),
+            (
+              (
+                high_fits (it.started + 1) stamp,
+                (low_fits (it.started + 1), (high_fits (shape_word shape) (word P), (low_fits (shape_word shape), tt))),
+              ),
+              tt,
+            ),
             tt,
           );
           next = next_fits P
