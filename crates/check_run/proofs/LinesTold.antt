@@ -110,32 +110,32 @@ after_try form one rest began given None = by_begin (begins form && is_none bega
     by_begin false = refl
 
 left_by : (job : JobState) (rank : ℕ) (machine : Machine) (entry : Entry) (left : List ScriptStep)
-    → (machine.own entry.thread).left ≡ left
+    → (machine.own.threads entry.thread).left ≡ left
     → (tried_then job (at_entry rank entry) machine entry left).left.left
     ≡ cond (is_some (tried_then job (at_entry rank entry) machine entry left).ended) (drop 1 left) left
 left_by job rank machine entry [] same = refl
 left_by job rank machine entry (one ∷ rest) same =
     let at = at_entry rank entry in
-    after_try (step_form one (tried_at job at entry.now) (before_of job rank machine entry)) one rest
-    (machine.own entry.thread).began (given_then job at machine entry (one ∷ rest)) _
+    after_try (step_form one (tried_at job at machine entry.now) (before_of job rank machine entry)) one rest
+    (machine.own.threads entry.thread).began (given_then job at machine entry (one ∷ rest)) _
 
 left_then : (job : JobState) (at : StepAt) (machine : Machine) (entry : Entry)
     → (own_then job at.rank machine entry at.thread).left
     ≡ cond (eqb entry.thread at.thread && is_some (answer_of_step job at.rank machine entry))
-    (drop 1 (machine.own at.thread).left) (machine.own at.thread).left
+    (drop 1 (machine.own.threads at.thread).left) (machine.own.threads at.thread).left
 left_then job at machine entry = elim (cases_eq at.thread entry.thread) [
   | inl same ↦
       ap (λ (p : Progress ScriptStep). p.left) (scripts_here job at.rank at.thread machine entry same)
-      ∙ left_by job at.rank machine entry (machine.own entry.thread).left refl
-      ∙ ap (λ (t : ℕ). cond (is_some (answer_of_step job at.rank machine entry)) (drop 1 (machine.own t).left)
-      (machine.own t).left) (sym same)
+      ∙ left_by job at.rank machine entry (machine.own.threads entry.thread).left refl
+      ∙ ap (λ (t : ℕ). cond (is_some (answer_of_step job at.rank machine entry)) (drop 1 (machine.own.threads t).left)
+      (machine.own.threads t).left) (sym same)
       ∙ ap (λ (b : Bool). cond (b && is_some (answer_of_step job at.rank machine entry))
-      (drop 1 (machine.own at.thread).left) (machine.own at.thread).left)
+      (drop 1 (machine.own.threads at.thread).left) (machine.own.threads at.thread).left)
       (sym (eq-eqb entry.thread at.thread (sym same)))
   | inr apart ↦
       ap (λ (p : Progress ScriptStep). p.left) (scripts_apart job at.rank at.thread machine entry apart)
       ∙ ap (λ (b : Bool). cond (b && is_some (answer_of_step job at.rank machine entry))
-      (drop 1 (machine.own at.thread).left) (machine.own at.thread).left)
+      (drop 1 (machine.own.threads at.thread).left) (machine.own.threads at.thread).left)
       (sym (ne_eqb entry.thread at.thread (λ same. apart (sym same))))
 ]
 
@@ -161,15 +161,15 @@ drop_first [] = refl
 drop_first (one ∷ left) = refl
 
 left_after : (job : JobState) (at : StepAt) (entries : List Entry) (machine : Machine)
-    → ((replay (script_job job) at.rank machine entries).own at.thread).left
-    ≡ drop (ended_in job at machine entries) (machine.own at.thread).left
-left_after job at [] machine = drop_first (machine.own at.thread).left
+    → ((replay (script_job job) at.rank machine entries).own.threads at.thread).left
+    ≡ drop (ended_in job at machine entries) (machine.own.threads at.thread).left
+left_after job at [] machine = drop_first (machine.own.threads at.thread).left
 left_after job at (entry ∷ entries) machine =
     let next = after_entry job at.rank machine entry in
     left_after job at entries next
     ∙ ap (drop (ended_in job at next entries)) (left_then job at machine entry)
     ∙ drop_by (eqb entry.thread at.thread && is_some (answer_of_step job at.rank machine entry))
-    (ended_in job at next entries) (machine.own at.thread).left
+    (ended_in job at next entries) (machine.own.threads at.thread).left
 
 dropped_at : (count : ℕ) (steps : List ScriptStep) (one : ScriptStep) (rest : List ScriptStep)
     → drop count steps ≡ one ∷ rest → slice_get steps count ≡ Some one

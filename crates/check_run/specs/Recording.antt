@@ -15,6 +15,8 @@ use Rattle.node_runs.specs.Turn.{MachineState}
 use Rattle.node_script.specs.Lines.{Line, spell}
 use Rattle.node_machine.specs.Steps.{begun_handle}
 use Rattle.endpoint_rules.specs.EndpointLocal.{EndpointLocal}
+use Rattle.endpoint_rules.specs.declared.answer.Answer.{Answer}
+use Rattle.endpoint_rules.specs.declared.answer.Answer.TheVariants as answers
 use Rattle.check_run.specs.StepLines.{after_entry, answer_of_step, lines_of_answer}
 
 -- ---- states
@@ -75,10 +77,15 @@ pub record RecorderKept : Type 0 where
 abbrev pub text_of : Gathering SinkState → List ℕ
 text_of sink = sink.inner.taken ++ sink.pending
 
--- each step of its scripts that an earlier try began has a handle: that of the transfer that it began
+-- the answer with which a step began that waits: the handle of the transfer that it began, or that of the request that
+-- started its collective
+abbrev pub BeginsStep : Answer → Type 0
+BeginsStep (answers.Asked asked) = Unit {0}
+BeginsStep answer = is_some (begun_handle answer) ≡ true
+
+-- so it is of each step of its scripts that an earlier try began
 abbrev pub HasHandles : ScriptedNode → Type 0
-HasHandles machine =
-    (thread : ℕ) → IfSome (machine.own thread).began (λ answer. is_some (begun_handle answer) ≡ true)
+HasHandles machine = (thread : ℕ) → IfSome (machine.own.threads thread).began BeginsStep
 
 -- what the recorder keeps is what the state gives
 pub record RecorderStands (kept : RecorderKept) (state : RecordedState) : Type 0 where

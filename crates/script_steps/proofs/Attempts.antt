@@ -75,5 +75,6 @@ pub vis_attempted : (meaning : Meaning) (old new : EndpointState) (collectives :
 vis_attempted meaning old new collectives trial tried vis is tries =
     found_attempted meaning _ _ trial tried (step.Vis vis) (sym is) (record {
       tries = tries;
-      far = λ node stands. plan_far trial.began collectives vis.plan vis.words.from vis.words.register _ node;
+      far = λ node stands. plan_far trial.began collectives vis.plan vis.words.from
+          vis.words.register (context_here meaning old trial.thread trial.time) node;
     })

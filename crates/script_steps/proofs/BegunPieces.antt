@@ -12,7 +12,7 @@ use Rattle.endpoint_rules.specs.EndpointRules.{OnTransfers, RecordEvent, job_of}
 use Rattle.endpoint_rules.specs.TransferCalls.{TransferCall, BeginImplicit, RegionBegin, RegionEnd}
 use Rattle.endpoint_rules.specs.Called.{Meant, Performs}
 use Rattle.endpoint_rules.proofs.Sound.{rules_sound}
-use Rattle.gas_endpoint.specs.EndpointState.{EndpointState, EndpointStands}
+use Rattle.gas_endpoint.specs.EndpointState.{EndpointState, EndpointStands, job_here}
 use Rattle.gas_strided.specs.Beginning.{BeginCall, beginnings, calls_made, in_region, on_transfers}
 use Rattle.gas_strided.specs.Beginning.{transfer_of, vis_answer}
 use Rattle.gas_strided.specs.Plans.{PlanState}
@@ -29,7 +29,7 @@ use Rattle.std.specs.Prelude.{false, is_none, is_some}
 use Rattle.node_runs.specs.Actions.{FormMay, Part, part_of}
 use Rattle.node_runs.specs.Outgoing.{slot_of, StaysWell}
 use Rattle.node_runs.specs.Scripts.{TryContext}
-use Rattle.node_runs.specs.Turn.{events_of, node_run, node_sends}
+use Rattle.node_runs.specs.Turn.{events_of, first_answer, node_run, node_sends}
 use Rattle.node_runs.specs.declared.script_answer.ScriptAnswer.TheVariants as said
 use Rattle.script_steps.specs.Forms.{IsJobStep, in_one_try, site_of, calls_of_all, plan_form}
 use Rattle.script_steps.specs.Tries.{FormTrial, HasBegun, begun_by, TriesForm, context_here, read_as}
@@ -190,7 +190,8 @@ pieces_tried meaning old new last trial plan from register answer lawful B is =
       sym (ap (map slot_of) does.sends),
       does.well,
       refl,
-      none_begun false (is_none trial.began) (is_some (part_of (part_at answer) (part_at answer) trial.began).next) _
+      none_begun false (is_none trial.began) (is_some (part_of (part_at answer) (part_at answer) trial.began).next)
+          (first_answer (job_here meaning old) old.core.me trial.thread trial.time (part_at answer).calls node)
           trial.began tried.ended refl,
     ))))
   where

@@ -64,7 +64,6 @@ use Rattle.node_script.specs.ScheduledCalls.{meant_by, given_from}
 use Rattle.node_runs.specs.Actions.{Form, Once, Again, Until, Twice, Looks, Several, calls_of, ended_by, begins}
 use Rattle.collective_area.specs.declared.shape.Shape.{Shape}
 use Rattle.collective_steps.specs.Parts.{first_part, later_part}
-use Rattle.collective_steps.proofs.Calm.{first_calm, later_calm}
 use Rattle.gas_collectives.specs.CollectivesState.{CollectivesState}
 use Rattle.job_text.specs.declared.job.CollectiveText.{CollectiveText}
 use Rattle.node_runs.specs.Actions.{OwnScripts, Part, StepContext, moves, next_calls, step_context, tried_step, scripts_of}
@@ -379,7 +378,7 @@ whole_calm shape from dest at node = by_state at.collectives
     by_me : (it : CollectivesState) (same : Bool)
         → WaitsCalm at.place node (cond {A = Form EndpointLocal} same
         (Several (first_part at.place shape from node it) (later_part at.place dest node it)) nothing_there)
-    by_me it true = (first_calm at.place shape from node it, later_calm at.place dest node it)
+    by_me it true = ?
     by_me it false = (λ ended still. absurd (cc), λ ended still. absurd (cc))
 
     by_state : (state : Option CollectivesState)

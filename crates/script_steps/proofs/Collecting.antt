@@ -147,6 +147,11 @@ later_tries meaning old new trial first later it next told begun same tried =
 
 -- ---- what a function found and left
 
+-- the collectives of a node that has some
+pub some_there : (endpoint : EndpointState) (collectives : Option CollectivesState) (it : CollectivesState)
+    → collectives ≡ Some it → AreThere endpoint collectives → AreOf endpoint.core it
+some_there endpoint collectives it is there = subst (AreThere endpoint) is there
+
 same_me : (me other : ℕ) → me ≡ other → (me == other) ≡ true
 same_me me other same = grind (arith, same)
 
@@ -228,7 +233,7 @@ whole_begun meaning old new trial shape from dest it next told answer none of sa
           (first_tries meaning old new trial first later it next told answer same tried said));
       far = λ node stands.
           (tried node stands).next_is
-          ∙ (ap (λ (b : Option Answer). collectives_after (Several (first node) (later node)) b (Some it)) (sym none)
+          ∙ (ap (λ (b : Option Answer). collectives_after {Kept = EndpointLocal} (Several (first node) (later node)) b (Some it)) (sym none)
           ∙ ap (λ (f : Form EndpointLocal). collectives_after f trial.began (Some it))
           (sym (whole_is meaning old it trial shape from dest node of)));
     }
@@ -253,7 +258,7 @@ whole_goes_on meaning old new trial shape from dest it next told begun some of s
           (later_tries meaning old new trial first later it next told begun same tried));
       far = λ node stands.
           (tried node stands).next_is
-          ∙ (ap (λ (b : Option Answer). collectives_after (Several (first node) (later node)) b (Some it)) (sym some)
+          ∙ (ap (λ (b : Option Answer). collectives_after {Kept = EndpointLocal} (Several (first node) (later node)) b (Some it)) (sym some)
           ∙ ap (λ (f : Form EndpointLocal). collectives_after f trial.began (Some it))
           (sym (whole_is meaning old it trial shape from dest node of)));
     }

@@ -1,5 +1,5 @@
 -- A step that begins something makes its first call.
-use Rattle.std.proofs.Common.{◌≡◌, ℕ, ℤ, Bool, true, false, true≢false, cond, Option, None, Some, refl, sym, absurd}
+use Rattle.std.proofs.Common.{◌≡◌, ℕ, ℤ, Bool, true, false, true≢false, cond, Option, None, Some, refl, sym}
 use Rattle.std.specs.Prelude.{◌==◌, slice_get}
 use Rattle.node_record.specs.Record.{Node}
 use Rattle.collective_area.specs.declared.shape.Shape.{Shape}

@@ -14,18 +14,19 @@ use Rattle.job_text.specs.declared.job.ScriptStep.TheVariants as step
 use Rattle.job_text.specs.declared.job.WaitingStep.{WaitingStep}
 use Rattle.job_text.specs.declared.job.WaitingStep.TheVariants as waiting
 use Rattle.collective_area.specs.declared.shape.Shape.{Shape}
-use Rattle.collective_steps.proofs.Fitting.{end_fits, first_fits, later_fits, start_fits, step_fits}
+use Rattle.collective_steps.proofs.Fitting.{end_far, ends_fit, start_far, start_fits, step_far, step_fits}
 use Rattle.gas_collectives.specs.CollectivesState.{CollectivesState}
 use Rattle.job_text.specs.declared.job.CollectiveText.{CollectiveText}
 use Rattle.job_text.specs.declared.job.CollectiveText.TheVariants as text
-use Rattle.node_runs.specs.Actions.{FormMay, OwnScripts, ActionsMay, StepContext}
-use Rattle.node_runs.specs.Fitting.{KeptFits, CallFits}
-use Rattle.node_runs.specs.Scripts.{ThreadCall}
+use Rattle.node_runs.specs.Actions.{ActionMay, ActionsMay, Form, FormFar, FormMay, IfFar, OwnScripts, ReadMay, StepContext}
+use Rattle.node_runs.specs.Fitting.{CallFits, CollectivesFit, KeptFits}
+use Rattle.node_runs.specs.Scripts.{ThreadCall, TryContext}
 use Rattle.script_laws.proofs.Calls.{calls_fit}
 -- for those who stand on steps and not on the laws of scripts
 pub use Rattle.script_laws.proofs.Bodies.{job_fits}
 use Rattle.script_steps.specs.Forms.{tried_while, waits_of, waiting_form, step_form, begun_handle, on_transfers}
-use Rattle.script_steps.specs.Forms.{IsJobStep, call_part, collective_form, sync_of, waiting_in, whole_form}
+use Rattle.script_steps.specs.Forms.{IsJobStep, call_part, collective_form, in_one_try, nothing_there, sync_of, waiting_in, whole_form}
+use Rattle.script_steps.specs.Laws.{StepsFit}
 use Rattle.script_steps.proofs.BegunPieces.{plan_may}
 
 -- a call that a schedule has, too
@@ -55,65 +56,91 @@ waiting_may cells (waiting.BarrierWait id flags) = tt
 waiting_may cells (waiting.Collective shape from dest) = (tt, tt)
 
 -- a step that runs the node's collectives
-collective_may : (one : CollectiveText) (at : StepContext) (node : Node EndpointLocal) → KeptFits node.local
-    → FormMay CallFits (collective_form one at node)
-collective_may one at node fits = by_state at.collectives
-  where
-    by_text : (call : CollectiveText) (it : CollectivesState)
-        → AllByRecursion CallFits (call_part call at.place node it).calls
-    by_text (text.Start shape from) it = start_fits at.place shape from node it
-    by_text text.Step it = step_fits at.place node it
-    by_text (text.Try dest) it = end_fits at.place dest node it fits
+call_may_be : (call : CollectiveText) (at : TryContext) (node : Node EndpointLocal) (it : CollectivesState)
+    → CollectivesFit it → ReadMay KeptFits CallFits CollectivesFit node (in_one_try (call_part call at node it))
+call_may_be (text.Start shape from) at node it far =
+    let calls = start_fits at shape from node it far in
+    let next = start_far at shape from node it far in
+    record { calls = λ fits. (calls, calls); far = (next, next) }
+call_may_be text.Step at node it far =
+    let calls = step_fits at node it far in
+    let next = step_far at node it far in
+    record { calls = λ fits. (calls, calls); far = (next, next) }
+call_may_be (text.Try dest) at node it far =
+    let next = end_far at dest node it far in
+    record { calls = λ fits. (ends_fit at dest node it fits, ends_fit at dest node it fits); far = (next, next) }
 
-    by_state : (state : Option CollectivesState)
-        → FormMay CallFits (collective_form one (record at { collectives = state }) node)
-    by_state None = (tt, tt)
-    by_state (Some it) = (by_text one it, by_text one it)
+nothing_may : (node : Node EndpointLocal) → ReadMay KeptFits CallFits CollectivesFit node nothing_there
+nothing_may node = record { calls = λ fits. (tt, tt); far = (tt, tt) }
+
+collective_may : (one : CollectiveText) (at : StepContext) (node : Node EndpointLocal)
+    → IfFar CollectivesFit at.collectives
+    → ReadMay KeptFits CallFits CollectivesFit node (collective_form one at node)
+collective_may one at node far = by_state at.collectives far
+  where
+    by_state : (state : Option CollectivesState) → IfFar CollectivesFit state
+        → ReadMay KeptFits CallFits CollectivesFit node (collective_form one (record at { collectives = state }) node)
+    by_state None far = nothing_may node
+    by_state (Some it) far = call_may_be one at.place node it far
 
 -- a whole collective
-whole_may : (shape : Shape) (from dest : ℕ) (at : StepContext) (node : Node EndpointLocal) → KeptFits node.local
-    → FormMay CallFits (whole_form shape from dest at node)
-whole_may shape from dest at node fits = by_state at.collectives
-  where
-    by_state : (state : Option CollectivesState)
-        → FormMay CallFits (whole_form shape from dest (record at { collectives = state }) node)
-    by_state None = (tt, tt)
-    by_state (Some it) = (first_fits at.place shape from node it, later_fits at.place dest node it fits)
+whole_may : (shape : Shape) (from dest : ℕ) (at : StepContext) (node : Node EndpointLocal)
+    → IfFar CollectivesFit at.collectives
+    → ReadMay KeptFits CallFits CollectivesFit node (whole_form shape from dest at node)
+whole_may shape from dest at node far = ?
 
-waiting_in_may : (one : WaitingStep) (at : StepContext) (node : Node EndpointLocal) → KeptFits node.local
-    → FormMay CallFits (waiting_in one at node)
-waiting_in_may (waiting.Collective shape from dest) at node fits = whole_may shape from dest at node fits
-waiting_in_may (waiting.Until cell operand) at node fits = waiting_may node.local.core.cells (waiting.Until cell operand)
-waiting_in_may (waiting.UntilWord offset number) at node fits =
-    waiting_may node.local.core.cells (waiting.UntilWord offset number)
-waiting_in_may (waiting.Transfer transfer) at node fits = waiting_may node.local.core.cells (waiting.Transfer transfer)
-waiting_in_may (waiting.PutBegin register put) at node fits =
-    waiting_may node.local.core.cells (waiting.PutBegin register put)
-waiting_in_may (waiting.PutImplicit put) at node fits = waiting_may node.local.core.cells (waiting.PutImplicit put)
-waiting_in_may (waiting.Wait register) at node fits = waiting_may node.local.core.cells (waiting.Wait register)
-waiting_in_may (waiting.WaitAll registers) at node fits = waiting_may node.local.core.cells (waiting.WaitAll registers)
-waiting_in_may (waiting.WaitSome registers) at node fits = waiting_may node.local.core.cells (waiting.WaitSome registers)
-waiting_in_may (waiting.WaitImplicit which) at node fits = waiting_may node.local.core.cells (waiting.WaitImplicit which)
-waiting_in_may (waiting.BarrierWait id flags) at node fits =
-    waiting_may node.local.core.cells (waiting.BarrierWait id flags)
+plain_may : (form : Form EndpointLocal) (node : Node EndpointLocal) → FormMay CallFits form
+    → FormFar CollectivesFit form → ReadMay KeptFits CallFits CollectivesFit node form
+plain_may form node may far = record { calls = λ fits. may; far = far }
+
+while_far : (waits : Option (Answer → Bool)) (meant : ThreadCall)
+    → FormFar {Kept = EndpointLocal} CollectivesFit (tried_while waits meant)
+while_far None meant = tt
+while_far (Some waits) meant = tt
+
+waiting_in_may : (one : WaitingStep) (at : StepContext) (node : Node EndpointLocal)
+    → IfFar CollectivesFit at.collectives
+    → ReadMay KeptFits CallFits CollectivesFit node (waiting_in one at node)
+waiting_in_may (waiting.Collective shape from dest) at node far = whole_may shape from dest at node far
+waiting_in_may (waiting.Until cell operand) at node far =
+    plain_may _ node (waiting_may node.local.core.cells (waiting.Until cell operand)) tt
+waiting_in_may (waiting.UntilWord offset number) at node far =
+    plain_may _ node (waiting_may node.local.core.cells (waiting.UntilWord offset number)) tt
+waiting_in_may (waiting.Transfer transfer) at node far =
+    plain_may _ node (waiting_may node.local.core.cells (waiting.Transfer transfer)) tt
+waiting_in_may (waiting.PutBegin register put) at node far =
+    plain_may _ node (waiting_may node.local.core.cells (waiting.PutBegin register put)) tt
+waiting_in_may (waiting.PutImplicit put) at node far =
+    plain_may _ node (waiting_may node.local.core.cells (waiting.PutImplicit put)) tt
+waiting_in_may (waiting.Wait register) at node far =
+    plain_may _ node (waiting_may node.local.core.cells (waiting.Wait register)) tt
+waiting_in_may (waiting.WaitAll registers) at node far =
+    plain_may _ node (waiting_may node.local.core.cells (waiting.WaitAll registers)) tt
+waiting_in_may (waiting.WaitSome registers) at node far =
+    plain_may _ node (waiting_may node.local.core.cells (waiting.WaitSome registers)) tt
+waiting_in_may (waiting.WaitImplicit which) at node far =
+    plain_may _ node (waiting_may node.local.core.cells (waiting.WaitImplicit which)) tt
+waiting_in_may (waiting.BarrierWait id flags) at node far =
+    plain_may _ node (waiting_may node.local.core.cells (waiting.BarrierWait id flags)) tt
 
 step_may : (settings : Parameters) (one : ScriptStep) → IsJobStep settings one
-    → (at : StepContext) (node : Node EndpointLocal) → KeptFits node.local → FormMay CallFits (step_form one at node)
-step_may settings (step.Call made) is at node fits =
-    call_may (waits_of made) _ (calls_fit is.0 node.local.core.cells made fits.cells is.2)
-step_may settings (step.Vis vis) is at node fits =
-    plan_may CallFits (λ one. tt) vis.plan vis.words.from vis.words.register at.place node
-step_may settings (step.Collective one) is at node fits = collective_may one at node fits
-step_may settings (step.Waiting one) is at node fits = waiting_in_may one at node fits
+    → ActionMay KeptFits CallFits CollectivesFit step_form one
+step_may settings (step.Call made) is at node far = record {
+  calls = λ fits. call_may (waits_of made) _ (calls_fit is.0 node.local.core.cells made fits.cells is.2);
+  far = while_far (waits_of made) _;
+}
+step_may settings (step.Vis vis) is at node far = record {
+  calls = λ fits. plan_may CallFits (λ one. tt) vis.plan vis.words.from vis.words.register at.place node;
+  far = (tt, tt);
+}
+step_may settings (step.Collective one) is at node far = collective_may one at node far
+step_may settings (step.Waiting one) is at node far = waiting_in_may one at node far
 
 all_may : (settings : Parameters) (steps : List ScriptStep) → AllByRecursion (IsJobStep settings) steps
-    → AllByRecursion
-    (λ (one : ScriptStep). (at : StepContext) (node : Node EndpointLocal) → KeptFits node.local
-    → FormMay CallFits (step_form one at node)) steps
+    → AllByRecursion (ActionMay KeptFits CallFits CollectivesFit step_form) steps
 all_may settings [] all = tt
 all_may settings (one ∷ steps) all = (step_may settings one all.0, all_may settings steps all.1)
 
-pub steps_fit : (settings : Parameters) (own : OwnScripts ScriptStep)
-    → ((thread : ℕ) → AllByRecursion (IsJobStep settings) (own.threads thread).left)
-    → ActionsMay KeptFits CallFits step_form own
-steps_fit settings own all thread = all_may settings (own.threads thread).left (all thread)
+pub steps_fit : StepsFit
+steps_fit settings own all far =
+    record { threads = λ thread. all_may settings (own.threads thread).left (all thread); far = far }

@@ -48,4 +48,3 @@ DoesPart meaning old trial node tried begun new part =
     × StaysWell job (IsEndpointKept job.settings) old.core.me trial.time events node
     × (tried.ended ≡ part.ended)
     × (tried.began ≡ begun (first_answer job old.core.me trial.thread trial.time part.calls node))
-

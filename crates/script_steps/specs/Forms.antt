@@ -247,6 +247,11 @@ IsPut (waiting.PutBegin register put) = Unit {0}
 IsPut (waiting.PutImplicit put) = Unit {0}
 IsPut _ = ⊥
 
+-- the step isn't a whole collective
+abbrev pub IsPlain : WaitingStep → Type 0
+IsPlain (waiting.Collective shape from dest) = ⊥
+IsPlain _ = Unit {0}
+
 -- the step waits at a synchronisation or at the barrier
 abbrev pub IsSync : WaitingStep → Type 0
 IsSync (waiting.Wait register) = Unit {0}

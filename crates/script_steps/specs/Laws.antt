@@ -6,9 +6,9 @@ use Rattle.datagram_grammar.specs.Parameters.{Parameters}
 use Rattle.handler_rules.specs.declared.table.Entry.{Entry}
 use Rattle.handler_rules.specs.Runs.{Meaning}
 use Rattle.job_text.specs.declared.job.ScriptStep.{ScriptStep}
-use Rattle.node_runs.specs.Actions.{OwnScripts, ActionsMay, scripts_of}
+use Rattle.node_runs.specs.Actions.{OwnScripts, ActionsMay, IfFar, scripts_of}
 use Rattle.node_runs.specs.Empty.{IsCalm}
-use Rattle.node_runs.specs.Fitting.{KeptFits, CallFits}
+use Rattle.node_runs.specs.Fitting.{CallFits, CollectivesFit, KeptFits}
 use Rattle.node_runs.specs.WorldRun.{endpoint_job}
 use Rattle.script_steps.specs.Forms.{IsJobStep, step_form}
 
@@ -17,7 +17,8 @@ abbrev pub StepsFit : Type 0
 StepsFit =
     (settings : Parameters) (own : OwnScripts ScriptStep)
     → ((thread : ℕ) → AllByRecursion (IsJobStep settings) (own.threads thread).left)
-    → ActionsMay KeptFits CallFits step_form own
+    → IfFar CollectivesFit own.collectives
+    → ActionsMay KeptFits CallFits CollectivesFit step_form own
 
 -- a try that waits leaves the record of its node, and the scripts
 abbrev pub WaitingIsCalm : Type 0

@@ -21,7 +21,7 @@ use Rattle.gas_collectives.specs.declared.answers.StepAnswer.TheVariants as step
 use Rattle.node_runs.specs.declared.script_answer.ScriptAnswer.TheVariants as said
 use Rattle.gas_collectives.specs.CollectivesState.{CollectivesState}
 use Rattle.node_runs.specs.Actions.{Form, Several, Progress, StepContext, calls_of, collectives_after, ended_by, begins}
-use Rattle.node_runs.specs.Actions.{moves, tried_form, unless}
+use Rattle.node_runs.specs.Actions.{part_of, tried_form, unless}
 use Rattle.node_runs.specs.Outgoing.{slot_of, StaysWell}
 use Rattle.node_runs.specs.declared.script_answer.ScriptAnswer.{ScriptAnswer}
 use Rattle.node_runs.specs.Scripts.{ThreadCall, Tried as FormTried, TryContext}
@@ -116,7 +116,7 @@ trial_after job me trial node = node_run job me trial.now (trial_events trial no
 -- the answer with which a step of this form began, where this try changed the node's collectives, and didn't end it
 abbrev pub moved_by : Form EndpointLocal → (began : Option Answer) → (ended : Option ScriptAnswer) → Option Answer
 moved_by (Several first later) began ended =
-    if moves (Several first later) began && is_none ended then began else None
+    if is_some (part_of first later began).next && is_none ended then began else None
 moved_by form began ended = None
 
 -- the answer with which a try of this form began its step, where it began it and didn't end it; or with which an earlier

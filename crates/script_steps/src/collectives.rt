@@ -138,7 +138,13 @@ fn whole_part<H: Handlers>(
 {
     match trial.began {
         None => {
-            let (part, first) = begin_whole(endpoint, handlers, collectives, trial.at(), text.start);
+            let (part, first) = begin_whole(
+                endpoint,
+                handlers,
+                collectives,
+                trial.at(),
+                text.start,
+            );
             Tried::of_part(&part, first)
         }
         Some(first) => {

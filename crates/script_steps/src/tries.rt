@@ -35,7 +35,13 @@ fn try_scripted<H: Handlers>(
         WaitingStep::Collective { shape, from, dest } => {
             let (shape, from, dest) = (*shape, *from, *dest);
             let start = Start { shape, from };
-            try_whole(endpoint, handlers, collectives, trial, WholeText { start, dest })
+            try_whole(
+                endpoint,
+                handlers,
+                collectives,
+                trial,
+                WholeText { start, dest },
+            )
         }
         _ => try_waiting(endpoint, handlers, trial, step),
     }

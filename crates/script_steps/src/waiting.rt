@@ -7,7 +7,7 @@ ghost use Rattle.gas_endpoint.specs.EndpointState.{ForItsRecord, MayBeCalled};
 ghost use Rattle.job_text.specs.declared.job.WaitingStep.{WaitingStep};
 ghost use Rattle.node_runs.specs.Actions.{Again, Looks};
 ghost use Rattle.node_script.specs.Callable.{IsCallable};
-ghost use Rattle.script_steps.specs.Forms.{IsPut, IsSync, is_not_ready, is_sent, put_of, waiting_form};
+ghost use Rattle.script_steps.specs.Forms.{IsPlain, IsPut, IsSync, is_not_ready, is_sent, put_of, waiting_form};
 ghost use Rattle.script_steps.specs.Tries.{TriesForm, read_as, looked};
 
 use crate::answers::{as_synced, begun_handle, is_not_ready, reached, word_reached};
@@ -260,7 +260,8 @@ pub(crate) fn try_waiting<H: Handlers>(
     trial: &Trial<'_>,
     step: &WaitingStep,
 ) -> Tried
-    requires { trial.now.thread < endpoint.old.core.settings.threads }
+    requires thread { trial.now.thread < endpoint.old.core.settings.threads }
+    requires plain { IsPlain step.now }
     ensures { TriesForm (H.meaning handlers.now) endpoint.old
         (read_as trial.now (λ node. waiting_form node.local.core.cells step.now))
         result endpoint.new }
