@@ -6,6 +6,6 @@ use Rattle.script_steps.specs.Tries.{TriesFound, of_part}
 use Rattle.script_steps.proofs.Collecting.{call_ends, call_found, some_there, still_of}
 use Rattle.script_steps.proofs.collectives.try_collective.Goals as goal
 
--- open: `c.in-Some` names the state that was found, and `c.requires.there` speaks of the option (`some_there`)
+-- open: by c.in-Some.is and `some_there`, then `call_found`; c.try_part-part.ensures.tried speaks of c.at.result (c.at.ensures)
 pub returns-in-Some-clause-tries : goal.returns-in-Some-clause-tries
 returns-in-Some-clause-tries g c = ?

@@ -1,0 +1,14 @@
+-- The try of a step that scripts alone have.
+use Rattle.std.proofs.Common.{sym, subst}
+use Rattle.job_text.specs.declared.job.WaitingStep.{WaitingStep}
+use Rattle.script_steps.specs.Forms.{waiting_in}
+use Rattle.script_steps.specs.Tries.{TriesFound}
+use Rattle.script_steps.proofs.tries.try_scripted.Goals as goal
+
+pub returns-in-Collective-clause-tries : goal.returns-in-Collective-clause-tries
+returns-in-Collective-clause-tries g c =
+    subst (λ (one : WaitingStep). TriesFound (g.H.Handlers.meaning c.args.handlers.now)
+    (record { endpoint = c.args.endpoint.now; collectives = c.args.collectives.now }) c.args.trial.now (waiting_in one)
+    c.try_whole.result
+    (record { endpoint = c.try_whole.new.endpoint; collectives = c.try_whole.new.collectives })) (sym c.in-Collective.is)
+    c.try_whole.ensures.tries
