@@ -14,3 +14,4 @@ pub mod Newest
 pub mod EndText
 pub mod Collecting
 pub mod KeptNodes
+pub mod JobRuns
