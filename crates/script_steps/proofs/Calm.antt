@@ -1,5 +1,5 @@
 -- A try that waits leaves the record of its node.
-use Rattle.std.proofs.Common.{◌≡◌, ℕ, ℤ, Bool, true, false, true≢false, cond, ◌&&◌, ◌||◌, map, List, [], ◌∷◌, ◌++◌, Option}
+use Rattle.std.proofs.Common.{◌≡◌, ℕ, ℤ, Bool, true, false, true≢false, arith, cond, ◌&&◌, ◌||◌, map, List, [], ◌∷◌, ◌++◌, Option}
 use Rattle.std.proofs.Common.{None, Some, refl, sym, ap, ◌∙◌, subst}
 use Rattle.std.specs.Prelude.{◌==◌, is_some, is_none, Result, Ok, Err}
 use Rattle.std.specs.Int.{w64, from_le_bytes}
@@ -64,6 +64,7 @@ use Rattle.node_script.specs.ScheduledCalls.{meant_by, given_from, some_of}
 use Rattle.node_runs.specs.Actions.{Form, Once, Again, Until, Twice, Looks, Several, calls_of, ended_by, begins}
 use Rattle.collective_area.specs.declared.shape.Shape.{Shape}
 use Rattle.collective_steps.specs.Parts.{first_part, later_part}
+use Rattle.collective_steps.proofs.Calm.{first_calm, later_calm}
 use Rattle.gas_collectives.specs.CollectivesState.{CollectivesState}
 use Rattle.job_text.specs.declared.job.CollectiveText.{CollectiveText}
 use Rattle.node_runs.specs.Actions.{OwnScripts, Part, StepContext, moves, next_calls, step_context, tried_step, scripts_of}
@@ -375,16 +376,18 @@ whole_calm : (shape : Shape) (from dest : ℕ) (at : StepContext) (node : Node E
     → WaitsCalm at.place node (whole_form shape from dest at node)
 whole_calm shape from dest at node = by_state at.collectives
   where
-    by_me : (it : CollectivesState) (same : Bool)
+    by_me : (it : CollectivesState) (same : Bool) → (it.me == at.place.me) ≡ same
         → WaitsCalm at.place node (cond {A = Form EndpointLocal} same
         (Several (first_part at.place shape from node it) (later_part at.place dest node it)) nothing_there)
-    by_me it true = ?
-    by_me it false = (λ ended still. absurd (cc), λ ended still. absurd (cc))
+    by_me it true is =
+        let here : it.me ≡ at.place.me = grind (arith, is) in
+        (first_calm at.place shape from node it, later_calm at.place dest node it here)
+    by_me it false is = (λ ended still. absurd (cc), λ ended still. absurd (cc))
 
     by_state : (state : Option CollectivesState)
         → WaitsCalm at.place node (whole_form shape from dest (record at { collectives = state }) node)
     by_state None = (λ ended still. absurd (cc), λ ended still. absurd (cc))
-    by_state (Some it) = by_me it (it.me == at.place.me)
+    by_state (Some it) = by_me it (it.me == at.place.me) refl
 
 waiting_in_calm : (at : StepContext) (node : Node EndpointLocal) (one : WaitingStep)
     → WaitsCalm at.place node (waiting_in one at node)
