@@ -1,21 +1,19 @@
 -- The tries of steps that run the collectives of their node.
-use Rattle.std.proofs.Common.{◌≡◌, ℕ, Bool, true, false, true≢false, cond, ◌&&◌, List, map, Option, None, Some, refl, sym}
-use Rattle.std.proofs.Common.{ap, ◌∙◌, subst, eqb, arith}
+use Rattle.std.proofs.Common.{◌≡◌, ℕ, Bool, true, false, cond, ◌&&◌, Option, None, Some, refl, sym}
+use Rattle.std.proofs.Common.{ap, ◌∙◌, subst, arith}
 use Rattle.std.specs.Prelude.{◌==◌, is_none, is_some}
-use Rattle.std.specs.Option.{option_or, option_to_list}
+use Rattle.std.specs.Option.{option_or}
 use Rattle.collective_area.specs.declared.shape.Shape.{Shape}
 use Rattle.handler_rules.specs.Runs.{Meaning}
 use Rattle.node_record.specs.Record.{Node}
-use Rattle.endpoint_rules.specs.EndpointLocal.{EndpointLocal, IsEndpointKept}
+use Rattle.endpoint_rules.specs.EndpointLocal.{EndpointLocal}
 use Rattle.endpoint_rules.specs.declared.answer.Answer.{Answer}
 use Rattle.gas_collectives.specs.CollectivesState.{CollectivesState, IsSameNode}
-use Rattle.gas_endpoint.specs.EndpointState.{EndpointState, EndpointStands, ForItsRecord, job_here}
+use Rattle.gas_endpoint.specs.EndpointState.{EndpointState, EndpointStands, ForItsRecord}
 use Rattle.job_text.specs.declared.job.CollectiveText.{CollectiveText}
 use Rattle.job_text.specs.declared.job.CollectiveText.TheVariants as text
 use Rattle.node_runs.specs.Actions.{Form, Several, Part, StepContext, collectives_after, part_of}
-use Rattle.node_runs.specs.Outgoing.{slot_of, StaysWell}
 use Rattle.node_runs.specs.Scripts.{TryContext}
-use Rattle.node_runs.specs.Turn.{events_of, first_answer, node_run, node_sends}
 use Rattle.node_runs.specs.declared.script_answer.ScriptAnswer.{ScriptAnswer}
 use Rattle.collective_steps.specs.Parts.{first_part, later_part}
 use Rattle.collective_steps.specs.Tries.{AreOf, IsPartTried, IsSameCore, context_at, first_of}

@@ -21,14 +21,14 @@ use Rattle.collective_steps.specs.Parts.{first_part, later_part}
 use Rattle.gas_collectives.specs.CollectivesState.{CollectivesState}
 use Rattle.job_text.specs.declared.job.CollectiveText.{CollectiveText}
 use Rattle.job_text.specs.declared.job.CollectiveText.TheVariants as text
-use Rattle.node_runs.specs.Actions.{ActionMay, ActionsMay, Form, FormFar, FormMay, IfFar, OwnScripts, ReadMay, Several, StepContext}
+use Rattle.node_runs.specs.Actions.{ActionMay, Form, FormFar, FormMay, IfFar, ReadMay, Several, StepContext}
 use Rattle.node_runs.specs.Fitting.{CallFits, CollectivesFit, KeptFits}
 use Rattle.node_runs.specs.Scripts.{ThreadCall, TryContext}
 use Rattle.script_laws.proofs.Calls.{calls_fit}
 -- for those who stand on steps and not on the laws of scripts
 pub use Rattle.script_laws.proofs.Bodies.{job_fits}
 use Rattle.script_steps.specs.Forms.{tried_while, waits_of, waiting_form, step_form, begun_handle, on_transfers}
-use Rattle.script_steps.specs.Forms.{IsJobStep, call_part, collective_form, in_one_try, nothing_there, sync_of, waiting_in, whole_form}
+use Rattle.script_steps.specs.Forms.{IsJobStep, call_part, collective_form, in_one_try, nothing_there, waiting_in, whole_form}
 use Rattle.script_steps.specs.Laws.{StepsFit}
 use Rattle.script_steps.proofs.BegunPieces.{plan_may}
 
