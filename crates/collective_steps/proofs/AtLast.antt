@@ -1,7 +1,5 @@
 -- What calls make of a caller that keeps how its last call was answered.
-use Rattle.std.proofs.Common.{◌≡◌, List, [], ◌∷◌, Option, None, refl, sym, ap, ◌∙◌, subst}
-use Rattle.node_record.specs.Record.{Node}
-use Rattle.endpoint_rules.specs.EndpointLocal.{EndpointLocal}
+use Rattle.std.proofs.Common.{◌≡◌, List, [], ◌∷◌, Option, None, refl, ap, ◌∙◌, subst}
 use Rattle.endpoint_rules.specs.declared.answer.Answer.{Answer}
 use Rattle.gas_collectives.specs.CollectivesState.{CollectivesState}
 use Rattle.gas_collectives.specs.declared.answers.EndAnswer.{EndAnswer}

@@ -1,11 +1,11 @@
 -- What a call of collectives makes of a caller that lacks no memory, as a function of the node's record.
-use Rattle.std.proofs.Common.{◌≡◌, ℕ, zero, suc, Bool, true, false, true≢false, List, [], ◌∷◌, Option, None, Some, refl, sym}
+use Rattle.std.proofs.Common.{◌≡◌, ℕ, zero, suc, Bool, true, false, true≢false, Option, None, Some, sym}
 use Rattle.std.proofs.Common.{ap, ◌∙◌, subst}
 use Rattle.node_record.specs.Record.{Node}
 use Rattle.endpoint_rules.specs.EndpointLocal.{EndpointLocal}
 use Rattle.endpoint_rules.specs.declared.answer.Answer.{Answer}
 use Rattle.gas_collectives.specs.CollectivesState.{CollectivesState, progress_of}
-use Rattle.gas_collectives.specs.Ends.{EndAsked, Ends, IsLong, Tries, end_calls, ended_then, segment_in, tried_answer}
+use Rattle.gas_collectives.specs.Ends.{EndAsked, Ends, IsLong, Tries, end_calls, ended_then, segment_in}
 use Rattle.gas_collectives.specs.Progress.{end_refusal, is_left, is_open, start_refusal}
 use Rattle.gas_collectives.specs.Starts.{Calls, CallsOne, Refuses, StartAsked, Starts, start_call, start_told, started_then}
 use Rattle.gas_collectives.specs.Steps.{Rests, Sends, Steps, StepsFrom, noted, step_call, step_told}

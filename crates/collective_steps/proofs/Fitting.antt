@@ -1,6 +1,6 @@
 -- What the calls of steps that run collectives say and write fits its places, and so does how far the node is then.
-use Rattle.std.proofs.Common.{◌≡◌, ℕ, zero, suc, ◌+◌, ◌-◌, ◌%◌, ◌<◌, ◌≤◌, ◌^◌, Bool, true, false, true≢false, ◌&&◌, ◌||◌, not}
-use Rattle.std.proofs.Common.{List, [], ◌∷◌, ◌++◌, map, length, Option, None, Some, refl, sym, ap, ◌∙◌, subst, arith, cond}
+use Rattle.std.proofs.Common.{◌≡◌, ℕ, zero, suc, ◌+◌, ◌-◌, ◌%◌, ◌<◌, ◌≤◌, ◌^◌, Bool, true, false, true≢false, ◌||◌}
+use Rattle.std.proofs.Common.{List, [], ◌∷◌, map, length, Option, None, Some, refl, arith, cond}
 use Rattle.std.specs.Prelude.{◌==◌, ◌/◌, max, min, nat_le, nat_lt}
 use Rattle.std.specs.List.{AllByRecursion}
 use Rattle.std.specs.Int.{w64, to_le_bytes}
@@ -17,7 +17,7 @@ use Rattle.endpoint_rules.specs.declared.answer.Answer.{Answer}
 use Rattle.gas_collectives.specs.CollectivesState.{CollectivesState, progress_of}
 use Rattle.gas_collectives.specs.Ends.{calls_behind, ended_then, result_in, segment_in, set_call, tried_answer}
 use Rattle.gas_collectives.specs.Progress.{Progress, data_of_all, end_refusal, is_left, is_open, start_refusal, writes_from}
-use Rattle.gas_collectives.specs.Starts.{StartAsked, start_call, start_told, started_then}
+use Rattle.gas_collectives.specs.Starts.{start_call, start_told, started_then}
 use Rattle.gas_collectives.specs.Steps.{noted, step_call, step_told}
 use Rattle.gas_collectives.specs.declared.answers.Argument.TheVariants as arguments
 use Rattle.gas_collectives.specs.declared.answers.EndAnswer.{EndAnswer}
@@ -25,7 +25,7 @@ use Rattle.gas_collectives.specs.declared.answers.EndAnswer.TheVariants as ends
 use Rattle.gas_collectives.specs.declared.answers.StartAnswer.{StartAnswer}
 use Rattle.gas_collectives.specs.declared.answers.StartAnswer.TheVariants as starts
 use Rattle.gas_collectives.specs.declared.answers.StepAnswer.{StepAnswer}
-use Rattle.node_caller.specs.Sites.{Site, ThreadCall as CallerCall, answer_at, node_then}
+use Rattle.node_caller.specs.Sites.{Site, answer_at, node_then}
 use Rattle.node_runs.specs.Fitting.{AreBytes, CallFits, CollectivesFit, KeptFits, PayloadFits}
 use Rattle.node_runs.specs.Scripts.{TryContext}
 use Rattle.node_runs.proofs.Bytes.{bytes_append, bytes_image, bytes_none, bytes_part, bytes_word, high_fits, low_fits}

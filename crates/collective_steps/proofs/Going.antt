@@ -25,19 +25,18 @@ use Rattle.endpoint_rules.specs.declared.answer.Answer.{Answer}
 use Rattle.gas_collectives.specs.CollectivesState.{CollectivesState, progress_of}
 use Rattle.gas_collectives.specs.Ends.{calls_behind, result_in, segment_in, set_call, tried_answer}
 use Rattle.gas_collectives.specs.Progress.{end_refusal, is_left, is_open, start_ask, start_refusal, step_ask, writes_from}
-use Rattle.gas_collectives.specs.Starts.{start_call, start_told}
 use Rattle.gas_collectives.specs.Steps.{noted, step_call, step_told}
 use Rattle.gas_collectives.specs.declared.answers.EndAnswer.{EndAnswer}
 use Rattle.gas_collectives.specs.declared.answers.EndAnswer.TheVariants as ends
 use Rattle.gas_collectives.specs.declared.answers.StartAnswer.{StartAnswer}
 use Rattle.gas_collectives.specs.declared.answers.StepAnswer.{StepAnswer}
 use Rattle.collective_area.specs.declared.shape.Shape.{Shape}
-use Rattle.node_caller.specs.Sites.{Site, ThreadCall as CallerCall, answer_at, node_in_the_end, node_then}
+use Rattle.node_caller.specs.Sites.{ThreadCall as CallerCall, node_in_the_end, node_then}
 use Rattle.node_runs.specs.Outgoing.{slot_of, StaysWell}
 use Rattle.node_runs.specs.Scripts.{TryContext}
 use Rattle.node_runs.specs.Turn.{events_of, node_run, node_sends}
-use Rattle.collective_steps.specs.Outcomes.{Outcome, behind_call, end_by, end_outcome, last_from, sent_by, start_by}
-use Rattle.collective_steps.specs.Outcomes.{start_outcome, step_from, step_outcome, without_calls}
+use Rattle.collective_steps.specs.Outcomes.{Outcome, end_by, end_outcome, last_from, sent_by, start_by}
+use Rattle.collective_steps.specs.Outcomes.{start_outcome, step_from, step_outcome}
 use Rattle.collective_steps.specs.Parts.{calls_of_all, end_asked, site_of, start_asked}
 use Rattle.collective_steps.specs.Tries.{job_at}
 use Rattle.collective_steps.proofs.Resting.{from_left, from_open, rest_from}

@@ -6,3 +6,5 @@ mod Quiet
 pub mod Parted
 mod Trying
 pub mod Fitting
+pub mod Calm
+pub mod WholeFitting

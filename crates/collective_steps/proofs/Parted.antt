@@ -1,6 +1,6 @@
 -- The tries of steps that run collectives, from the calls of these.
-use Rattle.std.proofs.Common.{◌≡◌, ℕ, ◌+◌, ◌<◌, ◌≤◌, Bool, true, false, true≢false, ◌&&◌, not, List, [], ◌∷◌, ◌++◌, map, Option, None}
-use Rattle.std.proofs.Common.{Some, refl, sym, ap, ap₂, ◌∙◌, subst, arith, length, append_assoc, cond}
+use Rattle.std.proofs.Common.{◌≡◌, ℕ, ◌+◌, ◌<◌, Bool, true, false, true≢false, ◌&&◌, not, List, [], ◌∷◌, ◌++◌, map, Option, None}
+use Rattle.std.proofs.Common.{Some, refl, sym, ap, ap₂, ◌∙◌, subst, arith, append_assoc, cond}
 use Rattle.std.specs.Prelude.{is_none, is_some, slice_get}
 use Rattle.std.proofs.lemmas.Option.{same_Some}
 use Rattle.std.specs.Option.{option_map, option_or, option_to_list}
@@ -11,7 +11,6 @@ use Rattle.handler_rules.specs.Runs.{Meaning}
 use Rattle.handler_rules.specs.declared.table.Entry.{Entry}
 use Rattle.datagram_grammar.specs.Parameters.{Parameters}
 use Rattle.node_record.specs.Record.{Node}
-use Rattle.node_record.specs.Invariant.{NodeInvariant}
 use Rattle.node_record.specs.NodeStep.{node_after}
 use Rattle.node_record.specs.declared.answer.SlotRef.{SlotRef}
 use Rattle.plain_world.specs.Sent.{Packet, sends as packets_of}
@@ -22,7 +21,7 @@ use Rattle.endpoint_rules.specs.declared.answer.Answer.{Answer}
 use Rattle.endpoint_rules.specs.declared.answer.Answer.TheVariants as answers
 use Rattle.gas_collectives.specs.CollectivesState.{CollectivesState, IsSameNode, Stands, progress_of}
 use Rattle.gas_collectives.specs.Ends.{EndAsked, end_told, ended_then, poll_call, segment_in, tried_answer}
-use Rattle.gas_collectives.specs.Progress.{end_answer, end_refusal, is_bad_dest, is_open, is_ready, is_worn, other_shape}
+use Rattle.gas_collectives.specs.Progress.{end_refusal, is_bad_dest, is_open, is_ready, is_worn, other_shape}
 use Rattle.gas_collectives.specs.Progress.{start_refusal, worn_node}
 use Rattle.gas_collectives.specs.Starts.{StartAsked, start_call, start_told, started_then}
 use Rattle.gas_collectives.specs.declared.answers.Argument.TheVariants as arguments
@@ -36,13 +35,13 @@ use Rattle.node_caller.specs.Sites.{Site, ThreadCall as CallerCall, answer_at, n
 use Rattle.node_runs.specs.Actions.{Part}
 use Rattle.node_runs.specs.Outgoing.{slot_of, StaysWell}
 use Rattle.node_runs.specs.Scripts.{ThreadCall, TryContext}
-use Rattle.node_runs.specs.Turn.{events_of, node_run, node_sends}
+use Rattle.node_runs.specs.Turn.{node_run, node_sends}
 use Rattle.node_runs.specs.declared.script_answer.ScriptAnswer.{ScriptAnswer}
 use Rattle.node_runs.specs.declared.script_answer.ScriptAnswer.TheVariants as said
 use Rattle.collective_steps.specs.Outcomes.{Outcome, end_by, end_outcome, is_nothing, is_quiet, is_started, is_unworn}
 use Rattle.collective_steps.specs.Outcomes.{last_from, sent_by, start_by, start_ends, start_outcome, step_ends}
 use Rattle.collective_steps.specs.Outcomes.{step_outcome, try_ends}
-use Rattle.collective_steps.specs.Parts.{calls_of_all, end_asked, end_behind, first_part, later_by, later_part, moved_by}
+use Rattle.collective_steps.specs.Parts.{calls_of_all, end_asked, end_behind, first_part, later_by, later_part}
 use Rattle.collective_steps.specs.Parts.{part_by, site_of, start_asked}
 use Rattle.collective_steps.specs.Tries.{Comes, EndComes, IsPartTried, IsSameCore, context_at, ended_so, first_of, job_at}
 use Rattle.collective_steps.specs.Tries.{went_on}

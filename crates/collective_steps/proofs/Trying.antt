@@ -1,5 +1,5 @@
 -- The tries of steps that run collectives, of each record for which the endpoint stood.
-use Rattle.std.proofs.Common.{◌≡◌, ℕ, ◌&&◌, Option, Some, None, true, sym, ap, ◌∙◌, subst}
+use Rattle.std.proofs.Common.{◌≡◌, ℕ, ◌&&◌, Option, Some, None, true, ◌∙◌, subst}
 use Rattle.std.specs.Option.{option_map}
 use Rattle.collective_area.specs.declared.shape.Shape.{Shape}
 use Rattle.handler_rules.specs.Runs.{Meaning, IsLawfulMeaning}

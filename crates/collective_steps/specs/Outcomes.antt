@@ -1,11 +1,10 @@
 -- What one try of a step does with the collectives of its node: the calls that are made, what the step is answered, and how
 -- far the node is then.
 -- Origin: this project's profile, over GASNet 1.8.1, core API, active messages.
-use Rattle.std.specs.Prelude.{ℕ, zero, suc, ◌≡◌, Bool, true, false, ◌&&◌, is_none, if◌then◌else◌, List, [], ◌∷◌, ◌++◌}
+use Rattle.std.specs.Prelude.{ℕ, zero, suc, Bool, true, false, ◌&&◌, is_none, List, [], ◌∷◌}
 use Rattle.std.specs.Prelude.{Option, None, Some}
 use Rattle.node_record.specs.Record.{Node}
 use Rattle.node_record.specs.declared.answer.SlotRef.{SlotRef}
-use Rattle.collective_area.specs.declared.shape.Shape.{Shape}
 use Rattle.endpoint_rules.specs.EndpointLocal.{EndpointLocal}
 use Rattle.endpoint_rules.specs.Sends.{sends}
 use Rattle.endpoint_rules.specs.declared.answer.Answer.{Answer}
@@ -20,7 +19,7 @@ use Rattle.gas_collectives.specs.declared.answers.StartAnswer.{StartAnswer}
 use Rattle.gas_collectives.specs.declared.answers.StartAnswer.TheVariants as starts
 use Rattle.gas_collectives.specs.declared.answers.StepAnswer.{StepAnswer}
 use Rattle.gas_collectives.specs.declared.answers.StepAnswer.TheVariants as steps
-use Rattle.node_caller.specs.Sites.{Site, ThreadCall, answer_at, node_in_the_end, node_then}
+use Rattle.node_caller.specs.Sites.{Site, ThreadCall, answer_at, node_then}
 
 -- ---- a call of the node's collectives
 

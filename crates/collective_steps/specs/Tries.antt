@@ -1,6 +1,6 @@
 -- What a try of a step that runs the collectives of its node did at an endpoint.
 -- Origin: this project's profile.
-use Rattle.std.specs.Prelude.{ℕ, ◌≡◌, Bool, true, not, List, map, Option, None, Some, is_some}
+use Rattle.std.specs.Prelude.{◌≡◌, Bool, true, not, List, map, Option, None, Some, is_some}
 use Rattle.std.specs.Option.{option_or, option_to_list}
 use Rattle.handler_rules.specs.Runs.{Meaning}
 use Rattle.node_record.specs.Record.{Node}
@@ -10,7 +10,7 @@ use Rattle.endpoint_rules.specs.EndpointRules.{OtherCall, RecordEvent, job_of}
 use Rattle.endpoint_rules.specs.declared.answer.Answer.{Answer}
 use Rattle.gas_collectives.specs.CollectivesState.{CollectivesState}
 use Rattle.gas_endpoint.specs.EndpointState.{EndpointState, EndpointStands}
-use Rattle.node_caller.specs.Sites.{Site, ThreadCall, node_in_the_end}
+use Rattle.node_caller.specs.Sites.{Site, node_in_the_end}
 use Rattle.node_record.specs.NodeStep.{Job}
 use Rattle.node_runs.specs.Actions.{Part}
 use Rattle.node_runs.specs.Outgoing.{slot_of, StaysWell}

@@ -1,5 +1,6 @@
 -- The tries of steps, each by its kind.
-use Rattle.std.proofs.Common.{◌≡◌, Bool, Option, None, Some, refl, sym, ap, ◌∙◌, subst}
+use Rattle.std.proofs.Common.{◌≡◌, ℕ, ℤ, List, Bool, Option, None, Some, refl, sym, ◌∙◌, subst}
+use Rattle.collective_area.specs.declared.shape.Shape.{Shape}
 use Rattle.handler_rules.specs.Runs.{Meaning}
 use Rattle.node_record.specs.Record.{Node}
 use Rattle.endpoint_rules.specs.EndpointLocal.{EndpointLocal}
@@ -9,16 +10,19 @@ use Rattle.gas_endpoint.specs.EndpointState.{EndpointState, ForItsRecord}
 use Rattle.job_text.specs.declared.job.ScheduledCall.{ScheduledCall}
 use Rattle.job_text.specs.declared.job.ScriptStep.{ScriptStep}
 use Rattle.job_text.specs.declared.job.ScriptStep.TheVariants as step
+use Rattle.job_text.specs.declared.job.WaitingStep.{WaitingStep}
+use Rattle.job_text.specs.declared.job.WaitingStep.TheVariants as waiting
 use Rattle.job_text.specs.declared.vis.VisText.{VisText}
 use Rattle.node_runs.specs.Actions.{Form, StepContext, collectives_after}
 use Rattle.node_runs.specs.Scripts.{ThreadCall}
 use Rattle.node_script.specs.ScheduledCalls.{meant_by}
-use Rattle.script_steps.specs.Forms.{call_form, plan_form, step_form, tried_while, waits_of}
+use Rattle.script_steps.specs.Forms.{IsPlain, call_form, plan_form, step_form, tried_while, waiting_form, waiting_in, waits_of}
 use Rattle.script_steps.specs.Tries.{AreThere, Found, IsAtSameNode, Tries, TriesForm, TriesFound, context_here, read_as}
 use Rattle.script_steps.specs.Tries.{step_here}
 use Rattle.script_steps.specs.declared.trial.Trial.{Trial}
 use Rattle.script_steps.specs.declared.trial.Tried.{Tried}
 use Rattle.script_steps.proofs.Firsts.{step_first}
+use Rattle.script_steps.proofs.Forming.{tries_alike}
 use Rattle.script_steps.proofs.Trying.{tries_step}
 
 -- the collectives are still those of the node
@@ -78,3 +82,59 @@ vis_attempted meaning old new collectives trial tried vis is tries =
       far = λ node stands. plan_far trial.began collectives vis.plan vis.words.from
           vis.words.register (context_here meaning old trial.thread trial.time) node;
     })
+
+-- a step that scripts alone have, and no whole collective
+plain_form : (one : WaitingStep) → IsPlain one → (at : StepContext) (node : Node EndpointLocal)
+    → waiting_in one at node ≡ waiting_form node.local.core.cells one
+plain_form (waiting.Until cell operand) plain at node = refl
+plain_form (waiting.UntilWord offset number) plain at node = refl
+plain_form (waiting.Transfer transfer) plain at node = refl
+plain_form (waiting.PutBegin register put) plain at node = refl
+plain_form (waiting.PutImplicit put) plain at node = refl
+plain_form (waiting.Wait register) plain at node = refl
+plain_form (waiting.WaitAll registers) plain at node = refl
+plain_form (waiting.WaitSome registers) plain at node = refl
+plain_form (waiting.WaitImplicit which) plain at node = refl
+plain_form (waiting.BarrierWait id flags) plain at node = refl
+plain_form (waiting.Collective shape from dest) plain at node = absurd plain
+
+plain_far : (one : WaitingStep) → IsPlain one → (cells : List ℤ) (began : Option Answer)
+    (now : Option CollectivesState) → now ≡ collectives_after {Kept = EndpointLocal} (waiting_form cells one) began now
+plain_far (waiting.Until cell operand) plain cells began now = refl
+plain_far (waiting.UntilWord offset number) plain cells began now = refl
+plain_far (waiting.Transfer transfer) plain cells began now = refl
+plain_far (waiting.PutBegin register put) plain cells began now = refl
+plain_far (waiting.PutImplicit put) plain cells began now = refl
+plain_far (waiting.Wait register) plain cells began now = refl
+plain_far (waiting.WaitAll registers) plain cells began now = refl
+plain_far (waiting.WaitSome registers) plain cells began now = refl
+plain_far (waiting.WaitImplicit which) plain cells began now = refl
+plain_far (waiting.BarrierWait id flags) plain cells began now = refl
+plain_far (waiting.Collective shape from dest) plain cells began now = absurd plain
+
+pub plain_found : (meaning : Meaning) (old new : EndpointState) (collectives : Option CollectivesState)
+    (trial : Trial) (tried : Tried) (one : WaitingStep) → IsPlain one
+    → TriesForm meaning old (read_as trial (λ node. waiting_form node.local.core.cells one)) tried new
+    → TriesFound meaning (record { endpoint = old; collectives = collectives }) trial (waiting_in one) tried
+    (record { endpoint = new; collectives = collectives })
+plain_found meaning old new collectives trial tried one plain tries = record {
+  tries = tries_alike meaning old new trial (λ node. waiting_form node.local.core.cells one) _ tried
+      (λ node. plain_form one plain _ node) tries;
+  far = λ node stands.
+      subst (λ (f : Form EndpointLocal). collectives ≡ collectives_after f trial.began collectives)
+      (sym (plain_form one plain _ node)) (plain_far one plain node.local.core.cells trial.began collectives);
+}
+
+pub plain_step : (one : WaitingStep)
+    → ((shape : Shape) (from dest : ℕ) → one ≡ waiting.Collective shape from dest → ⊥) → IsPlain one
+plain_step (waiting.Until cell operand) none = tt
+plain_step (waiting.UntilWord offset number) none = tt
+plain_step (waiting.Transfer transfer) none = tt
+plain_step (waiting.PutBegin register put) none = tt
+plain_step (waiting.PutImplicit put) none = tt
+plain_step (waiting.Wait register) none = tt
+plain_step (waiting.WaitAll registers) none = tt
+plain_step (waiting.WaitSome registers) none = tt
+plain_step (waiting.WaitImplicit which) none = tt
+plain_step (waiting.BarrierWait id flags) none = tt
+plain_step (waiting.Collective shape from dest) none = none shape from dest refl

@@ -1,5 +1,5 @@
 -- A try that waits leaves the record of its node.
-use Rattle.std.proofs.Common.{◌≡◌, ℕ, ℤ, Bool, true, false, true≢false, cond, ◌&&◌, ◌||◌, map, List, [], ◌∷◌, ◌++◌, Option}
+use Rattle.std.proofs.Common.{◌≡◌, ℕ, ℤ, Bool, true, false, true≢false, arith, cond, ◌&&◌, ◌||◌, map, List, [], ◌∷◌, ◌++◌, Option}
 use Rattle.std.proofs.Common.{None, Some, refl, sym, ap, ◌∙◌, subst}
 use Rattle.std.specs.Prelude.{◌==◌, is_some, is_none, Result, Ok, Err}
 use Rattle.std.specs.Int.{w64, from_le_bytes}
@@ -34,7 +34,7 @@ use Rattle.put_get.specs.declared.operation.Synced.TheVariants as synced
 use Rattle.node_record.specs.Record.{Node}
 use Rattle.node_record.specs.Behaviour.{Behaviour, Ask, Asking}
 use Rattle.node_record.specs.Step.{Site, request_answer, after_request, with_local, is_worn_out}
-use Rattle.node_record.specs.NodeStep.{Job, site_of, node_answer, node_after}
+use Rattle.node_record.specs.NodeStep.{site_of, node_answer, node_after}
 use Rattle.node_record.specs.declared.answer.Asked.{Asked}
 use Rattle.node_record.specs.declared.answer.Asked.TheVariants as asked
 use Rattle.endpoint_rules.specs.CoreCalls.{Lock, OnSegment}
@@ -44,7 +44,7 @@ use Rattle.endpoint_rules.specs.TransferCalls.{Caller, TransferCall, transfer_do
 use Rattle.endpoint_rules.specs.TransferCalls.{SyncImplicit, transfer_kind, handle_in, emptied_by, whole_registers}
 use Rattle.endpoint_rules.specs.Called.{Requests, Performs, node_event}
 use Rattle.endpoint_rules.specs.EndpointLocal.{EndpointLocal, with_core}
-use Rattle.endpoint_rules.specs.EndpointRules.{OnCore, OnTransfers, OnBarrier, asked_answer, told, job_of}
+use Rattle.endpoint_rules.specs.EndpointRules.{OnCore, OnBarrier, asked_answer, told, job_of}
 use Rattle.endpoint_rules.specs.EndpointRules.{unless_forbidden}
 use Rattle.endpoint_rules.specs.EndpointRules.{with_barrier}
 use Rattle.endpoint_rules.specs.declared.answer.Answer.{Answer}
@@ -64,9 +64,10 @@ use Rattle.node_script.specs.ScheduledCalls.{meant_by, given_from}
 use Rattle.node_runs.specs.Actions.{Form, Once, Again, Until, Twice, Looks, Several, calls_of, ended_by, begins}
 use Rattle.collective_area.specs.declared.shape.Shape.{Shape}
 use Rattle.collective_steps.specs.Parts.{first_part, later_part}
+use Rattle.collective_steps.proofs.Calm.{first_calm, later_calm}
 use Rattle.gas_collectives.specs.CollectivesState.{CollectivesState}
 use Rattle.job_text.specs.declared.job.CollectiveText.{CollectiveText}
-use Rattle.node_runs.specs.Actions.{OwnScripts, Part, StepContext, moves, next_calls, step_context, tried_step, scripts_of}
+use Rattle.node_runs.specs.Actions.{Part, StepContext, moves, next_calls, step_context, tried_step, scripts_of}
 use Rattle.node_runs.specs.Actions.{unless}
 use Rattle.node_runs.specs.Empty.{IsCalm}
 use Rattle.node_runs.specs.declared.script_answer.ScriptAnswer.{ScriptAnswer}
@@ -75,7 +76,7 @@ use Rattle.node_runs.specs.Turn.{node_run, events_of, first_answer}
 use Rattle.node_runs.specs.WorldRun.{endpoint_job}
 use Rattle.node_runs.proofs.Acting.{scripts_same}
 use Rattle.script_steps.specs.Forms.{is_put_off, is_held, is_not_ready, call_form, waiting_form, step_form}
-use Rattle.script_steps.specs.Forms.{begun_handle, call_part, collective_form, nothing_there, on_transfers, sync_of}
+use Rattle.script_steps.specs.Forms.{begun_handle, call_part, collective_form, nothing_there, on_transfers}
 use Rattle.script_steps.specs.Forms.{waiting_in, whole_form}
 use Rattle.script_steps.proofs.Collecting.{call_ends}
 use Rattle.script_steps.specs.Tries.{EndpointJob}
@@ -375,16 +376,18 @@ whole_calm : (shape : Shape) (from dest : ℕ) (at : StepContext) (node : Node E
     → WaitsCalm at.place node (whole_form shape from dest at node)
 whole_calm shape from dest at node = by_state at.collectives
   where
-    by_me : (it : CollectivesState) (same : Bool)
+    by_me : (it : CollectivesState) (same : Bool) → (it.me == at.place.me) ≡ same
         → WaitsCalm at.place node (cond {A = Form EndpointLocal} same
         (Several (first_part at.place shape from node it) (later_part at.place dest node it)) nothing_there)
-    by_me it true = ?
-    by_me it false = (λ ended still. absurd (cc), λ ended still. absurd (cc))
+    by_me it true is =
+        let here : it.me ≡ at.place.me = grind (arith, is) in
+        (first_calm at.place shape from node it, later_calm at.place dest node it here)
+    by_me it false is = (λ ended still. absurd (cc), λ ended still. absurd (cc))
 
     by_state : (state : Option CollectivesState)
         → WaitsCalm at.place node (whole_form shape from dest (record at { collectives = state }) node)
     by_state None = (λ ended still. absurd (cc), λ ended still. absurd (cc))
-    by_state (Some it) = by_me it (it.me == at.place.me)
+    by_state (Some it) = by_me it (it.me == at.place.me) refl
 
 waiting_in_calm : (at : StepContext) (node : Node EndpointLocal) (one : WaitingStep)
     → WaitsCalm at.place node (waiting_in one at node)

@@ -1,24 +1,23 @@
 -- The tries of steps that run the collectives of their node.
-use Rattle.std.proofs.Common.{◌≡◌, ℕ, Bool, true, false, true≢false, cond, ◌&&◌, List, map, Option, None, Some, refl, sym}
-use Rattle.std.proofs.Common.{ap, ◌∙◌, subst, eqb, arith}
+use Rattle.std.proofs.Common.{◌≡◌, ℕ, Bool, true, false, cond, ◌&&◌, Option, None, Some, refl, sym}
+use Rattle.std.proofs.Common.{ap, ◌∙◌, subst, arith}
 use Rattle.std.specs.Prelude.{◌==◌, is_none, is_some}
-use Rattle.std.specs.Option.{option_or, option_to_list}
+use Rattle.std.specs.Option.{option_or}
 use Rattle.collective_area.specs.declared.shape.Shape.{Shape}
 use Rattle.handler_rules.specs.Runs.{Meaning}
 use Rattle.node_record.specs.Record.{Node}
-use Rattle.endpoint_rules.specs.EndpointLocal.{EndpointLocal, IsEndpointKept}
+use Rattle.endpoint_rules.specs.EndpointLocal.{EndpointLocal}
 use Rattle.endpoint_rules.specs.declared.answer.Answer.{Answer}
 use Rattle.gas_collectives.specs.CollectivesState.{CollectivesState, IsSameNode}
-use Rattle.gas_endpoint.specs.EndpointState.{EndpointState, EndpointStands, ForItsRecord, job_here}
+use Rattle.gas_endpoint.specs.EndpointState.{EndpointState, EndpointStands, ForItsRecord}
 use Rattle.job_text.specs.declared.job.CollectiveText.{CollectiveText}
 use Rattle.job_text.specs.declared.job.CollectiveText.TheVariants as text
 use Rattle.node_runs.specs.Actions.{Form, Several, Part, StepContext, collectives_after, part_of}
-use Rattle.node_runs.specs.Outgoing.{slot_of, StaysWell}
 use Rattle.node_runs.specs.Scripts.{TryContext}
-use Rattle.node_runs.specs.Turn.{events_of, first_answer, node_run, node_sends}
 use Rattle.node_runs.specs.declared.script_answer.ScriptAnswer.{ScriptAnswer}
 use Rattle.collective_steps.specs.Parts.{first_part, later_part}
-use Rattle.collective_steps.specs.Tries.{AreOf, IsPartTried, IsSameCore, first_of}
+use Rattle.collective_steps.specs.Tries.{AreOf, IsPartTried, IsSameCore, context_at, first_of}
+use Rattle.collective_steps.specs.declared.tries.AtThread.{AtThread}
 use Rattle.collective_steps.specs.declared.tries.PartTried.{PartTried}
 use Rattle.script_steps.specs.Forms.{call_part, collective_form, in_one_try, nothing_part, nothing_there, whole_form}
 use Rattle.script_steps.specs.Tries.{AreThere, Found, FormTrial, IsAtSameNode, TriesForm, TriesFound, begun_by, context_here}
@@ -262,3 +261,84 @@ whole_goes_on meaning old new trial shape from dest it next told begun some of s
           ∙ ap (λ (f : Form EndpointLocal). collectives_after f trial.began (Some it))
           (sym (whole_is meaning old it trial shape from dest node of)));
     }
+
+-- ---- what functions told
+
+abbrev at_thread : Trial → AtThread
+at_thread trial = record { thread = trial.thread; now = trial.time }
+
+-- a try of a thread, told so
+pub told_so : (meaning : Meaning) (old : EndpointState) (collectives : Option CollectivesState) (it : CollectivesState)
+    (trial : Trial) (form : StepContext → Node EndpointLocal → Form EndpointLocal) (tried told : Tried) (new : Found)
+    → collectives ≡ Some it → tried ≡ told
+    → TriesFound meaning (record { endpoint = old; collectives = Some it }) trial form told new
+    → TriesFound meaning (record { endpoint = old; collectives = collectives }) trial form tried new
+told_so meaning old collectives it trial form tried told new is told_is found =
+    subst (λ (t : Tried). TriesFound meaning (record { endpoint = old; collectives = collectives }) trial form t new)
+    (sym told_is)
+    (subst (λ (c : Option CollectivesState).
+    TriesFound meaning (record { endpoint = old; collectives = c }) trial form told new) (sym is) found)
+
+pub call_told : (meaning : Meaning) (old new : EndpointState) (collectives : Option CollectivesState)
+    (it next : CollectivesState) (trial : Trial) (call : CollectiveText) (at : AtThread) (told : PartTried)
+    (tried : Tried) → collectives ≡ Some it → AreThere old collectives → at ≡ at_thread trial
+    → tried ≡ of_part told None → IsSameCore old.core new.core → IsSameNode it next
+    → ForItsRecord old (λ node. IsPartTried (context_at meaning old at) node
+    (call_part call (context_at meaning old at) node it) it told next new)
+    → TriesFound meaning (record { endpoint = old; collectives = collectives }) trial (collective_form call) tried
+    (record { endpoint = new; collectives = Some next })
+call_told meaning old new collectives it next trial call at told tried is there at_is tried_is same same_node did =
+    told_so meaning old collectives it trial (collective_form call) tried (of_part told None) _ is tried_is
+    (call_found meaning old new trial call it next told (some_there old collectives it is there) same same_node
+    (subst (λ (a : AtThread). ForItsRecord old (λ node. IsPartTried (context_at meaning old a) node
+    (call_part call (context_at meaning old a) node it) it told next new)) at_is did)
+    (λ node. call_ends call (context_here meaning old trial.thread trial.time) node it))
+
+pub begun_told : (meaning : Meaning) (old new : EndpointState) (it next : CollectivesState) (trial : Trial)
+    (shape : Shape) (from dest : ℕ) (at : AtThread) (told : PartTried) (answer : Option Answer) (tried : Tried)
+    → trial.began ≡ None → AreOf old.core it → at ≡ at_thread trial → tried ≡ of_part told answer
+    → IsSameCore old.core new.core → IsSameNode it next
+    → ForItsRecord old (λ node. IsPartTried (context_at meaning old at) node
+    (first_part (context_at meaning old at) shape from node it) it told next new)
+    → ForItsRecord old (λ node. answer ≡ first_of (context_at meaning old at)
+    (first_part (context_at meaning old at) shape from node it) node)
+    → TriesFound meaning (record { endpoint = old; collectives = Some it }) trial (whole_form shape from dest) tried
+    (record { endpoint = new; collectives = Some next })
+begun_told meaning old new it next trial shape from dest at told answer tried none of at_is tried_is same same_node did
+    said =
+    told_so meaning old (Some it) it trial (whole_form shape from dest) tried (of_part told answer) _ refl tried_is
+    (whole_begun meaning old new trial shape from dest it next told answer none of same same_node
+    (subst (λ (a : AtThread). ForItsRecord old (λ node. IsPartTried (context_at meaning old a) node
+    (first_part (context_at meaning old a) shape from node it) it told next new)) at_is did)
+    (subst (λ (a : AtThread). ForItsRecord old (λ node. answer ≡ first_of (context_at meaning old a)
+    (first_part (context_at meaning old a) shape from node it) node)) at_is said))
+
+pub goes_on_told : (meaning : Meaning) (old new : EndpointState) (it next : CollectivesState) (trial : Trial)
+    (shape : Shape) (from dest : ℕ) (at : AtThread) (told : PartTried) (begun : Answer) (tried : Tried)
+    → trial.began ≡ Some begun → AreOf old.core it → at ≡ at_thread trial → tried ≡ of_part told (Some begun)
+    → IsSameCore old.core new.core → IsSameNode it next
+    → ForItsRecord old (λ node. IsPartTried (context_at meaning old at) node
+    (later_part (context_at meaning old at) dest node it) it told next new)
+    → TriesFound meaning (record { endpoint = old; collectives = Some it }) trial (whole_form shape from dest) tried
+    (record { endpoint = new; collectives = Some next })
+goes_on_told meaning old new it next trial shape from dest at told begun tried some of at_is tried_is same same_node
+    did =
+    told_so meaning old (Some it) it trial (whole_form shape from dest) tried (of_part told (Some begun)) _ refl tried_is
+    (whole_goes_on meaning old new trial shape from dest it next told begun some of same same_node
+    (subst (λ (a : AtThread). ForItsRecord old (λ node. IsPartTried (context_at meaning old a) node
+    (later_part (context_at meaning old a) dest node it) it told next new)) at_is did))
+
+-- a node without collectives, told so
+pub none_told : (meaning : Meaning) (old : EndpointState) (collectives : Option CollectivesState) (trial : Trial)
+    (form : StepContext → Node EndpointLocal → Form EndpointLocal) (tried : Tried)
+    → collectives ≡ None → tried ≡ no_collectives
+    → ((node : Node EndpointLocal)
+    → form (step_here meaning (record { endpoint = old; collectives = None }) trial.thread trial.time) node
+    ≡ nothing_there)
+    → TriesFound meaning (record { endpoint = old; collectives = collectives }) trial form tried
+    (record { endpoint = old; collectives = collectives })
+none_told meaning old collectives trial form tried none tried_is is =
+    subst (λ (t : Tried). TriesFound meaning (record { endpoint = old; collectives = collectives }) trial form t
+    (record { endpoint = old; collectives = collectives })) (sym tried_is)
+    (subst (λ (c : Option CollectivesState). TriesFound meaning (record { endpoint = old; collectives = c }) trial form
+    no_collectives (record { endpoint = old; collectives = c })) (sym none) (none_found meaning old trial form is))

@@ -1,8 +1,7 @@
 -- A step that begins something makes its first call.
-use Rattle.std.proofs.Common.{◌≡◌, ℕ, ℤ, Bool, true, false, true≢false, cond, Option, None, Some, refl, sym}
-use Rattle.std.specs.Prelude.{◌==◌, slice_get}
+use Rattle.std.proofs.Common.{Bool, true, false, true≢false, cond, Option, None, Some, refl, sym}
+use Rattle.std.specs.Prelude.{◌==◌}
 use Rattle.node_record.specs.Record.{Node}
-use Rattle.collective_area.specs.declared.shape.Shape.{Shape}
 use Rattle.endpoint_rules.specs.EndpointLocal.{EndpointLocal}
 use Rattle.endpoint_rules.specs.declared.answer.Answer.{Answer}
 use Rattle.gas_collectives.specs.CollectivesState.{CollectivesState}
@@ -10,7 +9,6 @@ use Rattle.job_text.specs.declared.job.CollectiveText.{CollectiveText}
 use Rattle.job_text.specs.declared.job.CollectiveText.TheVariants as text
 use Rattle.job_text.specs.declared.job.ScriptStep.{ScriptStep}
 use Rattle.job_text.specs.declared.job.ScriptStep.TheVariants as step
-use Rattle.job_text.specs.declared.job.WaitingStep.{WaitingStep}
 use Rattle.job_text.specs.declared.job.WaitingStep.TheVariants as waiting
 use Rattle.node_runs.specs.Actions.{Form, Several, StepContext}
 use Rattle.node_runs.specs.Scripts.{ThreadCall, TryContext}

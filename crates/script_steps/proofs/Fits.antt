@@ -1,5 +1,6 @@
 -- What the calls of steps that a text can say say and write fits its places.
-use Rattle.std.proofs.Common.{◌≡◌, ℕ, ℤ, Bool, List, [], ◌∷◌, Option, None, Some, subst}
+use Rattle.std.proofs.Common.{◌≡◌, ℕ, ℤ, Bool, true, false, cond, arith, refl, List, [], ◌∷◌, Option, None, Some, subst}
+use Rattle.std.specs.Prelude.{◌==◌}
 use Rattle.std.specs.List.{AllByRecursion}
 use Rattle.std.specs.Option.{option_map}
 use Rattle.std.proofs.lemmas.Option.{same_Some}
@@ -15,17 +16,19 @@ use Rattle.job_text.specs.declared.job.WaitingStep.{WaitingStep}
 use Rattle.job_text.specs.declared.job.WaitingStep.TheVariants as waiting
 use Rattle.collective_area.specs.declared.shape.Shape.{Shape}
 use Rattle.collective_steps.proofs.Fitting.{end_far, ends_fit, start_far, start_fits, step_far, step_fits}
+use Rattle.collective_steps.proofs.WholeFitting.{first_far, later_far, later_fits}
+use Rattle.collective_steps.specs.Parts.{first_part, later_part}
 use Rattle.gas_collectives.specs.CollectivesState.{CollectivesState}
 use Rattle.job_text.specs.declared.job.CollectiveText.{CollectiveText}
 use Rattle.job_text.specs.declared.job.CollectiveText.TheVariants as text
-use Rattle.node_runs.specs.Actions.{ActionMay, ActionsMay, Form, FormFar, FormMay, IfFar, OwnScripts, ReadMay, StepContext}
+use Rattle.node_runs.specs.Actions.{ActionMay, Form, FormFar, FormMay, IfFar, ReadMay, Several, StepContext}
 use Rattle.node_runs.specs.Fitting.{CallFits, CollectivesFit, KeptFits}
 use Rattle.node_runs.specs.Scripts.{ThreadCall, TryContext}
 use Rattle.script_laws.proofs.Calls.{calls_fit}
 -- for those who stand on steps and not on the laws of scripts
 pub use Rattle.script_laws.proofs.Bodies.{job_fits}
 use Rattle.script_steps.specs.Forms.{tried_while, waits_of, waiting_form, step_form, begun_handle, on_transfers}
-use Rattle.script_steps.specs.Forms.{IsJobStep, call_part, collective_form, in_one_try, nothing_there, sync_of, waiting_in, whole_form}
+use Rattle.script_steps.specs.Forms.{IsJobStep, call_part, collective_form, in_one_try, nothing_there, waiting_in, whole_form}
 use Rattle.script_steps.specs.Laws.{StepsFit}
 use Rattle.script_steps.proofs.BegunPieces.{plan_may}
 
@@ -87,7 +90,24 @@ collective_may one at node far = by_state at.collectives far
 whole_may : (shape : Shape) (from dest : ℕ) (at : StepContext) (node : Node EndpointLocal)
     → IfFar CollectivesFit at.collectives
     → ReadMay KeptFits CallFits CollectivesFit node (whole_form shape from dest at node)
-whole_may shape from dest at node far = ?
+whole_may shape from dest at node far = by_state at.collectives far
+  where
+    by_me : (it : CollectivesState) (same : Bool) → (it.me == at.place.me) ≡ same → CollectivesFit it
+        → ReadMay KeptFits CallFits CollectivesFit node (cond {A = Form EndpointLocal} same
+        (Several (first_part at.place shape from node it) (later_part at.place dest node it)) nothing_there)
+    by_me it true is far =
+        let here : it.me ≡ at.place.me = grind (arith, is) in
+        record {
+          calls = λ fits. (start_fits at.place shape from node it far, later_fits at.place dest node it here far fits);
+          far = (first_far at.place shape from node it far, later_far at.place dest node it far);
+        }
+    by_me it false is far = nothing_may node
+
+    by_state : (state : Option CollectivesState) → IfFar CollectivesFit state
+        → ReadMay KeptFits CallFits CollectivesFit node
+        (whole_form shape from dest (record at { collectives = state }) node)
+    by_state None far = nothing_may node
+    by_state (Some it) far = by_me it (it.me == at.place.me) refl far
 
 plain_may : (form : Form EndpointLocal) (node : Node EndpointLocal) → FormMay CallFits form
     → FormFar CollectivesFit form → ReadMay KeptFits CallFits CollectivesFit node form

@@ -1,6 +1,5 @@
 -- The tries of the forms of steps, by the answers of their calls.
-use Rattle.std.proofs.Common.{◌≡◌, Bool, true, false, List, [], ◌∷◌, Option, None, Some, refl, sym, ap, ◌∙◌, subst}
-use Rattle.std.specs.Prelude.{is_some, not}
+use Rattle.std.proofs.Common.{◌≡◌, Bool, false, [], ◌∷◌, Option, None, Some, refl, sym, ap, ◌∙◌, subst}
 use Rattle.handler_rules.specs.Runs.{Meaning}
 use Rattle.node_record.specs.Record.{Node}
 use Rattle.put_get.specs.declared.operation.Handle.{Handle}
@@ -9,11 +8,10 @@ use Rattle.endpoint_rules.specs.EndpointLocal.{EndpointLocal}
 use Rattle.endpoint_rules.specs.Sends.{sends}
 use Rattle.endpoint_rules.specs.TransferCalls.{Begin}
 use Rattle.endpoint_rules.specs.declared.answer.Answer.{Answer}
-use Rattle.gas_endpoint.specs.EndpointState.{EndpointState, EndpointStands, ForItsRecord}
+use Rattle.gas_endpoint.specs.EndpointState.{EndpointState, ForItsRecord}
 use Rattle.job_text.specs.declared.job.ScheduledCall.{ScheduledCall}
-use Rattle.job_text.specs.declared.job.ScheduledCall.TheVariants as call
 use Rattle.job_text.specs.declared.job.WaitingStep.TheVariants as waiting
-use Rattle.node_runs.specs.Actions.{Form, Once, Again, Until, Twice, Looks, calls_of, ended_by, begins, unless}
+use Rattle.node_runs.specs.Actions.{Form, calls_of, ended_by, unless}
 use Rattle.node_runs.specs.declared.script_answer.ScriptAnswer.{ScriptAnswer}
 use Rattle.node_runs.specs.Scripts.{ThreadCall}
 use Rattle.node_script.specs.ScheduledCalls.{meant_by}

@@ -7,20 +7,17 @@ use Rattle.std.specs.Option.{option_map, option_or, option_to_list}
 use Rattle.handler_rules.specs.Runs.{Meaning}
 use Rattle.node_record.specs.Record.{Node}
 use Rattle.node_record.specs.Invariant.{NodeInvariant}
-use Rattle.node_record.specs.NodeStep.{Job, node_answer, node_after}
-use Rattle.node_record.specs.Transition.{Transition}
+use Rattle.node_record.specs.NodeStep.{node_answer, node_after}
 use Rattle.node_record.specs.declared.answer.SlotRef.{SlotRef}
-use Rattle.plain_world.specs.Sent.{Packet, Asking, Replying, sends as sent_by}
-use Rattle.handler_rules.specs.declared.table.Entry.{Entry}
+use Rattle.plain_world.specs.Sent.{Packet, Asking, Replying}
 use Rattle.datagram_grammar.specs.Parameters.{Parameters}
 use Rattle.am_core.specs.CoreState.{CoreState}
 use Rattle.am_core.specs.CoreContracts.{IsSameNode}
-use Rattle.endpoint_rules.specs.Called.{node_event, meant, called}
+use Rattle.endpoint_rules.specs.Called.{node_event}
 use Rattle.endpoint_rules.specs.EndpointLocal.{EndpointLocal, IsEndpointKept}
-use Rattle.endpoint_rules.specs.EndpointRules.{OtherCall, RecordEvent, told, transition}
+use Rattle.endpoint_rules.specs.EndpointRules.{told, transition}
 use Rattle.endpoint_rules.specs.Sends.{sends}
 use Rattle.endpoint_rules.specs.declared.answer.Answer.{Answer}
-use Rattle.endpoint_rules.specs.declared.call.Call.{Call}
 use Rattle.gas_endpoint.specs.EndpointState.{EndpointState, EndpointStands, ForItsRecord, NodeSteps, job_here}
 use Rattle.gas_endpoint.specs.Sends.{AreThatOf, NodeSends, slot_of as endpoint_slot}
 use Rattle.job_text.specs.declared.job.ScriptStep.{ScriptStep}
@@ -31,11 +28,11 @@ use Rattle.node_runs.specs.Outgoing.{slot_of, StaysWell}
 use Rattle.node_runs.specs.declared.script_answer.ScriptAnswer.{ScriptAnswer}
 use Rattle.node_runs.specs.Scripts.{ThreadCall, Tried as FormTried}
 use Rattle.node_runs.specs.Turn.{node_run, node_sends, events_of, first_answer}
-use Rattle.script_steps.specs.Tries.{EndpointJob, Happening, HasHappened, Happen, IsAtSameNode, Made}
-use Rattle.script_steps.specs.Tries.{made_happening, Makes}
+use Rattle.script_steps.specs.Tries.{IsAtSameNode, Made}
+use Rattle.script_steps.specs.Tries.{Makes}
 use Rattle.script_steps.specs.Tries.{FormTrial}
-use Rattle.script_steps.specs.Tries.{trial_calls, trial_events, trial_answer, trial_after, begun_by, moved_by, WentSo}
-use Rattle.script_steps.specs.Tries.{trial_happening, Found, IsFar, TriesForm, as_form, left_by, as_tried, Tries}
+use Rattle.script_steps.specs.Tries.{trial_calls, trial_answer, trial_after, begun_by, moved_by}
+use Rattle.script_steps.specs.Tries.{Found, IsFar, TriesForm, as_form, as_tried, Tries}
 use Rattle.script_steps.specs.declared.trial.Trial.{Trial}
 use Rattle.script_steps.specs.declared.trial.Tried.{Tried}
 

@@ -1,6 +1,6 @@
 -- What the events of a turn do to an endpoint, and how the try of a step went.
 -- Origin: this project's profile.
-use Rattle.std.specs.Prelude.{ℕ, ◌≡◌, List, [], ◌∷◌, Bool, ◌&&◌, if◌then◌else◌, map, Option, None, Some}
+use Rattle.std.specs.Prelude.{ℕ, ◌≡◌, List, [], ◌∷◌, ◌&&◌, if◌then◌else◌, map, Option, None, Some}
 use Rattle.std.specs.Prelude.{is_some, is_none, not}
 use Rattle.std.specs.Option.{option_or, option_to_list}
 use Rattle.handler_rules.specs.Runs.{Meaning}

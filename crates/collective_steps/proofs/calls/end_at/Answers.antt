@@ -1,12 +1,12 @@
 -- A try to end at a caller that keeps its last answer.
-use Rattle.std.proofs.Common.{◌≡◌, List, [], ◌∷◌, ap, refl, sym, subst}
+use Rattle.std.proofs.Common.{◌≡◌, List, [], ◌∷◌, ap, refl, subst}
 use Rattle.gas_collectives.specs.Ends.{EndAsked}
 use Rattle.endpoint_rules.proofs.CoreKept.{segment_long}
 use Rattle.node_caller.specs.Making.{whole_after}
 use Rattle.node_caller.specs.Sites.{Site, ThreadCall}
 use Rattle.collective_steps.specs.contracts.last_answer.LastAnswerCaller.TheImpl.{ghosts}
 use Rattle.collective_steps.specs.Outcomes.{end_outcome}
-use Rattle.collective_steps.specs.Wholes.{LastStands, LastWhole, after_call, follows_last}
+use Rattle.collective_steps.specs.Wholes.{LastStands, LastWhole, after_call}
 use Rattle.collective_steps.proofs.AtLast.{end_comes_so, left_by}
 use Rattle.collective_steps.proofs.Coming.{end_came}
 use Rattle.collective_steps.proofs.calls.end_at.Goals as goal

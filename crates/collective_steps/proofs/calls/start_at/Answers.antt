@@ -1,11 +1,11 @@
 -- A start at a caller that keeps its last answer.
-use Rattle.std.proofs.Common.{◌≡◌, List, [], ◌∷◌, None, ap, refl, sym, subst}
+use Rattle.std.proofs.Common.{◌≡◌, List, [], ◌∷◌, None, ap, refl, subst}
 use Rattle.gas_collectives.specs.Starts.{StartAsked}
 use Rattle.node_caller.specs.Making.{whole_after}
 use Rattle.node_caller.specs.Sites.{Site, ThreadCall}
 use Rattle.collective_steps.specs.contracts.last_answer.LastAnswerCaller.TheImpl.{ghosts}
 use Rattle.collective_steps.specs.Outcomes.{start_outcome}
-use Rattle.collective_steps.specs.Wholes.{LastStands, LastWhole, after_call, follows_last}
+use Rattle.collective_steps.specs.Wholes.{LastStands, LastWhole, after_call}
 use Rattle.collective_steps.proofs.AtLast.{comes_so, left_by}
 use Rattle.collective_steps.proofs.Coming.{start_came}
 use Rattle.collective_steps.proofs.calls.start_at.Goals as goal

@@ -1,5 +1,5 @@
 -- A step at a caller that keeps its last answer.
-use Rattle.std.proofs.Common.{◌≡◌, List, [], ◌∷◌, None, ap, refl, sym, subst}
+use Rattle.std.proofs.Common.{◌≡◌, List, [], ◌∷◌, None, ap, refl, subst}
 use Rattle.node_caller.specs.Making.{whole_after}
 use Rattle.node_caller.specs.Sites.{Site, ThreadCall}
 use Rattle.collective_steps.specs.contracts.last_answer.LastAnswerCaller.TheImpl.{ghosts}

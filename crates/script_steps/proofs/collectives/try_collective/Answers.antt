@@ -1,11 +1,10 @@
 -- One call of the node's collectives.
-use Rattle.std.proofs.Common.{Option, Some, sym, subst}
-use Rattle.gas_collectives.specs.CollectivesState.{CollectivesState}
-use Rattle.script_steps.specs.Forms.{collective_form}
-use Rattle.script_steps.specs.Tries.{TriesFound, of_part}
-use Rattle.script_steps.proofs.Collecting.{call_ends, call_found, some_there, still_of}
+use Rattle.script_steps.proofs.Collecting.{call_told}
 use Rattle.script_steps.proofs.collectives.try_collective.Goals as goal
 
--- open: by c.in-Some.is and `some_there`, then `call_found`; c.try_part-part.ensures.tried speaks of c.at.result (c.at.ensures)
 pub returns-in-Some-clause-tries : goal.returns-in-Some-clause-tries
-returns-in-Some-clause-tries g c = ?
+returns-in-Some-clause-tries g c =
+    call_told (g.H.Handlers.meaning c.args.handlers.now) c.args.endpoint.now c.try_part-part.new.endpoint
+    c.args.collectives.now c.in-Some.it c.try_part-part.new.collectives c.args.trial.now c.args.call c.at.result
+    c.try_part-part.result c.of_part.result c.in-Some.is c.requires.there c.at.ensures c.of_part.ensures
+    c.try_part-part.ensures.same c.try_part-part.ensures.same_node c.try_part-part.ensures.tried
