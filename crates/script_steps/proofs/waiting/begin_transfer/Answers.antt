@@ -1,5 +1,5 @@
 -- The first try of a blocking transfer.
-use Rattle.std.proofs.Common.{sym, ◌∙◌}
+use Rattle.std.proofs.Common.{refl, sym, ◌∙◌}
 use Rattle.script_steps.proofs.Forming.{transfer_begun, transfer_not_begun}
 use Rattle.script_steps.proofs.waiting.begin_transfer.Goals as goal
 
