@@ -1,7 +1,7 @@
 -- What a machine stands for after a turn.
-use Rattle.std.proofs.Common.{◌≡◌, inl, inr, ℕ, ◌<◌, Bool, true, false, true≢false, cond, ◌||◌, not, List, [], ◌∷◌, map}
+use Rattle.std.proofs.Common.{◌≡◌, inl, inr, ℕ, ◌<◌, Bool, true, false, true≢false, cond, ◌||◌, not, List, [], map}
 use Rattle.std.proofs.Common.{length, Option, None, Some, refl, sym, ap, ap₂, ◌∙◌, subst, slice_get}
-use Rattle.std.proofs.Common.{length-set, zero, suc, Bor, option_copied}
+use Rattle.std.proofs.Common.{length-set, Bor, option_copied}
 use Rattle.std.specs.Option.{option_map}
 use Rattle.std.specs.Prelude.{is_some, slice_set}
 use Rattle.std.proofs.lemmas.List.{map-set}
