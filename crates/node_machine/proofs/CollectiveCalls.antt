@@ -3,7 +3,8 @@ use Rattle.std.proofs.Common.{ℕ, zero, suc, Bool, true, false, cond, List, [],
 use Rattle.std.specs.Prelude.{◌==◌}
 use Rattle.std.specs.List.{AllByRecursion}
 use Rattle.collective_area.specs.declared.shape.Shape.{Shape}
-use Rattle.collective_steps.specs.Outcomes.{Outcome, behind_call, end_by, end_outcome, start_by, start_outcome, step_ends}
+use Rattle.collective_steps.specs.Outcomes.{Outcome, behind_call, end_by, end_outcome, start_by, start_outcome}
+use Rattle.collective_steps.specs.Outcomes.{step_ends}
 use Rattle.collective_steps.specs.Outcomes.{step_from, step_outcome, without_calls}
 use Rattle.collective_steps.specs.Parts.{calls_of_all, end_asked, end_behind, first_part, later_by, later_part, site_of}
 use Rattle.collective_steps.specs.Parts.{start_asked}

@@ -195,7 +195,8 @@ waiting_keeps at one node began waits = by_step one (is_lock_step one) refl wait
         calls_keep at.place (calls_of (step_form one at node) began) node
         (calls_may IsFree (step_form one at node) began (step_free one at node free))
     by_step (step.Call (call.Lock lock)) true locks waits =
-        lock_waits at.place.settings at.place.table at.place.meaning at.place.me at.place.thread at.place.now lock node waits
+        lock_waits at.place.settings at.place.table at.place.meaning at.place.me at.place.thread at.place.now lock node
+        waits
     by_step (step.Call (call.Unlock lock)) true locks waits = absurd (some_none waits)
     by_step _ true locks waits = absurd (true≢false (sym locks))
 

@@ -1,5 +1,6 @@
 -- The traces of the nodes of a job are a run of the world.
-use Rattle.std.proofs.Common.{◌≡◌, ℕ, zero, suc, ◌+◌, List, [], ◌∷◌, map, Option, None, Some, refl, ap, ◌∙◌, arith, slice_get}
+use Rattle.std.proofs.Common.{◌≡◌, ℕ, zero, suc, ◌+◌, List, [], ◌∷◌, map, Option, None, Some, refl, ap, ◌∙◌, arith}
+use Rattle.std.proofs.Common.{slice_get}
 use Rattle.std.specs.Option.{option_map}
 use Rattle.endpoint_rules.specs.EndpointLocal.{EndpointLocal}
 use Rattle.job_text.specs.CollectAreas.{IsCollectOrNone}
@@ -22,7 +23,8 @@ use Rattle.script_steps.proofs.Fits.{job_fits}
 use Rattle.script_steps.specs.Forms.{step_form}
 use Rattle.script_steps.specs.Laws.{StepsFit}
 use Rattle.node_machine.specs.Laws.{AreTracesARun, NodesOpen, StatesReplay, opening_node}
-use Rattle.node_machine.specs.NodeState.{NodeState, fresh_collectives, opening_collectives, script_job, scripts_at, state_of}
+use Rattle.node_machine.specs.NodeState.{NodeState, fresh_collectives, opening_collectives, script_job, scripts_at}
+use Rattle.node_machine.specs.NodeState.{state_of}
 use Rattle.node_machine.specs.NodeState.{state_steps}
 use Rattle.node_machine.proofs.Opening.{steps_said}
 
