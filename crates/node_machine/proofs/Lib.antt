@@ -1,4 +1,5 @@
 pub mod Happening
+pub mod CollectiveCalls
 pub mod Locks
 pub mod Scripting
 pub mod Turning

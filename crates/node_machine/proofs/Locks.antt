@@ -17,11 +17,9 @@ use Rattle.hsl_locks.specs.declared.answer.LockAnswer.{LockAnswer}
 use Rattle.hsl_locks.specs.declared.answer.LockAnswer.TheVariants as locking
 use Rattle.hsl_locks.specs.declared.answer.Owner.TheVariants as owner
 use Rattle.hsl_locks.specs.Locks.{lock_answer, after_lock}
-use Rattle.handler_rules.specs.declared.rules.Forbidden.{Forbidden}
 use Rattle.handler_rules.specs.declared.table.Entry.{Entry}
 use Rattle.handler_rules.specs.Runs.{Meaning}
 use Rattle.put_get.specs.declared.operation.Handle.{Handle}
-use Rattle.put_get.specs.declared.operation.Transfer.{Transfer}
 use Rattle.node_record.specs.declared.answer.Asked.{Asked}
 use Rattle.node_record.specs.declared.answer.Asked.TheVariants as asked
 use Rattle.node_record.specs.Behaviour.{Ask, Contact}
@@ -34,7 +32,7 @@ use Rattle.am_core.specs.HandlerRuns.{handlers_of, run_reply}
 use Rattle.am_core.specs.Kept.{Local}
 use Rattle.am_core.specs.Library.{note_handler}
 use Rattle.endpoint_rules.specs.Called.{Requests, Performs, node_event}
-use Rattle.endpoint_rules.specs.CoreCalls.{Lock, Unlock, Cell}
+use Rattle.endpoint_rules.specs.CoreCalls.{Lock}
 use Rattle.endpoint_rules.specs.EndpointLocal.{EndpointLocal}
 use Rattle.endpoint_rules.specs.EndpointRules.{OnCore, RecordEvent, job_of, told}
 use Rattle.endpoint_rules.specs.Touches.{touches}
@@ -46,7 +44,7 @@ use Rattle.job_text.specs.declared.job.ScheduledCall.TheVariants as call
 use Rattle.job_text.specs.declared.job.ScriptStep.{ScriptStep}
 use Rattle.job_text.specs.declared.job.ScriptStep.TheVariants as step
 use Rattle.job_text.specs.declared.job.WaitingStep.TheVariants as waiting
-use Rattle.node_runs.specs.Actions.{FormMay, Progress, calls_of, unless}
+use Rattle.node_runs.specs.Actions.{FormMay, Progress, StepContext, calls_of, unless}
 use Rattle.node_runs.specs.Scripts.{ThreadCall, TryContext}
 use Rattle.node_runs.specs.Turn.{node_run, coming, before_try, events_of}
 use Rattle.node_runs.proofs.Acting.{calls_may}
@@ -55,6 +53,7 @@ use Rattle.lists.proofs.Tests.{some_none}
 use Rattle.script_steps.proofs.BegunPieces.{plan_may}
 use Rattle.script_steps.proofs.Calm.{waits_there}
 use Rattle.node_machine.specs.Scripted.{after_next, tried_next}
+use Rattle.node_machine.proofs.CollectiveCalls.{MayEach, collective_may, whole_may}
 
 -- the locks that are held
 abbrev pub locks_in : Node EndpointLocal → List Held
@@ -149,14 +148,20 @@ is_lock_step (step.Call (call.Lock lock)) = true
 is_lock_step (step.Call (call.Unlock lock)) = true
 is_lock_step _ = false
 
-step_free : (one : ScriptStep) (at : TryContext) (node : Node EndpointLocal) → is_lock_step one ≡ false
+free_each : MayEach IsFree
+free_each = record { requests = λ to asking. refl; polls = refl; sets = λ write. refl }
+
+step_free : (one : ScriptStep) (at : StepContext) (node : Node EndpointLocal) → is_lock_step one ≡ false
     → FormMay IsFree (step_form one at node)
 step_free (step.Call (call.Lock lock)) at node free = absurd (true≢false free)
 step_free (step.Call (call.Unlock lock)) at node free = absurd (true≢false free)
 step_free (step.Call _) at node free = refl
 step_free (step.Vis vis) at node free =
-    plan_may IsFree (λ one. refl) vis.plan vis.words.from vis.words.register at node
+    plan_may IsFree (λ one. refl) vis.plan vis.words.from vis.words.register at.place node
+step_free (step.Collective one) at node free = collective_may IsFree free_each one at node
 step_free (step.Waiting (waiting.Transfer transfer)) at node free = (refl, sync_free)
+step_free (step.Waiting (waiting.Collective shape from dest)) at node free =
+    whole_may IsFree free_each shape from dest at node
 step_free (step.Waiting _) at node free = refl
 
 -- a lock that another one holds is not taken
@@ -178,7 +183,7 @@ lock_waits settings table meaning me thread now lock node waits =
     (waits_there _ _ waits)
 
 -- the calls of a step that waits
-waiting_keeps : (at : TryContext) (one : ScriptStep) (node : Node EndpointLocal) (began : Option Answer)
+waiting_keeps : (at : StepContext) (one : ScriptStep) (node : Node EndpointLocal) (began : Option Answer)
     → let progress : Progress ScriptStep = record { left = one ∷ []; began = began } in
     (tried_next at progress node).ended ≡ None → locks_in (after_next at progress node) ≡ locks_in node
 waiting_keeps at one node began waits = by_step one (is_lock_step one) refl waits
@@ -187,10 +192,11 @@ waiting_keeps at one node began waits = by_step one (is_lock_step one) refl wait
         → let progress : Progress ScriptStep = record { left = one ∷ []; began = began } in
         (tried_next at progress node).ended ≡ None → locks_in (after_next at progress node) ≡ locks_in node
     by_step one false free waits =
-        calls_keep at (calls_of (step_form one at node) began) node
+        calls_keep at.place (calls_of (step_form one at node) began) node
         (calls_may IsFree (step_form one at node) began (step_free one at node free))
     by_step (step.Call (call.Lock lock)) true locks waits =
-        lock_waits at.settings at.table at.meaning at.me at.thread at.now lock node waits
+        lock_waits at.place.settings at.place.table at.place.meaning at.place.me at.place.thread at.place.now lock node
+        waits
     by_step (step.Call (call.Unlock lock)) true locks waits = absurd (some_none waits)
     by_step _ true locks waits = absurd (true≢false (sym locks))
 
@@ -228,20 +234,22 @@ are_before version true (Some bytes) = by_refusal (first_refusal version bytes)
     by_refusal (Some reason) = tt
 
 -- the try of a thread's next step, where it didn't end it
-next_keeps : (at : TryContext) (left : List ScriptStep) (began : Option Answer) (node : Node EndpointLocal)
+next_keeps : (at : StepContext) (left : List ScriptStep) (began : Option Answer) (node : Node EndpointLocal)
     → let progress : Progress ScriptStep = record { left = left; began = began } in
     (tried_next at progress node).ended ≡ None → locks_in (after_next at progress node) ≡ locks_in node
 next_keeps at [] began node waits = refl
 next_keeps at (one ∷ left) began node waits = waiting_keeps at one node began waits
 
 -- a turn of a thread that didn't end its step
-pub turn_keeps : (at : TryContext) (version : ℕ) (polls : Bool) (got : Option (List ℕ)) (left : List ScriptStep)
+pub turn_keeps : (at : StepContext) (version : ℕ) (polls : Bool) (got : Option (List ℕ)) (left : List ScriptStep)
     (began : Option Answer) (node : Node EndpointLocal)
     → let progress : Progress ScriptStep = record { left = left; began = began } in
     let mid =
-    node_run (job_of at.settings at.table at.meaning) at.me at.now (before_try version polls got) node in
+    node_run (job_of at.place.settings at.place.table at.place.meaning) at.place.me at.place.now
+    (before_try version polls got) node in
     (tried_next at progress mid).ended ≡ None → locks_in (after_next at progress mid) ≡ locks_in node
 turn_keeps at version polls got left began node waits =
     next_keeps at left began _ waits
-    ∙ before_keep at.settings at.table at.meaning at.me at.now (before_try version polls got) node
+    ∙ before_keep at.place.settings at.place.table at.place.meaning at.place.me at.place.now
+    (before_try version polls got) node
     (are_before version polls got)

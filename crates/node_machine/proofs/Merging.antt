@@ -1,15 +1,20 @@
 -- The traces of the nodes of a job are a run of the world.
-use Rattle.std.proofs.Common.{◌≡◌, ℕ, zero, suc, ◌+◌, List, [], ◌∷◌, map, Some, refl, ap, ◌∙◌, arith, slice_get}
+use Rattle.std.proofs.Common.{◌≡◌, ℕ, zero, suc, ◌+◌, List, [], ◌∷◌, map, Option, None, Some, refl, ap, ◌∙◌, arith}
+use Rattle.std.proofs.Common.{slice_get}
 use Rattle.std.specs.Option.{option_map}
 use Rattle.endpoint_rules.specs.EndpointLocal.{EndpointLocal}
+use Rattle.job_text.specs.CollectAreas.{IsCollectOrNone}
+use Rattle.job_text.specs.JobText.{IsJob}
 use Rattle.job_text.specs.Scopes.{scope_of}
+use Rattle.job_text.specs.declared.job.CollectArea.{CollectArea}
 use Rattle.job_text.specs.declared.job.Job.{Job as JobState}
 use Rattle.job_text.specs.declared.job.ScriptStep.{ScriptStep}
 use Rattle.machine.specs.Replay.{after_entry, replayed}
 use Rattle.machine.specs.declared.entry.Entry.{Entry}
 use Rattle.node_script.specs.Bodies.{script_meaning}
 use Rattle.node_script.specs.Registration.{handlers_of, registered}
-use Rattle.node_runs.specs.Actions.{OwnScripts}
+use Rattle.node_runs.specs.Actions.{IfFar, OwnScripts}
+use Rattle.node_runs.specs.Fitting.{CollectivesFit}
 use Rattle.node_runs.specs.Merged.{Carries, carried, nodes_from}
 use Rattle.node_runs.specs.Order.{Ranked, job_steps}
 use Rattle.node_runs.specs.WorldRun.{opening_machines}
@@ -18,7 +23,9 @@ use Rattle.script_steps.proofs.Fits.{job_fits}
 use Rattle.script_steps.specs.Forms.{step_form}
 use Rattle.script_steps.specs.Laws.{StepsFit}
 use Rattle.node_machine.specs.Laws.{AreTracesARun, NodesOpen, StatesReplay, opening_node}
-use Rattle.node_machine.specs.NodeState.{NodeState, script_job, state_of, scripts_at, state_steps}
+use Rattle.node_machine.specs.NodeState.{NodeState, fresh_collectives, opening_collectives, script_job, scripts_at}
+use Rattle.node_machine.specs.NodeState.{state_of}
+use Rattle.node_machine.specs.NodeState.{state_steps}
 use Rattle.node_machine.proofs.Opening.{steps_said}
 
 -- what is known of the states is what is known of the records with the scripts

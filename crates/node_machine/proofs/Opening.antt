@@ -11,6 +11,7 @@ use Rattle.std.proofs.lemmas.Option.{same_Some, slice_get_past, slice_get_within
 use Rattle.lists.proofs.Places.{slice_get_kept, slice_get_last}
 use Rattle.node_record.specs.Record.{opening_node}
 use Rattle.endpoint_rules.specs.EndpointLocal.{nothing_begun}
+use Rattle.gas_collectives.specs.CollectivesState.{CollectivesState}
 use Rattle.gas_endpoint.specs.EndpointState.{EndpointState, EndpointStands, IsNodeOf}
 use Rattle.job_text.specs.JobText.{IsJob, IsNodeScript}
 use Rattle.job_text.specs.Scripts.{IsStep}
@@ -28,7 +29,8 @@ use Rattle.node_machine.specs.Cursors.{progress_of, progress_of_all}
 use Rattle.node_machine.specs.declared.cursor.Cursor.{Cursor}
 use Rattle.node_machine.specs.Kept.{MachineKept, progress_or_none, CanBeSaid, IsMachine}
 use Rattle.node_machine.specs.Openings.{AreFirst}
-use Rattle.node_machine.specs.NodeState.{NodeStands, fresh_collectives, opening_collectives, opening_state, threads_at, is_of, steps_or_none}
+use Rattle.node_machine.specs.NodeState.{NodeStands, fresh_collectives, is_of, opening_collectives, opening_state}
+use Rattle.node_machine.specs.NodeState.{steps_or_none, threads_at}
 use Rattle.node_machine.specs.NodeState.{steps_of_thread}
 
 -- ---- the steps of a thread
@@ -100,28 +102,30 @@ first_push job me count cursors more cursor first is_more is =
 -- ---- the machine
 
 -- a machine that did nothing
-abbrev pub opened : JobState → EndpointState → List (Progress ScriptStep) → MachineKept
-opened job endpoint scripts =
+abbrev pub opened : JobState → EndpointState → Option CollectivesState → List (Progress ScriptStep) → MachineKept
+opened job endpoint collectives scripts =
     record {
       job = job;
       endpoint = endpoint;
-      collectives = opening_collectives job endpoint.core.me;
+      collectives = collectives;
       scripts = scripts;
       outgoing = [];
       answer = None;
     }
 
-pub opened_stands : (job : JobState) (me : ℕ) (endpoint : EndpointState) (scripts : List (Progress ScriptStep))
+pub opened_stands : (job : JobState) (me : ℕ) (endpoint : EndpointState) (collectives : Option CollectivesState)
+    (scripts : List (Progress ScriptStep))
     → IsJob job → IsNodeOf job.settings (registered (handlers_of job)).table me endpoint
     → EndpointStands endpoint (opening_node (nothing_begun job.settings)) → AreFirst job me job.settings.threads scripts
-    → NodeStands (opened job endpoint scripts) (opening_state job me)
-opened_stands job me endpoint scripts is node stands first = record {
+    → collectives ≡ opening_collectives job me
+    → NodeStands (opened job endpoint collectives scripts) (opening_state job me)
+opened_stands job me endpoint collectives scripts is node stands first none = record {
   job_is = refl;
   me_is = sym node.me_is;
   node = stands;
-  own_is = ap₂ (λ (threads : ℕ → Progress ScriptStep) (rank : ℕ). record {
+  own_is = ap₂ (λ (threads : ℕ → Progress ScriptStep) (now : Option CollectivesState). record {
     threads = threads;
-    collectives = opening_collectives job rank;
+    collectives = now;
   })
       (fun_ext (λ thread. elim (cases_lt thread job.settings.threads) [
         | inl there ↦ sym (ap progress_or_none (first.each thread there))
@@ -131,30 +135,33 @@ opened_stands job me endpoint scripts is node stands first = record {
             ∙ sym (ap progress_or_none
             (slice_get_past scripts thread (subst (λ n. n ≤ thread) (sym first.threads) past)))
       ]))
-      (sym node.me_is);
+      (sym none);
   outgoing_is = refl;
   answer_is = refl;
 }
 
-opening_there : (job : JobState) (endpoint : EndpointState) (area : Option CollectArea)
-    → job.settings ≡ endpoint.core.settings
-    → AreThere endpoint (option_map (fresh_collectives job.settings endpoint.core.me) area)
-opening_there job endpoint None same = tt
-opening_there job endpoint (Some at) same = record { settings = same; me_is = refl }
+opening_there : (job : JobState) (me : ℕ) (endpoint : EndpointState) (area : Option CollectArea)
+    → job.settings ≡ endpoint.core.settings → me ≡ endpoint.core.me
+    → AreThere endpoint (option_map (fresh_collectives job.settings me) area)
+opening_there job me endpoint None same here = tt
+opening_there job me endpoint (Some at) same here = record { settings = same; me_is = here }
 
-pub opened_is : (job : JobState) (me : ℕ) (endpoint : EndpointState) (scripts : List (Progress ScriptStep))
+pub opened_is : (job : JobState) (me : ℕ) (endpoint : EndpointState) (collectives : Option CollectivesState)
+    (scripts : List (Progress ScriptStep))
     → IsJob job → IsNodeOf job.settings (registered (handlers_of job)).table me endpoint
     → EndpointStands endpoint (opening_node (nothing_begun job.settings)) → AreFirst job me job.settings.threads scripts
-    → IsMachine (opened job endpoint scripts)
-opened_is job me endpoint scripts is node stands first = record {
+    → collectives ≡ opening_collectives job me → IsMachine (opened job endpoint collectives scripts)
+opened_is job me endpoint collectives scripts is node stands first none = record {
   job = is;
   node = record { settings_are = node.settings_are; me_is = refl; table_is = node.table_is };
-  there = opening_there job endpoint job.collect (sym node.settings_are);
+  there = subst (AreThere endpoint) (sym none)
+      (opening_there job me endpoint job.collect (sym node.settings_are) (sym node.me_is));
   threads = first.threads;
   said = λ thread progress at.
       let inside = slice_get_within scripts thread progress at in
       let there : thread < job.settings.threads = subst (λ n. thread < n) first.threads inside in
-      subst (CanBeSaid job.settings) (same_Some (threads_at job me thread) progress (sym (first.each thread there) ∙ at))
+      subst (CanBeSaid job.settings)
+      (same_Some (threads_at job me thread) progress (sym (first.each thread there) ∙ at))
       (steps_said (scope_of job) job.scripts me thread is.scripts);
   record_ = (opening_node (nothing_begun job.settings), stands);
 }

@@ -1,7 +1,7 @@
 -- What a machine stands for after a turn.
-use Rattle.std.proofs.Common.{◌≡◌, inl, inr, ℕ, ◌<◌, Bool, true, false, true≢false, cond, ◌||◌, not, List, [], ◌∷◌, map}
+use Rattle.std.proofs.Common.{◌≡◌, inl, inr, ℕ, ◌<◌, Bool, true, false, true≢false, cond, ◌||◌, not, List, [], map}
 use Rattle.std.proofs.Common.{length, Option, None, Some, refl, sym, ap, ap₂, ◌∙◌, subst, slice_get}
-use Rattle.std.proofs.Common.{length-set, zero, suc, Bor, option_copied}
+use Rattle.std.proofs.Common.{length-set, Bor, option_copied}
 use Rattle.std.specs.Option.{option_map}
 use Rattle.std.specs.Prelude.{is_some, slice_set}
 use Rattle.std.proofs.lemmas.List.{map-set}
@@ -39,7 +39,8 @@ use Rattle.script_steps.specs.Tries.{AreThere, Found}
 use Rattle.node_machine.specs.Cursors.{progress_of, progress_of_all}
 use Rattle.node_machine.specs.declared.cursor.Cursor.{Cursor}
 use Rattle.node_machine.specs.Machines.{MachineTakes}
-use Rattle.node_machine.specs.Kept.{MachineKept, progress_or_none, own_scripts, own_threads, polls_at, CanBeSaid, IsMachine}
+use Rattle.node_machine.specs.Kept.{MachineKept, progress_or_none, own_scripts, own_threads, polls_at, CanBeSaid}
+use Rattle.node_machine.specs.Kept.{IsMachine}
 use Rattle.node_machine.specs.NodeState.{NodeState, state_of, script_job, after_turn, turned, datagram_at, as_there}
 use Rattle.node_machine.specs.NodeState.{NodeStands}
 use Rattle.node_machine.specs.Turns.{slots_of, job_at, TurnTaken, turn_by, is_changed, GoesAsTurn, TakesTurn}
@@ -364,15 +365,16 @@ pub turning_is : (job : JobState) (found : Found) (cursors : List Cursor) (outgo
       found = later;
       progress = progress;
     })
-turning_is job found cursors outgoing answer taken cursor handlers done later progress is R same takes there_then = record {
-  is = is;
-  inside = subst (λ (n : ℕ). taken.thread < n) (sym is.threads) R.low;
-  before = progress_of cursor;
-  there = slice_get-map progress_of cursors taken.thread ∙ ap (option_map progress_of) R.read;
-  takes = subst (λ (of : JobHandlers).
-      TakesTurn (script_meaning of) (found, progress_of cursor) taken done (later, progress)) same takes;
-  there_then = there_then;
-}
+turning_is job found cursors outgoing answer taken cursor handlers done later progress is R same takes there_then =
+    record {
+      is = is;
+      inside = subst (λ (n : ℕ). taken.thread < n) (sym is.threads) R.low;
+      before = progress_of cursor;
+      there = slice_get-map progress_of cursors taken.thread ∙ ap (option_map progress_of) R.read;
+      takes = subst (λ (of : JobHandlers).
+          TakesTurn (script_meaning of) (found, progress_of cursor) taken done (later, progress)) same takes;
+      there_then = there_then;
+    }
 
 -- the scripts, where one cursor went on
 pub cursors_set : (cursors : List Cursor) (thread place : ℕ) (cursor : Cursor) → place ≡ thread

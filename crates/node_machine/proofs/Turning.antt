@@ -99,7 +99,8 @@ tried_is meaning old mid new taken state slots tried stands before tries =
     let at : StepContext = step_context (context_here meaning old taken.thread taken.now) state.own in
     let run = run-append job.job me taken.now first (events_of_next at trial.progress node) state.node in
     let so = at_same old.core mid.core (λ settings table me.
-    tried_next (record at { place = record at.place { settings = settings; table = table; me = me } }) trial.progress node
+    tried_next (record at { place = record at.place { settings = settings; table = table; me = me } }) trial.progress
+    node
     ≡ as_said trial tried) before.same
     (tries.tried_so node (before.happened state.node stands).stands) in
     ap (λ (after : Node EndpointLocal). tried_step step_form at trial.progress.began trial.progress.left node after
@@ -134,13 +135,15 @@ try_at : (meaning : Meaning) (old mid new : EndpointState) (collectives : Option
     → Happen meaning mid (record {
       now = trial.now;
       events = events_of_next
-          (step_here meaning (record { endpoint = mid; collectives = collectives }) trial.thread trial.now) trial.progress;
+          (step_here meaning (record { endpoint = mid; collectives = collectives }) trial.thread trial.now)
+          trial.progress;
       slots = slots;
     }) new
     → Happen meaning mid (record {
       now = trial.now;
       events = events_of_next
-          (step_here meaning (record { endpoint = old; collectives = collectives }) trial.thread trial.now) trial.progress;
+          (step_here meaning (record { endpoint = old; collectives = collectives }) trial.thread trial.now)
+          trial.progress;
       slots = slots;
     }) new
 try_at meaning old mid new collectives trial slots same happen =
@@ -313,7 +316,8 @@ turn_goes meaning old mid new taken progress polls slots tried done lawful bytes
           TriesNext meaning (record { endpoint = mid; collectives = c })
           (record { now = taken.now; thread = taken.thread; progress = state.own.threads taken.thread }) tried new)
           (sym far)
-          (subst (λ (p : Progress ScriptStep). TriesNext meaning (record { endpoint = mid; collectives = old.collectives })
+          (subst (λ (p : Progress ScriptStep).
+          TriesNext meaning (record { endpoint = mid; collectives = old.collectives })
           (record { now = taken.now; thread = taken.thread; progress = p }) tried new) (sym own) tries))
           slots_is ended_is began_is in
           let left : Progress ScriptStep → OwnScripts ScriptStep = λ p. record {

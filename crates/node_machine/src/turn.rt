@@ -67,7 +67,11 @@ fn try_next<H: Handlers>(
     requires there { AreThere endpoint.old collectives.old }
     ensures tries { TriesNext (H.meaning handlers.now)
         (record { endpoint = endpoint.old; collectives = collectives.old })
-        (record { now = turn.now; thread = turn.thread; progress = progress_of cursor.now }) result
+        (record {
+          now = turn.entry.now;
+          thread = turn.entry.thread;
+          progress = progress_of cursor.now;
+        }) result
         (record { endpoint = endpoint.new; collectives = collectives.new }) }
     ensures there { AreThere endpoint.new collectives.new }
 {
@@ -108,7 +112,11 @@ pub fn take_turn<H: Handlers>(
     requires got { IsSome turn.got → turn.polls ≡ true }
     ensures takes { TakesTurn (H.meaning handlers.now)
         (record { endpoint = endpoint.old; collectives = collectives.old }, progress_of cursor.old)
-        (record { thread = turn.thread; now = turn.now; got = option_copied turn.got }) result
+        (record {
+          thread = turn.entry.thread;
+          now = turn.entry.now;
+          got = option_copied turn.entry.got;
+        }) result
         (record { endpoint = endpoint.new; collectives = collectives.new }, progress_of cursor.new) }
     ensures there { AreThere endpoint.new collectives.new }
 {

@@ -10,7 +10,8 @@ use Rattle.node_machine.proofs.node.NodeMachine.new.Goals as goal
 
 pub invariant_of-result : goal.invariant_of-result
 invariant_of-result c =
-    opened_is c.args.job.now c.args.me c.in_ok-endpoint.endpoint (progress_of_all c.in_ok-cursors.cursors.items)
+    opened_is c.args.job.now c.args.me c.in_ok-endpoint.endpoint c.collectives_of.result
+    (progress_of_all c.in_ok-cursors.cursors.items)
     c.requires.job (record {
       settings_are = c.in_ok-endpoint.ensures.node.settings_are ∙ c.settings.ensures;
       me_is = c.in_ok-endpoint.ensures.node.me_is;
@@ -18,11 +19,12 @@ invariant_of-result c =
     })
     (subst (λ (settings : Parameters).
     EndpointStands c.in_ok-endpoint.endpoint (opening_node (nothing_begun settings))) c.settings.ensures
-    c.in_ok-endpoint.ensures.stands) c.in_ok-cursors.ensures
+    c.in_ok-endpoint.ensures.stands) c.in_ok-cursors.ensures c.collectives_of.ensures
 
 pub returns : goal.returns
 returns c =
-    opened_stands c.args.job.now c.args.me c.in_ok-endpoint.endpoint (progress_of_all c.in_ok-cursors.cursors.items)
+    opened_stands c.args.job.now c.args.me c.in_ok-endpoint.endpoint c.collectives_of.result
+    (progress_of_all c.in_ok-cursors.cursors.items)
     c.requires.job (record {
       settings_are = c.in_ok-endpoint.ensures.node.settings_are ∙ c.settings.ensures;
       me_is = c.in_ok-endpoint.ensures.node.me_is;
@@ -30,4 +32,4 @@ returns c =
     })
     (subst (λ (settings : Parameters).
     EndpointStands c.in_ok-endpoint.endpoint (opening_node (nothing_begun settings))) c.settings.ensures
-    c.in_ok-endpoint.ensures.stands) c.in_ok-cursors.ensures
+    c.in_ok-endpoint.ensures.stands) c.in_ok-cursors.ensures c.collectives_of.ensures
