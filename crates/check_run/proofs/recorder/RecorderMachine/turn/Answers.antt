@@ -15,7 +15,7 @@ tell_step-told-requires c =
     let new = c.turn-turned.new.self in
     let turns : Turns entry c.self.inside.node new c.turn-turned.result =
     record { after = c.turn-turned.ensures.after; tells = c.turn-turned.ensures.turned } in
-    can_tell entry c.self.inside.node new c.turn-turned.result turns state.node stands.node stands.handles
+    can_tell entry c.self.inside.node new c.turn-turned.result turns state.node stands.node stands.beginnings
     (own_node new c.endpoint.result.now c.endpoint.ensures.is c.endpoint.ensures.node)
 
 pub invariant_of-self : goal.invariant_of-self
